@@ -1,0 +1,5 @@
+pub mod Spelling
+pub mod Order
+pub mod KeyLaws
+pub mod OptionBits
+pub mod Moments

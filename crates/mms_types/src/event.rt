@@ -1,0 +1,100 @@
+ghost use Rattle.std.specs.Prelude.{◌≡◌, ◌==◌, [], ◌∷◌, ◌++◌, OnOk, OnErr, length};
+
+use crate::{Identifier, Memory, Octets};
+use std::alloc::Global;
+use std::marker::Model;
+
+/// What is sent to a client.
+#[derive(Debug, PartialEq, Eq, Drop)]
+pub enum What {
+    /// The octets of one PDU.
+    Octets(Octets),
+    /// The association is aborted.
+    Abort,
+}
+
+/// What is sent, and to which client.
+#[derive(Debug, PartialEq, Eq, Drop)]
+pub struct Output {
+    /// The number of the client.
+    pub client: u32,
+    pub what: What,
+}
+
+/// What happens to the device.
+#[derive(Debug, PartialEq, Eq, Drop)]
+pub enum CellEvent {
+    /// A client sent octets.
+    Heard { client: u32, octets: Octets },
+    /// The association of a client was lost.
+    Lost { client: u32 },
+    /// So many milliseconds went by.
+    Tick { ms: u32 },
+    /// The program invocation of that name came to its end by itself.
+    Ends { name: Identifier },
+    /// What is to be sent to a client is taken away.
+    Drain { client: u32 },
+}
+
+/// Events in order. Contracts see the list of them.
+#[derive(Debug, Drop)]
+pub struct Events {
+    list: Vec<CellEvent>,
+}
+
+impl Model for Events {
+    ghost use Rattle.std.specs.Prelude.{List};
+    ghost use Rattle.mms_types.specs.declared.event.CellEvent.{CellEvent};
+
+    ghost Value = { List CellEvent };
+
+    ghost view = { λ events. events.list.items };
+}
+
+impl Events {
+    /// No events. Nothing is allocated.
+    pub fn new(alloc: Global) -> Events
+        ensures { result ≡ [] }
+    {
+        Events {
+            list: Vec::new(alloc),
+        }
+    }
+
+    /// Appends an event. Where there is no memory for it, it is dropped and the list is as before.
+    pub fn push(&mut self, event: CellEvent) -> Result<(), Memory>
+        ensures appended { OnOk result (self.new ≡ self.old ++ event ∷ []) }
+        ensures kept { OnErr result (self.new ≡ self.old) }
+    {
+        self.list.push(event)?;
+        Ok(())
+    }
+
+    /// The events.
+    pub fn as_slice(&self) -> &[CellEvent]
+        ensures { result.now ≡ self.now }
+    {
+        &self.list
+    }
+
+    /// How many there are.
+    pub fn len(&self) -> usize
+        ensures { result ≡ length self.now }
+    {
+        self.list.len()
+    }
+
+    /// Whether there is none.
+    pub fn is_empty(&self) -> bool
+        ensures { result ≡ (length self.now == 0) }
+    {
+        self.list.is_empty()
+    }
+
+    /// The vector that holds the events.
+    pub fn into_vec(self) -> Vec<CellEvent>
+        ensures { result.items ≡ self }
+    {
+        self.list
+    }
+}

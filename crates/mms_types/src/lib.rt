@@ -1,0 +1,28 @@
+//! The words that the crates of the server share: names and their order, PDUs and events.
+#![tactic(auto)]
+
+mod event;
+mod identifier;
+mod initiate;
+mod key;
+mod laws;
+mod memory;
+mod moment;
+mod object_name;
+mod octets;
+mod pdu;
+mod service_error;
+#[cfg(test)]
+mod tests;
+
+pub use event::{CellEvent, Events, Output, What};
+pub use identifier::{BadName, Edition, Identifier, Unnamed};
+pub use initiate::{Initiate, InitiateAnswer, InitiateDetail, ParameterOptions, ServiceOptions};
+pub use key::{Key, Scope};
+pub use laws::keys_stand_in_order;
+pub use memory::Memory;
+pub use moment::Moment;
+pub use object_name::ObjectName;
+pub use octets::Octets;
+pub use pdu::{Answer, Pdu, Reject, RejectReason, Request};
+pub use service_error::{ServiceError, StateInfo};

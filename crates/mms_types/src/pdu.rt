@@ -1,0 +1,115 @@
+use crate::{Initiate, InitiateAnswer, Octets, ServiceError};
+
+/// What a client asks of the server (ISO 9506-2, ConfirmedServiceRequest).
+#[derive(Debug, PartialEq, Eq, Drop)]
+pub enum Request {
+    /// The state of the device; `derivation` asks for the extended one.
+    Status { derivation: bool },
+    /// Who made the device, which one it is and its revision.
+    Identify,
+}
+
+/// What the server answers to a request (ISO 9506-2, ConfirmedServiceResponse).
+#[derive(Debug, PartialEq, Eq, Drop)]
+pub enum Answer {
+    /// The logical and the physical state of the device, by their numbers.
+    Status {
+        logical: u8,
+        physical: u8,
+    },
+    /// The texts that identify the device.
+    Identify {
+        vendor: Octets,
+        model: Octets,
+        revision: Octets,
+    },
+}
+
+/// Why a PDU is rejected (ISO 9506-2, RejectPDU): the reasons that the server gives.
+#[derive(Clone, Copy, Debug, PartialEq, Eq)]
+pub enum RejectReason {
+    /// confirmed-requestPDU: the service is unknown, or is not offered.
+    UnrecognizedService,
+    /// confirmed-requestPDU: the request has a modifier.
+    UnrecognizedModifier,
+    /// confirmed-requestPDU: a request of this invokeID waits.
+    InvalidInvokeId,
+    /// confirmed-requestPDU: the argument is not of its form.
+    InvalidArgument,
+    /// confirmed-requestPDU: as many requests wait as were negotiated.
+    MaxServOutstandingExceeded,
+    /// confirmed-requestPDU: data or a type nests deeper than was negotiated.
+    MaxRecursionExceeded,
+    /// pdu-error: the tag is none of a PDU.
+    UnknownPduType,
+    /// pdu-error: the PDU is not of its form.
+    InvalidPdu,
+}
+
+/// The server rejects a PDU (ISO 9506-2, RejectPDU).
+#[derive(Clone, Copy, Debug, PartialEq, Eq)]
+pub struct Reject {
+    /// The invokeID of the request that is rejected, where one is.
+    pub invoke: Option<u32>,
+    pub reason: RejectReason,
+}
+
+/// A PDU (ISO 9506-2, MMSpdu). Of some PDUs less is kept where a client sent them than where the
+/// server sends them; these have a variant for each of the two.
+#[derive(Debug, PartialEq, Eq, Drop)]
+pub enum Pdu {
+    /// A confirmed-Request, without modifiers.
+    ConfirmedRequest {
+        invoke: u32,
+        request: Request,
+    },
+    /// A confirmed-Response.
+    ConfirmedResponse {
+        invoke: u32,
+        answer: Answer,
+    },
+    /// A confirmed-Error that the server sends. `modifier` is the place of the modifier that is
+    /// refused, where one is.
+    ConfirmedError {
+        invoke: u32,
+        modifier: Option<u32>,
+        error: ServiceError,
+    },
+    /// A confirmed-Error that a client sent: the invokeID alone is read.
+    HeardError {
+        invoke: u32,
+    },
+    /// A reject that the server sends.
+    Reject(Reject),
+    /// A reject that a client sent: the invokeID alone is read, where there is one.
+    HeardReject {
+        invoke: Option<u32>,
+    },
+    /// A cancel-Request.
+    CancelRequest {
+        invoke: u32,
+    },
+    /// A cancel-Response that the server sends.
+    CancelResponse {
+        invoke: u32,
+    },
+    /// A cancel-Error that the server sends.
+    CancelError {
+        invoke: u32,
+        error: ServiceError,
+    },
+    /// An unconfirmed PDU, a cancel-Response or a cancel-Error that a client sent: nothing is read.
+    HeardOther,
+    /// An initiate-Request.
+    InitiateRequest(Initiate),
+    /// An initiate-Response.
+    InitiateResponse(InitiateAnswer),
+    /// An initiate-Error.
+    InitiateError(ServiceError),
+    /// A conclude-Request.
+    ConcludeRequest,
+    /// A conclude-Response.
+    ConcludeResponse,
+    /// A conclude-Error.
+    ConcludeError(ServiceError),
+}
