@@ -1,0 +1,61 @@
+#!/usr/bin/env python3
+"""Measures replay against a floor in plain Rust, and prints a table.
+
+    bench/run.py [--events N,N,..] [--rounds N] [--program PATH]
+
+Writes recordings of status requests, runs the built program and the floor on each of them in turn, several rounds in
+one run, and prints of the least times: events and megabytes a second, the ratio to the floor, and the peak of memory
+against the recording's size. Times are user and system time of the process. Nothing here is a test.
+"""
+
+import argparse
+import os
+import subprocess
+import sys
+import tempfile
+
+HERE = os.path.dirname(os.path.abspath(__file__))
+HEAD = b"mms-recording 1\nconfig\nend\n"
+OPEN = b"1 A826800300FDE881010A82010A830105A416800101810305F100820C03EE1C00000408000079EF18\n"
+STATUS = b"1 A006020101800100\n"
+
+
+def run(words, recording):
+    """The processor time in seconds and the peak of memory in octets of one run."""
+    with open(recording, "rb") as source:
+        pid = os.fork()
+        if pid == 0:
+            os.dup2(source.fileno(), 0)
+            os.dup2(os.open(os.devnull, os.O_WRONLY), 1)
+            os.execv(words[0], words)
+        _, status, used = os.wait4(pid, 0)
+    if status != 0:
+        sys.exit(f"{' '.join(words)} ended with status {os.waitstatus_to_exitcode(status)}")
+    return used.ru_utime + used.ru_stime, used.ru_maxrss * 1024
+
+
+def main():
+    parser = argparse.ArgumentParser(description=__doc__, formatter_class=argparse.RawDescriptionHelpFormatter)
+    parser.add_argument("--events", default="10000,100000,1000000")
+    parser.add_argument("--rounds", type=int, default=7)
+    parser.add_argument("--program", default=os.path.join(HERE, "..", "crates", "mmscell", "out", "mmscell"))
+    asked = parser.parse_args()
+    with tempfile.TemporaryDirectory() as folder:
+        floor = os.path.join(folder, "floor")
+        subprocess.run(["rustc", "-O", "-o", floor, os.path.join(HERE, "floor.rs")], check=True)
+        print(f"{'events':>9} {'MB':>7} {'seconds':>8} {'floor':>8} {'ratio':>6} {'events/s':>11} {'MB/s':>7} {'peak MB':>8} {'peak/size':>9}")
+        for events in (int(n) for n in asked.events.split(",")):
+            recording = os.path.join(folder, f"{events}.mms")
+            with open(recording, "wb") as text:
+                text.write(HEAD + OPEN + STATUS * events)
+            size = os.path.getsize(recording)
+            rounds = [(run([asked.program, "replay"], recording), run([floor], recording)) for _ in range(asked.rounds)]
+            seconds = min(ours[0] for ours, _ in rounds)
+            plain = min(theirs[0] for _, theirs in rounds)
+            peak = max(ours[1] for ours, _ in rounds)
+            print(f"{events:>9} {size / 1e6:>7.2f} {seconds:>8.3f} {plain:>8.3f} {seconds / max(plain, 1e-9):>6.2f} "
+                  f"{events / max(seconds, 1e-9):>11.0f} {size / 1e6 / max(seconds, 1e-9):>7.1f} {peak / 1e6:>8.1f} {peak / size:>9.1f}")
+
+
+if __name__ == "__main__":
+    main()
