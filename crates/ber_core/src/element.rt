@@ -1,0 +1,31 @@
+//! What octets are cut into.
+
+/// Which forms of the length an element may have (ITU-T X.690, 8.1.3).
+#[derive(Clone, Copy, Debug, PartialEq, Eq)]
+pub enum Lengths {
+    /// The definite forms alone, also longer than needed.
+    Definite,
+}
+
+/// The tag of an element (ITU-T X.690, 8.1.2): its class from 0, universal, to 3, private; whether
+/// its contents are elements; and its number.
+#[derive(Clone, Copy, Debug, PartialEq, Eq)]
+pub struct Tag {
+    pub class: u8,
+    pub constructed: bool,
+    pub number: u32,
+}
+
+/// One element: its tag and its contents.
+#[derive(Clone, Copy, Debug)]
+pub struct Element<'a> {
+    pub tag: Tag,
+    pub contents: &'a [u8],
+}
+
+/// A bit string: how many bits of the last octet are unused, from 0 to 7, and the octets.
+#[derive(Clone, Copy, Debug)]
+pub struct Bits<'a> {
+    pub unused: u8,
+    pub octets: &'a [u8],
+}

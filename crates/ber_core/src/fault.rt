@@ -1,0 +1,32 @@
+//! Why octets could not be read, and want of memory.
+
+use std::alloc::{AllocError, AllocFailed};
+
+/// What is wrong with octets that are read.
+#[derive(Clone, Copy, Debug, PartialEq, Eq)]
+pub enum BerError {
+    /// The octets end before the element does.
+    Short = 1,
+    /// The number of a tag is spelled too long.
+    BadTag = 2,
+    /// The length is indefinite, or has too many octets.
+    BadLength = 3,
+    /// The contents spell no value of the type.
+    BadContents = 4,
+}
+
+/// Want of memory.
+#[derive(Clone, Copy, Debug, PartialEq, Eq)]
+pub struct Memory;
+
+impl From<AllocError> for Memory {
+    fn from(_e: AllocError) -> Memory {
+        Memory
+    }
+}
+
+impl<T: Drop> From<AllocFailed<T>> for Memory {
+    fn from(_e: AllocFailed<T>) -> Memory {
+        Memory
+    }
+}

@@ -1,0 +1,22 @@
+//! The basic encoding rules: elements from octets and back (ITU-T X.690, clause 8).
+#![tactic(auto)]
+
+mod element;
+mod fault;
+mod laws;
+mod leaf;
+mod reader;
+mod writer;
+
+pub use element::{Bits, Element, Lengths, Tag};
+pub use fault::{BerError, Memory};
+pub use laws::{
+    begins_no_other, reads_the_element, says_one_number, says_one_part, spells_an_element,
+    spells_the_number, spells_the_shortest,
+};
+pub use leaf::{bits, boolean, integer};
+pub use reader::{Reader, first_element};
+pub use writer::Writer;
+
+#[cfg(test)]
+mod tests;
