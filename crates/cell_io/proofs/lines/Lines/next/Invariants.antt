@@ -1,0 +1,15 @@
+use Rattle.std.proofs.Common.{◌≡◌, ◌+◌, ◌≤◌, min, length}
+use Rattle.cell_io.specs.Held.{ahead, IsLaterPart}
+use Rattle.cell_io.proofs.Reading.{Passed}
+use Rattle.cell_io.proofs.lines.Lines.next.Given as goal
+
+abbrev pub invariant-loop-turn : goal.invariant-loop-turn
+invariant-loop-turn g l = record {
+  passed : Passed (ahead l.initial.self (g.S.Source.left l.initial.input)) (ahead l.self (g.S.Source.left l.input)) l.initial.self.given l.self.given l.line.items;
+  before : l.before ≡ l.initial.self.given;
+  turns : l._turn + l.initial.self.given ≤ l.self.given + min 1 (length l.self.octets);
+  order : l.initial.self.given ≤ l.self.given;
+  most : l.self.given ≤ 4294967296;
+  left : IsLaterPart (g.S.Source.left l.initial.input) (g.S.Source.left l.input);
+  faults : g.S.Source.faults l.initial.input ≤ g.S.Source.faults l.input;
+}

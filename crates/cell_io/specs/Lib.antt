@@ -1,0 +1,6 @@
+pub mod Faults
+pub mod Held
+pub mod Hex
+pub mod InMemory
+pub mod Lines
+pub mod Prefix

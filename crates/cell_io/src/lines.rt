@@ -1,0 +1,192 @@
+ghost use Rattle.std.specs.Prelude.{◌≡◌, ◌+◌, ◌-◌, ◌<◌, ◌≤◌, ◌^◌, [], ◌++◌, true, false, ℕ, List, length, take, drop, IfOk, IfSome, IfErr, OnErr, OnOk, Some};
+ghost use Rattle.std.specs.Io.KnownBytes.{Consumes, IsAtEnd, Keeps};
+ghost use Rattle.cell_io.specs.Faults.{Rose, HasCause};
+ghost use Rattle.cell_io.specs.Lines.{first_line, after_line, has_feed, kept_of};
+ghost use Rattle.cell_io.specs.Held.{Held, ahead, IsLaterPart};
+
+use crate::first_part::first_part;
+use crate::{Failed, Memory, Source};
+use std::alloc::Global;
+use std::marker::Model;
+use thiserror::Error;
+
+/// The most octets that are given of an input.
+pub const MOST: u64 = 4_294_967_296;
+
+/// The most octets that are kept of a line.
+pub const KEPT: usize = 196_612;
+
+const CHUNK: usize = 1 << 16;
+
+/// Why no line was given.
+#[derive(Clone, Copy, Debug, PartialEq, Eq, Drop, Error)]
+pub enum Stop {
+    /// The source failed.
+    #[error("the source failed")]
+    Fault,
+    /// The line holds the input's octet after the 4,294,967,296th.
+    #[error("the input is too long")]
+    TooMuch,
+    /// Want of memory for the line.
+    #[error("out of memory")]
+    Memory,
+}
+
+/// A reader of the lines of a source. It reads 64 KiB at a time and takes no memory for a line
+/// but in the caller's buffer.
+#[derive(Drop)]
+pub struct Lines {
+    chunk: Vec<u8>,
+    start: usize,
+    end: usize,
+    given: u64,
+}
+
+impl Model for Lines {
+    ghost use Rattle.std.specs.Prelude.{◌≤◌, ◌<◌, ◌-◌, take, drop, length};
+    ghost use Rattle.cell_io.specs.Held.{Held};
+
+    ghost Value = { Held };
+
+    ghost view = { λ s. record {
+      octets = take (s.end - s.start) (drop s.start s.chunk.items);
+      given = s.given;
+    } };
+
+    ghost invariant = { λ s. (s.start ≤ s.end) × (s.end ≤ length s.chunk.items)
+        × (0 < length s.chunk.items) × (s.given ≤ 4294967296) };
+}
+
+impl Lines {
+    /// A reader that holds nothing and has given nothing.
+    pub fn new(alloc: Global) -> Result<Lines, Memory>
+        ensures octets { IfOk result (λ s. s.octets ≡ []) }
+        ensures given { IfOk result (λ s. s.given ≡ 0) }
+    {
+        Ok(Lines {
+            chunk: vec![in alloc; 0; CHUNK]?,
+            start: 0,
+            end: 0,
+            given: 0,
+        })
+    }
+
+    /// How many octets were given as lines, line feeds counted.
+    pub fn given(&self) -> u64
+        ensures given { result ≡ self.now.given }
+        ensures most { result ≤ 4294967296 }
+    {
+        self.given
+    }
+
+    /// Puts the next line in place of what `line` has, with its line feed where it has one: the
+    /// first 196,612 octets of it, while the others are only counted. True where there is a line,
+    /// false at the end of the input. After a `Stop` part of a line may have been passed over.
+    pub fn next<S: Source>(&mut self, input: &mut S, line: &mut Vec<u8>) -> Result<bool, Stop>
+        // The line, what is ahead after it, and its size.
+        ensures line { OnOk result (IfSome (ahead self.old (S.left input.old)) (λ text.
+            line.new.items ≡ kept_of (first_line text))) }
+        ensures rest { OnOk result (IfSome (ahead self.old (S.left input.old)) (λ text.
+            ahead self.new (S.left input.new) ≡ Some (after_line text))) }
+        ensures size { OnOk result (IfSome (ahead self.old (S.left input.old)) (λ text.
+            self.new.given ≡ self.old.given + length (first_line text))) }
+
+        // No more is kept, also where the source doesn't tell what is left.
+        ensures kept { OnOk result (length line.new.items ≤ 196612) }
+
+        // True exactly where something was ahead; then at least one octet was given.
+        ensures there { IfOk result (λ more. more ≡ true →
+            IfSome (ahead self.old (S.left input.old)) (λ text. 0 < length text)) }
+        ensures over { IfOk result (λ more. more ≡ false → IsAtEnd (S.left input.new)) }
+        ensures none { IfOk result (λ more. more ≡ false →
+            IfSome (ahead self.old (S.left input.old)) (λ text. text ≡ [])) }
+        ensures grows { IfOk result (λ more. more ≡ true → self.old.given < self.new.given) }
+        ensures stays { IfOk result (λ more. more ≡ false → self.new.given ≡ self.old.given) }
+
+        // Why it stops. A fault comes only before the line's end was read.
+        ensures too_much { IfErr result (λ e. e ≡ Stop.TooMuch →
+            IfSome (ahead self.old (S.left input.old)) (λ text. 4294967296 < self.old.given + length (first_line text))) }
+        ensures fault { IfErr result (λ e. e ≡ Stop.Fault →
+            Rose (S.faults input.old) (S.faults input.new)) }
+        ensures before_end { IfErr result (λ e. e ≡ Stop.Fault → (bs : List ℕ)
+            × Consumes (ahead self.old (S.left input.old)) (S.left input.new) bs × (has_feed bs ≡ false)) }
+
+        // On every answer.
+        ensures order { self.old.given ≤ self.new.given }
+        ensures most { self.new.given ≤ 4294967296 }
+        ensures left { IsLaterPart (S.left input.old) (S.left input.new) }
+        ensures later { S.faults input.old ≤ S.faults input.new }
+    {
+        line.clear();
+        let before = self.given();
+        for _turn in 0..MOST + 2 {
+            match self.give_part(line) {
+                Ok(true) => return Ok(true),
+                Ok(false) => {}
+                Err(stop) => return Err(stop),
+            }
+            match self.fill(input) {
+                Ok(true) => {}
+                Ok(false) => return Ok(self.given() > before),
+                Err(_) => return Err(Stop::Fault),
+            }
+        }
+        unreachable!()
+    }
+
+    /// Gives what is held of the line. Tells whether the line ends there.
+    fn give_part(&mut self, line: &mut Vec<u8>) -> Result<bool, Stop>
+        requires { length line.old.items ≤ 196612 }
+        ensures line { OnOk result (line.new.items
+            ≡ kept_of (line.old.items ++ first_line self.old.octets)) }
+        ensures rest { OnOk result (self.new.octets ≡ after_line self.old.octets) }
+        ensures size { OnOk result (self.new.given
+            ≡ self.old.given + length (first_line self.old.octets)) }
+        ensures ended { IfOk result (λ ended. has_feed self.old.octets ≡ ended) }
+        ensures too_much { IfErr result (λ e. e ≡ Stop.TooMuch →
+            4294967296 < self.old.given + length (first_line self.old.octets)) }
+        ensures cause { IfErr result (λ e. ¬ (e ≡ Stop.Fault)) }
+        ensures order { self.old.given ≤ self.new.given }
+        ensures most { self.new.given ≤ 4294967296 }
+    {
+        let held = &self.chunk[self.start..self.end];
+        let part = first_part(held);
+        if part.size as u64 > MOST - self.given {
+            return Err(Stop::TooMuch);
+        }
+        match keep(line, &held[..part.size]) {
+            Ok(()) => {}
+            Err(Memory) => return Err(Stop::Memory),
+        }
+        self.given += part.size as u64;
+        self.start += part.size;
+        Ok(part.ended)
+    }
+
+    /// Takes octets from the source in place of what was held. Tells whether there were any.
+    fn fill<S: Source>(&mut self, input: &mut S) -> Result<bool, Failed>
+        ensures moved { OnOk result (Keeps (S.left input.old) (ahead self.new (S.left input.new))) }
+        ensures some { IfOk result (λ more. more ≡ true → 0 < length self.new.octets) }
+        ensures none { IfOk result (λ more. more ≡ false →
+            (self.new.octets ≡ []) × IsAtEnd (S.left input.new)) }
+        ensures kept { OnErr result (Keeps (S.left input.old) (S.left input.new)) }
+        ensures cause { HasCause (S.faults input.old) (S.faults input.new) result }
+        ensures given { self.new.given ≡ self.old.given }
+    {
+        self.start = 0;
+        self.end = 0;
+        self.end = input.read(&mut self.chunk)?;
+        Ok(self.end > 0)
+    }
+}
+
+/// Puts as much of `part` to the line as is kept of it.
+fn keep(line: &mut Vec<u8>, part: &[u8]) -> Result<(), Memory>
+    requires { length line.old.items ≤ 196612 }
+    ensures { OnOk result (line.new.items
+        ≡ kept_of (line.old.items ++ part.now)) }
+{
+    let count = (KEPT - line.len()).min(part.len());
+    line.extend_from_slice(&part[..count])?;
+    Ok(())
+}
