@@ -1,0 +1,11 @@
+pub mod Joined
+pub mod Loop
+pub mod Sound
+pub mod Complete
+pub mod Spelled
+pub mod Deep
+pub mod DeepAgain
+pub mod Answered
+pub mod Again
+pub mod NamedBits
+pub mod Told

@@ -1,0 +1,11 @@
+pub mod Value
+pub mod Bits
+pub mod Form
+pub mod Fault
+pub mod Reading
+pub mod Ahead
+pub mod Spelling
+pub mod InForm
+pub mod Fits
+pub mod TooDeep
+pub mod Reads

@@ -1,0 +1,155 @@
+//! The elements of contents, from left to right.
+
+ghost use Rattle.std.specs.Prelude.{◌≡◌, ◌↔◌, ℕ, List, [], Ok, Err, Some, None, option_map, IsTrue, OnOk, IfOk, IfSome, ◌<◌, length};
+ghost use Rattle.ber_core.specs.Part.{part};
+ghost use Rattle.ber_forms.specs.Ahead.{ahead};
+ghost use Rattle.ber_forms.specs.Reading.{Gives, is_tag, next_at, part_at, at_end, optional_part, required_part, elements_at};
+
+use crate::unread::Unread;
+use ber_core::{Element, Lengths, Tag, first_element};
+use std::marker::Model;
+
+/// What is left of contents: which forms of lengths are read, and the octets. Each call takes from the front what
+/// it answers, keeps the forms of lengths, and after an error the octets may be those before it or what is left.
+#[derive(Drop)]
+pub struct Cursor<'a> {
+    lengths: Lengths,
+    rest: &'a [u8],
+}
+
+impl<'a> Model for Cursor<'a> {
+    ghost use Rattle.ber_forms.specs.Ahead.{Ahead, ahead};
+
+    ghost Value = { Ahead };
+
+    ghost view = { λ c. ahead c.lengths c.rest.now };
+}
+
+/// The tag has this class (0 to 3), this constructed bit and this number.
+pub fn has_tag(tag: Tag, class: u8, constructed: bool, number: u32) -> bool
+    ensures { result ≡ is_tag class constructed number tag }
+{
+    tag.class == class && tag.constructed == constructed && tag.number == number
+}
+
+/// The next element, or None at the end.
+#[tactic(auto, unfolding(crate::specs::Reading::next_at))]
+fn next(lengths: Lengths, octets: &[u8]) -> Result<Option<(Element<'_>, &[u8])>, Unread>
+    ensures exact { Gives (λ o. option_map (λ x. (part x.0, x.1.now)) o) result (next_at lengths octets.now) }
+    ensures shorter { IfOk result (λ o. IfSome o (λ x. length x.1.now < length octets.now)) }
+{
+    if octets.is_empty() {
+        return Ok(None);
+    }
+    let Ok(found) = first_element(lengths, octets) else {
+        return Err(Unread::Malformed);
+    };
+    Ok(Some(found))
+}
+
+impl<'a> Cursor<'a> {
+    /// Before all of the contents.
+    pub fn new(lengths: Lengths, contents: &'a [u8]) -> Cursor<'a>
+        ensures { result ≡ ahead lengths contents.entry.now }
+    {
+        Cursor {
+            lengths,
+            rest: contents,
+        }
+    }
+
+    /// Which forms of lengths are read.
+    pub fn lengths(&self) -> Lengths
+        ensures { result ≡ self.now.lengths }
+    {
+        self.lengths
+    }
+
+    /// Nothing is left.
+    pub fn is_empty(&self) -> bool
+        ensures { IsTrue result ↔ (self.now.octets ≡ []) }
+    {
+        self.rest.is_empty()
+    }
+
+    /// The next element. Malformed where none is whole there.
+    #[tactic(auto, unfolding(crate::specs::Reading::part_at))]
+    pub fn part(&mut self) -> Result<Element<'a>, Unread>
+        ensures exact { Gives (λ p. (part p, self.new.octets)) result (part_at self.old.lengths self.old.octets) }
+        ensures kept { self.new.lengths ≡ self.old.lengths }
+        ensures shorter { OnOk result (length self.new.octets < length self.old.octets) }
+    {
+        match next(self.lengths, self.rest)? {
+            None => Err(Unread::Malformed),
+            Some((element, rest)) => {
+                self.rest = rest;
+                Ok(element)
+            }
+        }
+    }
+
+    /// The next element where it has this tag, and None, with nothing taken, where it has another or there is none.
+    /// Malformed where something is left that no whole element begins.
+    #[tactic(auto, unfolding(crate::specs::Reading::optional_part))]
+    pub fn optional(&mut self, want: Tag) -> Result<Option<Element<'a>>, Unread>
+        ensures exact { Gives (λ o. (option_map part o, self.new.octets)) result (optional_part self.old.lengths (is_tag want.class want.constructed want.number) self.old.octets) }
+        ensures kept { self.new.lengths ≡ self.old.lengths }
+    {
+        match next(self.lengths, self.rest)? {
+            None => Ok(None),
+            Some((element, rest)) => {
+                if has_tag(element.tag, want.class, want.constructed, want.number) {
+                    self.rest = rest;
+                    Ok(Some(element))
+                } else {
+                    Ok(None)
+                }
+            }
+        }
+    }
+
+    /// The next element, which has this tag. Malformed where it has another, or none is whole there.
+    #[tactic(auto, unfolding(crate::specs::Reading::required_part))]
+    pub fn required(&mut self, want: Tag) -> Result<Element<'a>, Unread>
+        ensures exact { Gives (λ p. (part p, self.new.octets)) result (required_part self.old.lengths (is_tag want.class want.constructed want.number) self.old.octets) }
+        ensures kept { self.new.lengths ≡ self.old.lengths }
+        ensures shorter { OnOk result (length self.new.octets < length self.old.octets) }
+    {
+        let element = self.part()?;
+        if has_tag(element.tag, want.class, want.constructed, want.number) {
+            Ok(element)
+        } else {
+            Err(Unread::Malformed)
+        }
+    }
+
+    /// Nothing is left. Malformed where something is.
+    #[tactic(auto, unfolding(crate::specs::Reading::at_end))]
+    pub fn end(&self) -> Result<(), Unread>
+        ensures { Gives (λ _. tt) result (at_end self.now.octets) }
+    {
+        if self.rest.is_empty() {
+            Ok(())
+        } else {
+            Err(Unread::Malformed)
+        }
+    }
+
+    /// What is left is elements, which are not looked into and none of which is kept. Malformed where it isn't.
+    pub fn elements(&self) -> Result<(), Unread>
+        ensures { Gives (λ _. tt) result (elements_at self.now.lengths self.now.octets) }
+    {
+        elements(self.lengths, self.rest)
+    }
+}
+
+/// The contents are elements, which are not looked into. Malformed where they aren't.
+pub fn elements(lengths: Lengths, contents: &[u8]) -> Result<(), Unread>
+    ensures { Gives (λ _. tt) result (elements_at lengths contents.now) }
+{
+    let mut parts = Cursor::new(lengths, contents);
+    while !parts.is_empty() {
+        parts.part()?;
+    }
+    Ok(())
+}
