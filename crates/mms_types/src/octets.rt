@@ -4,13 +4,17 @@ ghost use Rattle.std.specs.Cmp.Lexicographic.{pointwise};
 ghost use Rattle.std.specs.Cmp.Rules.{comparing};
 
 use crate::Memory;
+use smallvec::SmallVec;
 use std::alloc::Global;
 use std::marker::Model;
 
-/// Octets that are kept, as a PDU or a text. Contracts see the list of them.
+/// How many octets are kept in the value itself, without an allocation: most requests and answers are as short.
+const SHORT: usize = 24;
+
+/// Octets that are kept, as a PDU or a text: up to 24 in the value itself, and more in an allocation. Contracts see the list of them.
 #[derive(Debug, Drop)]
 pub struct Octets {
-    held: Vec<u8>,
+    held: SmallVec<u8, SHORT>,
 }
 
 impl Model for Octets {
@@ -26,7 +30,7 @@ impl Octets {
     pub fn new(held: Vec<u8>) -> Octets
         ensures { result ≡ held.items }
     {
-        Octets { held }
+        Octets { held: SmallVec::from_vec(held) }
     }
 
     /// The octets of a slice, copied.
@@ -34,7 +38,7 @@ impl Octets {
         ensures { IfOk result (λ kept. kept ≡ octets.now) }
     {
         Ok(Octets {
-            held: Vec::from_slice(alloc, octets)?,
+            held: SmallVec::from_slice(alloc, octets)?,
         })
     }
 
@@ -42,7 +46,7 @@ impl Octets {
     pub fn as_slice(&self) -> &[u8]
         ensures { result.now ≡ self.now }
     {
-        &self.held
+        self.held.as_slice()
     }
 
     /// How many there are.
@@ -63,14 +67,7 @@ impl Octets {
     pub fn copy(&self, alloc: Global) -> Result<Octets, Memory>
         ensures { IfOk result (λ octets. octets ≡ self.now) }
     {
-        Octets::from_slice(alloc, &self.held)
-    }
-
-    /// The vector that holds the octets.
-    pub fn into_vec(self) -> Vec<u8>
-        ensures { result.items ≡ self }
-    {
-        self.held
+        Octets::from_slice(alloc, self.as_slice())
     }
 }
 
@@ -80,7 +77,7 @@ impl PartialEq for Octets {
     ghost laws = { Prim.search (comparing, rules) };
 
     fn eq(&self, other: &Octets) -> bool {
-        self.held == other.held
+        self.held.as_slice() == other.held.as_slice()
     }
 }
 

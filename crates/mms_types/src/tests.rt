@@ -140,7 +140,7 @@ fn events_are_kept_in_order(rt: HostRuntime) -> Result<(), Fail> {
     assert_eq!(rt; events.len(), 2);
     assert!(rt; events.as_slice()[1] == CellEvent::Tick { ms: 20 });
     assert_eq!(rt; events.into_vec().len(), 2);
-    assert!(rt; octets == Octets::new(octets.copy(alloc)?.into_vec()));
+    assert!(rt; octets == octets.copy(alloc)?);
     Ok(())
 }
 
