@@ -1,0 +1,5 @@
+pub mod Editions
+pub mod Names
+pub mod Ranges
+pub mod Said
+pub mod Spells
