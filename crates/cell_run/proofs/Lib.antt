@@ -1,0 +1,9 @@
+pub mod AskedLemmas
+pub mod PairLemmas
+pub mod LineLemmas
+pub mod StepLemmas
+pub mod ReportLemmas
+pub mod WordLemmas
+pub mod Valid
+pub mod Complete
+pub mod RefusalLemmas

@@ -1,0 +1,11 @@
+pub mod EventLine
+pub mod Recording
+pub mod Progress
+pub mod Negotiation
+pub mod Asked
+pub mod Association
+pub mod History
+pub mod Report
+pub mod Served
+pub mod Outcome
+pub mod Codes
