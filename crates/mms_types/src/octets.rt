@@ -30,7 +30,9 @@ impl Octets {
     pub fn new(held: Vec<u8>) -> Octets
         ensures { result ≡ held.items }
     {
-        Octets { held: SmallVec::from_vec(held) }
+        Octets {
+            held: SmallVec::from_vec(held),
+        }
     }
 
     /// The octets of a slice, copied.
