@@ -20,8 +20,8 @@ OPEN = b"1 A826800300FDE881010A82010A830105A416800101810305F100820C03EE1C0000040
 STATUS = b"1 A006020101800100\n"
 
 
-def run(words, recording):
-    """The processor time in seconds and the peak of memory in octets of one run."""
+def seconds(words, recording):
+    """The processor time of one run."""
     with open(recording, "rb") as source:
         pid = os.fork()
         if pid == 0:
@@ -31,7 +31,15 @@ def run(words, recording):
         _, status, used = os.wait4(pid, 0)
     if status != 0:
         sys.exit(f"{' '.join(words)} ended with status {os.waitstatus_to_exitcode(status)}")
-    return used.ru_utime + used.ru_stime, used.ru_maxrss * 1024
+    return used.ru_utime + used.ru_stime
+
+
+def peak(words, recording):
+    """The peak of memory in octets, by GNU time: a process forked from this one would count this one's as its own."""
+    with open(recording, "rb") as source:
+        done = subprocess.run(["/usr/bin/time", "-f", "%M"] + words, stdin=source, stdout=subprocess.DEVNULL,
+                              stderr=subprocess.PIPE, text=True, check=True)
+    return int(done.stderr.split()[-1]) * 1024
 
 
 def main():
@@ -49,12 +57,13 @@ def main():
             with open(recording, "wb") as text:
                 text.write(HEAD + OPEN + STATUS * events)
             size = os.path.getsize(recording)
-            rounds = [(run([asked.program, "replay"], recording), run([floor], recording)) for _ in range(asked.rounds)]
-            seconds = min(ours[0] for ours, _ in rounds)
-            plain = min(theirs[0] for _, theirs in rounds)
-            peak = max(ours[1] for ours, _ in rounds)
-            print(f"{events:>9} {size / 1e6:>7.2f} {seconds:>8.3f} {plain:>8.3f} {seconds / max(plain, 1e-9):>6.2f} "
-                  f"{events / max(seconds, 1e-9):>11.0f} {size / 1e6 / max(seconds, 1e-9):>7.1f} {peak / 1e6:>8.1f} {peak / size:>9.1f}")
+            program = [asked.program, "replay"]
+            rounds = [(seconds(program, recording), seconds([floor], recording)) for _ in range(asked.rounds)]
+            ours = min(time for time, _ in rounds)
+            plain = min(time for _, time in rounds)
+            memory = peak(program, recording)
+            print(f"{events:>9} {size / 1e6:>7.2f} {ours:>8.3f} {plain:>8.3f} {ours / max(plain, 1e-9):>6.2f} "
+                  f"{events / max(ours, 1e-9):>11.0f} {size / 1e6 / max(ours, 1e-9):>7.1f} {memory / 1e6:>8.1f} {memory / size:>9.1f}")
 
 
 if __name__ == "__main__":
