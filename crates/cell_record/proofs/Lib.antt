@@ -1,0 +1,7 @@
+pub mod Trims
+pub mod OneFurther
+pub mod Kept
+pub mod Steps
+pub mod Readings
+pub mod ReportLemmas
+pub mod Valid

@@ -1,0 +1,19 @@
+use Rattle.std.proofs.Common.{◌≡◌, ◌+◌, ◌≤◌, length}
+use Rattle.std.specs.List.{All}
+use Rattle.cell_record.specs.EventLine.{IsRecorded}
+use Rattle.cell_record.specs.Numbered.{IsPart, at, phases, IsWithin}
+use Rattle.cell_record.specs.Progress.{Becomes}
+use Rattle.cell_record.proofs.Readings.{with_events}
+use Rattle.cell_record.proofs.phase_lines.read_phase.Given as goal
+
+abbrev pub invariant-loop-turn : goal.invariant-loop-turn
+invariant-loop-turn g l = record {
+  rest : Becomes (at (phases l.initial.counts) l.clients l.initial.lines (g.S.Source.left l.initial.input)) (with_events l.events) (at (phases l.counts) l.clients l.lines (g.S.Source.left l.input));
+  recorded : All (IsRecorded l.clients) l.events;
+  size : length l.events ≡ l.counts.events;
+  within : IsWithin l.counts;
+  turns : l._turn + l.initial.lines.held.given ≤ l.lines.held.given;
+  most : l.lines.held.given ≤ 4294967296;
+  left : IsPart (g.S.Source.left l.initial.input) (g.S.Source.left l.input);
+  faults : g.S.Source.faults l.initial.input ≤ g.S.Source.faults l.input;
+}

@@ -1,0 +1,7 @@
+pub mod Words
+pub mod EventLine
+pub mod Recording
+pub mod Progress
+pub mod Numbered
+pub mod Report
+pub mod Grammar

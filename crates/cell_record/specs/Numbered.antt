@@ -1,0 +1,58 @@
+-- The lines of a text with their numbers.
+use Rattle.std.specs.Prelude.{◌≡◌, ℕ, ◌+◌, ◌<◌, ◌≤◌, List, [], length, Ok, Some, IfSome}
+use Rattle.std.specs.Option.{option_map}
+use Rattle.std.specs.declared.option.Option.{Option}
+use Rattle.cell_io.specs.Lines.{lines_of, first_line, after_line, kept_of}
+use Rattle.std.specs.Io.KnownBytes.{Consumes}
+use Rattle.cell_io.specs.Held.{Held, ahead}
+use Rattle.cell_record.specs.Recording.{Place, Opening, Reading, reading_of, setup_of, fresh, ended}
+use Rattle.cell_record.specs.declared.counts.Counts.{Counts}
+use Rattle.std.specs.Prelude.{Bool, if◌then◌else◌}
+
+-- what the reader of lines holds, how many lines it gave, and what is kept of the last of these
+pub record Numbered : Type 0 where
+  pub held : Held
+  pub lines : ℕ
+  pub line : List ℕ
+
+-- a line was given: what is kept of it, what is ahead after it, and how many octets were given in all
+abbrev pub Gives : Option (List ℕ) → Option (List ℕ) → List ℕ → ℕ → ℕ → Type 0
+Gives before after line octets next = IfSome before (λ text.
+    (0 < length text) × (line ≡ kept_of (first_line text)) × (after ≡ Some (after_line text)) × (next ≡ octets + length (first_line text)))
+
+-- what is left is a later part of what was left
+pub record IsPart (old new : Option (List ℕ)) : Type 0 where
+  pub gone : List ℕ
+  pub consumed : Consumes old new gone
+
+-- nothing is ahead
+abbrev pub EndsThere : Option (List ℕ) → Option (List ℕ) → Type 0
+EndsThere before after = IfSome before (λ text. (text ≡ []) × (after ≡ Some []))
+
+-- the place behind the last line that was given
+abbrev pub place_at : ℕ → Numbered → Place
+place_at clients n = record { clients = clients; lines = n.lines; octets = n.held.given }
+
+-- what is said of the lines ahead
+abbrev pub at : {T : Type 0} → (List (List ℕ) → Place → T) → ℕ → Numbered → Option (List ℕ) → Option T
+at f clients n left = option_map (λ text. f (lines_of text) (place_at clients n)) (ahead n.held left)
+
+-- the configuration's lines, with so many octets before them
+abbrev pub setup : ℕ → List (List ℕ) → Place → Opening
+setup size lines p = setup_of lines p size
+
+-- the line `end` was read
+abbrev pub opened : List (List ℕ) → Place → Opening
+opened lines p = Ok (record { rest = lines; place = p })
+
+-- the event lines, with so much of the phase before them
+abbrev pub phases : Counts → List (List ℕ) → Place → Reading
+phases c lines p = reading_of lines p c
+
+-- the lines after a phase, of which there is none after the last
+abbrev pub after_phase : Bool → ℕ → List (List ℕ) → Place → Reading
+after_phase last moment lines p = if last then ended else reading_of lines p (fresh moment)
+
+-- no more than a phase has, and no later than a time names
+abbrev pub IsWithin : Counts → Type 0
+IsWithin c = (c.events ≤ 16384) × (c.octets ≤ 67108864) × (c.moment ≤ 5662310399999)

@@ -1,0 +1,203 @@
+-- What a recording says: the lines up to `end`, and then its phases (this profile's choice).
+use Rattle.std.specs.Prelude.{ℕ, ◌+◌, ◌||◌, Bool, if◌then◌else◌, List, [], ◌∷◌, length, codes, Result, Ok, Err, Some, None, nat_le, nat_lt}
+use Rattle.std.specs.declared.option.Option.{Option}
+use Rattle.cell_io.specs.Lines.{lines_of}
+use Rattle.mms_types.specs.declared.event.CellEvent.{CellEvent}
+use Rattle.mms_types.specs.declared.event.CellEvent.TheVariants.{Heard, Lost, Tick, Ends, Drain}
+use Rattle.cell_record.specs.Words.{content, is_long, trim, is_remark}
+use Rattle.cell_record.specs.EventLine.{same, said_of}
+use Rattle.cell_record.specs.declared.said.Said.{Said}
+use Rattle.cell_record.specs.declared.said.Said.TheVariants.{Nothing, Phase, Happens}
+use Rattle.cell_record.specs.declared.counts.Counts.{Counts}
+use Rattle.cell_record.specs.declared.refusal.BadWord.{BadWord}
+use Rattle.cell_record.specs.declared.refusal.BadWord.TheVariants as bad
+use Rattle.cell_record.specs.declared.refusal.RecordError.{RecordError}
+use Rattle.cell_record.specs.declared.refusal.RecordError.TheVariants.{Bad, TooMuch}
+
+-- how far a reading has come: the clients, the lines and the octets so far
+pub record Place : Type 0 where
+  pub clients : ℕ
+  pub lines : ℕ
+  pub octets : ℕ
+
+-- the place behind a line
+abbrev pub behind : Place → List ℕ → Place
+behind p line = record { clients = p.clients; lines = p.lines + 1; octets = p.octets + length line }
+
+-- the input has at most 4,294,967,296 octets up to the line's end
+abbrev pub fits : Place → List ℕ → Bool
+fits p line = nat_le (p.octets + length line) 4294967296
+
+-- ---- event lines
+
+-- the complete phases, and what refuses the text after them
+pub record Reading : Type 0 where
+  pub phases : List (List CellEvent)
+  pub refusal : Option RecordError
+
+-- the end of the text ends a phase
+abbrev pub whole : Reading
+whole = record { phases = [] ∷ []; refusal = None }
+
+-- nothing more
+abbrev pub ended : Reading
+ended = record { phases = []; refusal = None }
+
+abbrev pub refused : RecordError → Reading
+refused e = record { phases = []; refusal = Some e }
+
+-- an event at the front of the first phase, where that is completed
+abbrev pub onto : CellEvent → List (List CellEvent) → List (List CellEvent)
+onto event [] = []
+onto event (phase ∷ rest) = (event ∷ phase) ∷ rest
+
+abbrev pub with_event : CellEvent → Reading → Reading
+with_event event r = record { phases = onto event r.phases; refusal = r.refusal }
+
+-- a phase in front
+abbrev pub with_phase : List CellEvent → Reading → Reading
+with_phase events r = record { phases = events ∷ r.phases; refusal = r.refusal }
+
+-- how many milliseconds go by in an event
+abbrev pub ms_in : CellEvent → ℕ
+ms_in (Heard client octets) = 0
+ms_in (Lost client) = 0
+ms_in (Tick ms) = ms
+ms_in (Ends name) = 0
+ms_in (Drain client) = 0
+
+-- how many octets of PDUs an event has
+abbrev pub octets_in : CellEvent → ℕ
+octets_in (Heard client octets) = length octets
+octets_in (Lost client) = 0
+octets_in (Tick ms) = 0
+octets_in (Ends name) = 0
+octets_in (Drain client) = 0
+
+-- a phase begins, at a moment
+abbrev pub fresh : ℕ → Counts
+fresh moment = record { events = 0; octets = 0; moment = moment }
+
+-- an event more
+abbrev pub counted : Counts → CellEvent → Counts
+counted c event = record { events = c.events + 1; octets = c.octets + octets_in event; moment = c.moment + ms_in event }
+
+-- a phase has at most 16,384 events and 67,108,864 octets of PDUs
+abbrev pub is_much : Counts → Bool
+is_much c = nat_lt 16384 c.events || nat_lt 67108864 c.octets
+
+-- a moment is no later than the last millisecond of day 65,535 (ISO 9506-2, TimeOfDay)
+abbrev pub is_past : Counts → Bool
+is_past c = nat_lt 5662310399999 c.moment
+
+-- why the line of this number is refused, with which there would be so much
+abbrev pub excess : ℕ → Counts → Option RecordError
+excess line c = if is_past c then Some (Bad line bad.Clock) else if is_much c then Some (TooMuch line) else None
+
+abbrev pub unless : Option RecordError → Reading → Reading
+unless None r = r
+unless (Some e) r = refused e
+
+-- what there is of the phase after a line that says this
+abbrev pub moved : Counts → Said → Counts
+moved c Nothing = c
+moved c Phase = fresh c.moment
+moved c (Happens event) = counted c event
+
+-- why the line of this number is refused that says this, where there is so much after it
+abbrev pub refusal_of : ℕ → Counts → Said → Option RecordError
+refusal_of line after Nothing = None
+refusal_of line after Phase = None
+refusal_of line after (Happens event) = excess line after
+
+-- what a line that says this makes of what the rest says
+abbrev pub makes : Said → Reading → Reading
+makes Nothing r = r
+makes Phase r = with_phase [] r
+makes (Happens event) r = with_event event r
+
+-- what a line of this number makes of what the rest says
+abbrev pub with_said : ℕ → Counts → Result Said BadWord → (Counts → Reading) → Reading
+with_said line c (Err word) rest = refused (Bad line word)
+with_said line c (Ok said) rest = unless (refusal_of line (moved c said) said) (makes said (rest (moved c said)))
+
+-- what event lines say from a place on, with so much of the phase before them
+abbrev pub reading_of : List (List ℕ) → Place → Counts → Reading
+reading_of [] p c = whole
+reading_of (line ∷ rest) p c =
+    if fits p line
+    then with_said (p.lines + 1) c (said_of p.clients (content line)) (λ d. reading_of rest (behind p line) d)
+    else refused (TooMuch (p.lines + 1))
+
+-- ---- the lines before them
+
+-- what stands behind the line `end`, and where that is
+pub record Opened : Type 0 where
+  pub rest : List (List ℕ)
+  pub place : Place
+
+abbrev pub Opening : Type 0
+Opening = Result Opened RecordError
+
+-- the line that is to stand here, or else the word that refuses it
+abbrev pub expected : List ℕ → BadWord → (List (List ℕ) → Place → Opening) → List (List ℕ) → Place → Opening
+expected want word next [] p = Err (Bad (p.lines + 1) word)
+expected want word next (line ∷ rest) p =
+    if fits p line
+    then (if same (content line) want then next rest (behind p line) else Err (Bad (p.lines + 1) word))
+    else Err (TooMuch (p.lines + 1))
+
+-- how much a line adds to the configuration's text that has so many octets as it stands: its content and one line feed, but a line that is too long all that it has
+abbrev pub size_by : ℕ → List ℕ → ℕ
+size_by size line = if is_long line then size else length (content line) + 1
+
+abbrev pub size_in_text : List ℕ → ℕ
+size_in_text line = size_by (length line) line
+
+-- the rule that a line of the configuration breaks, with which the text has so many octets
+abbrev pub setup_word : ℕ → List ℕ → Option BadWord
+setup_word total line =
+    if nat_lt 1048576 total then Some bad.Config
+    else if is_long line then Some bad.Long
+    else if is_remark (trim (content line)) then None
+    else Some bad.Later
+
+abbrev pub unless_word : ℕ → Option BadWord → Opening → Opening
+unless_word line None r = r
+unless_word line (Some word) r = Err (Bad line word)
+
+-- the configuration's lines, up to the line `end`
+abbrev pub setup_of : List (List ℕ) → Place → ℕ → Opening
+setup_of [] p size = Err (Bad (p.lines + 1) bad.Config)
+setup_of (line ∷ rest) p size =
+    if fits p line
+    then (if same (content line) (codes "end")
+    then Ok (record { rest = rest; place = behind p line })
+    else unless_word (p.lines + 1) (setup_word (size + size_in_text line) line) (setup_of rest (behind p line) (size + size_in_text line)))
+    else Err (TooMuch (p.lines + 1))
+
+-- the header, the line `config`, and the configuration's lines up to `end`
+abbrev pub opening_of : List (List ℕ) → Place → Opening
+opening_of lines p = expected (codes "mms-recording 1") bad.Header (expected (codes "config") bad.Config (λ rest q. setup_of rest q 0)) lines p
+
+-- ---- the whole text
+
+-- where the reading of a text begins
+abbrev pub front : ℕ → Place
+front clients = record { clients = clients; lines = 0; octets = 0 }
+
+-- how many clients there are
+abbrev pub default_clients : ℕ
+default_clients = 4
+
+abbrev pub opening_of_text : List ℕ → Opening
+opening_of_text text = opening_of (lines_of text) (front default_clients)
+
+-- the phases of a text that was opened, from the moment 0 on
+abbrev pub after_opening : Opening → Reading
+after_opening (Err e) = refused e
+after_opening (Ok o) = reading_of o.rest o.place (fresh 0)
+
+-- what a whole text says
+abbrev pub reading_of_text : List ℕ → Reading
+reading_of_text text = after_opening (opening_of_text text)

@@ -1,0 +1,144 @@
+//! What an event line says.
+
+ghost use Rattle.std.specs.Prelude.{◌≡◌, IfOk, IfErr, Ok, nat_eq, codes};
+ghost use Rattle.std.specs.Option.{option_map};
+ghost use Rattle.cell_record.specs.Words.{number_of, pairs_of, trim as trimmed, word_of, argument_of};
+ghost use Rattle.cell_record.specs.EventLine.{said_of, trimmed_says, worded, heard_of, lost_of, tick_of, ends_of, IsCause, MayHappen};
+
+use crate::BadWord;
+use crate::digits::{number, pairs};
+use crate::said::{LineError, Said};
+use crate::words::{begins_with_digit, first_word, is_remark, trim};
+use mms_types::{CellEvent, Edition, Identifier, Octets, Unnamed};
+use std::alloc::Global;
+
+const MOST_IN_LINE: usize = 196_608;
+
+const MOST_IN_PDU: usize = 65_000;
+
+const MOST_IN_TICK: u32 = 3_600_000;
+
+/// That a client sent octets.
+fn heard(clients: u32, client: Option<u32>, octets: Option<Vec<u8>>) -> Result<Said, LineError>
+    ensures says { IfOk result (λ s. heard_of clients client (option_map (λ v. v.items) octets) ≡ Ok s) }
+    ensures bad { IfErr result (λ e. IsCause (heard_of clients client (option_map (λ v. v.items) octets)) e) }
+    ensures may { IfOk result (MayHappen clients) }
+{
+    let (Some(client), Some(octets)) = (client, octets) else {
+        return Err(LineError::Bad(BadWord::Hex));
+    };
+    if octets.is_empty() || octets.len() > MOST_IN_PDU {
+        return Err(LineError::Bad(BadWord::Hex));
+    }
+    if client < 1 || client > clients {
+        return Err(LineError::Bad(BadWord::Client));
+    }
+    Ok(Said::Happens(CellEvent::Heard {
+        client,
+        octets: Octets::new(octets),
+    }))
+}
+
+/// That a client's association was lost.
+fn lost(clients: u32, client: Option<u32>) -> Result<Said, LineError>
+    ensures says { IfOk result (λ s. lost_of clients client ≡ Ok s) }
+    ensures bad { IfErr result (λ e. IsCause (lost_of clients client) e) }
+    ensures may { IfOk result (MayHappen clients) }
+{
+    let Some(client) = client else {
+        return Err(LineError::Bad(BadWord::Event));
+    };
+    if client < 1 || client > clients {
+        return Err(LineError::Bad(BadWord::Client));
+    }
+    Ok(Said::Happens(CellEvent::Lost { client }))
+}
+
+/// That time went by.
+fn tick(clients: u32, ms: Option<u32>) -> Result<Said, LineError>
+    ensures says { IfOk result (λ s. tick_of ms ≡ Ok s) }
+    ensures bad { IfErr result (λ e. IsCause (tick_of ms) e) }
+    ensures may { IfOk result (MayHappen clients) }
+{
+    let Some(ms) = ms else {
+        return Err(LineError::Bad(BadWord::Event));
+    };
+    if ms < 1 || ms > MOST_IN_TICK {
+        return Err(LineError::Bad(BadWord::Event));
+    }
+    Ok(Said::Happens(CellEvent::Tick { ms }))
+}
+
+/// That a program invocation came to its end.
+fn ends(alloc: Global, clients: u32, name: &[u8]) -> Result<Said, LineError>
+    ensures says { IfOk result (λ s. ends_of name.now ≡ Ok s) }
+    ensures bad { IfErr result (λ e. IsCause (ends_of name.now) e) }
+    ensures may { IfOk result (MayHappen clients) }
+{
+    match Identifier::read(alloc, name, Edition::One) {
+        Ok(name) => Ok(Said::Happens(CellEvent::Ends { name })),
+        Err(Unnamed::Bad(_)) => Err(LineError::Bad(BadWord::Event)),
+        Err(Unnamed::Memory) => Err(LineError::Memory),
+    }
+}
+
+/// What a line says by its first word.
+fn by_word(alloc: Global, clients: u32, line: &[u8]) -> Result<Said, LineError>
+    ensures says { IfOk result (λ s. worded clients line.now (word_of line.now) (argument_of line.now) ≡ Ok s) }
+    ensures bad { IfErr result (λ e. IsCause (worded clients line.now (word_of line.now) (argument_of line.now)) e) }
+    ensures may { IfOk result (MayHappen clients) }
+{
+    if line == b"phase".as_slice() {
+        return Ok(Said::Phase);
+    }
+    let parted = first_word(line);
+    if parted.word == b"lost".as_slice() {
+        return lost(clients, number(parted.argument));
+    }
+    if parted.word == b"tick".as_slice() {
+        return tick(clients, number(parted.argument));
+    }
+    if parted.word == b"ends".as_slice() {
+        return ends(alloc, clients, parted.argument);
+    }
+    Err(LineError::Bad(BadWord::Event))
+}
+
+/// What a line says that begins with a digit.
+fn by_client(alloc: Global, clients: u32, line: &[u8]) -> Result<Said, LineError>
+    ensures says { IfOk result (λ s. heard_of clients (number_of (word_of line.now)) (pairs_of (argument_of line.now)) ≡ Ok s) }
+    ensures bad { IfErr result (λ e. IsCause (heard_of clients (number_of (word_of line.now)) (pairs_of (argument_of line.now))) e) }
+    ensures may { IfOk result (MayHappen clients) }
+{
+    let parted = first_word(line);
+    match pairs(alloc, parted.argument) {
+        Ok(octets) => heard(clients, number(parted.word), octets),
+        Err(_) => Err(LineError::Memory),
+    }
+}
+
+fn trimmed(alloc: Global, clients: u32, line: &[u8]) -> Result<Said, LineError>
+    ensures says { IfOk result (λ s. trimmed_says clients line.now ≡ Ok s) }
+    ensures bad { IfErr result (λ e. IsCause (trimmed_says clients line.now) e) }
+    ensures may { IfOk result (MayHappen clients) }
+{
+    if begins_with_digit(line) {
+        return by_client(alloc, clients, line);
+    }
+    if is_remark(line) {
+        return Ok(Said::Nothing);
+    }
+    by_word(alloc, clients, line)
+}
+
+/// What the content of an event line says, where there are so many clients.
+pub fn said(alloc: Global, clients: u32, line: &[u8]) -> Result<Said, LineError>
+    ensures says { IfOk result (λ s. said_of clients line.now ≡ Ok s) }
+    ensures bad { IfErr result (λ e. IsCause (said_of clients line.now) e) }
+    ensures may { IfOk result (MayHappen clients) }
+{
+    if line.len() > MOST_IN_LINE {
+        return Err(LineError::Bad(BadWord::Long));
+    }
+    trimmed(alloc, clients, trim(line))
+}

@@ -1,0 +1,25 @@
+//! The recording, read phase by phase, and the report, written phase by phase.
+#![tactic(auto)]
+
+mod counts;
+mod digits;
+mod event_line;
+mod laws;
+mod numbered;
+mod opening;
+mod phase_lines;
+mod recording;
+mod refusal;
+mod report;
+mod said;
+#[cfg(test)]
+mod tests;
+mod told;
+mod words;
+
+pub use cell_io::WriteError;
+pub use laws::recordings_are_read;
+pub use recording::{Phase, Recording};
+pub use refusal::{BadWord, RecordError};
+pub use report::write_phase;
+pub use told::{ClientOutputs, PlacedEvents, Told};

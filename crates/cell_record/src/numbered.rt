@@ -1,0 +1,126 @@
+//! The lines of a source with their numbers.
+
+ghost use Rattle.std.specs.Prelude.{◌≡◌, ◌+◌, ◌<◌, ◌≤◌, [], true, false, length, IfOk, IfErr, IfSome};
+ghost use Rattle.std.specs.Io.KnownBytes.{IsAtEnd};
+ghost use Rattle.cell_io.specs.Faults.{Rose};
+ghost use Rattle.cell_io.specs.Lines.{first_line};
+ghost use Rattle.cell_io.specs.Held.{ahead};
+ghost use Rattle.cell_record.specs.Words.{content as content_of};
+ghost use Rattle.cell_record.specs.EventLine.{same};
+ghost use Rattle.cell_record.specs.Numbered.{IsPart, Gives, EndsThere};
+ghost use Rattle.cell_record.specs.Progress.{IsStated};
+
+use crate::RecordError;
+use crate::words::content;
+use cell_io::{Lines, Source, Stop};
+use std::alloc::Global;
+use std::marker::Model;
+
+/// A reader of lines that counts them and keeps the last one.
+#[derive(Drop)]
+pub struct NumberedLines {
+    lines: Lines,
+    count: u64,
+    line: Vec<u8>,
+}
+
+impl Model for NumberedLines {
+    ghost use Rattle.std.specs.Prelude.{◌≤◌};
+    ghost use Rattle.cell_record.specs.Numbered.{Numbered};
+
+    ghost Value = { Numbered };
+
+    ghost view = { λ s. record { held = s.lines; lines = s.count; line = s.line.items } };
+
+    ghost invariant = { λ s. s.count ≤ s.lines.given };
+}
+
+impl NumberedLines {
+    /// Nothing was read.
+    pub fn new(alloc: Global) -> Result<NumberedLines, RecordError>
+        ensures held { IfOk result (λ s. (s.held.octets ≡ []) × (s.held.given ≡ 0)) }
+        ensures lines { IfOk result (λ s. s.lines ≡ 0) }
+        ensures memory { IfErr result (λ e. e ≡ RecordError.Memory) }
+    {
+        match Lines::new(alloc) {
+            Ok(lines) => Ok(NumberedLines {
+                lines,
+                count: 0,
+                line: Vec::new(alloc),
+            }),
+            Err(_) => Err(RecordError::Memory),
+        }
+    }
+
+    /// How many lines were given.
+    pub fn count(&self) -> u64
+        ensures count { result ≡ self.now.lines }
+        ensures order { result ≤ self.now.held.given }
+        ensures fewer { result ≤ 4294967296 }
+    {
+        let _given = self.lines.given();
+        self.count
+    }
+
+    /// How many octets were given.
+    pub fn given(&self) -> u64
+        ensures given { result ≡ self.now.held.given }
+        ensures most { result ≤ 4294967296 }
+    {
+        self.lines.given()
+    }
+
+    /// The content of the line that was given last, or as much as is kept of it.
+    pub fn content(&self) -> &[u8]
+        ensures { result.now ≡ content_of self.now.line }
+    {
+        content(&self.line)
+    }
+
+    /// Whether the content of the line that was given last, or as much as is kept of it, is this.
+    pub fn is(&self, want: &[u8]) -> bool
+        ensures { result ≡ same (content_of self.now.line) want.now }
+    {
+        self.content() == want
+    }
+
+    /// What is kept of the line that was given last, with its end.
+    pub fn line(&self) -> &[u8]
+        ensures { result.now ≡ self.now.line }
+    {
+        &self.line
+    }
+
+    /// Goes to the next line: false at the end of the input.
+    pub fn next<S: Source>(&mut self, input: &mut S) -> Result<bool, RecordError>
+        ensures gives { IfOk result (λ more. more ≡ true → Gives (ahead self.old.held (S.left input.old)) (ahead self.new.held (S.left input.new))
+            self.new.line self.old.held.given self.new.held.given) }
+        ensures ends { IfOk result (λ more. more ≡ false → EndsThere (ahead self.old.held (S.left input.old)) (ahead self.new.held (S.left input.new))) }
+        ensures over { IfOk result (λ more. more ≡ false → IsAtEnd (S.left input.new)) }
+        ensures count { IfOk result (λ more. more ≡ true → self.new.lines ≡ self.old.lines + 1) }
+        ensures same { IfOk result (λ more. more ≡ false → self.new.lines ≡ self.old.lines) }
+        ensures grows { IfOk result (λ more. more ≡ true → self.old.held.given < self.new.held.given) }
+        ensures stays { IfOk result (λ more. more ≡ false → self.new.held.given ≡ self.old.held.given) }
+        ensures too_much { IfErr result (λ e. IsStated e → (e ≡ RecordError.TooMuch (self.old.lines + 1)) × IfSome (ahead self.old.held (S.left input.old)) (λ text.
+            4294967296 < self.old.held.given + length (first_line text))) }
+        ensures fault { IfErr result (λ e. e ≡ RecordError.ReadFault → Rose (S.faults input.old) (S.faults input.new)) }
+        ensures order { self.old.held.given ≤ self.new.held.given }
+        ensures most { self.new.held.given ≤ 4294967296 }
+        ensures left { IsPart (S.left input.old) (S.left input.new) }
+        ensures later { S.faults input.old ≤ S.faults input.new }
+    {
+        let _given = self.lines.given();
+        match self.lines.next(input, &mut self.line) {
+            Ok(true) => {
+                self.count += 1;
+                Ok(true)
+            }
+            Ok(false) => Ok(false),
+            Err(Stop::Fault) => Err(RecordError::ReadFault),
+            Err(Stop::TooMuch) => Err(RecordError::TooMuch {
+                line: self.count + 1,
+            }),
+            Err(Stop::Memory) => Err(RecordError::Memory),
+        }
+    }
+}

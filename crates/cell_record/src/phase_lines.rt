@@ -1,0 +1,111 @@
+//! The lines of one phase.
+
+ghost use Rattle.std.specs.Prelude.{◌≡◌, ◌+◌, ◌<◌, ◌≤◌, ◌^◌, [], true, false, length, IfOk, IfErr, IfSome, MatchOption, All, ⊤};
+ghost use Rattle.std.specs.Io.KnownBytes.{IsAtEnd};
+ghost use Rattle.cell_io.specs.Faults.{Rose};
+ghost use Rattle.cell_record.specs.EventLine.{MayHappen, IsRecorded};
+ghost use Rattle.cell_record.specs.Recording.{makes, moved, whole, refused, with_phase};
+ghost use Rattle.cell_record.specs.Numbered.{IsPart, at, phases, after_phase, IsWithin};
+ghost use Rattle.cell_record.specs.Progress.{Becomes, IsStated};
+
+use crate::RecordError;
+use crate::counts::Counts;
+use crate::event_line::said;
+use crate::numbered::NumberedLines;
+use crate::said::{LineError, Said};
+use cell_io::{MOST, Source};
+use mms_types::Events;
+use std::alloc::Global;
+
+/// A phase's events, and whether the input ends with it.
+#[derive(Drop)]
+pub struct Piece {
+    pub events: Events,
+    pub last: bool,
+}
+
+/// Reads the next line, and tells what it says: None at the end of the input.
+fn next_said<S: Source>(
+    alloc: Global,
+    lines: &mut NumberedLines,
+    clients: u32,
+    counts: &mut Counts,
+    input: &mut S,
+) -> Result<Option<Said>, RecordError>
+    requires { IsWithin counts.old }
+    ensures says { IfOk result (λ o. MatchOption o
+        (IfSome (at (phases counts.old) clients lines.old (S.left input.old)) (λ r. (r ≡ whole) × (at (phases counts.old) clients lines.new (S.left input.new) ≡ Some r)))
+        (λ s. Becomes (at (phases counts.old) clients lines.old (S.left input.old)) (makes s) (at (phases counts.new) clients lines.new (S.left input.new)))) }
+    ensures may { IfOk result (λ o. MatchOption o ⊤ (MayHappen clients)) }
+    ensures counts { IfOk result (λ o. MatchOption o (counts.new ≡ counts.old) (λ s. counts.new ≡ moved counts.old s)) }
+    ensures within { IfOk result (λ _. IsWithin counts.new) }
+    ensures over { IfOk result (λ o. MatchOption o (IsAtEnd (S.left input.new)) (λ _. ⊤)) }
+    ensures refused { IfErr result (λ e. IsStated e → IfSome (at (phases counts.old) clients lines.old (S.left input.old)) (λ r. r ≡ refused e)) }
+    ensures fault { IfErr result (λ e. e ≡ RecordError.ReadFault → Rose (S.faults input.old) (S.faults input.new)) }
+    ensures grows { IfOk result (λ o. MatchOption o ⊤ (λ _. lines.old.held.given < lines.new.held.given)) }
+    ensures order { lines.old.held.given ≤ lines.new.held.given }
+    ensures most { lines.new.held.given ≤ 4294967296 }
+    ensures left { IsPart (S.left input.old) (S.left input.new) }
+    ensures later { S.faults input.old ≤ S.faults input.new }
+{
+    let number = lines.count() + 1;
+    let _given = lines.given();
+    match lines.next(input) {
+        Ok(true) => {}
+        Ok(false) => return Ok(None),
+        Err(refusal) => return Err(refusal),
+    }
+    match said(alloc, clients, lines.content()) {
+        Ok(said) => match counts.count(number, &said) {
+            None => Ok(Some(said)),
+            Some(refusal) => Err(refusal),
+        },
+        Err(LineError::Bad(word)) => Err(RecordError::Bad { line: number, word }),
+        Err(LineError::Memory) => Err(RecordError::Memory),
+    }
+}
+
+/// Reads the lines up to the phase's end.
+pub fn read_phase<S: Source>(
+    alloc: Global,
+    lines: &mut NumberedLines,
+    clients: u32,
+    counts: &mut Counts,
+    input: &mut S,
+) -> Result<Piece, RecordError>
+    requires within { IsWithin counts.old }
+    requires begins { counts.old.events ≡ 0 }
+    ensures phase { IfOk result (λ p. Becomes (at (phases counts.old) clients lines.old (S.left input.old)) (with_phase p.events)
+        (at (after_phase p.last counts.new.moment) clients lines.new (S.left input.new))) }
+    ensures recorded { IfOk result (λ p. All (IsRecorded clients) p.events) }
+    ensures few { IfOk result (λ p. length p.events ≤ 16384) }
+    ensures within { IfOk result (λ _. IsWithin counts.new) }
+    ensures over { IfOk result (λ p. p.last ≡ true → IsAtEnd (S.left input.new)) }
+    ensures refused { IfErr result (λ e. IsStated e → IfSome (at (phases counts.old) clients lines.old (S.left input.old)) (λ r. r ≡ refused e)) }
+    ensures fault { IfErr result (λ e. e ≡ RecordError.ReadFault → Rose (S.faults input.old) (S.faults input.new)) }
+    ensures grows { IfOk result (λ p. p.last ≡ false → lines.old.held.given < lines.new.held.given) }
+    ensures order { lines.old.held.given ≤ lines.new.held.given }
+    ensures left { IsPart (S.left input.old) (S.left input.new) }
+    ensures later { S.faults input.old ≤ S.faults input.new }
+{
+    let mut events = Events::new(alloc);
+    let _given = lines.given();
+    for _turn in 0..MOST + 1 {
+        match next_said(alloc, lines, clients, counts, input) {
+            Ok(Some(Said::Nothing)) => continue,
+            Ok(Some(Said::Phase)) => {
+                return Ok(Piece {
+                    events,
+                    last: false,
+                });
+            }
+            Ok(Some(Said::Happens(event))) => match events.push(event) {
+                Ok(()) => continue,
+                Err(_) => return Err(RecordError::Memory),
+            },
+            Ok(None) => return Ok(Piece { events, last: true }),
+            Err(refusal) => return Err(refusal),
+        }
+    }
+    unreachable!()
+}

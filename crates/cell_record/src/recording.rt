@@ -1,0 +1,189 @@
+//! A recording that is being read.
+
+ghost use Rattle.std.specs.Prelude.{◌≡◌, ◌+◌, ◌<◌, ◌≤◌, ◌⊎◌, true, false, length, IfOk, IfErr, IfSome, OnOk, MatchOption, All, Some, None, Err, ⊤, ◌↔◌};
+ghost use Rattle.std.specs.Io.KnownBytes.{IsAtEnd};
+ghost use Rattle.std.specs.Option.{option_map};
+ghost use Rattle.cell_io.specs.Faults.{Rose};
+ghost use Rattle.cell_io.specs.Lines.{lines_of};
+ghost use Rattle.cell_io.specs.Held.{ahead, IsLaterPart};
+ghost use Rattle.cell_record.specs.EventLine.{IsRecorded};
+ghost use Rattle.cell_record.specs.Recording.{reading_of_text, opening_of_text, default_clients, refused, ended, with_phase};
+ghost use Rattle.cell_record.specs.Numbered.{opened, IsPart};
+ghost use Rattle.cell_record.specs.Progress.{Progress, place_of, rest_of, Becomes, IsStated};
+
+use crate::RecordError;
+use crate::counts::Counts;
+use crate::numbered::NumberedLines;
+use crate::opening::read_opening;
+use crate::phase_lines::read_phase;
+use cell_io::Source;
+use mms_types::Events;
+use std::alloc::Global;
+use std::marker::Model;
+
+const CLIENTS: u32 = 4;
+
+/// A phase of a recording.
+#[derive(Drop)]
+pub struct Phase {
+    /// Its number, from 1.
+    pub number: u32,
+    /// Its events, in the recorded order.
+    pub events: Events,
+}
+
+/// A recording that is being read.
+#[derive(Drop)]
+pub struct Recording {
+    lines: NumberedLines,
+    clients: u32,
+    moment: u64,
+    number: u32,
+    over: bool,
+    refusal: Option<RecordError>,
+}
+
+impl Model for Recording {
+    ghost use Rattle.std.specs.Prelude.{◌≤◌, ◌+◌, if◌then◌else◌};
+    ghost use Rattle.cell_record.specs.Progress.{Progress};
+
+    ghost Value = { Progress };
+
+    ghost view = { λ s. record {
+      held = s.lines.held;
+      clients = s.clients;
+      lines = s.lines.lines;
+      moment = s.moment;
+      number = s.number;
+      over = s.over;
+      refusal = s.refusal;
+    } };
+
+    ghost invariant = { λ s. (s.moment ≤ 5662310399999) × (s.number + (if s.over then 0 else 1) + 2 ≤ s.lines.held.given) };
+}
+
+impl Recording {
+    /// Reads the lines of a recording up to `end`: the header, `config`, and lines that are blank or
+    /// comments. `Bad` tells the first line that breaks a rule, or is missing, and `TooMuch` the line
+    /// that holds the octet after the last that may be read. Part of the source may have been read
+    /// after any refusal.
+    pub fn open<S: Source>(alloc: Global, input: &mut S) -> Result<Recording, RecordError>
+        // The lines up to `end` are of their forms, and the phases are those of what is ahead.
+        ensures opens { IfOk result (λ r. Becomes (option_map opening_of_text (S.left input.old)) (λ o. o)
+            (option_map (λ text. opened (lines_of text) (place_of r)) (ahead r.held (S.left input.new)))) }
+        ensures begins { IfOk result (λ r. Becomes (option_map reading_of_text (S.left input.old)) (λ s. s) (rest_of r (S.left input.new))) }
+        ensures new { IfOk result (λ r. (r.clients ≡ default_clients) × (r.moment ≡ 0) × (r.number ≡ 0) × (r.over ≡ false) × (r.refusal ≡ None)) }
+
+        // Why it is refused.
+        ensures refused { IfErr result (λ e. IsStated e → IfSome (S.left input.old) (λ text. opening_of_text text ≡ Err e)) }
+        ensures fault { IfErr result (λ e. e ≡ RecordError.ReadFault → Rose (S.faults input.old) (S.faults input.new)) }
+
+        // On every answer.
+        ensures left { IsLaterPart (S.left input.old) (S.left input.new) }
+        ensures later { S.faults input.old ≤ S.faults input.new }
+    {
+        let mut lines = match NumberedLines::new(alloc) {
+            Ok(lines) => lines,
+            Err(refusal) => return Err(refusal),
+        };
+        match read_opening(&mut lines, input) {
+            Ok(()) => {}
+            Err(refusal) => return Err(refusal),
+        }
+        Ok(Recording {
+            lines,
+            clients: CLIENTS,
+            moment: 0,
+            number: 0,
+            over: false,
+            refusal: None,
+        })
+    }
+
+    /// How many clients there are.
+    pub fn clients(&self) -> u32
+        ensures { result ≡ self.now.clients }
+    {
+        self.clients
+    }
+
+    /// Reads the next phase whole: None exactly at the end of the input, after the last phase. `Bad`
+    /// tells the first line that breaks a rule, and `TooMuch` the line with which the phase or the
+    /// input is too much; the phase that it stands in isn't given. A refusal is kept, and answered
+    /// again by each further call. Part of the source may have been read after any refusal.
+    pub fn next_phase<S: Source>(
+        &mut self,
+        alloc: Global,
+        input: &mut S,
+    ) -> Result<Option<Phase>, RecordError>
+        // The phase is the first of what is still said, and none is where nothing more is said.
+        ensures phase { IfOk result (λ o. MatchOption o
+            (IfSome (rest_of self.old (S.left input.old)) (λ r. r ≡ ended))
+            (λ p. Becomes (rest_of self.old (S.left input.old)) (with_phase p.events) (rest_of self.new (S.left input.new)))) }
+        ensures over { IfOk result (λ o. MatchOption o (self.old.over ≡ true) (λ _. self.old.over ≡ false)) }
+        ensures ended { IfOk result (λ o. MatchOption o ⊤ (λ _. self.new.over ≡ true → IsAtEnd (S.left input.new))) }
+        ensures number { IfOk result (λ o. MatchOption o ⊤ (λ p. (p.number ≡ self.old.number + 1) × (self.new.number ≡ p.number))) }
+        ensures recorded { IfOk result (λ o. MatchOption o ⊤ (λ p. All (IsRecorded self.new.clients) p.events)) }
+        ensures few { IfOk result (λ o. MatchOption o ⊤ (λ p. length p.events ≤ 16384)) }
+
+        // Why it is refused.
+        ensures refused { IfErr result (λ e. IsStated e → IfSome (rest_of self.old (S.left input.old)) (λ r. r ≡ refused e)) }
+        ensures fault { IfErr result (λ e. e ≡ RecordError.ReadFault → (self.old.refusal ≡ Some e) ⊎ Rose (S.faults input.old) (S.faults input.new)) }
+        ensures open { OnOk result (self.new.refusal ≡ None) }
+        ensures kept { IfErr result (λ e. self.new.refusal ≡ Some e) }
+        ensures again { MatchOption self.old.refusal ⊤ (λ e. result ≡ Err e) }
+
+        // On every answer.
+        ensures clients { self.new.clients ≡ self.old.clients }
+        ensures left { IsLaterPart (S.left input.old) (S.left input.new) }
+        ensures later { S.faults input.old ≤ S.faults input.new }
+    {
+        if let Some(refusal) = self.refusal {
+            return Err(refusal);
+        }
+        if self.over {
+            return Ok(None);
+        }
+        match self.read(alloc, input) {
+            Ok(events) => {
+                let _given = self.lines.given();
+                Ok(Some(Phase {
+                    number: self.number,
+                    events,
+                }))
+            }
+            Err(refusal) => {
+                self.refusal = Some(refusal);
+                Err(refusal)
+            }
+        }
+    }
+
+    /// Reads the events of the next phase.
+    fn read<S: Source>(&mut self, alloc: Global, input: &mut S) -> Result<Events, RecordError>
+        requires open { self.old.over ≡ false }
+        requires unrefused { self.old.refusal ≡ None }
+        ensures phase { IfOk result (λ es. Becomes (rest_of self.old (S.left input.old)) (with_phase es) (rest_of self.new (S.left input.new))) }
+        ensures recorded { IfOk result (λ es. All (IsRecorded self.old.clients) es) }
+        ensures few { IfOk result (λ es. length es ≤ 16384) }
+        ensures over { OnOk result (self.new.over ≡ true → IsAtEnd (S.left input.new)) }
+        ensures number { OnOk result (self.new.number ≡ self.old.number + 1) }
+        ensures refused { IfErr result (λ e. IsStated e → IfSome (rest_of self.old (S.left input.old)) (λ r. r ≡ refused e)) }
+        ensures fault { IfErr result (λ e. e ≡ RecordError.ReadFault → Rose (S.faults input.old) (S.faults input.new)) }
+        ensures same { (self.new.clients ≡ self.old.clients) × (self.new.refusal ≡ self.old.refusal) }
+        ensures left { IsPart (S.left input.old) (S.left input.new) }
+        ensures later { S.faults input.old ≤ S.faults input.new }
+    {
+        let mut counts = Counts::fresh(self.moment);
+        let _given = self.lines.given();
+        match read_phase(alloc, &mut self.lines, self.clients, &mut counts, input) {
+            Ok(piece) => {
+                self.moment = counts.moment;
+                self.number += 1;
+                self.over = piece.last;
+                Ok(piece.events)
+            }
+            Err(refusal) => Err(refusal),
+        }
+    }
+}

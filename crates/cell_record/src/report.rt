@@ -1,0 +1,226 @@
+//! The report.
+
+ghost use Rattle.std.specs.Prelude.{◌≡◌, ◌+◌, ◌<◌, ◌≤◌, ◌^◌, ◌++◌, ◌∷◌, [], length, OnOk, OnErr, IfErr};
+ghost use Rattle.std.specs.List.{flat_map};
+ghost use Rattle.cell_io.specs.Faults.{Rose};
+ghost use Rattle.cell_io.specs.Prefix.{AppendsPrefix, AppendsBefore};
+ghost use Rattle.std.specs.Io.KnownBytes.{Appends};
+ghost use Rattle.cell_record.specs.Report.{is_printed, served_line, placed_line, event_text, output_text, phase_head, section, sections, section_head, phase_text};
+
+use crate::{ClientOutputs, Told};
+use cell_io::{Memory, Sink, Text, WriteError};
+use mms_types::{CellEvent, What};
+use std::alloc::Global;
+
+fn is_printed(event: &CellEvent) -> bool
+    ensures { result ≡ is_printed event.now }
+{
+    match event {
+        CellEvent::Drain { .. } => false,
+        _ => true,
+    }
+}
+
+/// Puts an event as its line says it.
+fn put_event(text: &mut Text, event: &CellEvent) -> Result<(), Memory>
+    ensures { OnOk result (text.new ≡ text.old ++ event_text event.now) }
+{
+    match event {
+        CellEvent::Heard { client, octets } => {
+            text.put_number(u64::from(*client))?;
+            text.put(b" ")?;
+            text.put_hex(octets.as_slice())
+        }
+        CellEvent::Lost { client } => {
+            text.put(b"lost ")?;
+            text.put_number(u64::from(*client))
+        }
+        CellEvent::Tick { ms } => {
+            text.put(b"tick ")?;
+            text.put_number(u64::from(*ms))
+        }
+        CellEvent::Ends { name } => {
+            text.put(b"ends ")?;
+            text.put(name.octets())
+        }
+        CellEvent::Drain { .. } => Ok(()),
+    }
+}
+
+/// Puts the line of an event at its place.
+fn put_placed(text: &mut Text, place: u64, event: &CellEvent) -> Result<(), Memory>
+    ensures { OnOk result (text.new ≡ text.old ++ placed_line place event.now) }
+{
+    if !is_printed(event) {
+        return Ok(());
+    }
+    text.put_number(place)?;
+    text.put(b" ")?;
+    put_event(text, event)?;
+    text.put(b"\n")
+}
+
+/// Puts the line of what is sent.
+fn put_output(text: &mut Text, output: &What) -> Result<(), Memory>
+    ensures { OnOk result (text.new ≡ text.old ++ output_text output.now) }
+{
+    match output {
+        What::Octets(octets) => {
+            text.put(b"> ")?;
+            text.put_hex(octets.as_slice())?;
+            text.put(b"\n")
+        }
+        What::Abort => text.put(b"> abort\n"),
+    }
+}
+
+/// Puts the head of a phase.
+fn put_phase(text: &mut Text, number: u32) -> Result<(), Memory>
+    ensures { OnOk result (text.new ≡ text.old ++ phase_head number) }
+{
+    text.put(b"phase ")?;
+    text.put_number(u64::from(number))?;
+    text.put(b"\n")
+}
+
+/// Puts the head of a client's section.
+fn put_client(text: &mut Text, client: u64) -> Result<(), Memory>
+    ensures { OnOk result (text.new ≡ text.old ++ section_head client) }
+{
+    text.put(b"client ")?;
+    text.put_number(client)?;
+    text.put(b"\n")
+}
+
+/// Writes the lines of events.
+#[tactic(auto, using(crate::proofs::ReportLemmas::flat_rest))]
+fn write_served<K: Sink>(
+    text: &mut Text,
+    out: &mut K,
+    served: &[(u64, CellEvent)],
+) -> Result<(), WriteError>
+    ensures whole { OnOk result (AppendsBefore (K.held out.old) (K.held out.new) text.new (text.old ++ flat_map served_line served.now)) }
+    ensures part { OnErr result (AppendsPrefix (K.held out.old) (K.held out.new) (text.old ++ flat_map served_line served.now)) }
+    ensures cause { IfErr result (λ e. e ≡ WriteError.Fault → Rose (K.faults out.old) (K.faults out.new)) }
+    ensures later { K.faults out.old ≤ K.faults out.new }
+{
+    for placed in served {
+        match put_placed(text, placed.0, &placed.1) {
+            Ok(()) => {}
+            Err(_) => return Err(WriteError::Memory),
+        }
+        match text.pass(out) {
+            Ok(()) => {}
+            Err(_) => return Err(WriteError::Fault),
+        }
+    }
+    Ok(())
+}
+
+/// Writes the lines of what is sent.
+#[tactic(auto, using(crate::proofs::ReportLemmas::flat_rest))]
+fn write_outputs<K: Sink>(text: &mut Text, out: &mut K, outputs: &[What]) -> Result<(), WriteError>
+    ensures whole { OnOk result (AppendsBefore (K.held out.old) (K.held out.new) text.new (text.old ++ flat_map output_text outputs.now)) }
+    ensures part { OnErr result (AppendsPrefix (K.held out.old) (K.held out.new) (text.old ++ flat_map output_text outputs.now)) }
+    ensures cause { IfErr result (λ e. e ≡ WriteError.Fault → Rose (K.faults out.old) (K.faults out.new)) }
+    ensures later { K.faults out.old ≤ K.faults out.new }
+{
+    for output in outputs {
+        match put_output(text, output) {
+            Ok(()) => {}
+            Err(_) => return Err(WriteError::Memory),
+        }
+        match text.pass(out) {
+            Ok(()) => {}
+            Err(_) => return Err(WriteError::Fault),
+        }
+    }
+    Ok(())
+}
+
+/// Writes a client's section, where it was sent anything.
+fn write_section<K: Sink>(
+    text: &mut Text,
+    out: &mut K,
+    client: u64,
+    outputs: &[What],
+) -> Result<(), WriteError>
+    ensures whole { OnOk result (AppendsBefore (K.held out.old) (K.held out.new) text.new (text.old ++ section client outputs.now)) }
+    ensures part { OnErr result (AppendsPrefix (K.held out.old) (K.held out.new) (text.old ++ section client outputs.now)) }
+    ensures cause { IfErr result (λ e. e ≡ WriteError.Fault → Rose (K.faults out.old) (K.faults out.new)) }
+    ensures later { K.faults out.old ≤ K.faults out.new }
+{
+    if outputs.is_empty() {
+        return Ok(());
+    }
+    match put_client(text, client) {
+        Ok(()) => {}
+        Err(_) => return Err(WriteError::Memory),
+    }
+    write_outputs(text, out, outputs)
+}
+
+/// Writes the clients' sections.
+fn write_sections<K: Sink>(
+    text: &mut Text,
+    out: &mut K,
+    outputs: &ClientOutputs,
+) -> Result<(), WriteError>
+    ensures whole { OnOk result (AppendsBefore (K.held out.old) (K.held out.new) text.new (text.old ++ sections 1 outputs.now)) }
+    ensures part { OnErr result (AppendsPrefix (K.held out.old) (K.held out.new) (text.old ++ sections 1 outputs.now)) }
+    ensures cause { IfErr result (λ e. e ≡ WriteError.Fault → Rose (K.faults out.old) (K.faults out.new)) }
+    ensures later { K.faults out.old ≤ K.faults out.new }
+{
+    let clients = outputs.len();
+    for place in 0..clients {
+        match write_section(text, out, place as u64 + 1, outputs.at(place)) {
+            Ok(()) => {}
+            Err(failed) => return Err(failed),
+        }
+    }
+    Ok(())
+}
+
+/// Puts the text of a phase, of which a part may be written.
+fn write_text<K: Sink>(text: &mut Text, out: &mut K, phase: &Told) -> Result<(), WriteError>
+    ensures whole { OnOk result (AppendsBefore (K.held out.old) (K.held out.new) text.new (text.old ++ phase_text phase.now.number phase.now.served phase.now.outputs)) }
+    ensures part { OnErr result (AppendsPrefix (K.held out.old) (K.held out.new) (text.old ++ phase_text phase.now.number phase.now.served phase.now.outputs)) }
+    ensures cause { IfErr result (λ e. e ≡ WriteError.Fault → Rose (K.faults out.old) (K.faults out.new)) }
+    ensures later { K.faults out.old ≤ K.faults out.new }
+{
+    match put_phase(text, phase.number) {
+        Ok(()) => {}
+        Err(_) => return Err(WriteError::Memory),
+    }
+    match write_served(text, out, phase.served.as_slice()) {
+        Ok(()) => {}
+        Err(stopped) => return Err(stopped),
+    }
+    match write_sections(text, out, &phase.outputs) {
+        Ok(()) => Ok(()),
+        Err(stopped) => Err(stopped),
+    }
+}
+
+/// Writes the text of a phase in the report: the line `phase <number>`, the events with their
+/// places, and what each client was sent that was sent anything. Drains aren't printed. After an
+/// error the sink holds what it held and then a prefix of the text.
+pub fn write_phase<K: Sink>(alloc: Global, out: &mut K, phase: &Told) -> Result<(), WriteError>
+    ensures whole { OnOk result (Appends (K.held out.old) (K.held out.new) (phase_text phase.now.number phase.now.served phase.now.outputs)) }
+    ensures part { OnErr result (AppendsPrefix (K.held out.old) (K.held out.new) (phase_text phase.now.number phase.now.served phase.now.outputs)) }
+    ensures cause { IfErr result (λ e. e ≡ WriteError.Fault → Rose (K.faults out.old) (K.faults out.new)) }
+    ensures later { K.faults out.old ≤ K.faults out.new }
+{
+    let mut text = match Text::new(alloc) {
+        Ok(text) => text,
+        Err(_) => return Err(WriteError::Memory),
+    };
+    match write_text(&mut text, out, phase) {
+        Ok(()) => {}
+        Err(stopped) => return Err(stopped),
+    }
+    match text.flush(out) {
+        Ok(()) => Ok(()),
+        Err(_) => Err(WriteError::Fault),
+    }
+}
