@@ -1,0 +1,4 @@
+pub mod Admission
+pub mod Client
+pub mod Negotiation
+pub mod Waiting

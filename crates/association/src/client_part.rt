@@ -1,0 +1,241 @@
+ghost use Rattle.std.specs.Prelude.{◌≡◌, ◌≢◌, ◌↔◌, ◌<◌, ◌≤◌, ◌-◌, false, [], OnOk, OnErr, IfOk, IfSome, IsOk, IsSome, length, slice_get};
+ghost use Rattle.std.specs.Option.{option_copied};
+ghost use Rattle.association.specs.Admission.{admission};
+ghost use Rattle.association.specs.Client.{closed_row, drained_row, negotiated_of, new_row, opened_row, row_with_output, row_with_waiting, row_without_waiting};
+ghost use Rattle.association.specs.Negotiation.{negotiation, values_of};
+ghost use Rattle.association.specs.Waiting.{is_waiting, AreDistinct};
+
+use crate::negotiation::{answer, refusal, values};
+use crate::waiting::{has_waiting, remove_waiting};
+use crate::{Association, Constants, Negotiated, Waiting};
+use mms_types::{Initiate, InitiateAnswer, Key, Memory, ServiceError, What};
+use std::alloc::Global;
+use std::marker::Model;
+use std::mem;
+
+/// Why a request is not taken (ISO 9506-2, RejectPDU, confirmed-requestPDU).
+#[derive(Clone, Copy, Debug, PartialEq, Eq)]
+pub enum NotAdmitted {
+    /// A request of that invokeID waits: invalid-invokeID.
+    Waiting,
+    /// As many requests wait as were negotiated: max-serv-outstanding-exceeded.
+    Outstanding,
+}
+
+/// The part of the device that belongs to one client. Contracts see its row, which is the client's
+/// number, the association, the requests that wait at the server in the order in which they came,
+/// what is to be sent to the client in order, and the constants; and beside it the numbers of
+/// outputs and of waiting requests for which there is room, as `reserve` made it. All but `reserve`
+/// take no memory.
+#[derive(Debug, Drop)]
+pub struct ClientPart {
+    client: u32,
+    association: Association,
+    waiting: Vec<Waiting>,
+    outbox: Vec<What>,
+    constants: Constants,
+    output_room: usize,
+    waiting_room: usize,
+}
+
+impl Model for ClientPart {
+    ghost use Rattle.std.specs.Prelude.{◌+◌, ◌≤◌, vec_len, vec_capacity};
+    ghost use Rattle.association.specs.Client.{Client};
+    ghost use Rattle.association.specs.Waiting.{AreDistinct};
+
+    ghost Value = { Client };
+
+    ghost view = { λ part. record {
+      row = record {
+        client = part.client;
+        association = part.association;
+        waiting = part.waiting.items;
+        outbox = part.outbox.items;
+        constants = part.constants;
+      };
+      output_room = part.output_room;
+      waiting_room = part.waiting_room;
+    } };
+
+    ghost invariant = { λ part.
+        (vec_len part.outbox + part.output_room ≤ vec_capacity part.outbox)
+        × (vec_len part.waiting + part.waiting_room ≤ vec_capacity part.waiting)
+        × AreDistinct part.waiting.items };
+}
+
+impl ClientPart {
+    /// The part of a client of that number, with which there is no association. Nothing waits, and
+    /// there is no room for anything.
+    pub fn new(alloc: Global, client: u32, device: Constants) -> ClientPart
+        ensures { result ≡ record { row = new_row client device; output_room = 0; waiting_room = 0 } }
+    {
+        ClientPart {
+            client,
+            association: Association::Idle,
+            waiting: Vec::new(alloc),
+            outbox: Vec::new(alloc),
+            constants: device,
+            output_room: 0,
+            waiting_room: 0,
+        }
+    }
+
+    /// The number of the client.
+    pub fn client(&self) -> u32
+        ensures { result ≡ self.now.row.client }
+    {
+        self.client
+    }
+
+    /// What never changes of the part.
+    pub fn constants(&self) -> &Constants
+        ensures { result.now ≡ self.now.row.constants }
+    {
+        &self.constants
+    }
+
+    /// The values that the association was negotiated to, and None exactly where there is none.
+    pub fn negotiated(&self) -> Option<&Negotiated>
+        ensures { option_copied result ≡ negotiated_of self.now.row.association }
+    {
+        match &self.association {
+            Association::Idle => None,
+            Association::Open(values) => Some(values),
+        }
+    }
+
+    /// Negotiates a proposal (ISO 9506-1, Initiate). It is refused by the first of these that
+    /// holds: a version below 1, a PDU size below 512, calling below 1, called below 1, a nesting
+    /// below 1; then all stays as it was. Otherwise the association is open with the values of the
+    /// answer.
+    pub fn negotiate(&mut self, proposal: &Initiate) -> Result<InitiateAnswer, ServiceError>
+        requires idle { self.old.row.association ≡ Association.Idle }
+        ensures told { result ≡ negotiation proposal.now }
+        ensures opened { IfOk result (λ answer.
+            self.new ≡ record self.old { row = opened_row self.old.row (values_of answer) }) }
+        ensures refused { OnErr result (self.new ≡ self.old) }
+    {
+        if let Some(error) = refusal(proposal) {
+            return Err(error);
+        }
+        let answer = answer(proposal);
+        self.association = Association::Open(values(&answer));
+        Ok(answer)
+    }
+
+    /// Whether a confirmed request of that invokeID is taken (ISO 9506-1, the rejection of
+    /// requests). It is refused as Waiting exactly where a request of that invokeID waits, and
+    /// otherwise as Outstanding exactly where as many requests wait as called allows.
+    pub fn admit(&self, invoke: u32) -> Result<(), NotAdmitted>
+        requires open { self.now.row.association ≢ Association.Idle }
+        ensures told { result ≡ admission invoke self.now.row }
+        ensures distinct { AreDistinct self.now.row.waiting }
+    {
+        if has_waiting(&self.waiting, invoke) {
+            return Err(NotAdmitted::Waiting);
+        }
+        let allowed = match &self.association {
+            Association::Idle => 0,
+            Association::Open(values) => values.called,
+        };
+        if self.waiting.len() >= allowed as usize {
+            return Err(NotAdmitted::Outstanding);
+        }
+        Ok(())
+    }
+
+    /// Makes room for so many outputs and so many waiting requests; room for more that there was is
+    /// given up. Without memory for it all stays as it was. It takes no memory where there is room
+    /// for as many.
+    pub fn reserve(&mut self, outputs: usize, waiting: usize) -> Result<(), Memory>
+        ensures made { OnOk result (
+            self.new ≡ record self.old { output_room = outputs; waiting_room = waiting }) }
+        ensures kept { OnErr result (self.new ≡ self.old) }
+        ensures enough { outputs ≤ self.old.output_room → waiting ≤ self.old.waiting_room
+            → IsOk result }
+    {
+        self.outbox.reserve(outputs)?;
+        self.waiting.reserve(waiting)?;
+        self.output_room = outputs;
+        self.waiting_room = waiting;
+        Ok(())
+    }
+
+    /// Gives up the room that is left.
+    pub fn release(&mut self)
+        ensures { self.new ≡ record self.old { output_room = 0; waiting_room = 0 } }
+    {
+        self.output_room = 0;
+        self.waiting_room = 0;
+    }
+
+    /// Appends an output to what is to be sent. It uses the room for one.
+    pub fn push(&mut self, output: What)
+        requires room { 0 < self.old.output_room }
+        ensures { self.new ≡ record self.old {
+          row = row_with_output self.old.row output;
+          output_room = self.old.output_room - 1;
+        } }
+    {
+        self.outbox.push_reserved(output);
+        self.output_room -= 1;
+    }
+
+    /// Lets the request of an invokeID wait: the entry of that number waits at the semaphore. It
+    /// uses the room for one.
+    pub fn wait(&mut self, invoke: u32, key: Key, entry: u64)
+        requires room { 0 < self.old.waiting_room }
+        requires new { is_waiting invoke self.old.row.waiting ≡ false }
+        ensures { self.new ≡ record self.old {
+          row = row_with_waiting self.old.row (record { invoke = invoke; key = key; entry = entry });
+          waiting_room = self.old.waiting_room - 1;
+        } }
+    {
+        self.waiting.push_reserved(Waiting { invoke, key, entry });
+        self.waiting_room -= 1;
+    }
+
+    /// The request that waits at that place: its invokeID, its semaphore and the number of its
+    /// entry. None exactly where the place is not below their count.
+    pub fn waiting_at(&self, place: usize) -> Option<(u32, &Key, u64)>
+        ensures found { IsSome result ↔ (place < length self.now.row.waiting) }
+        ensures row { IfSome result (λ row. slice_get self.now.row.waiting place
+            ≡ Some (record { invoke = row.0; key = row.1.now; entry = row.2 })) }
+    {
+        let row = self.waiting.get(place)?;
+        Some((row.invoke, &row.key, row.entry))
+    }
+
+    /// Removes the request of that invokeID from those that wait. False exactly where it does not
+    /// wait, and then all stays as it was.
+    pub fn answered(&mut self, invoke: u32) -> bool
+        ensures found { result ≡ is_waiting invoke self.old.row.waiting }
+        ensures row { self.new ≡ record self.old { row = row_without_waiting self.old.row invoke } }
+        ensures kept { result ≡ false → self.new ≡ self.old }
+    {
+        remove_waiting(&mut self.waiting, invoke)
+    }
+
+    /// The association is gone (ISO 9506-1, Conclude and Abort): the negotiated values and the
+    /// requests that wait are forgotten. What is to be sent stays, and so does the room.
+    pub fn close(&mut self)
+        ensures { self.new ≡ record self.old { row = closed_row self.old.row } }
+    {
+        self.association = Association::Idle;
+        self.waiting.clear();
+    }
+
+    /// Hands on what is to be sent, in order. Nothing is then left to be sent, and there is no room
+    /// for outputs.
+    pub fn drain(&mut self) -> Vec<What>
+        ensures outputs { result.items ≡ self.old.row.outbox }
+        ensures emptied { self.new ≡ record self.old {
+          row = drained_row self.old.row;
+          output_room = 0;
+        } }
+    {
+        let empty = Vec::new(*self.outbox.allocator());
+        self.output_room = 0;
+        mem::replace(&mut self.outbox, empty)
+    }
+}

@@ -1,0 +1,15 @@
+//! The association of one client (ISO 9506-1, environment and general management): its negotiation,
+//! the requests of the client that wait at the server, and what is to be sent to it.
+#![tactic(auto)]
+
+mod client_part;
+mod constants;
+mod negotiation;
+#[cfg(test)]
+mod tests;
+mod waiting;
+
+pub use client_part::{ClientPart, NotAdmitted};
+pub use constants::Constants;
+pub use negotiation::{Association, Negotiated};
+pub use waiting::Waiting;
