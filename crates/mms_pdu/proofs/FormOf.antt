@@ -1,0 +1,175 @@
+-- What is heard as a PDU that is kept whole is of its form.
+use Rattle.std.proofs.Common.{◌≡◌, ℕ, pos, Bool, true, false, cond, eqb, List, Option, Some, None, Result, Ok, Err, refl, sym, ap, subst, ◌∙◌}
+use Rattle.std.specs.Prelude.{is_some}
+use Rattle.ber_core.specs.declared.element.Tag.{Tag}
+use Rattle.ber_core.specs.declared.element.Lengths.{Lengths}
+use Rattle.ber_core.specs.Part.{Part}
+use Rattle.ber_core.proofs.Elements.{IsBytes}
+use Rattle.ber_forms.specs.Fault.{Fault}
+use Rattle.ber_forms.specs.Fault as fault
+use Rattle.ber_forms.specs.Value.{Value, nothing, number, chosen, parts, optionally, given, done, slot}
+use Rattle.ber_forms.specs.Form.{Alternatives, choice, universal, unsigned32}
+use Rattle.ber_forms.specs.Reading.{◌>>=◌, is_tag, has_tag, next_at, part_at, if_tag, optional_part, at_end, chosen_by, reading, alternatives, required_at}
+use Rattle.ber_forms.specs.InForm.{InForm}
+use Rattle.ber_forms.proofs.Sound.{fine_is, bound, reading_sound}
+use Rattle.pdu_names.specs.Said.{natural_of}
+use Rattle.pdu_assoc.specs.Heard.{heard_reject_form, answering_form, answered}
+use Rattle.mms_pdu.specs.declared.refusal.Refusal.{Refusal}
+use Rattle.mms_pdu.specs.declared.refusal.Refusal.TheVariants as refusal
+use Rattle.mms_pdu.specs.Pdus.{requests, request_form, with_invoke_value}
+use Rattle.mms_pdu.specs.Hearing.{Asked, asking, has_service, is_pdu, kept_pdus, whole_pdus, noted_pdus, valid, and_then, argued, sole_part, service_of, asked_at, request_told, reject_told, part_told, heard}
+use Rattle.mms_pdu.proofs.Whole.{invoke_is}
+
+-- ---- steps
+
+abbrev heard_as : {A : Type 0} → A → Result A Refusal
+heard_as x = Ok x
+
+told_is : {A : Type 0} (x y : A) → heard_as x ≡ heard_as y → x ≡ y
+told_is x y e = cc
+
+stepped : {A B : Type 0} (r : Result A Refusal) (f : A → Result B Refusal) (y : B) → and_then r f ≡ Ok y → (x : A) × (r ≡ Ok x) × (f x ≡ Ok y)
+stepped (Ok x) f y e = (x, refl, e)
+stepped (Err d) f y e = absurd cc
+
+valid_is : {A : Type 0} (r : Result A Fault) (x : A) → valid r ≡ Ok x → r ≡ Ok x
+valid_is (Ok y) x e = cc
+valid_is (Err d) x e = absurd cc
+
+service_is : (p s : Part) → service_of p ≡ Ok s → p ≡ s
+service_is p s e = by_class (eqb p.tag.class 2) e
+  where
+    by_class : (b : Bool) → cond b (Ok p) (Err fault.malformed) ≡ Ok s → p ≡ s
+    by_class true f = fine_is p s f
+    by_class false f = absurd cc
+
+argued_is : (invoke : ℕ) (r : Result Value Fault) (v : Value) → argued invoke r ≡ Ok v → (w : Value) × (r ≡ Ok w) × (chosen 0 (with_invoke_value invoke w) ≡ v)
+argued_is invoke (Ok w) v e = (w, refl, told_is (chosen 0 (with_invoke_value invoke w)) v e)
+argued_is invoke (Err fault.malformed) v e = absurd cc
+argued_is invoke (Err fault.too_deep) v e = absurd cc
+
+-- nothing is taken where no modifiers are found
+not_taken : (test : Tag → Bool) (octets : List ℕ) (o : Option (Part × List ℕ)) → is_some (if_tag test octets o).0 ≡ false → (if_tag test octets o).1 ≡ octets
+not_taken test octets None e = refl
+not_taken test octets (Some x) e = by_tag (test x.0.tag) refl
+  where
+    by_tag : (b : Bool) → test x.0.tag ≡ b → (if_tag test octets (Some x)).1 ≡ octets
+    by_tag false t = rw t refl
+    by_tag true t =
+        let taken : is_some (if_tag test octets (Some x)).0 ≡ true = rw t refl in
+        absurd (cc (e, taken))
+
+module _ (lengths : Lengths) where
+  untouched : (test : Tag → Bool) (octets : List ℕ) (m : Option Part × List ℕ) → optional_part lengths test octets ≡ Ok m → is_some m.0 ≡ false → m.1 ≡ octets
+  unfolding optional_part
+  untouched test octets m e none =
+      let b = bound (next_at lengths octets) (λ x. Ok (if_tag test octets x)) m e in
+      let is : if_tag test octets b.0 ≡ m = fine_is (if_tag test octets b.0) m b.2 in
+      sym (ap (λ (y : Option Part × List ℕ). y.1) is) ∙ not_taken test octets b.0 (ap (λ (y : Option Part × List ℕ). is_some y.0) is ∙ none)
+
+  pub record Alone (c : List ℕ) (p : Part) : Type 0 where
+    pub rest : List ℕ
+    pub first : part_at lengths c ≡ Ok (p, rest)
+    pub ends : at_end rest ≡ Ok tt
+
+  alone : (c : List ℕ) (p : Part) → sole_part lengths c ≡ Ok p → Alone c p
+  unfolding sole_part
+  alone c p e =
+      let b = bound (part_at lengths c) (λ x. at_end x.1 >>= λ _. Ok x.0) p e in
+      let d = bound (at_end b.0.1) (λ _. Ok b.0.0) p b.2 in
+      record { rest = b.0.1; first = b.1 ∙ ap (λ (q : Part). Ok (q, b.0.1)) (fine_is b.0.0 p d.2); ends = d.1 }
+
+  chosen_so : (others : Alternatives) (c : List ℕ) (p : Part) (rest : List ℕ) (v : Value) → part_at lengths c ≡ Ok (p, rest) → alternatives lengths others p ≡ Ok v → chosen_by lengths (alternatives lengths others) c ≡ Ok (v, rest)
+  unfolding chosen_by
+  chosen_so others c p rest v e f = rw (e, f) refl
+
+  request_read : (c : List ℕ) (x : Value × List ℕ) (rest : List ℕ) (w : Value) → required_at lengths (universal 2 unsigned32) c ≡ Ok x → chosen_by lengths (alternatives lengths requests) x.1 ≡ Ok (w, rest) → at_end rest ≡ Ok tt
+      → reading lengths request_form c ≡ Ok (parts (slot (given x.0) (slot (given w) done)))
+  request_read c x rest w e f ends = rw (e, f, ends) refl
+
+  -- ---- a confirmed-Request
+
+  pub record Parted (c : List ℕ) (a : Asked) : Type 0 where
+    pub invoke : Value × List ℕ
+    pub invoked : required_at lengths (universal 2 unsigned32) c ≡ Ok invoke
+    pub number_is : natural_of invoke.0 ≡ a.invoke
+    pub service : a.modified ≡ false → Alone invoke.1 a.service
+
+  parted : (c : List ℕ) (a : Asked) → asked_at lengths c ≡ Ok a → Parted c a
+  unfolding asked_at
+  parted c a e =
+      let test = is_tag 0 true 16 in
+      let i = bound (required_at lengths (universal 2 unsigned32) c) (λ i. optional_part lengths test i.1 >>= λ m. sole_part lengths m.1 >>= λ p. service_of p >>= λ s. Ok (asking (natural_of i.0) (is_some m.0) s)) a e in
+      let m = bound (optional_part lengths test i.0.1) (λ m. sole_part lengths m.1 >>= λ p. service_of p >>= λ s. Ok (asking (natural_of i.0.0) (is_some m.0) s)) a i.2 in
+      let p = bound (sole_part lengths m.0.1) (λ p. service_of p >>= λ s. Ok (asking (natural_of i.0.0) (is_some m.0.0) s)) a m.2 in
+      let s = bound (service_of p.0) (λ s. Ok (asking (natural_of i.0.0) (is_some m.0.0) s)) a p.2 in
+      let is : asking (natural_of i.0.0) (is_some m.0.0) s.0 ≡ a = fine_is (asking (natural_of i.0.0) (is_some m.0.0) s.0) a s.2 in
+      let same : p.0 ≡ a.service = service_is p.0 s.0 s.1 ∙ ap (λ (b : Asked). b.service) is in
+      record {
+        invoke = i.0;
+        invoked = i.1;
+        number_is = ap (λ (b : Asked). b.invoke) is;
+        service = λ plain.
+            let none : is_some m.0.0 ≡ false = ap (λ (b : Asked). b.modified) is ∙ plain in
+            subst (λ (o : List ℕ). Alone o a.service) (untouched test i.0.1 m.0 m.1 none) (alone m.0.1 a.service (p.1 ∙ ap (λ (q : Part). Ok q) same));
+      }
+
+  pub record Granted (a : Asked) (v : Value) : Type 0 where
+    pub plain : a.modified ≡ false
+    pub argument : Value
+    pub read_so : alternatives lengths requests a.service ≡ Ok argument
+    pub is : chosen 0 (with_invoke_value a.invoke argument) ≡ v
+
+  granted : (a : Asked) (v : Value) → request_told lengths a ≡ Ok v → Granted a v
+  unfolding request_told
+  granted a v e = by_modified a.modified (has_service requests a.service.tag.number) refl e
+    where
+      by_modified : (b k : Bool) → a.modified ≡ b → cond b (Err (refusal.Modifier a.invoke)) (cond k (argued a.invoke (alternatives lengths requests a.service)) (Err (refusal.Service a.invoke))) ≡ Ok v → Granted a v
+      by_modified true k m f = absurd cc
+      by_modified false false m f = absurd cc
+      by_modified false true m f =
+          let w = argued_is a.invoke (alternatives lengths requests a.service) v f in
+          record { plain = m; argument = w.0; read_so = w.1; is = w.2 }
+
+  request_of : (c : List ℕ) (v : Value) → and_then (valid (asked_at lengths c)) (request_told lengths) ≡ Ok v → (reading lengths request_form c >>= λ w. Ok (chosen 0 w)) ≡ Ok v
+  request_of c v e =
+      let s = stepped (valid (asked_at lengths c)) (request_told lengths) v e in
+      let a = parted c s.0 (valid_is (asked_at lengths c) s.0 s.1) in
+      let g = granted s.0 v s.2 in
+      let service = a.service g.plain in
+      let read = request_read c a.invoke service.rest g.argument a.invoked (chosen_so requests a.invoke.1 s.0.service service.rest g.argument service.first g.read_so) service.ends in
+      let is : parts (slot (given a.invoke.0) (slot (given g.argument) done)) ≡ with_invoke_value s.0.invoke g.argument =
+      ap (λ (n : Value). parts (slot (given n) (slot (given g.argument) done))) (invoke_is lengths c a.invoke a.invoked ∙ ap (λ (n : ℕ). number (pos n)) a.number_is) in
+      ap (λ (r : Result Value Fault). r >>= λ w. Ok (chosen 0 w)) read ∙ ap (λ (w : Value). Ok (chosen 0 w)) is ∙ ap (λ (w : Value). Ok w) g.is
+
+  -- ---- a PDU
+
+  reject_is : (c : List ℕ) (n : ℕ) (w : Value) → reject_told lengths c ≡ Ok (chosen n w) → n ≡ 4
+  unfolding reject_told
+  reject_is c n w e =
+      let s = stepped (valid (reading lengths heard_reject_form c)) (λ _. Ok (chosen 4 (parts (slot (optionally (λ k. number (pos k)) (answered (reading lengths answering_form c))) done)))) (chosen n w) e in
+      cc (s.2)
+
+  part_of : (p : Part) (n : ℕ) (w : Value) → (n ≡ 4 → ⊥) → part_told lengths p ≡ Ok (chosen n w) → alternatives lengths whole_pdus p ≡ Ok (chosen n w)
+  unfolding part_told
+  part_of p n w ne e = by_tags (is_pdu p.tag) (is_tag 2 true 0 p.tag) (is_tag 2 true 4 p.tag) (has_tag noted_pdus p.tag) e
+    where
+      by_tags : (a b d f : Bool)
+          → cond a (cond b (and_then (valid (asked_at lengths p.contents)) (request_told lengths)) (cond d (reject_told lengths p.contents) (cond f (Ok nothing) (valid (alternatives lengths kept_pdus p))))) (Err refusal.UnknownType) ≡ Ok (chosen n w)
+          → cond b (reading lengths request_form p.contents >>= λ w. Ok (chosen 0 w)) (alternatives lengths kept_pdus p) ≡ Ok (chosen n w)
+      by_tags false b d f e = absurd cc
+      by_tags true true d f e = request_of p.contents (chosen n w) e
+      by_tags true false true f e = absurd (ne (reject_is p.contents n w e))
+      by_tags true false false true e = absurd cc
+      by_tags true false false false e = valid_is (alternatives lengths kept_pdus p) (chosen n w) e
+
+  choice_read : (c : List ℕ) (p : Part) (rest : List ℕ) (v : Value) → chosen_by lengths (alternatives lengths whole_pdus) c ≡ Ok (v, rest) → at_end rest ≡ Ok tt → reading lengths (choice whole_pdus) c ≡ Ok v
+  choice_read c p rest v e ends = rw (e, ends) refl
+
+  pub heard_of : (c : List ℕ) (n : ℕ) (w : Value) → IsBytes c → (n ≡ 4 → ⊥) → heard lengths c ≡ Ok (chosen n w) → InForm lengths (choice whole_pdus) c (chosen n w)
+  unfolding heard
+  heard_of c n w fits ne e =
+      let s = stepped (valid (sole_part lengths c)) (part_told lengths) (chosen n w) e in
+      let a = alone c s.0 (valid_is (sole_part lengths c) s.0 s.1) in
+      reading_sound lengths (choice whole_pdus) c (chosen n w) fits
+      (choice_read c s.0 a.rest (chosen n w) (chosen_so whole_pdus c s.0 a.rest (chosen n w) a.first (part_of s.0 n w ne s.2)) a.ends)

@@ -1,0 +1,140 @@
+-- What octets are that a client sends: a PDU, or the first refusal that applies (ISO 9506-2, RejectPDU; the order is this profile's choice).
+use Rattle.std.specs.Prelude.{◌≡◌, ℕ, pos, Bool, true, false, ◌==◌, ◌&&◌, nat_le, List, Result, Ok, Err, if◌then◌else◌}
+use Rattle.std.specs.Prelude.{is_some}
+use Rattle.ber_core.specs.declared.element.Tag.{Tag}
+use Rattle.ber_core.specs.declared.element.Lengths.{Lengths}
+use Rattle.ber_core.specs.Part.{Part}
+use Rattle.ber_forms.specs.declared.unread.Unread.{Unread}
+use Rattle.ber_forms.specs.declared.unread.Unread.TheVariants as unread
+use Rattle.ber_forms.specs.Fault.{Fault}
+use Rattle.ber_forms.specs.Fault as fault
+use Rattle.ber_forms.specs.Value.{Value, nothing, number, chosen, parts, optionally, done, slot}
+use Rattle.ber_forms.specs.Form.{Alternatives, unsigned32, universal, or, no_other}
+use Rattle.ber_forms.specs.Reading.{is_tag, has_tag, at_end, part_at, optional_part, required_at, reading, alternatives}
+use Rattle.ber_forms.specs.Reading.{◌>>=◌}
+use Rattle.mms_types.specs.declared.pdu.Pdu.{Pdu}
+use Rattle.pdu_names.specs.Said.{natural_of}
+use Rattle.pdu_assoc.specs.Cancel.{cancel_form}
+use Rattle.pdu_assoc.specs.Conclude.{conclude_form}
+use Rattle.pdu_assoc.specs.Heard.{unconfirmed_form, heard_cancel_form, heard_cancel_error_form, heard_error_form, heard_reject_form, answering_form, answered}
+use Rattle.pdu_assoc.specs.Initiate.{initiate_form}
+use Rattle.mms_pdu.specs.declared.refusal.Refusal.{Refusal}
+use Rattle.mms_pdu.specs.declared.refusal.Refusal.TheVariants as refusal
+use Rattle.mms_pdu.specs.Pdus.{requests, request_form, response_form, with_invoke_value}
+
+-- a confirmed-Request: its invokeID, whether it has a list of modifiers, and the service that it asks for
+pub record Asked : Type 0 where
+  pub invoke : ℕ
+  pub modified : Bool
+  pub service : Part
+
+abbrev pub asking : ℕ → Bool → Part → Asked
+asking invoke modified service = record { invoke = invoke; modified = modified; service = service }
+
+-- the service of that number is among them
+abbrev pub has_service : Alternatives → ℕ → Bool
+has_service no_other k = false
+has_service (or n f others) k = if k == n then true else has_service others k
+
+-- a service: an element of context class, whatever its number
+abbrev pub service_of : Part → Result Part Fault
+service_of p = if p.tag.class == 2 then Ok p else Err fault.malformed
+
+-- the tag is one of a PDU's
+abbrev pub is_pdu : Tag → Bool
+is_pdu t = (t.class == 2) && nat_le t.number 13
+
+-- the PDUs that a client may send and that are kept, but for confirmed-Request and reject
+abbrev pub kept_pdus : Alternatives
+kept_pdus = or 1 response_form (or 2 heard_error_form (or 5 cancel_form (or 8 initiate_form (or 11 conclude_form no_other))))
+
+-- and with a confirmed-Request without modifiers
+abbrev pub whole_pdus : Alternatives
+whole_pdus = or 0 request_form kept_pdus
+
+-- unconfirmed, cancel-Response and cancel-Error: whatever their contents, nothing is kept
+abbrev pub noted_pdus : Alternatives
+noted_pdus = or 3 unconfirmed_form (or 6 heard_cancel_form (or 7 heard_cancel_error_form no_other))
+
+-- whatever is wrong, the PDU is invalid
+abbrev pub valid : {A : Type 0} → Result A Fault → Result A Refusal
+valid (Ok x) = Ok x
+valid (Err e) = Err refusal.InvalidPdu
+
+-- the refusal of a PDU that could not be read
+abbrev pub invalid_of : Unread → Refusal
+invalid_of unread.Memory = refusal.Memory
+invalid_of unread.Malformed = refusal.InvalidPdu
+invalid_of unread.TooDeep = refusal.InvalidPdu
+
+-- go on, or stop at the first refusal
+abbrev pub and_then : {A B : Type 0} → Result A Refusal → (A → Result B Refusal) → Result B Refusal
+and_then (Ok x) f = f x
+and_then (Err e) f = Err e
+
+-- a request with its argument, whose data may nest too deep
+abbrev pub argued : ℕ → Result Value Fault → Result Value Refusal
+argued invoke (Ok v) = Ok (chosen 0 (with_invoke_value invoke v))
+argued invoke (Err fault.too_deep) = Err (refusal.Recursion invoke)
+argued invoke (Err fault.malformed) = Err (refusal.Argument invoke)
+
+-- Each of these takes which forms of lengths are read first.
+module _ (lengths : Lengths) where
+  -- one element, and nothing after it
+  unfoldable pub sole_part : List ℕ → Result Part Fault
+  sole_part octets = part_at lengths octets >>= λ x. at_end x.1 >>= λ _. Ok x.0
+
+  -- confirmed-Request: { INTEGER invokeID, SEQUENCE OF modifiers OPTIONAL, service }, and whatever the modifiers are
+  unfoldable pub asked_at : List ℕ → Result Asked Fault
+  asked_at octets =
+      required_at lengths (universal 2 unsigned32) octets >>= λ i.
+      optional_part lengths (is_tag 0 true 16) i.1 >>= λ m.
+      sole_part m.1 >>= λ p.
+      service_of p >>= λ s.
+      Ok (asking (natural_of i.0) (is_some m.0) s)
+
+  -- a list of modifiers is refused, then a service that is not offered, and then its argument
+  unfoldable pub request_told : Asked → Result Value Refusal
+  request_told asked =
+      if asked.modified then Err (refusal.Modifier asked.invoke)
+      else if has_service requests asked.service.tag.number then argued asked.invoke (alternatives lengths requests asked.service)
+      else Err (refusal.Service asked.invoke)
+
+  -- a reject: elements, of which the first may say the invokeID
+  unfoldable pub reject_told : List ℕ → Result Value Refusal
+  reject_told octets =
+      and_then (valid (reading lengths heard_reject_form octets)) (λ _.
+      Ok (chosen 4 (parts (slot (optionally (λ n. number (pos n)) (answered (reading lengths answering_form octets))) done))))
+
+  -- an element of no PDU's tag is refused, then one that is not of its PDU's form, also one that only the server sends
+  unfoldable pub part_told : Part → Result Value Refusal
+  part_told p =
+      if is_pdu p.tag then
+      (if is_tag 2 true 0 p.tag then and_then (valid (asked_at p.contents)) request_told
+      else if is_tag 2 true 4 p.tag then reject_told p.contents
+      else if has_tag noted_pdus p.tag then Ok nothing
+      else valid (alternatives lengths kept_pdus p))
+      else Err refusal.UnknownType
+
+  -- what the octets are: what is not one whole element is refused first
+  unfoldable pub heard : List ℕ → Result Value Refusal
+  heard octets = and_then (valid (sole_part octets)) part_told
+
+-- How deep the data and the type of a request nest: of the services that are offered none has any.
+abbrev pub depth_of : Pdu → ℕ
+depth_of p = 0
+
+-- The refusal is the one that was told, unless it is want of memory.
+abbrev pub Refuses : {Y : Type 0} → Refusal → Result Y Refusal → Type 0
+Refuses refusal.Memory told = Unit {0}
+Refuses refusal.InvalidPdu told = told ≡ Err refusal.InvalidPdu
+Refuses refusal.UnknownType told = told ≡ Err refusal.UnknownType
+Refuses (refusal.Modifier invoke) told = told ≡ Err (refusal.Modifier invoke)
+Refuses (refusal.Service invoke) told = told ≡ Err (refusal.Service invoke)
+Refuses (refusal.Recursion invoke) told = told ≡ Err (refusal.Recursion invoke)
+Refuses (refusal.Argument invoke) told = told ≡ Err (refusal.Argument invoke)
+
+-- What a function answered, seen by view, is what was told, unless memory ran out.
+abbrev pub Hears : {X Y : Type 0} → (X → Y) → Result X Refusal → Result Y Refusal → Type 0
+Hears view (Ok x) told = told ≡ Ok (view x)
+Hears view (Err e) told = Refuses e told

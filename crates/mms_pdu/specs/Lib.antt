@@ -1,0 +1,4 @@
+pub mod Pdus
+pub mod Hearing
+pub mod Rejects
+pub mod Asking

@@ -1,0 +1,42 @@
+//! Why what a client sends is refused.
+
+ghost use Rattle.std.specs.Prelude.{◌≡◌};
+ghost use Rattle.mms_pdu.specs.Rejects.{reject_of};
+
+use mms_types::{Memory, Reject, RejectReason};
+
+/// Why octets that a client sent are refused, in the order in which the causes are looked for, and want of memory.
+#[derive(Clone, Copy, Debug, PartialEq, Eq)]
+pub enum Refusal {
+    /// They are not one whole element, or one that is not of its PDU's form, or that only a server sends.
+    InvalidPdu,
+    /// The tag is none of a PDU: context 0 to 13.
+    UnknownType,
+    /// A confirmed request has a list of modifiers.
+    Modifier { invoke: u32 },
+    /// The service of a confirmed request is not offered.
+    Service { invoke: u32 },
+    /// The argument's data or type nests deeper than 10, and all before it is of its form.
+    Recursion { invoke: u32 },
+    /// The argument is not of its form.
+    Argument { invoke: u32 },
+    /// Memory ran out.
+    Memory,
+}
+
+/// The reject that tells the refusal to the client (ISO 9506-2, RejectPDU), with the invokeID of a request that is refused. Want of
+/// memory is told to nobody, and answered as such.
+pub fn reject_for(refusal: Refusal) -> Result<Reject, Memory>
+    ensures { result ≡ reject_of refusal }
+{
+    let (invoke, reason) = match refusal {
+        Refusal::InvalidPdu => (None, RejectReason::InvalidPdu),
+        Refusal::UnknownType => (None, RejectReason::UnknownPduType),
+        Refusal::Modifier { invoke } => (Some(invoke), RejectReason::UnrecognizedModifier),
+        Refusal::Service { invoke } => (Some(invoke), RejectReason::UnrecognizedService),
+        Refusal::Recursion { invoke } => (Some(invoke), RejectReason::MaxRecursionExceeded),
+        Refusal::Argument { invoke } => (Some(invoke), RejectReason::InvalidArgument),
+        Refusal::Memory => return Err(Memory),
+    };
+    Ok(Reject { invoke, reason })
+}

@@ -1,0 +1,120 @@
+//! confirmed-Request: what is asked for, and its argument.
+
+ghost use Rattle.std.specs.Prelude.{◌≡◌, ℕ, Ok, Err, pos};
+ghost use Rattle.ber_core.specs.Part.{part};
+ghost use Rattle.ber_forms.specs.Form.{universal, unsigned32};
+ghost use Rattle.ber_forms.specs.Value.{number};
+ghost use Rattle.ber_forms.specs.Reading.{Gives, required_at, alternatives};
+ghost use Rattle.pdu_names.specs.Editions.{lengths_of};
+ghost use Rattle.mms_pdu.specs.Pdus.{requests, request_value, pdu_value};
+ghost use Rattle.mms_pdu.specs.Hearing.{Hears, has_service, sole_part, service_of, asked_at, asking, request_told};
+
+use crate::refusal::Refusal;
+use ber_core::{Element, Tag};
+use ber_forms::{Cursor, Unread, has_tag, unsigned32};
+use mms_types::{Edition, Pdu, Request};
+use pdu_assoc::{read_identify, read_status};
+use pdu_names::cursor;
+
+/// The last element: nothing follows it.
+#[tactic(auto, unfolding(crate::specs::Hearing::sole_part))]
+pub(crate) fn sole<'a>(parts: &mut Cursor<'a>, edition: Edition) -> Result<Element<'a>, Unread>
+    requires { parts.old.lengths ≡ lengths_of edition }
+    ensures { Gives part result (sole_part (lengths_of edition) parts.old.octets) }
+{
+    let element = parts.part()?;
+    parts.end()?;
+    Ok(element)
+}
+
+/// The next element, an invokeID.
+#[tactic(auto, unfolding(ber_forms::specs::Reading::required_by))]
+pub(crate) fn required_invoke(parts: &mut Cursor<'_>, edition: Edition) -> Result<u32, Unread>
+    requires { parts.old.lengths ≡ lengths_of edition }
+    ensures exact { Gives (λ n. (number (pos n), parts.new.octets)) result (required_at (lengths_of edition) (universal 2 unsigned32) parts.old.octets) }
+    ensures kept { parts.new.lengths ≡ parts.old.lengths }
+{
+    let element = parts.required(Tag {
+        class: 0,
+        constructed: false,
+        number: 2,
+    })?;
+    unsigned32(element.contents)
+}
+
+/// The element is a service: its class is context.
+fn service(element: Element<'_>) -> Result<Element<'_>, Unread>
+    ensures { Gives part result (service_of (part element.entry)) }
+{
+    if element.tag.class == 2 {
+        Ok(element)
+    } else {
+        Err(Unread::Malformed)
+    }
+}
+
+/// What the contents of a confirmed-Request ask for: its invokeID, whether it has a list of modifiers, and the service.
+#[tactic(auto, unfolding(crate::specs::Hearing::asked_at))]
+pub(crate) fn asked(contents: &[u8], edition: Edition) -> Result<(u32, bool, Element<'_>), Unread>
+    ensures { Gives (λ a. asking a.0 a.1 (part a.2)) result (asked_at (lengths_of edition) contents.now) }
+{
+    let mut parts = cursor(edition, contents);
+    let invoke = required_invoke(&mut parts, edition)?;
+    let modifiers = parts.optional(Tag {
+        class: 0,
+        constructed: true,
+        number: 16,
+    })?;
+    let element = sole(&mut parts, edition)?;
+    let element = service(element)?;
+    Ok((invoke, modifiers.is_some(), element))
+}
+
+/// The services that are offered, by their numbers: Status and Identify.
+const OFFERED: [u32; 2] = [0, 2];
+
+/// The service of that number is offered.
+fn is_offered(number: u32) -> bool
+    ensures { result ≡ has_service requests number }
+{
+    OFFERED.contains(&number)
+}
+
+/// The argument of a service for the support of the device.
+fn argument(service: Element<'_>, edition: Edition) -> Result<Request, Unread>
+    ensures { Gives request_value result (alternatives (lengths_of edition) requests (part service.entry)) }
+{
+    if has_tag(service.tag, 2, false, 0) {
+        let derivation = read_status(service.contents, edition)?;
+        Ok(Request::Status { derivation })
+    } else if has_tag(service.tag, 2, false, 2) {
+        read_identify(service.contents, edition)?;
+        Ok(Request::Identify)
+    } else {
+        Err(Unread::Malformed)
+    }
+}
+
+/// The request that is asked for, or why it is refused.
+#[tactic(auto, unfolding(crate::specs::Hearing::request_told))]
+pub(crate) fn request(
+    invoke: u32,
+    modified: bool,
+    service: Element<'_>,
+    edition: Edition,
+) -> Result<Pdu, Refusal>
+    ensures { Hears pdu_value result (request_told (lengths_of edition) (asking invoke modified (part service.entry))) }
+{
+    if modified {
+        return Err(Refusal::Modifier { invoke });
+    }
+    if !is_offered(service.tag.number) {
+        return Err(Refusal::Service { invoke });
+    }
+    match argument(service, edition) {
+        Ok(request) => Ok(Pdu::ConfirmedRequest { invoke, request }),
+        Err(Unread::TooDeep) => Err(Refusal::Recursion { invoke }),
+        Err(Unread::Malformed) => Err(Refusal::Argument { invoke }),
+        Err(Unread::Memory) => Err(Refusal::Memory),
+    }
+}
