@@ -1,3 +1,4 @@
+pub mod Actors
 pub mod Spelling
 pub mod Order
 pub mod KeyLaws
