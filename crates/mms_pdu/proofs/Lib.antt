@@ -1,3 +1,4 @@
 pub mod Whole
 pub mod AskedAgain
 pub mod FormOf
+pub mod HeardAgain

@@ -2,3 +2,4 @@ pub mod Pdus
 pub mod Hearing
 pub mod Rejects
 pub mod Asking
+pub mod Heard

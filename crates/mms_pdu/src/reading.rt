@@ -5,6 +5,7 @@ ghost use Rattle.ber_core.specs.Part.{part};
 ghost use Rattle.ber_forms.specs.Reading.{Gives, has_tag, alternatives};
 ghost use Rattle.pdu_names.specs.Editions.{lengths_of};
 ghost use Rattle.mms_pdu.specs.Pdus.{pdu_value};
+ghost use Rattle.mms_pdu.specs.Heard.{IsHeard, pdu_heard};
 ghost use Rattle.mms_pdu.specs.Hearing.{Hears, is_pdu, kept_pdus, noted_pdus, valid, invalid_of, and_then, asked_at, request_told, reject_told, part_told, heard, depth_of};
 
 use crate::refusal::Refusal;
@@ -27,7 +28,8 @@ pub struct Read {
 
 /// The PDU of the element, of a kind that is kept, but for confirmed-Request and reject.
 fn kept_pdu(alloc: Global, element: Element<'_>, edition: Edition) -> Result<Pdu, Unread>
-    ensures { Gives pdu_value result (alternatives (lengths_of edition) kept_pdus (part element.entry)) }
+    ensures told { Gives pdu_value result (alternatives (lengths_of edition) kept_pdus (part element.entry)) }
+    ensures client { IfOk result IsHeard }
 {
     let Element { tag, contents } = element;
     if has_tag(tag, 2, true, 1) {
@@ -75,7 +77,8 @@ fn invalid(unread: Unread) -> Refusal
 
 /// What the contents of a confirmed-Request are.
 fn confirmed(contents: &[u8], edition: Edition) -> Result<Pdu, Refusal>
-    ensures { Hears pdu_value result (and_then (valid (asked_at (lengths_of edition) contents.now)) (request_told (lengths_of edition))) }
+    ensures told { Hears pdu_value result (and_then (valid (asked_at (lengths_of edition) contents.now)) (request_told (lengths_of edition))) }
+    ensures client { IfOk result IsHeard }
 {
     match asked(contents, edition) {
         Ok((invoke, modified, service)) => request(invoke, modified, service, edition),
@@ -86,7 +89,8 @@ fn confirmed(contents: &[u8], edition: Edition) -> Result<Pdu, Refusal>
 /// What the contents of a reject are.
 #[tactic(auto, unfolding(crate::specs::Hearing::reject_told))]
 fn rejected(contents: &[u8], edition: Edition) -> Result<Pdu, Refusal>
-    ensures { Hears pdu_value result (reject_told (lengths_of edition) contents.now) }
+    ensures told { Hears pdu_value result (reject_told (lengths_of edition) contents.now) }
+    ensures client { IfOk result IsHeard }
 {
     match read_heard_reject(contents, edition) {
         Ok(invoke) => Ok(Pdu::HeardReject { invoke }),
@@ -96,7 +100,8 @@ fn rejected(contents: &[u8], edition: Edition) -> Result<Pdu, Refusal>
 
 /// What an element of another kind is.
 fn other(alloc: Global, element: Element<'_>, edition: Edition) -> Result<Pdu, Refusal>
-    ensures { Hears pdu_value result (valid (alternatives (lengths_of edition) kept_pdus (part element.entry))) }
+    ensures told { Hears pdu_value result (valid (alternatives (lengths_of edition) kept_pdus (part element.entry))) }
+    ensures client { IfOk result IsHeard }
 {
     match kept_pdu(alloc, element, edition) {
         Ok(pdu) => Ok(pdu),
@@ -107,7 +112,8 @@ fn other(alloc: Global, element: Element<'_>, edition: Edition) -> Result<Pdu, R
 /// What an element is.
 #[tactic(auto, unfolding(crate::specs::Hearing::part_told))]
 fn element(alloc: Global, element: Element<'_>, edition: Edition) -> Result<Pdu, Refusal>
-    ensures { Hears pdu_value result (part_told (lengths_of edition) (part element.entry)) }
+    ensures told { Hears pdu_value result (part_told (lengths_of edition) (part element.entry)) }
+    ensures client { IfOk result IsHeard }
 {
     let tag = element.tag;
     if !is_pdu(tag) {
@@ -126,7 +132,8 @@ fn element(alloc: Global, element: Element<'_>, edition: Edition) -> Result<Pdu,
 /// What all the octets are.
 #[tactic(auto, unfolding(crate::specs::Hearing::heard))]
 fn whole(alloc: Global, octets: &[u8], edition: Edition) -> Result<Pdu, Refusal>
-    ensures { Hears pdu_value result (heard (lengths_of edition) octets.now) }
+    ensures told { Hears pdu_value result (heard (lengths_of edition) octets.now) }
+    ensures client { IfOk result IsHeard }
 {
     let mut parts = cursor(edition, octets);
     match sole(&mut parts, edition) {
@@ -139,6 +146,8 @@ fn whole(alloc: Global, octets: &[u8], edition: Edition) -> Result<Pdu, Refusal>
 /// exactly where it is the first that applies, in the order of the variants of `Refusal`. Only texts of an answer are copied.
 pub fn read_pdu(alloc: Global, octets: &[u8], edition: Edition) -> Result<Read, Refusal>
     ensures heard { Hears (λ r. pdu_value r.pdu) result (heard (lengths_of edition) octets.now) }
+    ensures pdu { Hears (λ r. r.pdu) result (pdu_heard (lengths_of edition) octets.now) }
+    ensures client { IfOk result (λ r. IsHeard r.pdu) }
     ensures depth { IfOk result (λ r. r.depth ≡ depth_of r.pdu) }
 {
     let pdu = whole(alloc, octets, edition)?;

@@ -1,12 +1,13 @@
 //! confirmed-Request: what is asked for, and its argument.
 
-ghost use Rattle.std.specs.Prelude.{◌≡◌, ℕ, Ok, Err, pos};
+ghost use Rattle.std.specs.Prelude.{◌≡◌, ℕ, Ok, Err, IfOk, pos};
 ghost use Rattle.ber_core.specs.Part.{part};
 ghost use Rattle.ber_forms.specs.Form.{universal, unsigned32};
 ghost use Rattle.ber_forms.specs.Value.{number};
 ghost use Rattle.ber_forms.specs.Reading.{Gives, required_at, alternatives};
 ghost use Rattle.pdu_names.specs.Editions.{lengths_of};
 ghost use Rattle.mms_pdu.specs.Pdus.{requests, request_value, pdu_value};
+ghost use Rattle.mms_pdu.specs.Heard.{IsHeard};
 ghost use Rattle.mms_pdu.specs.Hearing.{Hears, has_service, sole_part, service_of, asked_at, asking, request_told};
 
 use crate::refusal::Refusal;
@@ -103,7 +104,8 @@ pub(crate) fn request(
     service: Element<'_>,
     edition: Edition,
 ) -> Result<Pdu, Refusal>
-    ensures { Hears pdu_value result (request_told (lengths_of edition) (asking invoke modified (part service.entry))) }
+    ensures told { Hears pdu_value result (request_told (lengths_of edition) (asking invoke modified (part service.entry))) }
+    ensures client { IfOk result IsHeard }
 {
     if modified {
         return Err(Refusal::Modifier { invoke });
