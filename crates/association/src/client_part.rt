@@ -5,7 +5,7 @@ ghost use Rattle.association.specs.Client.{closed_row, drained_row, negotiated_o
 ghost use Rattle.association.specs.Negotiation.{negotiation, values_of};
 ghost use Rattle.association.specs.Waiting.{is_waiting, AreDistinct};
 
-use crate::negotiation::{answer, refusal, values};
+use crate::negotiation::{outcome_of, values};
 use crate::waiting::{has_waiting, remove_waiting};
 use crate::{Association, Constants, Negotiated, Waiting};
 use mms_types::{Initiate, InitiateAnswer, Key, Memory, ServiceError, What};
@@ -115,10 +115,7 @@ impl ClientPart {
             self.new ≡ record self.old { row = opened_row self.old.row (values_of answer) }) }
         ensures refused { OnErr result (self.new ≡ self.old) }
     {
-        if let Some(error) = refusal(proposal) {
-            return Err(error);
-        }
-        let answer = answer(proposal);
+        let answer = outcome_of(proposal)?;
         self.association = Association::Open(values(&answer));
         Ok(answer)
     }

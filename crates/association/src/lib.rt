@@ -11,5 +11,5 @@ mod waiting;
 
 pub use client_part::{ClientPart, NotAdmitted};
 pub use constants::Constants;
-pub use negotiation::{Association, Negotiated};
+pub use negotiation::{Association, Negotiated, outcome_of};
 pub use waiting::Waiting;

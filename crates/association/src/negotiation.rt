@@ -1,5 +1,5 @@
 ghost use Rattle.std.specs.Prelude.{◌≡◌};
-ghost use Rattle.association.specs.Negotiation.{answer_to, parameters_of_both, nesting_of, refusal_of, size_of, values_of};
+ghost use Rattle.association.specs.Negotiation.{answer_to, negotiation, parameters_of_both, nesting_of, refusal_of, size_of, values_of};
 
 use mms_types::{
     Initiate, InitiateAnswer, InitiateDetail, ParameterOptions, ServiceError, ServiceOptions,
@@ -101,6 +101,16 @@ pub(crate) fn answer(proposal: &Initiate) -> InitiateAnswer
             parameters: common_parameters(&proposal.detail.parameters),
             services: ServiceOptions { octets: SERVICES },
         },
+    }
+}
+
+/// What `ClientPart::negotiate` answers to a proposal, for a caller that has to know it beforehand.
+pub fn outcome_of(proposal: &Initiate) -> Result<InitiateAnswer, ServiceError>
+    ensures { result ≡ negotiation proposal.now }
+{
+    match refusal(proposal) {
+        Some(error) => Err(error),
+        None => Ok(answer(proposal)),
     }
 }
 
