@@ -1,0 +1,6 @@
+pub mod Changed
+pub mod PartsAfter
+pub mod Holding
+pub mod Showing
+pub mod Enough
+pub mod AllParts

@@ -1,0 +1,63 @@
+-- One event of the device, and what a history of events leads to (ISO 9506-1, the virtual manufacturing device).
+use Rattle.std.specs.Prelude.{ℕ, zero, suc, ◌+◌, ◌-◌, ◌≤◌, ◌<◌, ◌^◌, List, [], ◌∷◌, fold, length, slice_get, Option, None, Some}
+use Rattle.mms_types.specs.Actors.{IsAmong}
+use Rattle.mms_types.specs.declared.event.What.{What}
+use Rattle.mms_types.specs.declared.event.CellEvent.{CellEvent}
+use Rattle.mms_types.specs.declared.event.CellEvent.TheVariants.{Heard, Lost, Tick, Ends, Drain}
+use Rattle.association.specs.Client.{ClientRow, drained_row}
+use Rattle.mms_step.specs.State.{State, start, last_moment}
+use Rattle.mms_step.specs.Association.{hear, lose}
+
+-- the one at a place is changed
+abbrev pub change : {A : Type 0} → (A → A) → List A → ℕ → List A
+change f [] place = []
+change f (x ∷ xs) zero = f x ∷ xs
+change f (x ∷ xs) (suc place) = x ∷ change f xs place
+
+-- the row of a client is changed
+abbrev pub with_client : State → ℕ → (ClientRow → ClientRow) → State
+with_client s client f = record s { clients = change f s.clients (client - 1) }
+
+-- time goes by up to a moment: there is no deadline yet
+abbrev pub tick : ℕ → State → State
+tick until s = record s { now = until }
+
+-- one event: octets are heard from a client, its association is lost, time goes by, a program invocation ends (there is none yet), or what is to be sent
+-- to a client is taken away
+abbrev pub step : State → CellEvent → State
+step s (Heard client octets) = with_client s client (λ row. hear row octets)
+step s (Lost client) = with_client s client lose
+step s (Tick ms) = tick (s.now + ms) s
+step s (Ends name) = s
+step s (Drain client) = with_client s client drained_row
+
+-- the state after a history of events, with n clients
+abbrev pub replay : ℕ → List CellEvent → State
+replay n history = fold step (start n) history
+
+-- what is to be sent to a client
+abbrev pub outbox_in : Option ClientRow → List What
+outbox_in None = []
+outbox_in (Some row) = row.outbox
+
+abbrev pub outbox_of : State → ℕ → List What
+outbox_of s client = outbox_in (slice_get s.clients (client - 1))
+
+-- what a client takes that drains after a history
+abbrev pub said : ℕ → List CellEvent → ℕ → List What
+said n history client = outbox_of (replay n history) client
+
+-- time ends no later than the last moment
+abbrev pub IsInTime : ℕ → CellEvent → Type 0
+IsInTime now (Tick ms) = now + ms ≤ last_moment
+IsInTime now event = Unit {0}
+
+-- an event that may come in a state: of one of its clients, or of the cell, and in time
+pub record MayCome (s : State) (event : CellEvent) : Type 0 where
+  pub among : IsAmong (length s.clients) event
+  pub time : IsInTime s.now event
+
+-- events that may come one after the other
+abbrev pub MayFollow : State → List CellEvent → Type 0
+MayFollow s [] = Unit {0}
+MayFollow s (event ∷ rest) = MayCome s event × MayFollow (step s event) rest

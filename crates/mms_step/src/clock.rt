@@ -1,0 +1,48 @@
+//! The part of the clock.
+
+ghost use Rattle.std.specs.Prelude.{◌≡◌, ◌+◌, ◌≤◌};
+ghost use Rattle.mms_step.specs.State.{last_moment};
+
+use mms_types::Moment;
+use std::marker::Model;
+
+/// The moment of the device, no later than the last millisecond of day 65,535 (ISO 9506-2, TimeOfDay). Contracts see its milliseconds.
+#[derive(Debug, Drop)]
+pub struct Clock {
+    moment: Moment,
+}
+
+impl Model for Clock {
+    ghost use Rattle.std.specs.Prelude.{ℕ, ◌≤◌};
+
+    ghost Value = { ℕ };
+
+    ghost view = { λ clock. clock.moment.0 };
+
+    ghost invariant = { λ clock. clock.moment.0 ≤ 5662310399999 };
+}
+
+impl Clock {
+    /// A clock at the beginning of 1 January 1984.
+    pub fn new() -> Clock
+        ensures { result ≡ 0 }
+    {
+        Clock { moment: Moment(0) }
+    }
+
+    /// The moment.
+    pub fn now(&self) -> Moment
+        ensures moment { result.0 ≡ self.now }
+        ensures dated { self.now ≤ last_moment }
+    {
+        self.moment
+    }
+
+    /// Lets so many milliseconds go by.
+    pub fn advance(&mut self, ms: u32)
+        requires { self.old + ms ≤ last_moment }
+        ensures { self.new ≡ self.old + ms }
+    {
+        self.moment = Moment(self.moment.0 + u64::from(ms));
+    }
+}

@@ -1,0 +1,23 @@
+//! The device as parts, and one event on the parts that are held (ISO 9506-1, the virtual manufacturing device): which parts an event needs, and what it
+//! makes of them.
+#![tactic(auto)]
+
+mod applying;
+mod cell;
+mod client;
+mod clock;
+mod laws;
+mod needs;
+mod opening;
+mod part;
+mod places;
+
+pub use applying::{apply, drain};
+pub use cell::Cell;
+pub use client::Client;
+pub use clock::Clock;
+pub use laws::{a_step_is_of_the_held_parts, all_parts_are_enough, each_state_is_sound};
+pub use needs::{footprint, need};
+pub use opening::start_parts;
+pub use part::Part;
+pub use places::Parts;

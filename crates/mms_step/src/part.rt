@@ -1,0 +1,24 @@
+//! The parts of the device.
+
+use crate::{Client, Clock};
+
+/// A part of the device. With n clients there are n + 7 of them, in this order, with a part for each client.
+#[derive(Drop)]
+pub enum Part {
+    /// Part 0.
+    Clock(Clock),
+    /// Part 1: variables and lists of variables. There are none yet.
+    Variables,
+    /// Part 2: domains and uploads. There are none yet.
+    Domains,
+    /// Part 3: program invocations. There are none yet.
+    Programs,
+    /// Part 4: event conditions and enrolments. There are none yet.
+    Conditions,
+    /// Part 5: journals. There are none yet.
+    Journals,
+    /// Part 5 + c, of client c.
+    Client(Client),
+    /// Part 6 + n: semaphores. There are none yet.
+    Semaphores,
+}
