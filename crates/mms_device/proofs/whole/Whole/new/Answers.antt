@@ -1,0 +1,22 @@
+use Rattle.std.proofs.Common.{◌≡◌, ap, sym, subst, ℕ}
+use Rattle.mms_step.specs.State.{State, start, IsSound}
+use Rattle.mms_step.specs.Partition.{state_in}
+use Rattle.mms_step.proofs.PartsAfter.{start_sound}
+use Rattle.mms_device.specs.Served.{Served}
+use Rattle.mms_device.proofs.AllHeld.{state_after, holds_all_after}
+use Rattle.mms_device.proofs.whole.Whole.new.Goals as goal
+
+pub invariant_of-result : goal.invariant_of-result
+invariant_of-result c =
+    let is = c.in_ok-all_held.ensures in (
+      holds_all_after c.in_ok-all_held.field-0 (start c.args.clients) is,
+      subst IsSound (sym (state_after c.in_ok-all_held.field-0 (start c.args.clients) is)) (start_sound c.args.clients c.requires.some c.requires.few),
+    )
+
+pub returns : goal.returns
+returns c =
+    let is = c.in_ok-all_held.ensures in
+    ap (λ (s : State). at s) (state_after c.in_ok-all_held.field-0 (start c.args.clients) is)
+  where
+    at : State → Served
+    at s = record { state = s; count = 0 }

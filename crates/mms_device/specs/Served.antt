@@ -1,0 +1,14 @@
+-- What contracts see of the device that one thread serves.
+use Rattle.std.specs.Prelude.{ℕ, ◌+◌}
+use Rattle.mms_types.specs.declared.event.CellEvent.{CellEvent}
+use Rattle.mms_step.specs.State.{State}
+use Rattle.mms_step.specs.Step.{step}
+
+-- the state, and how many events were served
+pub record Served : Type 0 where
+  pub state : State
+  pub count : ℕ
+
+-- after one more event
+abbrev pub served : Served → CellEvent → Served
+served device event = record { state = step device.state event; count = device.count + 1 }

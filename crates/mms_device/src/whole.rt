@@ -1,0 +1,116 @@
+//! The device of one thread.
+
+ghost use Rattle.std.specs.Prelude.{◌≡◌, ◌+◌, ◌-◌, ◌<◌, ◌≤◌, ◌^◌, length, map, Some, IfOk, OnOk, OnErr};
+ghost use Rattle.mms_types.specs.Actors.{IsAmong};
+ghost use Rattle.mms_types.specs.declared.event.CellEvent.TheVariants.{Drain};
+ghost use Rattle.mms_step.specs.State.{start, IsSound};
+ghost use Rattle.mms_step.specs.Step.{MayCome, outbox_of};
+ghost use Rattle.mms_step.specs.Partition.{parts_of, state_in};
+ghost use Rattle.mms_device.specs.Served.{served};
+
+use mms_step::{Cell, Part, apply, drain, start_parts};
+use mms_types::{CellEvent, Memory, What};
+use part_table::Hand;
+use std::alloc::{AllocError, Global};
+use std::marker::Model;
+
+/// What a client took, and the place of that event in the history.
+#[derive(Debug, Drop)]
+pub struct Drained {
+    /// The place, from 1.
+    pub ticket: u64,
+    /// What was to be sent, in order.
+    pub outputs: Vec<What>,
+}
+
+/// The device, with all of its parts. Contracts see its state, and how many events it served.
+#[derive(Drop)]
+pub struct Whole {
+    hand: Hand<Cell>,
+    count: u64,
+}
+
+impl Model for Whole {
+    ghost use Rattle.std.specs.Prelude.{◌≡◌, map, Some};
+    ghost use Rattle.mms_step.specs.State.{IsSound};
+    ghost use Rattle.mms_step.specs.Partition.{parts_of, state_in};
+    ghost use Rattle.mms_device.specs.Served.{Served};
+
+    ghost Value = { Served };
+
+    ghost view = { λ device. record { state = state_in device.hand; count = device.count } };
+
+    ghost invariant = { λ device. (device.hand ≡ map Some (parts_of (state_in device.hand))) × IsSound (state_in device.hand) };
+}
+
+/// Each part in a place of its own.
+fn in_places(alloc: Global, parts: Vec<Box<Part>>) -> Result<Vec<Option<Box<Part>>>, AllocError>
+    ensures { IfOk result (λ places. places.items ≡ map Some parts.items) }
+{
+    parts.into_iter().map(Some).collect(alloc)
+}
+
+/// The parts at the start, all held.
+#[tactic(auto, using(crate::proofs::AllHeld::unboxed_all))]
+fn all_held(alloc: Global, clients: u32) -> Result<Hand<Cell>, Memory>
+    requires some { 1 ≤ clients }
+    requires few { clients ≤ 64 }
+    ensures { IfOk result (λ hand. hand ≡ map Some (parts_of (start clients))) }
+{
+    let parts = start_parts(alloc, clients)?;
+    let places = in_places(alloc, parts)?;
+    Ok(Hand::of(places))
+}
+
+impl Whole {
+    /// The device at the start, with clients 1 to `clients`: no association is open, nothing waits and nothing is to be sent.
+    pub fn new(alloc: Global, clients: u32) -> Result<Whole, Memory>
+        requires some { 1 ≤ clients }
+        requires few { clients ≤ 64 }
+        ensures { IfOk result (λ device. device ≡ record { state = start clients; count = 0 }) }
+    {
+        Ok(Whole {
+            hand: all_held(alloc, clients)?,
+            count: 0,
+        })
+    }
+
+    /// How many clients there are.
+    pub fn clients(&self) -> u32
+        ensures clients { result ≡ length self.now.state.clients }
+        ensures some { 1 ≤ length self.now.state.clients }
+        ensures few { length self.now.state.clients ≤ 64 }
+    {
+        self.hand.places() as u32 - 7
+    }
+
+    /// Serves an event: its answer is the event's place in the history, from 1. Without memory the device is as before.
+    pub fn serve(&mut self, alloc: Global, event: &CellEvent) -> Result<u64, Memory>
+        requires may { MayCome self.old.state event.now }
+        requires few { self.old.count < 2 ^ 57 - 1 }
+        ensures place { IfOk result (λ place. place ≡ self.old.count + 1) }
+        ensures step { OnOk result (self.new ≡ served self.old event.now) }
+        ensures kept { OnErr result (self.new ≡ self.old) }
+    {
+        apply(alloc, event, &mut self.hand)?;
+        self.count += 1;
+        Ok(self.count)
+    }
+
+    /// Serves the event that a client takes what is to be sent to it. It takes no memory.
+    pub fn drain(&mut self, client: u32) -> Drained
+        requires some { 1 ≤ client }
+        requires there { client ≤ length self.old.state.clients }
+        requires few { self.old.count < 2 ^ 57 - 1 }
+        ensures place { result.ticket ≡ self.old.count + 1 }
+        ensures outputs { result.outputs.items ≡ outbox_of self.old.state client }
+        ensures step { self.new ≡ served self.old (Drain client) }
+    {
+        let outputs = drain(client, &mut self.hand);
+        self.count += 1;
+        Drained {
+            ticket: self.count,
+            outputs,
+        }
+    }
+}
