@@ -1,3 +1,4 @@
+mod Examples
 pub mod Trims
 pub mod OneFurther
 pub mod Kept
