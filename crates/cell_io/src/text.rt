@@ -13,6 +13,11 @@ use std::marker::Model;
 /// How many octets wait before they are written.
 const PIECE: usize = 1 << 16;
 
+/// How much room is asked for at once, which is more than ever waits but for a very long line. What
+/// isn't written of it takes no memory; but once a block of this size was released, the C library
+/// keeps as much for the next blocks, and doesn't give all that a phase took back to the system.
+const ROOM: usize = 1 << 22;
+
 /// Text on its way to a sink, to which it goes in pieces of 64 KiB and more. Contracts see the octets that still wait.
 #[derive(Drop)]
 pub struct Text {
@@ -28,12 +33,12 @@ impl Model for Text {
 }
 
 impl Text {
-    /// Nothing waits, and there is room for a piece.
+    /// Nothing waits, and there is room for many pieces.
     pub fn new(alloc: Global) -> Result<Text, Memory>
         ensures { IfOk result (λ text. text ≡ []) }
     {
         Ok(Text {
-            waiting: Vec::with_capacity(alloc, 2 * PIECE)?,
+            waiting: Vec::with_capacity(alloc, ROOM)?,
         })
     }
 
@@ -47,10 +52,14 @@ impl Text {
     }
 
     /// Puts a number's decimal digits to the end.
+    #[tactic(auto, using(crate::proofs::Digits::one_digit))]
     pub fn put_number(&mut self, n: u64) -> Result<(), Memory>
         ensures ok { OnOk result (self.new ≡ self.old ++ decimal n) }
         ensures err { OnErr result (self.new ≡ self.old) }
     {
+        if n < 10 {
+            return self.put(&[b'0' + n as u8]);
+        }
         self.put(Buffer::new().format(n).as_bytes())
     }
 

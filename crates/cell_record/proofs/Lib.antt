@@ -1,3 +1,4 @@
+pub mod Table
 mod Examples
 pub mod Trims
 pub mod OneFurther
