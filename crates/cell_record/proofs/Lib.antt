@@ -7,3 +7,5 @@ pub mod Steps
 pub mod Readings
 pub mod ReportLemmas
 pub mod Valid
+pub mod Bodies
+pub mod OneHistory
