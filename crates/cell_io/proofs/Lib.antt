@@ -1,4 +1,4 @@
-mod Digits
+pub mod Digits
 mod Kept
 pub mod Prefixes
 mod Reading

@@ -1,4 +1,4 @@
-ghost use Rattle.std.specs.Prelude.{◌≡◌, [], ◌++◌, decimal, IfOk, OnOk, OnErr};
+ghost use Rattle.std.specs.Prelude.{◌≡◌, ◌+◌, [], ◌++◌, ◌≤◌, decimal, take, vec_len, IfOk, OnOk, OnErr};
 ghost use Rattle.std.specs.Io.KnownBytes.{Appends};
 ghost use Rattle.cell_io.specs.Faults.{HasCause};
 ghost use Rattle.cell_io.specs.Hex.{upper};
@@ -13,28 +13,69 @@ use std::marker::Model;
 /// How many octets wait before they are written.
 const PIECE: usize = 1 << 16;
 
+/// How much room is asked for at once: more than waits of a report. What isn't written of it takes no
+/// memory, but once a block of this size was released, the C library keeps as much for the blocks to come and
+/// doesn't give back to the system, phase by phase, what a phase took.
+const ROOM: usize = 1 << 22;
+
 /// Text on its way to a sink, to which it goes in pieces of 64 KiB and more. Contracts see the octets that still wait.
 #[derive(Drop)]
 pub struct Text {
-    waiting: Vec<u8>,
+    buffer: Vec<u8>,
+    end: usize,
 }
 
 impl Model for Text {
-    ghost use Rattle.std.specs.Prelude.{ℕ, List};
+    ghost use Rattle.std.specs.Prelude.{ℕ, List, ◌≤◌, take, length};
 
     ghost Value = { List ℕ };
 
-    ghost view = { λ text. text.waiting.items };
+    ghost view = { λ text. take text.end text.buffer.items };
+
+    ghost invariant = { λ text. text.end ≤ length text.buffer.items };
+}
+
+/// Makes a buffer longer, for so many octets more behind `end`. Tells where these end.
+#[cold]
+#[inline(never)]
+fn lengthen(buffer: &mut Vec<u8>, end: usize, more: usize) -> Result<usize, Memory>
+    requires { end ≤ vec_len buffer.old }
+    ensures end { IfOk result (λ new. new ≡ end + more) }
+    ensures room { IfOk result (λ new. new ≤ vec_len buffer.new) }
+    ensures longer { vec_len buffer.old ≤ vec_len buffer.new }
+    ensures kept { take end buffer.new.items ≡ take end buffer.old.items }
+{
+    let Some(new) = end.checked_add(more) else {
+        return Err(Memory);
+    };
+    if buffer.len() < new {
+        buffer.resize(new, 0)?;
+    }
+    Ok(new)
+}
+
+/// Makes room in a buffer for so many octets more behind `end`. Tells where these end.
+fn room(buffer: &mut Vec<u8>, end: usize, more: usize) -> Result<usize, Memory>
+    requires { end ≤ vec_len buffer.old }
+    ensures end { IfOk result (λ new. new ≡ end + more) }
+    ensures room { IfOk result (λ new. new ≤ vec_len buffer.new) }
+    ensures longer { vec_len buffer.old ≤ vec_len buffer.new }
+    ensures kept { take end buffer.new.items ≡ take end buffer.old.items }
+{
+    if buffer.len() - end < more {
+        return lengthen(buffer, end, more);
+    }
+    Ok(end + more)
 }
 
 impl Text {
-    /// Nothing waits, and there is room for a piece.
+    /// Nothing waits, and there is room for many pieces.
     pub fn new(alloc: Global) -> Result<Text, Memory>
         ensures { IfOk result (λ text. text ≡ []) }
     {
-        Ok(Text {
-            waiting: Vec::with_capacity(alloc, 2 * PIECE)?,
-        })
+        let mut buffer = Vec::with_capacity(alloc, ROOM)?;
+        buffer.resize(2 * PIECE, 0)?;
+        Ok(Text { buffer, end: 0 })
     }
 
     /// Puts octets to the end.
@@ -42,15 +83,21 @@ impl Text {
         ensures ok { OnOk result (self.new ≡ self.old ++ octets.now) }
         ensures err { OnErr result (self.new ≡ self.old) }
     {
-        self.waiting.extend_from_slice(octets)?;
+        let end = room(&mut self.buffer, self.end, octets.len())?;
+        self.buffer.as_mut_slice()[self.end..end].copy_from_slice(octets);
+        self.end = end;
         Ok(())
     }
 
     /// Puts a number's decimal digits to the end.
+    #[tactic(auto, using(crate::proofs::Digits::one_digit))]
     pub fn put_number(&mut self, n: u64) -> Result<(), Memory>
         ensures ok { OnOk result (self.new ≡ self.old ++ decimal n) }
         ensures err { OnErr result (self.new ≡ self.old) }
     {
+        if n < 10 {
+            return self.put(&[b'0' + n as u8]);
+        }
         self.put(Buffer::new().format(n).as_bytes())
     }
 
@@ -59,12 +106,9 @@ impl Text {
         ensures ok { OnOk result (self.new ≡ self.old ++ upper octets.now) }
         ensures err { OnErr result (self.new ≡ self.old) }
     {
-        let start = self.waiting.len();
-        let Some(end) = start.checked_add(2 * octets.len()) else {
-            return Err(Memory);
-        };
-        self.waiting.resize(end, 0)?;
-        encode(octets, &mut self.waiting.as_mut_slice()[start..]);
+        let end = room(&mut self.buffer, self.end, 2 * octets.len())?;
+        encode(octets, &mut self.buffer.as_mut_slice()[self.end..end]);
+        self.end = end;
         Ok(())
     }
 
@@ -74,7 +118,7 @@ impl Text {
         ensures part { OnErr result (AppendsPrefix (K.held out.old) (K.held out.new) self.old) }
         ensures cause { HasCause (K.faults out.old) (K.faults out.new) result }
     {
-        if self.waiting.len() < PIECE {
+        if self.end < PIECE {
             return Ok(());
         }
         self.flush(out)
@@ -87,8 +131,8 @@ impl Text {
         ensures emptied { self.new ≡ [] }
         ensures cause { HasCause (K.faults out.old) (K.faults out.new) result }
     {
-        let written = write_all(out, &self.waiting);
-        self.waiting.clear();
+        let written = write_all(out, &self.buffer[..self.end]);
+        self.end = 0;
         written
     }
 }

@@ -1,3 +1,4 @@
+pub mod Table
 mod Examples
 pub mod Trims
 pub mod OneFurther
@@ -6,3 +7,5 @@ pub mod Steps
 pub mod Readings
 pub mod ReportLemmas
 pub mod Valid
+pub mod Bodies
+pub mod OneHistory

@@ -1,7 +1,9 @@
 -- Words, numbers and pairs of digits, one further.
-use Rattle.std.proofs.Common.{◌≡◌, ℕ, suc, zero, ◌+◌, ◌-◌, ◌*◌, ◌<◌, ◌≤◌, ◌^◌, ◌==◌, ◌||◌, Bool, true, false, List, [], ◌∷◌, ◌++◌, length, take, drop, get_or, refl, sym, ap, ◌∙◌, arith, append_assoc, Some, None, nat_lt}
-use Rattle.std.proofs.lemmas.Grind.{common_steps}
-use Rattle.std.proofs.lemmas.List.{drop_more, take_more, drop_all}
+use Rattle.std.proofs.Common.{◌≡◌, ℕ, suc, zero, ◌+◌, ◌-◌, ◌*◌, ◌%◌, ◌<◌, ◌≤◌, ◌^◌, ◌==◌, ◌||◌, Bool, true, false, List, [], ◌∷◌, ◌++◌, length, take, drop, set, get_or, refl, sym, ap, ◌∙◌, subst, arith, append_assoc, bit_or, Some, None, nat_lt}
+use Rattle.std.proofs.lemmas.Bool.Decides.{nat_tests}
+use Rattle.std.proofs.lemmas.Grind.{common_steps, or_after_shift}
+use Rattle.std.proofs.lemmas.Nat.{le_or_l, le_or_r}
+use Rattle.std.proofs.lemmas.List.{drop_more, take_more, take_more_set, drop_all}
 use Rattle.std.specs.Option.{option_map}
 use Rattle.std.specs.declared.option.Option.{Option}
 use Rattle.cell_record.specs.Words.{value_of, pairs_of, nibble_of, with_octet}
@@ -67,3 +69,37 @@ put_pair a b high low octets h l = ap (λ (n : ℕ). octets ++ (n * 16 + low) �
 
 pub is_none : (part whole : Option (List ℕ)) (octets : List ℕ) → part ≡ None → option_map (λ os. octets ++ os) part ≡ whole → None ≡ whole
 is_none part whole octets e h = ap (option_map (λ os. octets ++ os)) (sym e) ∙ h
+
+-- ---- pairs without spaces
+
+no_space : (b : ℕ) → nibble_of b ≤ 15 → (b == 32) ≡ false
+no_space b h = by_test (b == 32) refl
+  where
+    by_test : (t : Bool) → (b == 32) ≡ t → (b == 32) ≡ false
+    by_test false e = e
+    by_test true e =
+        let same : b ≡ 32 = grind (arith, nat_tests, e) in
+        let much : 255 ≤ 15 = subst (λ (n : ℕ). nibble_of n ≤ 15) same h in
+        absurd (omega (arith, much))
+
+both_small : (a b : ℕ) → a ≤ 15 → b ≤ 15 → (nat_lt 15 a || nat_lt 15 b) ≡ false
+both_small a b h g = grind (arith, nat_tests, h, g)
+
+pub decode_more : (text to : List ℕ) (i seen high low d : ℕ) (whole : Option (List ℕ)) → 2 * i + 1 < length text → i < length to → high ≡ nibble_of (get_or text (2 * i) d) → low ≡ nibble_of (get_or text (2 * i + 1) d)
+    → (seen < 16 → option_map (λ os. take i to ++ os) (pairs_of (drop (2 * i) text)) ≡ whole) → bit_or seen (bit_or high low) < 16
+    → option_map (λ os. take (i + 1) (set to i (bit_or (high * 16 % 256) low)) ++ os) (pairs_of (drop (2 * (i + 1)) text)) ≡ whole
+decode_more text to i seen high low d whole l m h g before small =
+    let n = bit_or high low in
+    let seen_small : seen < 16 = omega (arith, small, le_or_l seen n) in
+    let n_small : n < 16 = omega (arith, small, le_or_r seen n) in
+    let high_small : high ≤ 15 = omega (arith, n_small, le_or_l high low) in
+    let low_small : low ≤ 15 = omega (arith, n_small, le_or_r high low) in
+    let a = get_or text (2 * i) d in
+    let b = get_or text (2 * i + 1) d in
+    let whole_pair : (nat_lt 15 (nibble_of a) || nat_lt 15 (nibble_of b)) ≡ false = both_small (nibble_of a) (nibble_of b) (omega (arith, high_small, h)) (omega (arith, low_small, g)) in
+    let octet : bit_or (high * 16 % 256) low ≡ nibble_of a * 16 + nibble_of b = or_after_shift high 16 256 low refl (omega (arith, low_small)) (omega (arith, high_small)) ∙ ap (λ (k : ℕ). k * 16 + low) h ∙ ap (λ (k : ℕ). nibble_of a * 16 + k) g in
+    let next : 2 * (i + 1) ≡ 2 * i + 2 = omega arith in
+    ap (λ (k : ℕ). option_map (λ os. take (i + 1) (set to i (bit_or (high * 16 % 256) low)) ++ os) (pairs_of (drop k text))) next
+    ∙ ap (λ (items : List ℕ). option_map (λ os. items ++ os) (pairs_of (drop (2 * i + 2) text))) (take_more_set to i (bit_or (high * 16 % 256) low) m ∙ ap (λ (o : ℕ). take i to ++ o ∷ []) octet)
+    ∙ sym (pair_more text (2 * i) d (take i to) l (no_space a (omega (arith, high_small, h))) whole_pair)
+    ∙ before seen_small

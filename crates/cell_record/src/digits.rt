@@ -1,10 +1,10 @@
 //! Numbers and octets in digits.
 
-ghost use Rattle.std.specs.Prelude.{◌≡◌, ◌≤◌, ◌||◌, false, nat_lt, IfOk};
-ghost use Rattle.std.specs.Option.{option_map};
+ghost use Rattle.std.specs.Prelude.{◌≡◌, ◌*◌, ◌≤◌, ◌||◌, true, false, length, take, nat_lt, IfOk, OnOk, Some, None, vec_len};
 ghost use Rattle.cell_record.specs.Words.{number_of, nibble_of, pairs_of};
 
 use crate::words::is_digit;
+use mms_types::{Memory, Octets};
 use std::alloc::{AllocError, Global};
 
 /// The number that 1 to 9 decimal digits say: None for other texts.
@@ -26,20 +26,49 @@ pub fn number(digits: &[u8]) -> Option<u32>
     Some(value)
 }
 
+/// The value of each octet as a hexadecimal digit, as `nibble` tells it.
+static VALUES: [u8; 256] = [
+    255, 255, 255, 255, 255, 255, 255, 255, 255, 255, 255, 255, 255, 255, 255, 255, 255, 255, 255,
+    255, 255, 255, 255, 255, 255, 255, 255, 255, 255, 255, 255, 255, 255, 255, 255, 255, 255, 255,
+    255, 255, 255, 255, 255, 255, 255, 255, 255, 255, 0, 1, 2, 3, 4, 5, 6, 7, 8, 9, 255, 255, 255,
+    255, 255, 255, 255, 10, 11, 12, 13, 14, 15, 255, 255, 255, 255, 255, 255, 255, 255, 255, 255,
+    255, 255, 255, 255, 255, 255, 255, 255, 255, 255, 255, 255, 255, 255, 255, 255, 10, 11, 12, 13,
+    14, 15, 255, 255, 255, 255, 255, 255, 255, 255, 255, 255, 255, 255, 255, 255, 255, 255, 255,
+    255, 255, 255, 255, 255, 255, 255, 255, 255, 255, 255, 255, 255, 255, 255, 255, 255, 255, 255,
+    255, 255, 255, 255, 255, 255, 255, 255, 255, 255, 255, 255, 255, 255, 255, 255, 255, 255, 255,
+    255, 255, 255, 255, 255, 255, 255, 255, 255, 255, 255, 255, 255, 255, 255, 255, 255, 255, 255,
+    255, 255, 255, 255, 255, 255, 255, 255, 255, 255, 255, 255, 255, 255, 255, 255, 255, 255, 255,
+    255, 255, 255, 255, 255, 255, 255, 255, 255, 255, 255, 255, 255, 255, 255, 255, 255, 255, 255,
+    255, 255, 255, 255, 255, 255, 255, 255, 255, 255, 255, 255, 255, 255, 255, 255, 255, 255, 255,
+    255, 255, 255, 255, 255, 255, 255, 255, 255, 255, 255, 255, 255, 255, 255, 255, 255, 255, 255,
+    255, 255, 255,
+];
+
 /// The value of a hexadecimal digit of either case, and 255 for other octets.
+#[tactic(auto, using(crate::proofs::Table::value_is))]
 fn nibble(octet: u8) -> u8
     ensures value { result ≡ nibble_of octet }
     ensures small { result ≤ 255 }
 {
-    if b'0' <= octet && octet <= b'9' {
-        octet - b'0'
-    } else if b'A' <= octet && octet <= b'F' {
-        octet - 55
-    } else if b'a' <= octet && octet <= b'f' {
-        octet - 87
-    } else {
-        255
+    VALUES[octet as usize]
+}
+
+/// Decodes so many pairs of digits without spaces: false where an octet is no digit, and then what
+/// `to` has is of no account.
+fn decode(text: &[u8], count: usize, to: &mut [u8]) -> bool
+    requires pairs { length text.now ≡ 2 * count }
+    requires room { count ≤ length to.old }
+    ensures octets { result ≡ true → pairs_of text.now ≡ Some (take count to.new) }
+    ensures size { length to.new ≡ length to.old }
+{
+    let mut seen = 0u8;
+    for i in 0..count {
+        let high = nibble(text[2 * i]);
+        let low = nibble(text[2 * i + 1]);
+        seen |= high | low;
+        to[i] = high << 4 | low;
     }
+    seen < 16
 }
 
 /// Whether one of the two is no value of a digit.
@@ -50,28 +79,57 @@ fn is_broken(high: u8, low: u8) -> bool
     high > 15 || low > 15
 }
 
-/// The octets of pairs of hexadecimal digits, with or without spaces between pairs: None for other
+/// Decodes pairs of digits with spaces between them in place of what `octets` has: false for other
 /// texts.
-pub fn pairs(alloc: Global, text: &[u8]) -> Result<Option<Vec<u8>>, AllocError>
-    ensures { IfOk result (λ o. option_map (λ v. v.items) o ≡ pairs_of text.now) }
+#[cold]
+#[inline(never)]
+fn decode_spaced(text: &[u8], octets: &mut Vec<u8>) -> Result<bool, AllocError>
+    ensures there { IfOk result (λ there. there ≡ true → pairs_of text.now ≡ Some octets.new.items) }
+    ensures none { IfOk result (λ there. there ≡ false → pairs_of text.now ≡ None) }
 {
-    let mut octets = Vec::with_capacity(alloc, text.len() / 2)?;
+    octets.clear();
     let mut at = 0;
     while at < text.len() {
         if text[at] == b' ' {
             at += 1;
         } else {
             if text.len() - at < 2 {
-                return Ok(None);
+                return Ok(false);
             }
             let high = nibble(text[at]);
             let low = nibble(text[at + 1]);
             if is_broken(high, low) {
-                return Ok(None);
+                return Ok(false);
             }
             octets.push(high * 16 + low)?;
             at += 2;
         }
     }
-    Ok(Some(octets))
+    Ok(true)
+}
+
+/// Makes the buffer at least that long. What it holds is of no account.
+fn widen(buffer: &mut Vec<u8>, count: usize) -> Result<(), AllocError>
+    ensures { OnOk result (count ≤ vec_len buffer.new) }
+{
+    if buffer.len() < count {
+        buffer.resize(count, 0)?;
+    }
+    Ok(())
+}
+
+/// The octets of pairs of hexadecimal digits, with or without spaces between pairs: None for other
+/// texts. The buffer is kept from text to text; what it holds is of no account.
+pub fn pairs(alloc: Global, text: &[u8], buffer: &mut Vec<u8>) -> Result<Option<Octets>, Memory>
+    ensures { IfOk result (λ octets. octets ≡ pairs_of text.now) }
+{
+    let count = text.len() / 2;
+    widen(buffer, count)?;
+    if 2 * count == text.len() && decode(text, count, buffer.as_mut_slice()) {
+        return Ok(Some(Octets::from_slice(alloc, &buffer[..count])?));
+    }
+    if decode_spaced(text, buffer)? {
+        return Ok(Some(Octets::from_slice(alloc, buffer)?));
+    }
+    Ok(None)
 }

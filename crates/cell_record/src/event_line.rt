@@ -1,7 +1,6 @@
 //! What an event line says.
 
 ghost use Rattle.std.specs.Prelude.{◌≡◌, IfOk, IfErr, Ok, nat_eq, codes};
-ghost use Rattle.std.specs.Option.{option_map};
 ghost use Rattle.cell_record.specs.Words.{number_of, pairs_of, trim as trimmed, word_of, argument_of};
 ghost use Rattle.cell_record.specs.EventLine.{said_of, trimmed_says, worded, heard_of, lost_of, tick_of, ends_of, IsCause, MayHappen};
 
@@ -19,9 +18,9 @@ const MOST_IN_PDU: usize = 65_000;
 const MOST_IN_TICK: u32 = 3_600_000;
 
 /// That a client sent octets.
-fn heard(clients: u32, client: Option<u32>, octets: Option<Vec<u8>>) -> Result<Said, LineError>
-    ensures says { IfOk result (λ s. heard_of clients client (option_map (λ v. v.items) octets) ≡ Ok s) }
-    ensures bad { IfErr result (λ e. IsCause (heard_of clients client (option_map (λ v. v.items) octets)) e) }
+fn heard(clients: u32, client: Option<u32>, octets: Option<Octets>) -> Result<Said, LineError>
+    ensures says { IfOk result (λ s. heard_of clients client octets ≡ Ok s) }
+    ensures bad { IfErr result (λ e. IsCause (heard_of clients client octets) e) }
     ensures may { IfOk result (MayHappen clients) }
 {
     let (Some(client), Some(octets)) = (client, octets) else {
@@ -33,10 +32,7 @@ fn heard(clients: u32, client: Option<u32>, octets: Option<Vec<u8>>) -> Result<S
     if client < 1 || client > clients {
         return Err(LineError::Bad(BadWord::Client));
     }
-    Ok(Said::Happens(CellEvent::Heard {
-        client,
-        octets: Octets::new(octets),
-    }))
+    Ok(Said::Happens(CellEvent::Heard { client, octets }))
 }
 
 /// That a client's association was lost.
@@ -105,25 +101,36 @@ fn by_word(alloc: Global, clients: u32, line: &[u8]) -> Result<Said, LineError>
 }
 
 /// What a line says that begins with a digit.
-fn by_client(alloc: Global, clients: u32, line: &[u8]) -> Result<Said, LineError>
+fn by_client(
+    alloc: Global,
+    clients: u32,
+    line: &[u8],
+    buffer: &mut Vec<u8>,
+) -> Result<Said, LineError>
     ensures says { IfOk result (λ s. heard_of clients (number_of (word_of line.now)) (pairs_of (argument_of line.now)) ≡ Ok s) }
     ensures bad { IfErr result (λ e. IsCause (heard_of clients (number_of (word_of line.now)) (pairs_of (argument_of line.now))) e) }
     ensures may { IfOk result (MayHappen clients) }
 {
     let parted = first_word(line);
-    match pairs(alloc, parted.argument) {
+    match pairs(alloc, parted.argument, buffer) {
         Ok(octets) => heard(clients, number(parted.word), octets),
         Err(_) => Err(LineError::Memory),
     }
 }
 
-fn trimmed(alloc: Global, clients: u32, line: &[u8]) -> Result<Said, LineError>
+/// What a line says that has no blanks at its ends.
+fn trimmed(
+    alloc: Global,
+    clients: u32,
+    line: &[u8],
+    buffer: &mut Vec<u8>,
+) -> Result<Said, LineError>
     ensures says { IfOk result (λ s. trimmed_says clients line.now ≡ Ok s) }
     ensures bad { IfErr result (λ e. IsCause (trimmed_says clients line.now) e) }
     ensures may { IfOk result (MayHappen clients) }
 {
     if begins_with_digit(line) {
-        return by_client(alloc, clients, line);
+        return by_client(alloc, clients, line, buffer);
     }
     if is_remark(line) {
         return Ok(Said::Nothing);
@@ -131,8 +138,14 @@ fn trimmed(alloc: Global, clients: u32, line: &[u8]) -> Result<Said, LineError>
     by_word(alloc, clients, line)
 }
 
-/// What the content of an event line says, where there are so many clients.
-pub fn said(alloc: Global, clients: u32, line: &[u8]) -> Result<Said, LineError>
+/// What the content of an event line says, where there are so many clients. The buffer is kept from
+/// line to line; what it holds is of no account.
+pub fn said(
+    alloc: Global,
+    clients: u32,
+    line: &[u8],
+    buffer: &mut Vec<u8>,
+) -> Result<Said, LineError>
     ensures says { IfOk result (λ s. said_of clients line.now ≡ Ok s) }
     ensures bad { IfErr result (λ e. IsCause (said_of clients line.now) e) }
     ensures may { IfOk result (MayHappen clients) }
@@ -140,5 +153,5 @@ pub fn said(alloc: Global, clients: u32, line: &[u8]) -> Result<Said, LineError>
     if line.len() > MOST_IN_LINE {
         return Err(LineError::Bad(BadWord::Long));
     }
-    trimmed(alloc, clients, trim(line))
+    trimmed(alloc, clients, trim(line), buffer)
 }

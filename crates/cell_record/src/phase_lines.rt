@@ -24,12 +24,14 @@ pub struct Piece {
     pub last: bool,
 }
 
-/// Reads the next line, and tells what it says: None at the end of the input.
+/// Reads the next line, and tells what it says: None at the end of the input. The buffer is for
+/// `said`.
 fn next_said<S: Source>(
     alloc: Global,
     lines: &mut NumberedLines,
     clients: u32,
     counts: &mut Counts,
+    buffer: &mut Vec<u8>,
     input: &mut S,
 ) -> Result<Option<Said>, RecordError>
     requires { IsWithin counts.old }
@@ -55,7 +57,7 @@ fn next_said<S: Source>(
         Ok(false) => return Ok(None),
         Err(refusal) => return Err(refusal),
     }
-    match said(alloc, clients, lines.content()) {
+    match said(alloc, clients, lines.content(), buffer) {
         Ok(said) => match counts.count(number, &said) {
             None => Ok(Some(said)),
             Some(refusal) => Err(refusal),
@@ -65,12 +67,13 @@ fn next_said<S: Source>(
     }
 }
 
-/// Reads the lines up to the phase's end.
+/// Reads the lines up to the phase's end. The buffer is for `said`.
 pub fn read_phase<S: Source>(
     alloc: Global,
     lines: &mut NumberedLines,
     clients: u32,
     counts: &mut Counts,
+    buffer: &mut Vec<u8>,
     input: &mut S,
 ) -> Result<Piece, RecordError>
     requires within { IsWithin counts.old }
@@ -91,7 +94,7 @@ pub fn read_phase<S: Source>(
     let mut events = Events::new(alloc);
     let _given = lines.given();
     for _turn in 0..MOST + 1 {
-        match next_said(alloc, lines, clients, counts, input) {
+        match next_said(alloc, lines, clients, counts, buffer, input) {
             Ok(Some(Said::Nothing)) => continue,
             Ok(Some(Said::Phase)) => {
                 return Ok(Piece {

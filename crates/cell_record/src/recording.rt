@@ -41,6 +41,8 @@ pub struct Recording {
     number: u32,
     over: bool,
     refusal: Option<RecordError>,
+    /// In which the octets of a line are decoded. What it holds is of no account.
+    buffer: Vec<u8>,
 }
 
 impl Model for Recording {
@@ -97,6 +99,7 @@ impl Recording {
             number: 0,
             over: false,
             refusal: None,
+            buffer: Vec::new(alloc),
         })
     }
 
@@ -176,7 +179,14 @@ impl Recording {
     {
         let mut counts = Counts::fresh(self.moment);
         let _given = self.lines.given();
-        match read_phase(alloc, &mut self.lines, self.clients, &mut counts, input) {
+        match read_phase(
+            alloc,
+            &mut self.lines,
+            self.clients,
+            &mut counts,
+            &mut self.buffer,
+            input,
+        ) {
             Ok(piece) => {
                 self.moment = counts.moment;
                 self.number += 1;

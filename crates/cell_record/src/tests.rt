@@ -221,6 +221,34 @@ fn a_refusal_is_answered_again(rt: HostRuntime) -> Result<(), Fail> {
 }
 
 #[test]
+fn octets_are_those_of_the_digits_with_and_without_spaces(rt: HostRuntime) -> Result<(), Fail> {
+    let alloc = rt.alloc();
+    let lines = b"1 00192a3b4c5d6e7f8091A2B3C4D5E6F7\n1 8b 0A\n1 8B0a\n1  8B  0A\n";
+    let octets: [&[u8]; 4] = [
+        &[
+            0x00, 0x19, 0x2A, 0x3B, 0x4C, 0x5D, 0x6E, 0x7F, 0x80, 0x91, 0xA2, 0xB3, 0xC4, 0xD5,
+            0xE6, 0xF7,
+        ],
+        &[0x8B, 0x0A],
+        &[0x8B, 0x0A],
+        &[0x8B, 0x0A],
+    ];
+    let mut source = MemorySource::new(recorded(alloc, lines)?, Vec::new(alloc));
+    let mut recording = Recording::open(alloc, &mut source)?;
+    let Some(phase) = recording.next_phase(alloc, &mut source)? else {
+        panic!(rt; "no phase")
+    };
+    assert_eq!(rt; phase.events.len(), octets.len());
+    for (event, want) in phase.events.as_slice().iter().zip(octets) {
+        let CellEvent::Heard { client: 1, octets } = event else {
+            panic!(rt; "another event")
+        };
+        assert_eq!(rt; octets.as_slice(), want);
+    }
+    Ok(())
+}
+
+#[test]
 fn a_fault_is_answered_again(rt: HostRuntime) -> Result<(), Fail> {
     let alloc = rt.alloc();
     let text = recorded(alloc, b"1 A0\nphase\n")?;

@@ -3,7 +3,7 @@ use Rattle.std.proofs.lemmas.Bool.Decides.{nat_tests}
 use Rattle.std.specs.Option.{option_map}
 use Rattle.cell_record.specs.Words.{pairs_of}
 use Rattle.cell_record.proofs.OneFurther.{space_more, pair_more, pair_broken, broken_by, put_pair, is_none}
-use Rattle.cell_record.proofs.digits.pairs.Goals as goal
+use Rattle.cell_record.proofs.digits.decode_spaced.Goals as goal
 
 pub loop-at-preserved-then-text-at-eq32 : goal.loop-at-preserved-then-text-at-eq32
 loop-at-preserved-then-text-at-eq32 c =
@@ -13,11 +13,11 @@ loop-at-preserved-then-text-at-eq32 c =
       rest = ap (option_map (λ os. c.loop-at.octets.items ++ os)) (sym (space_more c.args.text.now c.loop-at.at 0 (omega arith) is_space)) ∙ c.loop-at.invariant.rest;
     }
 
-pub returns-then-is_broken : goal.returns-then-is_broken
-returns-then-is_broken c =
+pub returns-then-is_broken-clause-none : goal.returns-then-is_broken-clause-none
+returns-then-is_broken-clause-none c = λ _.
     let no_space : (get_or c.args.text.now c.loop-at.at 0 == 32) ≡ false = grind (arith, nat_tests, c.if-text-at-eq32.false) in
     let broken = broken_by (get_or c.args.text.now c.loop-at.at 0) (get_or c.args.text.now (c.loop-at.at + 1) 0) c.nibble-high.result c.nibble-low.result true c.nibble-high.ensures.value c.nibble-low.ensures.value c.if-is_broken.ensures.broken in
-    is_none (pairs_of (drop c.loop-at.at c.args.text.now)) (pairs_of c.args.text.now) c.loop-at.octets.items (pair_broken c.args.text.now c.loop-at.at 0 (omega arith) no_space broken) c.loop-at.invariant.rest
+    sym (is_none (pairs_of (drop c.loop-at.at c.args.text.now)) (pairs_of c.args.text.now) c.loop-at.octets.items (pair_broken c.args.text.now c.loop-at.at 0 (omega arith) no_space broken) c.loop-at.invariant.rest)
 
 pub loop-at-preserved : goal.loop-at-preserved
 loop-at-preserved c =

@@ -1,7 +1,7 @@
 use Rattle.std.proofs.Common.{length, ◌-◌, ◌≡◌, ◌≤◌, ◌++◌, drop}
 use Rattle.std.specs.Option.{option_map}
 use Rattle.cell_record.specs.Words.{pairs_of}
-use Rattle.cell_record.proofs.digits.pairs.Given as goal
+use Rattle.cell_record.proofs.digits.decode_spaced.Given as goal
 
 abbrev pub invariant-loop-at : goal.invariant-loop-at
 invariant-loop-at l = record {
