@@ -2,7 +2,8 @@
 use Rattle.std.proofs.Common.{◌≡◌, ℕ, suc, ◌<◌, ◌==◌, Bool, true, false, if◌then◌else◌, List, [], ◌∷◌, length, drop, refl, sym, ap, ◌∙◌, subst, arith}
 use Rattle.std.proofs.lemmas.Bool.Decides.{nat_tests}
 use Rattle.mms_types.specs.declared.event.CellEvent.{CellEvent}
-use Rattle.cell_record.specs.History.{actor_of, events_of, IsBodyOf}
+use Rattle.mms_types.specs.Actors.{actor_of}
+use Rattle.cell_record.specs.History.{events_of, IsBodyOf}
 
 -- ---- the actors' events tell how many events there are
 

@@ -6,7 +6,8 @@ use Rattle.mms_types.specs.declared.event.What.{What}
 use Rattle.mms_types.specs.declared.event.What.TheVariants.{Octets, Abort}
 use Rattle.mms_types.specs.declared.event.CellEvent.{CellEvent}
 use Rattle.mms_types.specs.declared.event.CellEvent.TheVariants.{Heard, Lost, Tick, Ends, Drain}
-use Rattle.cell_record.specs.History.{clients_to, drains, events_of, history}
+use Rattle.mms_types.specs.Actors.{clients_to}
+use Rattle.cell_record.specs.History.{drains, events_of, history}
 use Rattle.cell_record.specs.Report.{placed_from, taken, report}
 
 three_clients : clients_to 3 ≡ 1 ∷ 2 ∷ 3 ∷ []

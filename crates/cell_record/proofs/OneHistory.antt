@@ -19,7 +19,8 @@ use Rattle.cell_record.specs.Words.{between, content, trim, word_of, argument_of
 use Rattle.cell_record.specs.EventLine.{IsRecorded, MayHappen, same, heard_of, lost_of, tick_of, ends_of, worded, trimmed_says, said_of}
 use Rattle.cell_record.specs.Recording.{onto, default_clients}
 use Rattle.cell_record.specs.Grammar.{Says, phases_of, ReadsRecording}
-use Rattle.cell_record.specs.History.{clients_to, drains, Interleaves}
+use Rattle.mms_types.specs.Actors.{clients_to}
+use Rattle.cell_record.specs.History.{drains, Interleaves}
 use Rattle.cell_record.specs.Report.{event_text, placed_line, served_line, sections, phase_head, placed_from, taken, report_from, report}
 use Rattle.cell_record.specs.declared.said.Said.{Said}
 use Rattle.cell_record.specs.declared.said.Said.TheVariants.{Nothing, Phase, Happens}

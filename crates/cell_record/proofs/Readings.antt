@@ -9,6 +9,7 @@ use Rattle.std.specs.declared.option.Option.{Option}
 use Rattle.cell_io.specs.Held.{IsLaterPart}
 use Rattle.mms_types.specs.declared.event.CellEvent.{CellEvent}
 use Rattle.cell_record.specs.Recording.{Reading, onto, with_event, with_phase, whole, ended, counted}
+use Rattle.cell_record.specs.Grammar.{phase_ms}
 use Rattle.cell_record.specs.Numbered.{IsPart}
 use Rattle.cell_record.specs.Progress.{Becomes}
 
@@ -76,6 +77,17 @@ recorded_more clients xs ys e h p q = subst (All (IsRecorded clients)) (sym h) (
 
 pub size_more : (xs ys : List CellEvent) (e : CellEvent) (c d : Counts) → ys ≡ xs ++ e ∷ [] → length xs ≡ c.events → d ≡ counted c e → length ys ≡ d.events
 size_more xs ys e c d h s m = ap length h ∙ length-append xs (e ∷ []) ∙ ap (λ (n : ℕ). n + 1) s ∙ sym (ap (λ (x : Counts). x.events) m)
+
+phase_ms-append : (xs ys : List CellEvent) → phase_ms (xs ++ ys) ≡ phase_ms xs + phase_ms ys
+phase_ms-append [] ys = omega arith
+phase_ms-append (e ∷ xs) ys = let rest = phase_ms-append xs ys in omega (arith, rest)
+
+pub moment_more : (xs ys : List CellEvent) (e : CellEvent) (c d : Counts) (start : ℕ) → ys ≡ xs ++ e ∷ [] → c.moment ≡ start + phase_ms xs → d ≡ counted c e
+    → d.moment ≡ start + phase_ms ys
+moment_more xs ys e c d start h m k =
+    let all = ap phase_ms h ∙ phase_ms-append xs (e ∷ []) in
+    let now = ap (λ (x : Counts). x.moment) k in
+    omega (arith, all, now, m)
 
 -- ---- what is left
 

@@ -1,24 +1,12 @@
 -- The history in which the phases of a recording are served (this profile's choice).
-use Rattle.std.specs.Prelude.{ℕ, suc, zero, ◌≡◌, ◌==◌, Bool, if◌then◌else◌, List, [], ◌∷◌, ◌++◌, map, flat_map}
+use Rattle.std.specs.Prelude.{ℕ, ◌≡◌, ◌==◌, Bool, if◌then◌else◌, List, [], ◌∷◌, ◌++◌, map, flat_map}
+use Rattle.mms_types.specs.Actors.{clients_to, actor_of}
 use Rattle.mms_types.specs.declared.event.CellEvent.{CellEvent}
-use Rattle.mms_types.specs.declared.event.CellEvent.TheVariants.{Heard, Lost, Tick, Ends, Drain}
-
--- clients 1 to n
-abbrev pub clients_to : ℕ → List ℕ
-clients_to zero = []
-clients_to (suc n) = clients_to n ++ suc n ∷ []
+use Rattle.mms_types.specs.declared.event.CellEvent.TheVariants.{Drain}
 
 -- the end of a phase: each of these clients takes what is to be sent to it
 abbrev pub drains : List ℕ → List CellEvent
 drains clients = map Drain clients
-
--- whose event it is: the client's, or the cell's own, 0
-abbrev pub actor_of : CellEvent → ℕ
-actor_of (Heard client octets) = client
-actor_of (Lost client) = client
-actor_of (Tick ms) = 0
-actor_of (Ends name) = 0
-actor_of (Drain client) = client
 
 -- the events of an actor, in order
 abbrev pub events_of : ℕ → List CellEvent → List CellEvent

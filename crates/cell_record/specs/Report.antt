@@ -6,7 +6,8 @@ use Rattle.mms_types.specs.declared.event.What.{What}
 use Rattle.mms_types.specs.declared.event.What.TheVariants.{Octets, Abort}
 use Rattle.mms_types.specs.declared.event.CellEvent.{CellEvent}
 use Rattle.mms_types.specs.declared.event.CellEvent.TheVariants.{Heard, Lost, Tick, Ends, Drain}
-use Rattle.cell_record.specs.History.{clients_to, drains}
+use Rattle.mms_types.specs.Actors.{clients_to}
+use Rattle.cell_record.specs.History.{drains}
 
 -- drains aren't printed
 abbrev pub is_printed : CellEvent → Bool

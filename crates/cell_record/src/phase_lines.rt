@@ -5,6 +5,7 @@ ghost use Rattle.std.specs.Io.KnownBytes.{IsAtEnd};
 ghost use Rattle.cell_io.specs.Faults.{Rose};
 ghost use Rattle.cell_record.specs.EventLine.{MayHappen, IsRecorded};
 ghost use Rattle.cell_record.specs.Recording.{makes, moved, whole, refused, with_phase};
+ghost use Rattle.cell_record.specs.Grammar.{phase_ms};
 ghost use Rattle.cell_record.specs.Numbered.{IsPart, at, phases, after_phase, IsWithin};
 ghost use Rattle.cell_record.specs.Progress.{Becomes, IsStated};
 
@@ -83,6 +84,7 @@ pub fn read_phase<S: Source>(
     ensures recorded { IfOk result (λ p. All (IsRecorded clients) p.events) }
     ensures few { IfOk result (λ p. length p.events ≤ 16384) }
     ensures within { IfOk result (λ _. IsWithin counts.new) }
+    ensures moment { IfOk result (λ p. counts.new.moment ≡ counts.old.moment + phase_ms p.events) }
     ensures over { IfOk result (λ p. p.last ≡ true → IsAtEnd (S.left input.new)) }
     ensures refused { IfErr result (λ e. IsStated e → IfSome (at (phases counts.old) clients lines.old (S.left input.old)) (λ r. r ≡ refused e)) }
     ensures fault { IfErr result (λ e. e ≡ RecordError.ReadFault → Rose (S.faults input.old) (S.faults input.new)) }

@@ -1,6 +1,6 @@
 //! A recording that is being read.
 
-ghost use Rattle.std.specs.Prelude.{◌≡◌, ◌+◌, ◌<◌, ◌≤◌, ◌⊎◌, true, false, length, IfOk, IfErr, IfSome, OnOk, MatchOption, All, Some, None, Err, ⊤, ◌↔◌};
+ghost use Rattle.std.specs.Prelude.{◌≡◌, ◌+◌, ◌<◌, ◌≤◌, ◌^◌, ◌⊎◌, true, false, length, IfOk, IfErr, IfSome, OnOk, MatchOption, All, Some, None, Err, ⊤, ◌↔◌};
 ghost use Rattle.std.specs.Io.KnownBytes.{IsAtEnd};
 ghost use Rattle.std.specs.Option.{option_map};
 ghost use Rattle.cell_io.specs.Faults.{Rose};
@@ -8,6 +8,7 @@ ghost use Rattle.cell_io.specs.Lines.{lines_of};
 ghost use Rattle.cell_io.specs.Held.{ahead, IsLaterPart};
 ghost use Rattle.cell_record.specs.EventLine.{IsRecorded};
 ghost use Rattle.cell_record.specs.Recording.{reading_of_text, opening_of_text, default_clients, refused, ended, with_phase};
+ghost use Rattle.cell_record.specs.Grammar.{phase_ms};
 ghost use Rattle.cell_record.specs.Numbered.{opened, IsPart};
 ghost use Rattle.cell_record.specs.Progress.{Progress, place_of, rest_of, Becomes, IsStated};
 
@@ -125,9 +126,14 @@ impl Recording {
             (λ p. Becomes (rest_of self.old (S.left input.old)) (with_phase p.events) (rest_of self.new (S.left input.new)))) }
         ensures over { IfOk result (λ o. MatchOption o (self.old.over ≡ true) (λ _. self.old.over ≡ false)) }
         ensures ended { IfOk result (λ o. MatchOption o ⊤ (λ _. self.new.over ≡ true → IsAtEnd (S.left input.new))) }
-        ensures number { IfOk result (λ o. MatchOption o ⊤ (λ p. (p.number ≡ self.old.number + 1) × (self.new.number ≡ p.number))) }
+        ensures unread { IfOk result (λ o. MatchOption o (input.new ≡ input.old) (λ _. ⊤)) }
+        ensures number { IfOk result (λ o. MatchOption o ⊤ (λ p. (p.number ≡ self.old.number + 1) × (self.new.number ≡ p.number) × (p.number < 2 ^ 32))) }
         ensures recorded { IfOk result (λ o. MatchOption o ⊤ (λ p. All (IsRecorded self.new.clients) p.events)) }
         ensures few { IfOk result (λ o. MatchOption o ⊤ (λ p. length p.events ≤ 16384)) }
+
+        // The moment goes on with the phase's ticks, and never passes the last one.
+        ensures moment { IfOk result (λ o. MatchOption o ⊤ (λ p. self.new.moment ≡ self.old.moment + phase_ms p.events)) }
+        ensures dated { self.new.moment ≤ 5662310399999 }
 
         // Why it is refused.
         ensures refused { IfErr result (λ e. IsStated e → IfSome (rest_of self.old (S.left input.old)) (λ r. r ≡ refused e)) }
@@ -169,6 +175,7 @@ impl Recording {
         ensures phase { IfOk result (λ es. Becomes (rest_of self.old (S.left input.old)) (with_phase es) (rest_of self.new (S.left input.new))) }
         ensures recorded { IfOk result (λ es. All (IsRecorded self.old.clients) es) }
         ensures few { IfOk result (λ es. length es ≤ 16384) }
+        ensures moment { IfOk result (λ es. self.new.moment ≡ self.old.moment + phase_ms es) }
         ensures over { OnOk result (self.new.over ≡ true → IsAtEnd (S.left input.new)) }
         ensures number { OnOk result (self.new.number ≡ self.old.number + 1) }
         ensures refused { IfErr result (λ e. IsStated e → IfSome (rest_of self.old (S.left input.old)) (λ r. r ≡ refused e)) }

@@ -1,8 +1,9 @@
 //! A phase as it was served.
 
-ghost use Rattle.std.specs.Prelude.{◌≡◌, ◌<◌, [], ◌∷◌, ◌++◌, OnOk, OnErr, length, get_or};
+ghost use Rattle.std.specs.Prelude.{◌≡◌, ◌+◌, ◌<◌, ◌^◌, [], ◌∷◌, ◌++◌, OnOk, OnErr, IfOk, length, get_or};
+ghost use Rattle.cell_record.specs.Report.{placed_from};
 
-use mms_types::{CellEvent, Memory, What};
+use mms_types::{CellEvent, Events, Memory, What};
 use std::alloc::Global;
 use std::marker::Model;
 
@@ -40,6 +41,21 @@ impl PlacedEvents {
     {
         self.list.push((place, event))?;
         Ok(())
+    }
+
+    /// Events that were served one after the other, the first of them at that place. Without memory they are dropped.
+    #[tactic(auto, using(crate::proofs::ReportLemmas::placed_more))]
+    pub fn consecutive(alloc: Global, first: u64, events: Events) -> Result<PlacedEvents, Memory>
+        requires { first + length events < 2 ^ 64 }
+        ensures { IfOk result (λ served. served ≡ placed_from first events) }
+    {
+        let mut list = Vec::with_capacity(alloc, events.len())?;
+        let mut place = first;
+        for event in events.into_vec() {
+            list.push((place, event))?;
+            place += 1;
+        }
+        Ok(PlacedEvents { list })
     }
 
     /// The pairs of place and event.

@@ -1,6 +1,7 @@
 use Rattle.std.proofs.Common.{◌≡◌, ◌+◌, ◌≤◌, length}
 use Rattle.std.specs.List.{All}
 use Rattle.cell_record.specs.EventLine.{IsRecorded}
+use Rattle.cell_record.specs.Grammar.{phase_ms}
 use Rattle.cell_record.specs.Numbered.{IsPart, at, phases, IsWithin}
 use Rattle.cell_record.specs.Progress.{Becomes}
 use Rattle.cell_record.proofs.Readings.{with_events}
@@ -12,6 +13,7 @@ invariant-loop-turn g l = record {
   recorded : All (IsRecorded l.clients) l.events;
   size : length l.events ≡ l.counts.events;
   within : IsWithin l.counts;
+  moment : l.counts.moment ≡ l.initial.counts.moment + phase_ms l.events;
   turns : l._turn + l.initial.lines.held.given ≤ l.lines.held.given;
   most : l.lines.held.given ≤ 4294967296;
   left : IsPart (g.S.Source.left l.initial.input) (g.S.Source.left l.input);
