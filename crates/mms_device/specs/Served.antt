@@ -1,8 +1,8 @@
 -- What contracts see of the device that one thread serves.
-use Rattle.std.specs.Prelude.{ℕ, ◌+◌}
+use Rattle.std.specs.Prelude.{ℕ, ◌+◌, List, length}
 use Rattle.mms_types.specs.declared.event.CellEvent.{CellEvent}
 use Rattle.mms_step.specs.State.{State}
-use Rattle.mms_step.specs.Step.{step}
+use Rattle.mms_step.specs.Step.{step, replay}
 
 -- the state, and how many events were served
 pub record Served : Type 0 where
@@ -12,3 +12,7 @@ pub record Served : Type 0 where
 -- after one more event
 abbrev pub served : Served → CellEvent → Served
 served device event = record { state = step device.state event; count = device.count + 1 }
+
+-- the device with n clients after a history
+abbrev pub device_after : ℕ → List CellEvent → Served
+device_after n history = record { state = replay n history; count = length history }

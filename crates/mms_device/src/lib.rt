@@ -4,3 +4,6 @@
 mod whole;
 
 pub use whole::{Drained, Whole};
+
+#[cfg(test)]
+mod tests;

@@ -2,6 +2,7 @@
 
 ghost use Rattle.std.specs.Prelude.{◌≡◌, ◌+◌, ◌-◌, ◌<◌, ◌≤◌, ◌^◌, length, map, Some, IfOk, OnOk, OnErr};
 ghost use Rattle.mms_types.specs.Actors.{IsAmong};
+ghost use Rattle.mms_types.specs.Moments.{IsDated};
 ghost use Rattle.mms_types.specs.declared.event.CellEvent.TheVariants.{Drain};
 ghost use Rattle.mms_step.specs.State.{start, IsSound};
 ghost use Rattle.mms_step.specs.Step.{MayCome, outbox_of};
@@ -9,7 +10,7 @@ ghost use Rattle.mms_step.specs.Partition.{parts_of, state_in};
 ghost use Rattle.mms_device.specs.Served.{served};
 
 use mms_step::{Cell, Part, apply, drain, start_parts};
-use mms_types::{CellEvent, Memory, What};
+use mms_types::{CellEvent, Memory, Moment, What};
 use part_table::Hand;
 use std::alloc::{AllocError, Global};
 use std::marker::Model;
@@ -82,6 +83,24 @@ impl Whole {
         ensures few { length self.now.state.clients ≤ 64 }
     {
         self.hand.places() as u32 - 7
+    }
+
+    /// The moment.
+    pub fn moment(&self) -> Moment
+        ensures moment { result.0 ≡ self.now.state.now }
+        ensures dated { IsDated result }
+    {
+        match self.hand.get(0) {
+            Some(Part::Clock(clock)) => clock.now(),
+            _ => unreachable!(),
+        }
+    }
+
+    /// How many events were served.
+    pub fn count(&self) -> u64
+        ensures { result ≡ self.now.count }
+    {
+        self.count
     }
 
     /// Serves an event: its answer is the event's place in the history, from 1. Without memory the device is as before.
