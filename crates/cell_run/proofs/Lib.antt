@@ -1,9 +1,4 @@
-pub mod AskedLemmas
-pub mod PairLemmas
-pub mod LineLemmas
-pub mod StepLemmas
-pub mod ReportLemmas
 pub mod WordLemmas
-pub mod Valid
+pub mod Alongside
+pub mod Fronts
 pub mod Complete
-pub mod RefusalLemmas

@@ -1,11 +1,3 @@
-pub mod EventLine
-pub mod Recording
-pub mod Progress
-pub mod Negotiation
-pub mod Asked
-pub mod Association
-pub mod History
-pub mod Report
-pub mod Served
 pub mod Outcome
 pub mod Codes
+pub mod Along

@@ -1,16 +1,20 @@
 -- What a run prints, and the status with which it ends (this profile's choice).
-use Rattle.std.specs.Prelude.{◌≡◌, ℕ, List, [], ◌∷◌, ◌++◌, codes, map, Result, Ok, Err}
+use Rattle.std.specs.Prelude.{◌≡◌, ℕ, List, [], ◌∷◌, ◌++◌, codes, map, Some, None}
 use Rattle.std.specs.Prelude.{String}
 use Rattle.std.specs.Global.{Global}
 use Rattle.std.specs.String.{string_bytes}
 use Rattle.std.specs.Fmt.{decimal}
+use Rattle.std.specs.declared.option.Option.{Option}
 use Rattle.mms_types.specs.declared.event.CellEvent.{CellEvent}
-use Rattle.cell_run.specs.declared.recording.RecordError.{RecordError}
-use Rattle.cell_run.specs.declared.recording.RecordError.TheVariants.{Bad, TooMuch, ReadFault, Memory}
+use Rattle.mms_step.specs.Step.{said}
+use Rattle.cell_record.specs.declared.refusal.BadWord.{BadWord}
+use Rattle.cell_record.specs.declared.refusal.BadWord.TheVariants as bad
+use Rattle.cell_record.specs.declared.refusal.RecordError.{RecordError}
+use Rattle.cell_record.specs.declared.refusal.RecordError.TheVariants.{Bad, BadConfig, TooMuch, ReadFault, Memory}
+use Rattle.cell_record.specs.Recording.{Reading, default_clients, reading_of_text}
+use Rattle.cell_record.specs.Report.{report}
 use Rattle.cell_run.specs.declared.status.Status.{Status}
 use Rattle.cell_run.specs.declared.status.Status.TheVariants as status
-use Rattle.cell_run.specs.Recording.{clients, reading_of_text}
-use Rattle.cell_run.specs.Report.{report}
 
 -- the words of the command: the one word `replay`
 abbrev pub IsReplay : List (List ℕ) → Type 0
@@ -22,39 +26,62 @@ texts words = map (λ w. string_bytes w) words
 abbrev pub usage_text : List ℕ
 usage_text = codes "usage: mmscell replay | run --workers N | stress --seed N --clients N --rounds N --workers N\n"
 
--- the line that tells why a recording isn't served
-abbrev pub refusal_text : RecordError → List ℕ
-refusal_text (Bad line) = codes "bad " ++ decimal line ++ codes " later\n"
-refusal_text (TooMuch line) = codes "too much " ++ decimal line ++ codes "\n"
-refusal_text ReadFault = []
-refusal_text Memory = []
+-- ---- why a recording isn't served to its end
 
-abbrev pub refusal_status : RecordError → Status
-refusal_status (Bad line) = status.Bad
-refusal_status (TooMuch line) = status.TooMuch
-refusal_status ReadFault = status.ReadFault
-refusal_status Memory = status.Memory
+abbrev pub word_text : BadWord → List ℕ
+word_text bad.Header = codes "header"
+word_text bad.Config = codes "config"
+word_text bad.Long = codes "long"
+word_text bad.Event = codes "event"
+word_text bad.Hex = codes "hex"
+word_text bad.Client = codes "client"
+word_text bad.Clock = codes "clock"
+word_text bad.Later = codes "later"
 
--- what is printed for a text: the report of the history that serves its one phase in order, or why it isn't served
-abbrev pub printed_for : Result (List CellEvent) RecordError → List ℕ
-printed_for (Ok events) = report clients (events ∷ [])
-printed_for (Err e) = refusal_text e
+-- the line that tells it
+abbrev pub last_line : Option RecordError → List ℕ
+last_line None = []
+last_line (Some (Bad line word)) = codes "bad " ++ decimal line ++ codes " " ++ word_text word ++ codes "\n"
+last_line (Some (BadConfig rule)) = codes "bad config " ++ decimal rule ++ codes "\n"
+last_line (Some (TooMuch line)) = codes "too much " ++ decimal line ++ codes "\n"
+last_line (Some ReadFault) = []
+last_line (Some Memory) = []
 
-abbrev pub status_for : Result (List CellEvent) RecordError → Status
-status_for (Ok events) = status.Done
-status_for (Err e) = refusal_status e
+-- and the status with which the run ends
+abbrev pub status_for : Option RecordError → Status
+status_for None = status.Done
+status_for (Some (Bad line word)) = status.Bad
+status_for (Some (BadConfig rule)) = status.BadConfig
+status_for (Some (TooMuch line)) = status.TooMuch
+status_for (Some ReadFault) = status.ReadFault
+status_for (Some Memory) = status.Memory
+
+-- ---- what is printed
+
+-- the report of the history that serves phases in their recorded order, where each client is told what the device has for it along that history
+abbrev pub report_of : List (List CellEvent) → List ℕ
+report_of phases = report (said default_clients) default_clients phases
+
+-- of what a text says: the report of the complete phases, and why no more are served
+abbrev pub printed_for : Reading → List ℕ
+printed_for r = report_of r.phases ++ last_line r.refusal
 
 abbrev pub printed : List ℕ → List ℕ
 printed text = printed_for (reading_of_text text)
 
 abbrev pub status_of : List ℕ → Status
-status_of text = status_for (reading_of_text text)
+status_of text = status_for (reading_of_text text).refusal
+
+-- the first of the phases
+abbrev pub IsFront : List (List CellEvent) → List (List CellEvent) → Type 0
+IsFront done phases = (rest : List (List CellEvent)) × (phases ≡ done ++ rest)
 
 -- the statuses that words and text decide
 abbrev pub IsFinal : Status → Type 0
 IsFinal status.Done = Unit {0}
 IsFinal status.Usage = Unit {0}
 IsFinal status.Bad = Unit {0}
+IsFinal status.BadConfig = Unit {0}
 IsFinal status.TooMuch = Unit {0}
 IsFinal status.Memory = ⊥
 IsFinal status.ReadFault = ⊥
@@ -67,5 +94,6 @@ IsUsageOrWant status.Memory = Unit {0}
 IsUsageOrWant status.WriteFault = Unit {0}
 IsUsageOrWant status.Done = ⊥
 IsUsageOrWant status.Bad = ⊥
+IsUsageOrWant status.BadConfig = ⊥
 IsUsageOrWant status.TooMuch = ⊥
 IsUsageOrWant status.ReadFault = ⊥

@@ -18,7 +18,9 @@ pub enum Status {
     ReadFault,
     /// The sink failed.
     WriteFault,
-    /// The recording is too long.
+    /// A rule of the configuration is broken.
+    BadConfig,
+    /// The recording, or a phase of it, is too long.
     TooMuch,
 }
 
@@ -34,6 +36,7 @@ impl Status {
             Status::Memory => 3,
             Status::ReadFault => 4,
             Status::WriteFault => 5,
+            Status::BadConfig => 6,
             Status::TooMuch => 7,
         }
     }

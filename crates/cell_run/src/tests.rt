@@ -10,7 +10,7 @@ const OPEN: &str =
     "1 A8 26 80 03 00 FD E8 81 01 0A 82 01 0A 83 01 05 A4 16 80 01 01 81 03 05 F1 00 82 0C 03 EE 1C 00 00 04 08 00 00 79 EF 18\n";
 
 const OPENED: &str =
-    "> A926800300FDE881010A82010A830105A416800101810305E100820C038000000000000000000010\n";
+    "> A926800300FDE881010A82010A830105A416800101810305E100820C03A000000000000000000018\n";
 
 /// The line of the history for OPEN, without its place.
 const OPEN_LINE: &str =
@@ -102,22 +102,49 @@ fn one_client_opens_asks_and_concludes(rt: HostRuntime) -> Result<(), Fail> {
 }
 
 #[test]
-fn other_octets_are_rejected_in_open(rt: HostRuntime) -> Result<(), Fail> {
+fn each_octets_have_their_answer_in_an_association(rt: HostRuntime) -> Result<(), Fail> {
     assert!(rt;
         replays(
             &rt,
             rt.alloc(),
             &[
                 OPEN,
-                "1 A006 0201 0780\n1 A0820007020200018001 05\n1 A006020101800100 00\n1 80\n"
+                "1 A006 0201 0780\n1 A0820007020200018001 05\n1 a006020101800100 00\n1 8E00\n",
+                "1 A00502010182 00\n1 A0050201078300\n1 850102\n1 A300\n",
             ],
             &[
                 "phase 1\n1",
                 OPEN_LINE,
-                "2 1 A00602010780\n3 1 A082000702020001800105\n4 1 A00602010180010000\n5 1 80\n",
+                "2 1 A00602010780\n3 1 A082000702020001800105\n4 1 A00602010180010000\n5 1 8E00\n",
+                "6 1 A0050201018200\n7 1 A0050201078300\n8 1 850102\n9 1 A300\n",
                 "client 1\n",
                 OPENED,
-                "> A403850101\n> A10B020101A006800100810100\n> A403850101\n> A403850101\n",
+                "> A403850101\n> A10B020101A006800100810100\n> A403850101\n> A403850100\n",
+                "> A113020101A20E8003564D44810443454C4C820131\n> A406800107810101\n",
+                "> A70A800102A105A0038A0101\n",
+            ],
+        )?
+    );
+    Ok(())
+}
+
+#[test]
+fn phases_of_several_clients_with_drains_between(rt: HostRuntime) -> Result<(), Fail> {
+    assert!(rt;
+        replays(
+            &rt,
+            rt.alloc(),
+            &[
+                OPEN,
+                "# both open\r\n\n  4 8B00\nphase\nphase\n1 8B00\ntick 000000003\nlost 2\nends P\n2 8b 00",
+            ],
+            &[
+                "phase 1\n1",
+                OPEN_LINE,
+                "2 4 8B00\nclient 1\n",
+                OPENED,
+                "client 4\n> abort\nphase 2\nphase 3\n11 1 8B00\n12 tick 3\n13 lost 2\n14 ends P\n15 2 8B00\n",
+                "client 1\n> 8C00\nclient 2\n> abort\n",
             ],
         )?
     );
@@ -188,24 +215,38 @@ fn a_refused_proposal_is_told_the_first_cause(rt: HostRuntime) -> Result<(), Fai
 }
 
 #[test]
-fn what_is_no_recording_is_told_by_its_line(rt: HostRuntime) -> Result<(), Fail> {
-    for (text, line) in [
-        ("", "bad 1 later\n"),
-        ("mms-recording 1\n", "bad 2 later\n"),
-        ("mms-recording 1\nconfig\nend", "bad 3 later\n"),
-        ("mms-recording 1\nconfig\nend\n9 8B00\n", "bad 4 later\n"),
-        ("mms-recording 1\nconfig\nend\n1 8b00\n", "bad 4 later\n"),
+fn what_is_no_recording_is_told_by_its_first_bad_line(rt: HostRuntime) -> Result<(), Fail> {
+    for (text, told) in [
+        ("", "bad 1 header\n"),
+        ("mms-recording 1\n", "bad 2 config\n"),
         (
-            "mms-recording 1\nconfig\nend\n1 8B00\n1 8B  00\n",
-            "bad 5 later\n",
+            "mms-recording 1\nconfig\nclients = 4\nend\n",
+            "bad 3 later\n",
         ),
-        ("mms-recording 1\nconfig\nend\n1 8B00", "bad 4 later\n"),
-        ("mms-recording 1\nconfig\nend\n1 \n", "bad 4 later\n"),
+        ("mms-recording 1\nconfig\nend\n9 8B00\n", "bad 4 client\n"),
+        ("mms-recording 1\nconfig\nend\n1 8B0\n", "bad 4 hex\n"),
+        ("mms-recording 1\nconfig\nend\ntick 0\n", "bad 4 event\n"),
+        (
+            "mms-recording 1\nconfig\nend\n1 8B00\nphase\n1 8B\nloose\n",
+            "phase 1\n1 1 8B00\nclient 1\n> abort\nbad 7 event\n",
+        ),
     ] {
         let (status, sink) = run(&rt, rt.alloc(), &["replay"], text.as_bytes(), 0, 0)?;
         assert_eq!(rt; status, 2);
-        assert_eq!(rt; sink.holds(), line.as_bytes());
+        assert_eq!(rt; sink.holds(), told.as_bytes());
     }
+    Ok(())
+}
+
+#[test]
+fn a_phase_has_at_most_16384_events(rt: HostRuntime) -> Result<(), Fail> {
+    let mut text = joined(rt.alloc(), &[HEAD])?;
+    for _tick in 0..16_385 {
+        text.extend_from_slice(b"tick 1\n")?;
+    }
+    let (status, sink) = run(&rt, rt.alloc(), &["replay"], &text, 0, 0)?;
+    assert_eq!(rt; status, 7);
+    assert_eq!(rt; sink.holds(), b"too much 16388\n".as_slice());
     Ok(())
 }
 
@@ -226,8 +267,16 @@ fn other_words_are_usage(rt: HostRuntime) -> Result<(), Fail> {
 
 #[test]
 fn each_failing_read_and_write_is_told(rt: HostRuntime) -> Result<(), Fail> {
-    let text = joined(rt.alloc(), &[HEAD, OPEN])?;
-    for (failing_read, failing_write, wanted) in [(1, 0, 4), (2, 0, 4), (0, 1, 5), (3, 2, 0)] {
+    let text = joined(rt.alloc(), &[HEAD, "1 8B00\nphase\n2 8B00\n"])?;
+    let first = "phase 1\n1 1 8B00\nclient 1\n> abort\n";
+    let second = "phase 2\n6 2 8B00\nclient 2\n> abort\n";
+    for (failing_read, failing_write, wanted, holds) in [
+        (1, 0, 4, ["", ""]),
+        (2, 0, 4, [first, ""]),
+        (0, 1, 5, ["", ""]),
+        (0, 2, 5, [first, ""]),
+        (3, 3, 0, [first, second]),
+    ] {
         let (status, sink) = run(
             &rt,
             rt.alloc(),
@@ -237,7 +286,7 @@ fn each_failing_read_and_write_is_told(rt: HostRuntime) -> Result<(), Fail> {
             failing_write,
         )?;
         assert_eq!(rt; status, wanted);
-        assert_eq!(rt; sink.holds().is_empty(), wanted != 0);
+        assert_eq!(rt; sink.holds(), joined(rt.alloc(), &holds)?.as_slice());
     }
     Ok(())
 }

@@ -1,14 +1,14 @@
 //! The top call.
 
 ghost use Rattle.std.specs.Prelude.{◌≡◌, ◌≢◌, ◌≤◌, ◌⊎◌, ◌∷◌, [], List, IfSome};
-ghost use Rattle.std.specs.Io.KnownBytes.{Appends, IsAtEnd, Keeps};
+ghost use Rattle.std.specs.Io.KnownBytes.{Appends, IsAtEnd};
 ghost use Rattle.cell_io.specs.Faults.{Rose};
 ghost use Rattle.cell_io.specs.Prefix.{AppendsPrefix};
 ghost use Rattle.mms_types.specs.declared.event.CellEvent.{CellEvent};
-ghost use Rattle.cell_run.specs.Recording.{ReadsRecording, clients};
-ghost use Rattle.cell_run.specs.Report.{report};
+ghost use Rattle.cell_record.specs.Grammar.{ReadsRecording};
+ghost use Rattle.cell_record.specs.Recording.{reading_of_text};
 ghost use Rattle.cell_run.specs.Codes.{IsFinalCode, IsStatus, code_of};
-ghost use Rattle.cell_run.specs.Outcome.{IsFinal, IsReplay, printed, IsUsageOrWant, status_of, texts, usage_text};
+ghost use Rattle.cell_run.specs.Outcome.{IsFinal, IsFront, IsReplay, printed, IsUsageOrWant, report_of, status_of, texts, usage_text};
 
 use crate::engine::replay;
 use crate::status::Status;
@@ -48,7 +48,8 @@ fn served<S: Source, K: Sink>(alloc: Global, words: &[String], input: &mut S, ou
 
     // Faults come only where the counts rose.
     ensures read { result ≡ Status.ReadFault → Rose (S.faults input.old) (S.faults input.new) }
-    ensures nothing { result ≡ Status.ReadFault → Keeps (K.held out.old) (K.held out.new) }
+    ensures phases { IsReplay (texts words.now) → result ≡ Status.ReadFault → IfSome (S.left input.old) (λ text. (done : List (List CellEvent))
+        × IsFront done (reading_of_text text).phases × Appends (K.held out.old) (K.held out.new) (report_of done)) }
     ensures write { result ≡ Status.WriteFault → Rose (K.faults out.old) (K.faults out.new) }
     ensures reads { S.faults input.old ≤ S.faults input.new }
     ensures writes { K.faults out.old ≤ K.faults out.new }
@@ -62,17 +63,18 @@ fn served<S: Source, K: Sink>(alloc: Global, words: &[String], input: &mut S, ou
 /// Does what the words after the program's name ask, and answers the exit status.
 ///
 /// The one form of the command is the word `replay`: it reads a recording from `input` to its end, serves it on one
-/// thread and writes the report to `out`. `rt` and `gate` are for the forms that serve by several workers.
+/// thread, phase by phase, and writes the report to `out`. `rt` and `gate` are for the forms that serve by several workers.
 ///
 /// | status | comes | written |
 /// |---|---|---|
 /// | 0 | the whole input was read, served and written | the report |
 /// | 1 | exactly where the words are no form of the command | the usage line |
-/// | 2 | exactly where a line of the recording isn't of the form, or one of the first three is missing | `bad <line> later` |
+/// | 2 | exactly where a line of the recording breaks a rule | the complete phases before it, `bad <line> <word>` |
 /// | 3 | want of memory | a prefix of what was to be written |
-/// | 4 | only where the source's count of faults rose | nothing |
+/// | 4 | only where the source's count of faults rose | the complete phases before it |
 /// | 5 | only where the sink's count of faults rose | a prefix of what was to be written |
-/// | 7 | exactly where the input has a 4,294,967,297th octet | `too much <line>` |
+/// | 6 | exactly where a rule of the configuration is broken, which none can be yet | `bad config <rule>` |
+/// | 7 | exactly where a phase has its 16,385th event or its 67,108,865th octet of PDUs, or the input its 4,294,967,297th octet | the complete phases before it, `too much <line>` |
 ///
 /// What stands first in the input decides, and each yields to 3, 4 and 5 where these came first.
 pub fn run_cell<R: Threads + Wait + Sync, S: Source, K: Sink, G: Gate + Sync>(
@@ -91,20 +93,21 @@ pub fn run_cell<R: Threads + Wait + Sync, S: Source, K: Sink, G: Gate + Sync>(
     ensures other_words { (IsReplay (texts words.now) → ⊥) → (result ≡ 1) ⊎ (result ≡ 3) ⊎ (result ≡ 5) }
     ensures nothing_read { (IsReplay (texts words.now) → ⊥) → (input.new ≡ input.old) × AppendsPrefix (K.held out.old) (K.held out.new) usage_text }
 
-    // What is written for the octets that were read, and with which status: 0, 2 or 7.
+    // What is written for the octets that were read, and with which status: 0, 2, 6 or 7.
     ensures stated { IsReplay (texts words.now) → IsFinalCode result → IfSome (S.left input.old) (λ text.
         (result ≡ code_of (status_of text)) × Appends (K.held out.old) (K.held out.new) (printed text)) }
     ensures partly { IsReplay (texts words.now) → IfSome (S.left input.old) (λ text. AppendsPrefix (K.held out.old) (K.held out.new) (printed text)) }
     ensures ended { result ≡ 0 → IsAtEnd (S.left input.new) }
 
     // A recording without a fault is served and reported, unless memory runs out.
-    ensures complete { IsReplay (texts words.now) → IfSome (S.left input.old) (λ text. (events : List CellEvent) → ReadsRecording text events
+    ensures complete { IsReplay (texts words.now) → IfSome (S.left input.old) (λ text. (phases : List (List CellEvent)) → ReadsRecording text phases
         → (Rose (S.faults input.old) (S.faults input.new) → ⊥) → (Rose (K.faults out.old) (K.faults out.new) → ⊥)
-        → (result ≡ 3) ⊎ ((result ≡ 0) × Appends (K.held out.old) (K.held out.new) (report clients (events ∷ [])))) }
+        → (result ≡ 3) ⊎ ((result ≡ 0) × Appends (K.held out.old) (K.held out.new) (report_of phases))) }
 
     // Faults are told only where a count rose.
     ensures read { result ≡ 4 → Rose (S.faults input.old) (S.faults input.new) }
-    ensures nothing_written { result ≡ 4 → Keeps (K.held out.old) (K.held out.new) }
+    ensures complete_phases { IsReplay (texts words.now) → result ≡ 4 → IfSome (S.left input.old) (λ text. (done : List (List CellEvent))
+        × IsFront done (reading_of_text text).phases × Appends (K.held out.old) (K.held out.new) (report_of done)) }
     ensures write { result ≡ 5 → Rose (K.faults out.old) (K.faults out.new) }
     ensures counts { (S.faults input.old ≤ S.faults input.new) × (K.faults out.old ≤ K.faults out.new) }
 {

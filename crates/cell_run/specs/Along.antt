@@ -1,0 +1,23 @@
+-- A phase as the device serves it, and the text that it makes: the words of clauses inside the crate.
+use Rattle.std.specs.Prelude.{ℕ, ◌+◌, List, [], ◌∷◌, ◌++◌, fold, length}
+use Rattle.mms_types.specs.Actors.{clients_to}
+use Rattle.mms_types.specs.declared.event.What.{What}
+use Rattle.mms_types.specs.declared.event.CellEvent.{CellEvent}
+use Rattle.mms_types.specs.declared.event.CellEvent.TheVariants.{Drain}
+use Rattle.mms_step.specs.Step.{outbox_of}
+use Rattle.mms_device.specs.Served.{Served, served}
+use Rattle.cell_record.specs.Report.{placed_from, phase_text}
+
+-- events, one after the other
+abbrev pub along : Served → List CellEvent → Served
+along device events = fold served device events
+
+-- what these clients take that drain, one after the other
+abbrev pub taken_along : Served → List ℕ → List (List What)
+taken_along device [] = []
+taken_along device (c ∷ cs) = outbox_of device.state c ∷ taken_along (served device (Drain c)) cs
+
+-- the text of a phase of this number, with this body
+abbrev pub phase_told : Served → ℕ → List CellEvent → List ℕ
+phase_told device number body =
+    phase_text number (placed_from (device.count + 1) body) (taken_along (along device body) (clients_to (length device.state.clients)))

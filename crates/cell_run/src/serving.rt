@@ -1,0 +1,96 @@
+//! A phase is served, and its text written.
+
+ghost use Rattle.std.specs.Prelude.{◌≡◌, ◌+◌, ◌-◌, ◌≤◌, ◌<◌, ◌^◌, ◌++◌, length, OnOk, OnErr, IfOk, IfErr};
+ghost use Rattle.std.specs.List.{All};
+ghost use Rattle.std.specs.Io.KnownBytes.{Appends};
+ghost use Rattle.cell_io.specs.Faults.{Rose};
+ghost use Rattle.cell_io.specs.Prefix.{AppendsPrefix};
+ghost use Rattle.mms_types.specs.Actors.{clients_to};
+ghost use Rattle.mms_step.specs.State.{last_moment};
+ghost use Rattle.cell_record.specs.EventLine.{IsRecorded};
+ghost use Rattle.cell_record.specs.Grammar.{phase_ms};
+ghost use Rattle.cell_record.specs.History.{drains};
+ghost use Rattle.cell_record.specs.Report.{placed_from};
+ghost use Rattle.cell_run.specs.Along.{along, phase_told, taken_along};
+
+use cell_io::{Sink, WriteError};
+use cell_record::{ClientOutputs, Phase, PlacedEvents, Told, write_phase};
+use mms_device::Whole;
+use mms_types::{CellEvent, Memory};
+use std::alloc::Global;
+
+/// Serves events, one after the other.
+#[tactic(auto, using(crate::proofs::Alongside::one_more))]
+fn serve_events(alloc: Global, device: &mut Whole, events: &[CellEvent]) -> Result<(), Memory>
+    requires recorded { All (IsRecorded (length device.old.state.clients)) events.now }
+    requires time { device.old.state.now + phase_ms events.now ≤ last_moment }
+    requires few { device.old.count + length events.now < 2 ^ 57 - 1 }
+    ensures { OnOk result (device.new ≡ along device.old events.now) }
+{
+    for event in events {
+        device.serve(alloc, event)?;
+    }
+    Ok(())
+}
+
+/// Lets each client take what is to be sent to it.
+#[tactic(auto, using(crate::proofs::Alongside::one_drain))]
+fn drain_clients(alloc: Global, device: &mut Whole) -> Result<ClientOutputs, Memory>
+    requires few { device.old.count + 64 < 2 ^ 57 - 1 }
+    ensures taken { IfOk result (λ outputs. outputs ≡ taken_along device.old (clients_to (length device.old.state.clients))) }
+    ensures drained { OnOk result (device.new ≡ along device.old (drains (clients_to (length device.old.state.clients)))) }
+{
+    let mut outputs = ClientOutputs::new(alloc);
+    let clients = device.clients();
+    for client in 0..clients {
+        let drained = device.drain(client + 1);
+        outputs.push(drained.outputs)?;
+    }
+    Ok(outputs)
+}
+
+/// Serves a phase: what there is to tell of it.
+fn serve(alloc: Global, device: &mut Whole, phase: Phase) -> Result<Told, Memory>
+    requires recorded { All (IsRecorded (length device.old.state.clients)) phase.events }
+    requires time { device.old.state.now + phase_ms phase.events ≤ last_moment }
+    requires few { device.old.count + length phase.events + 64 < 2 ^ 57 - 1 }
+    ensures number { IfOk result (λ told. told.number ≡ phase.number) }
+    ensures served { IfOk result (λ told. told.served ≡ placed_from (device.old.count + 1) phase.events) }
+    ensures outputs { IfOk result (λ told. told.outputs ≡ taken_along (along device.old phase.events) (clients_to (length device.old.state.clients))) }
+    ensures device { OnOk result (device.new ≡ along device.old (phase.events ++ drains (clients_to (length device.old.state.clients)))) }
+{
+    let first = device.count() + 1;
+    serve_events(alloc, device, phase.events.as_slice())?;
+    let outputs = drain_clients(alloc, device)?;
+    let served = PlacedEvents::consecutive(alloc, first, phase.events)?;
+    Ok(Told {
+        number: phase.number,
+        served,
+        outputs,
+    })
+}
+
+/// Serves a phase, and writes its text.
+pub fn serve_phase<K: Sink>(
+    alloc: Global,
+    device: &mut Whole,
+    out: &mut K,
+    phase: Phase,
+) -> Result<(), WriteError>
+    requires recorded { All (IsRecorded (length device.old.state.clients)) phase.events }
+    requires time { device.old.state.now + phase_ms phase.events ≤ last_moment }
+    requires few { device.old.count + length phase.events + 64 < 2 ^ 57 - 1 }
+    ensures whole { OnOk result (Appends (K.held out.old) (K.held out.new) (phase_told device.old phase.number phase.events)) }
+    ensures part { OnErr result (AppendsPrefix (K.held out.old) (K.held out.new) (phase_told device.old phase.number phase.events)) }
+    ensures device { OnOk result (device.new ≡ along device.old (phase.events ++ drains (clients_to (length device.old.state.clients)))) }
+    ensures cause { IfErr result (λ e. e ≡ WriteError.Fault → Rose (K.faults out.old) (K.faults out.new)) }
+    ensures later { K.faults out.old ≤ K.faults out.new }
+{
+    let Ok(told) = serve(alloc, device, phase) else {
+        return Err(WriteError::Memory);
+    };
+    match write_phase(alloc, out, &told) {
+        Ok(()) => Ok(()),
+        Err(failed) => Err(failed),
+    }
+}
