@@ -1,11 +1,12 @@
 #!/usr/bin/env python3
 """Measures replay against a floor in plain Rust, and prints a table.
 
-    bench/run.py [--events N,N,..] [--rounds N] [--program PATH]
+    bench/run.py [--events N,N,..] [--phases N,N,..] [--rounds N] [--program PATH]
 
 Writes recordings of status requests, runs the built program and the floor on each of them in turn, several rounds in
 one run, and prints of the least times: events and megabytes a second, the ratio to the floor, and the peak of memory
-against the recording's size. Times are user and system time of the process. Nothing here is a test.
+against the recording's size. The first recordings have one client and phases of 16,000 events; the others have that many
+phases of 1,000 events by four clients in turn. Times are user and system time of the process. Nothing here is a test.
 """
 
 import argparse
@@ -16,8 +17,20 @@ import tempfile
 
 HERE = os.path.dirname(os.path.abspath(__file__))
 HEAD = b"mms-recording 1\nconfig\nend\n"
-OPEN = b"1 A826800300FDE881010A82010A830105A416800101810305F100820C03EE1C00000408000079EF18\n"
-STATUS = b"1 A006020101800100\n"
+OPEN = b"%d A826800300FDE881010A82010A830105A416800101810305F100820C03EE1C00000408000079EF18\n"
+STATUS = b"%d A006020101800100\n"
+
+
+def one_client(events):
+    """A recording of one client, in phases of 16,000 events."""
+    pieces = [STATUS % 1 * min(16000, events - first) for first in range(0, events, 16000)]
+    return HEAD + OPEN % 1 + b"phase\n".join(pieces)
+
+
+def four_clients(phases):
+    """A recording of so many phases of 1,000 events, by four clients in turn."""
+    body = b"".join(STATUS % client for client in (1, 2, 3, 4)) * 250
+    return HEAD + b"".join(OPEN % client for client in (1, 2, 3, 4)) + b"phase\n".join([body] * phases)
 
 
 def seconds(words, recording):
@@ -42,28 +55,37 @@ def peak(words, recording):
     return int(done.stderr.split()[-1]) * 1024
 
 
+def measured(name, recording, size, asked, floor):
+    """Prints a row of the table."""
+    program = [asked.program, "replay"]
+    rounds = [(seconds(program, recording), seconds([floor], recording)) for _ in range(asked.rounds)]
+    ours = min(time for time, _ in rounds)
+    plain = min(time for _, time in rounds)
+    memory = peak(program, recording)
+    with open(recording, "rb") as text:
+        events = sum(1 for line in text if line[:1].isdigit())
+    print(f"{name:>22} {size / 1e6:>7.2f} {ours:>8.3f} {plain:>8.3f} {ours / max(plain, 1e-9):>6.2f} "
+          f"{events / max(ours, 1e-9):>11.0f} {size / 1e6 / max(ours, 1e-9):>7.1f} {memory / 1e6:>8.1f} {memory / size:>9.1f}")
+
+
 def main():
     parser = argparse.ArgumentParser(description=__doc__, formatter_class=argparse.RawDescriptionHelpFormatter)
     parser.add_argument("--events", default="10000,100000,1000000")
+    parser.add_argument("--phases", default="10,100,1000")
     parser.add_argument("--rounds", type=int, default=7)
     parser.add_argument("--program", default=os.path.join(HERE, "..", "crates", "mmscell", "out", "mmscell"))
     asked = parser.parse_args()
     with tempfile.TemporaryDirectory() as folder:
         floor = os.path.join(folder, "floor")
         subprocess.run(["rustc", "-O", "-o", floor, os.path.join(HERE, "floor.rs")], check=True)
-        print(f"{'events':>9} {'MB':>7} {'seconds':>8} {'floor':>8} {'ratio':>6} {'events/s':>11} {'MB/s':>7} {'peak MB':>8} {'peak/size':>9}")
-        for events in (int(n) for n in asked.events.split(",")):
-            recording = os.path.join(folder, f"{events}.mms")
-            with open(recording, "wb") as text:
-                text.write(HEAD + OPEN + STATUS * events)
-            size = os.path.getsize(recording)
-            program = [asked.program, "replay"]
-            rounds = [(seconds(program, recording), seconds([floor], recording)) for _ in range(asked.rounds)]
-            ours = min(time for time, _ in rounds)
-            plain = min(time for _, time in rounds)
-            memory = peak(program, recording)
-            print(f"{events:>9} {size / 1e6:>7.2f} {ours:>8.3f} {plain:>8.3f} {ours / max(plain, 1e-9):>6.2f} "
-                  f"{events / max(ours, 1e-9):>11.0f} {size / 1e6 / max(ours, 1e-9):>7.1f} {memory / 1e6:>8.1f} {memory / size:>9.1f}")
+        print(f"{'recording':>22} {'MB':>7} {'seconds':>8} {'floor':>8} {'ratio':>6} {'events/s':>11} {'MB/s':>7} {'peak MB':>8} {'peak/size':>9}")
+        cases = [(f"{n:,} events", one_client(int(n))) for n in map(int, asked.events.split(","))]
+        cases += [(f"{n:,} phases", four_clients(n)) for n in map(int, asked.phases.split(","))]
+        for name, text in cases:
+            recording = os.path.join(folder, "recording.mms")
+            with open(recording, "wb") as out:
+                out.write(text)
+            measured(name, recording, len(text), asked, floor)
 
 
 if __name__ == "__main__":
