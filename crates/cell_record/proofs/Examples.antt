@@ -1,5 +1,5 @@
 -- What the history and the report are of a few phases.
-use Rattle.std.specs.Prelude.{ℕ, suc, zero, ◌≡◌, List, [], ◌∷◌, ◌++◌, codes, refl}
+use Rattle.std.specs.Prelude.{ℕ, suc, zero, ◌≡◌, List, [], ◌∷◌, codes, refl}
 use Rattle.std.proofs.Common.{arith}
 use Rattle.std.proofs.lemmas.Fmt.{decimal_digit}
 use Rattle.mms_types.specs.declared.event.What.{What}
@@ -8,7 +8,7 @@ use Rattle.mms_types.specs.declared.event.CellEvent.{CellEvent}
 use Rattle.mms_types.specs.declared.event.CellEvent.TheVariants.{Heard, Lost, Tick, Ends, Drain}
 use Rattle.mms_types.specs.Actors.{clients_to}
 use Rattle.cell_record.specs.History.{drains, events_of, history}
-use Rattle.cell_record.specs.Report.{placed_from, taken, report}
+use Rattle.cell_record.specs.Report.{report}
 
 three_clients : clients_to 3 ≡ 1 ∷ 2 ∷ 3 ∷ []
 three_clients = refl

@@ -16,7 +16,7 @@ use Rattle.mms_types.specs.declared.event.What.{What}
 use Rattle.mms_types.specs.declared.event.CellEvent.{CellEvent}
 use Rattle.mms_types.specs.declared.event.CellEvent.TheVariants.{Heard, Lost, Tick, Ends, Drain}
 use Rattle.cell_record.specs.Words.{between, content, trim, word_of, argument_of, is_remark, begins_with_digit, number_of, pairs_of}
-use Rattle.cell_record.specs.EventLine.{IsRecorded, MayHappen, same, heard_of, lost_of, tick_of, ends_of, worded, trimmed_says, said_of}
+use Rattle.cell_record.specs.EventLine.{IsRecorded, MayHappen, same, heard_of, lost_of, tick_of, worded, said_of}
 use Rattle.cell_record.specs.Recording.{onto, default_clients}
 use Rattle.cell_record.specs.Grammar.{Says, phases_of, ReadsRecording}
 use Rattle.mms_types.specs.Actors.{clients_to}
