@@ -3,6 +3,7 @@
 
 mod event;
 mod identifier;
+mod identifiers;
 mod initiate;
 mod key;
 mod laws;
@@ -17,6 +18,7 @@ mod tests;
 
 pub use event::{CellEvent, Events, Output, What};
 pub use identifier::{BadName, Edition, Identifier, Unnamed};
+pub use identifiers::Identifiers;
 pub use initiate::{Initiate, InitiateAnswer, InitiateDetail, ParameterOptions, ServiceOptions};
 pub use key::{Key, Scope};
 pub use laws::keys_stand_in_order;

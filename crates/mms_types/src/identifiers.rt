@@ -1,0 +1,103 @@
+ghost use Rattle.std.specs.Prelude.{◌≡◌, ◌==◌, [], ◌∷◌, ◌++◌, OnOk, OnErr, IfOk, length, slice_get};
+ghost use Rattle.std.specs.Option.{option_copied};
+
+use crate::{Identifier, Memory};
+use std::alloc::Global;
+use std::marker::Model;
+
+/// Identifiers in order. Contracts see the list of them.
+#[derive(Debug, Drop)]
+pub struct Identifiers {
+    list: Vec<Identifier>,
+}
+
+impl Model for Identifiers {
+    ghost use Rattle.std.specs.Prelude.{ℕ, List};
+
+    ghost Value = { List (List ℕ) };
+
+    ghost view = { λ names. names.list.items };
+}
+
+impl Identifiers {
+    /// No identifiers. Nothing is allocated.
+    pub fn new(alloc: Global) -> Identifiers
+        ensures { result ≡ [] }
+    {
+        Identifiers {
+            list: Vec::new(alloc),
+        }
+    }
+
+    /// Appends an identifier. Where there is no memory for it, it is dropped and the list is as before.
+    pub fn push(&mut self, name: Identifier) -> Result<(), Memory>
+        ensures appended { OnOk result (self.new ≡ self.old ++ name ∷ []) }
+        ensures kept { OnErr result (self.new ≡ self.old) }
+    {
+        self.list.push(name)?;
+        Ok(())
+    }
+
+    /// The identifiers.
+    pub fn as_slice(&self) -> &[Identifier]
+        ensures { result.now ≡ self.now }
+    {
+        &self.list
+    }
+
+    /// The identifier at a place of the list, counted from 0. None where the list is not as long.
+    pub fn at(&self, place: usize) -> Option<&Identifier>
+        ensures { option_copied result ≡ slice_get self.now place }
+    {
+        self.list.get(place)
+    }
+
+    /// How many there are.
+    pub fn len(&self) -> usize
+        ensures { result ≡ length self.now }
+    {
+        self.list.len()
+    }
+
+    /// Whether there is none.
+    pub fn is_empty(&self) -> bool
+        ensures { result ≡ (length self.now == 0) }
+    {
+        self.list.is_empty()
+    }
+
+    /// A copy.
+    pub fn copy(&self, alloc: Global) -> Result<Identifiers, Memory>
+        ensures { IfOk result (λ names. names ≡ self.now) }
+    {
+        let mut names = Identifiers::new(alloc);
+        for name in &self.list {
+            names.push(name.copy(alloc)?)?;
+        }
+        Ok(names)
+    }
+}
+
+#[cfg(test)]
+mod tests {
+    use super::Identifiers;
+    use crate::{Edition, Identifier};
+    use std::test::Fail;
+
+    #[test]
+    fn identifiers_are_kept_in_order(rt: HostRuntime) -> Result<(), Fail> {
+        let alloc = rt.alloc();
+        let mut names = Identifiers::new(alloc);
+        assert!(rt; names.is_empty());
+        names.push(Identifier::read(alloc, b"T", Edition::One)?)?;
+        names.push(Identifier::read(alloc, b"A", Edition::One)?)?;
+        let copied = names.copy(alloc)?;
+        assert_eq!(rt; copied.len(), 2);
+        assert!(rt; copied.as_slice() == names.as_slice());
+        for (place, want) in [Some("T"), Some("A"), None].iter().enumerate() {
+            let name = copied.at(place).map(|name| name.octets());
+            assert!(rt; name == want.map(|text| text.as_bytes()), "at {place}");
+        }
+        Ok(())
+    }
+}

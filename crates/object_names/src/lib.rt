@@ -1,0 +1,12 @@
+//! Tables of named objects: values under names, in the order in which they were put in, and the names
+//! of one scope in order of octets.
+#![tactic(auto)]
+
+mod lends;
+mod listing;
+mod table;
+#[cfg(test)]
+mod tests;
+
+pub use listing::{Names, names_stand_in_order};
+pub use table::{Named, Unplaced};
