@@ -9,3 +9,4 @@ pub mod ReportLemmas
 pub mod Valid
 pub mod Bodies
 pub mod OneHistory
+pub mod Placing

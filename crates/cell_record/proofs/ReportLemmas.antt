@@ -6,8 +6,7 @@ use Rattle.std.specs.declared.option.Option.{Option}
 use Rattle.cell_io.specs.Prefix.{AppendsPrefix, AppendsBefore}
 use Rattle.cell_io.proofs.Prefixes.{before_more, prefix_longer, prefix_put}
 use Rattle.mms_types.specs.declared.event.What.{What}
-use Rattle.mms_types.specs.declared.event.CellEvent.{CellEvent}
-use Rattle.cell_record.specs.Report.{output_text, section_head, section, sections, placed_from}
+use Rattle.cell_record.specs.Report.{output_text, section_head, section, sections}
 
 -- ---- lines
 
@@ -63,12 +62,3 @@ pub phase_last : (a b c : Option (List ℕ)) (w v before head events tail : List
 phase_last a b c w v before head events tail e p q =
     prefix_put a b c v (w ++ events) tail [] (before ++ (head ++ (events ++ tail))) p q
     (sym (append_assoc before head (events ++ tail)) ∙ ap (λ (l : List ℕ). l ++ (events ++ tail)) (sym e) ∙ sym (append_assoc w events tail) ∙ sym (append-nil ((w ++ events) ++ tail)))
-
--- ---- places
-
-pub placed_more : (place : ℕ) (xs : List CellEvent) (e : CellEvent) → placed_from place (xs ++ e ∷ []) ≡ placed_from place xs ++ (place + length xs, e) ∷ []
-placed_more place [] e = ap (λ (n : ℕ). (n, e) ∷ []) (omega arith)
-placed_more place (x ∷ xs) e =
-    let count : place + 1 + length xs ≡ place + length (x ∷ xs) = omega arith in
-    ap (λ (l : List (ℕ × CellEvent)). (place, x) ∷ l) (placed_more (place + 1) xs e)
-    ∙ ap (λ (n : ℕ). placed_from place (x ∷ xs) ++ (n, e) ∷ []) count

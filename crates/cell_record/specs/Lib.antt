@@ -6,3 +6,4 @@ pub mod Numbered
 pub mod History
 pub mod Report
 pub mod Grammar
+pub mod Placed

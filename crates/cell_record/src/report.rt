@@ -7,7 +7,7 @@ ghost use Rattle.cell_io.specs.Prefix.{AppendsPrefix, AppendsBefore};
 ghost use Rattle.std.specs.Io.KnownBytes.{Appends};
 ghost use Rattle.cell_record.specs.Report.{is_printed, served_line, placed_line, event_text, output_text, phase_head, section, sections, section_head, phase_text};
 
-use crate::{ClientOutputs, Told};
+use crate::{ClientOutputs, PlacedEvents, Told};
 use cell_io::{Memory, Sink, Text, WriteError};
 use mms_types::{CellEvent, What};
 use std::alloc::Global;
@@ -97,15 +97,16 @@ fn put_client(text: &mut Text, client: u64) -> Result<(), Memory>
 fn write_served<K: Sink>(
     text: &mut Text,
     out: &mut K,
-    served: &[(u64, CellEvent)],
+    served: &PlacedEvents,
 ) -> Result<(), WriteError>
     ensures whole { OnOk result (AppendsBefore (K.held out.old) (K.held out.new) text.new (text.old ++ flat_map served_line served.now)) }
     ensures part { OnErr result (AppendsPrefix (K.held out.old) (K.held out.new) (text.old ++ flat_map served_line served.now)) }
     ensures cause { IfErr result (λ e. e ≡ WriteError.Fault → Rose (K.faults out.old) (K.faults out.new)) }
     ensures later { K.faults out.old ≤ K.faults out.new }
 {
-    for placed in served {
-        match put_placed(text, placed.0, &placed.1) {
+    for index in 0..served.len() {
+        let (place, event) = served.at(index);
+        match put_placed(text, place, event) {
             Ok(()) => {}
             Err(_) => return Err(WriteError::Memory),
         }
@@ -192,7 +193,7 @@ fn write_text<K: Sink>(text: &mut Text, out: &mut K, phase: &Told) -> Result<(),
         Ok(()) => {}
         Err(_) => return Err(WriteError::Memory),
     }
-    match write_served(text, out, phase.served.as_slice()) {
+    match write_served(text, out, &phase.served) {
         Ok(()) => {}
         Err(stopped) => return Err(stopped),
     }

@@ -1,7 +1,8 @@
 //! A phase as it was served.
 
-ghost use Rattle.std.specs.Prelude.{◌≡◌, ◌+◌, ◌<◌, ◌^◌, [], ◌∷◌, ◌++◌, OnOk, OnErr, IfOk, length, get_or};
+ghost use Rattle.std.specs.Prelude.{◌≡◌, ◌+◌, ◌<◌, ◌^◌, [], ◌∷◌, ◌++◌, OnOk, OnErr, IfOk, length, get_or, slice_get, Some};
 ghost use Rattle.cell_record.specs.Report.{placed_from};
+ghost use Rattle.cell_record.specs.Placed.{places_from};
 
 use mms_types::{CellEvent, Events, Memory, What};
 use std::alloc::Global;
@@ -11,16 +12,20 @@ use std::marker::Model;
 /// place and event.
 #[derive(Debug, Drop)]
 pub struct PlacedEvents {
-    list: Vec<(u64, CellEvent)>,
+    places: Vec<u64>,
+    events: Vec<CellEvent>,
 }
 
 impl Model for PlacedEvents {
-    ghost use Rattle.std.specs.Prelude.{ℕ, List};
+    ghost use Rattle.std.specs.Prelude.{◌≡◌, ℕ, List, length};
+    ghost use Rattle.std.specs.List.{zip};
     ghost use Rattle.mms_types.specs.declared.event.CellEvent.{CellEvent};
 
     ghost Value = { List (ℕ × CellEvent) };
 
-    ghost view = { λ served. served.list.items };
+    ghost view = { λ served. zip served.places.items served.events.items };
+
+    ghost invariant = { λ served. length served.places.items ≡ length served.events.items };
 }
 
 impl PlacedEvents {
@@ -29,41 +34,67 @@ impl PlacedEvents {
         ensures { result ≡ [] }
     {
         PlacedEvents {
-            list: Vec::new(alloc),
+            places: Vec::new(alloc),
+            events: Vec::new(alloc),
         }
     }
 
     /// Appends an event with its place. Where there is no memory for it, it is dropped and the list
     /// is as before.
+    #[tactic(auto, using(crate::proofs::Placing::zip_more))]
     pub fn push(&mut self, place: u64, event: CellEvent) -> Result<(), Memory>
         ensures appended { OnOk result (self.new ≡ self.old ++ (place, event) ∷ []) }
         ensures kept { OnErr result (self.new ≡ self.old) }
     {
-        self.list.push((place, event))?;
+        self.places.reserve(1)?;
+        self.events.reserve(1)?;
+        self.places.push_reserved(place);
+        self.events.push_reserved(event);
         Ok(())
     }
 
     /// Events that were served one after the other, the first of them at that place. Without memory they are dropped.
-    #[tactic(auto, using(crate::proofs::ReportLemmas::placed_more))]
+    #[tactic(auto, using(crate::proofs::Placing::zip_places))]
     pub fn consecutive(alloc: Global, first: u64, events: Events) -> Result<PlacedEvents, Memory>
         requires { first + length events < 2 ^ 64 }
         ensures { IfOk result (λ served. served ≡ placed_from first events) }
     {
-        let mut list = Vec::with_capacity(alloc, events.len())?;
-        let mut place = first;
-        for event in events.into_vec() {
-            list.push((place, event))?;
-            place += 1;
-        }
-        Ok(PlacedEvents { list })
+        let places = places_from(alloc, first, events.len())?;
+        Ok(PlacedEvents {
+            places,
+            events: events.into_vec(),
+        })
     }
 
-    /// The pairs of place and event.
-    pub fn as_slice(&self) -> &[(u64, CellEvent)]
-        ensures { result.now ≡ self.now }
+    /// How many there are.
+    #[tactic(auto, using(crate::proofs::Placing::zip_length))]
+    pub fn len(&self) -> usize
+        ensures { result ≡ length self.now }
     {
-        &self.list
+        self.events.len()
     }
+
+    /// The place and the event of that index, from 0.
+    pub fn at(&self, index: usize) -> (u64, &CellEvent)
+        requires { index < length self.now }
+        ensures { slice_get self.now index ≡ Some (result.0, result.1.now) }
+    {
+        (self.places[index], &self.events[index])
+    }
+}
+
+/// So many places, one after the other.
+#[tactic(auto, using(crate::proofs::Placing::places_more))]
+fn places_from(alloc: Global, first: u64, count: usize) -> Result<Vec<u64>, Memory>
+    requires { first + count < 2 ^ 64 }
+    ensures places { IfOk result (λ places. places.items ≡ places_from first count) }
+    ensures count { IfOk result (λ places. length places.items ≡ count) }
+{
+    let mut places = Vec::with_capacity(alloc, count)?;
+    for index in 0..count {
+        places.push(first + index as u64)?;
+    }
+    Ok(places)
 }
 
 /// What each client was sent, from client 1 on. Contracts see the list of the clients' lists.
