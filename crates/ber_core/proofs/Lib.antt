@@ -5,3 +5,4 @@ pub mod Refused
 pub mod Written
 pub mod Leaves
 pub mod Shortest
+pub mod Short

@@ -222,8 +222,39 @@ impl Writer {
     }
 }
 
-#[tactic(auto, unfolding(crate::specs::Spelling::element_octets))]
+/// Appends one element: on a short path where the identifier and the length have one octet each.
+#[tactic(auto, using(crate::proofs::Short::element))]
 fn append_element(bytes: &mut Vec<u8>, tag: Tag, contents: &[u8]) -> Result<(), Memory>
+    requires class { tag.class < 4 }
+    requires number { tag.number < 16384 }
+    ensures ok { OnOk result (bytes.new.items ≡ bytes.old.items ++ element_octets tag contents.now) }
+    ensures err { OnErr result (bytes.new.items ≡ bytes.old.items) }
+{
+    if tag.number < 31 && contents.len() < 128 {
+        let first = head(tag, tag.number as u8);
+        append_short(bytes, first, contents.len() as u8, contents)
+    } else {
+        append_any(bytes, tag, contents)
+    }
+}
+
+/// Appends two octets and more.
+fn append_short(bytes: &mut Vec<u8>, first: u8, second: u8, more: &[u8]) -> Result<(), Memory>
+    ensures ok { OnOk result (bytes.new.items ≡ bytes.old.items ++ first ∷ second ∷ more.now) }
+    ensures err { OnErr result (bytes.new.items ≡ bytes.old.items) }
+{
+    bytes.reserve(more.len() + 2)?;
+    bytes.push_reserved(first);
+    bytes.push_reserved(second);
+    append_reserved(bytes, more);
+    Ok(())
+}
+
+/// Appends one element, whatever its identifier and its length.
+#[cold]
+#[inline(never)]
+#[tactic(auto, unfolding(crate::specs::Spelling::element_octets))]
+fn append_any(bytes: &mut Vec<u8>, tag: Tag, contents: &[u8]) -> Result<(), Memory>
     requires class { tag.class < 4 }
     requires number { tag.number < 16384 }
     ensures ok { OnOk result (bytes.new.items ≡ bytes.old.items ++ element_octets tag contents.now) }
@@ -244,7 +275,37 @@ fn append_reserved(bytes: &mut Vec<u8>, octets: &[u8])
     let _appended = bytes.extend_from_slice(octets);
 }
 
+/// Appends the element of a number: on a short path where the identifier and the number have one octet each.
+#[tactic(auto, using(crate::proofs::Short::small_number))]
 fn append_integer(bytes: &mut Vec<u8>, tag: Tag, n: i64) -> Result<(), Memory>
+    requires class { tag.class < 4 }
+    requires number { tag.number < 16384 }
+    ensures ok { OnOk result (bytes.new.items ≡ bytes.old.items ++ element_octets tag (integer_octets n)) }
+    ensures err { OnErr result (bytes.new.items ≡ bytes.old.items) }
+{
+    if tag.number < 31 && 0 <= n && n < 128 {
+        append_three(bytes, head(tag, tag.number as u8), 1, n as u8)
+    } else {
+        append_any_integer(bytes, tag, n)
+    }
+}
+
+/// Appends three octets.
+fn append_three(bytes: &mut Vec<u8>, first: u8, second: u8, third: u8) -> Result<(), Memory>
+    ensures ok { OnOk result (bytes.new.items ≡ bytes.old.items ++ first ∷ second ∷ third ∷ []) }
+    ensures err { OnErr result (bytes.new.items ≡ bytes.old.items) }
+{
+    bytes.reserve(3)?;
+    bytes.push_reserved(first);
+    bytes.push_reserved(second);
+    bytes.push_reserved(third);
+    Ok(())
+}
+
+/// Appends the element of a number, whatever its identifier and the number.
+#[cold]
+#[inline(never)]
+fn append_any_integer(bytes: &mut Vec<u8>, tag: Tag, n: i64) -> Result<(), Memory>
     requires class { tag.class < 4 }
     requires number { tag.number < 16384 }
     ensures ok { OnOk result (bytes.new.items ≡ bytes.old.items ++ element_octets tag (integer_octets n)) }
@@ -286,7 +347,61 @@ fn push_negative(bytes: &mut Vec<u8>, complement: u64)
     push_complements(bytes, 8, complement);
 }
 
+/// Makes octets the contents of an element: on a short path where its identifier and its length have one octet each.
 fn enclose_from(bytes: &mut Vec<u8>, since: usize, tag: Tag) -> Result<(), Memory>
+    requires since { since ≤ vec_len bytes.old }
+    requires class { tag.class < 4 }
+    requires number { tag.number < 16384 }
+    ensures ok { OnOk result (bytes.new.items ≡ take since bytes.old.items ++ element_octets tag (drop since bytes.old.items)) }
+    ensures err { OnErr result (bytes.new.items ≡ bytes.old.items) }
+{
+    let size = bytes.len() - since;
+    if tag.number < 31 && size < 128 {
+        insert_two(bytes, since, head(tag, tag.number as u8), size as u8)
+    } else {
+        enclose_any(bytes, since, tag)
+    }
+}
+
+/// Puts two octets before those from this place on.
+fn insert_two(bytes: &mut Vec<u8>, at: usize, first: u8, second: u8) -> Result<(), Memory>
+    requires place { at ≤ vec_len bytes.old }
+    ensures ok { OnOk result (bytes.new.items ≡ take at bytes.old.items ++ first ∷ second ∷ drop at bytes.old.items) }
+    ensures err { OnErr result (bytes.new.items ≡ bytes.old.items) }
+{
+    bytes.reserve(2)?;
+    lift(bytes, at);
+    put_two(bytes, at, first, second);
+    Ok(())
+}
+
+/// Moves the octets from this place on up by two, for which there is room.
+fn lift(bytes: &mut Vec<u8>, at: usize)
+    requires place { at ≤ vec_len bytes.old }
+    requires room { vec_len bytes.old + 2 ≤ vec_capacity bytes.old }
+    ensures front { take at bytes.new.items ≡ take at bytes.old.items }
+    ensures rest { drop (at + 2) bytes.new.items ≡ drop at bytes.old.items }
+    ensures len { vec_len bytes.new ≡ vec_len bytes.old + 2 }
+{
+    let end = bytes.len();
+    bytes.push_reserved(0);
+    bytes.push_reserved(0);
+    bytes.copy_within(at..end, at + 2);
+}
+
+/// Writes two octets over those from this place on.
+fn put_two(bytes: &mut Vec<u8>, at: usize, first: u8, second: u8)
+    requires room { at + 2 ≤ vec_len bytes.old }
+    ensures { bytes.new.items ≡ take at bytes.old.items ++ first ∷ second ∷ drop (at + 2) bytes.old.items }
+{
+    let next = put(bytes, at, first);
+    let _end = put(bytes, next, second);
+}
+
+/// Makes octets the contents of an element, whatever its identifier and its length.
+#[cold]
+#[inline(never)]
+fn enclose_any(bytes: &mut Vec<u8>, since: usize, tag: Tag) -> Result<(), Memory>
     requires since { since ≤ vec_len bytes.old }
     requires class { tag.class < 4 }
     requires number { tag.number < 16384 }

@@ -1,12 +1,10 @@
-use Rattle.std.proofs.Common.{List, ℕ, arith, length-drop, ap, ◌∙◌, drop, take, ◌-◌, ◌+◌}
-use Rattle.ber_core.proofs.Written.{enclosed}
+use Rattle.std.proofs.Common.{arith, length-drop, ◌-◌}
+use Rattle.ber_core.proofs.Short.{enclosed_short}
 use Rattle.ber_core.proofs.writer.enclose_from.Goals as goal
 
-pub returns-clause-ok : goal.returns-clause-ok
-returns-clause-ok c =
-    let since = c.args.since in
-    enclosed c.args.bytes.now.items c.open.new.bytes.items c.put_header.new.bytes.items c.args.tag since (c.len.result - since) (c.identifier_width.result + c.length_width.result)
-    (omega (arith, length-drop since c.args.bytes.now.items)) (omega arith)
-    (c.open.ensures.front ∙ ap (λ (s : List ℕ). take since s) c.reserve.ensures.items)
-    (c.open.ensures.rest ∙ ap (λ (s : List ℕ). drop since s) c.reserve.ensures.items)
-    c.put_header.ensures
+pub returns-then-size-lt128-clause-ok : goal.returns-then-size-lt128-clause-ok
+returns-then-size-lt128-clause-ok c = grind (
+  arith,
+  enclosed_short c.args.bytes.now.items c.insert_two.new.bytes.items c.args.tag c.args.since c.head.result (c.len.result - c.args.since)
+      (omega arith) (omega arith) (omega arith) (omega (arith, length-drop c.args.since c.args.bytes.now.items)),
+)
