@@ -6,3 +6,4 @@ pub mod Written
 pub mod Leaves
 pub mod Shortest
 pub mod Short
+pub mod Lifted

@@ -1,6 +1,6 @@
 //! Elements from left to right, as octets.
 
-ghost use Rattle.std.specs.Prelude.{◌≡◌, ◌<◌, ◌≤◌, ◌++◌, ◌+◌, ℕ, List, [], ◌∷◌, length, take, drop, vec_len, vec_capacity, OnOk, OnErr, IsTrue, ◌↔◌};
+ghost use Rattle.std.specs.Prelude.{◌≡◌, ◌<◌, ◌≤◌, ◌++◌, ◌+◌, ◌-◌, ℕ, List, [], ◌∷◌, length, take, drop, vec_len, vec_capacity, OnOk, OnErr, IsTrue, ◌↔◌};
 ghost use Rattle.ber_core.specs.Element.{head_of};
 ghost use Rattle.ber_core.specs.Leaf.{complements};
 ghost use Rattle.ber_core.specs.Spelling.{identifier_octets, digits, length_octets, integer_octets, element_octets};
@@ -369,33 +369,67 @@ fn insert_two(bytes: &mut Vec<u8>, at: usize, first: u8, second: u8) -> Result<(
     ensures ok { OnOk result (bytes.new.items ≡ take at bytes.old.items ++ first ∷ second ∷ drop at bytes.old.items) }
     ensures err { OnErr result (bytes.new.items ≡ bytes.old.items) }
 {
-    bytes.reserve(2)?;
-    lift(bytes, at);
-    put_two(bytes, at, first, second);
+    bytes.extend_from_slice(&[first, second])?;
+    put_in_front(&mut bytes.as_mut_slice()[at..], first, second);
     Ok(())
 }
 
-/// Moves the octets from this place on up by two, for which there is room.
-fn lift(bytes: &mut Vec<u8>, at: usize)
-    requires place { at ≤ vec_len bytes.old }
-    requires room { vec_len bytes.old + 2 ≤ vec_capacity bytes.old }
-    ensures front { take at bytes.new.items ≡ take at bytes.old.items }
-    ensures rest { drop (at + 2) bytes.new.items ≡ drop at bytes.old.items }
-    ensures len { vec_len bytes.new ≡ vec_len bytes.old + 2 }
+/// Moves all octets but the last two up by two, and writes two in front of them.
+fn put_in_front(octets: &mut [u8], first: u8, second: u8)
+    requires { 2 ≤ length octets.old }
+    ensures { octets.new ≡ first ∷ second ∷ take (length octets.old - 2) octets.old }
 {
-    let end = bytes.len();
-    bytes.push_reserved(0);
-    bytes.push_reserved(0);
-    bytes.copy_within(at..end, at + 2);
+    lift(octets);
+    octets[0] = first;
+    octets[1] = second;
 }
 
-/// Writes two octets over those from this place on.
-fn put_two(bytes: &mut Vec<u8>, at: usize, first: u8, second: u8)
-    requires room { at + 2 ≤ vec_len bytes.old }
-    ensures { bytes.new.items ≡ take at bytes.old.items ++ first ∷ second ∷ drop (at + 2) bytes.old.items }
+/// Moves all octets but the last two up by two.
+fn lift(octets: &mut [u8])
+    requires { 2 ≤ length octets.old }
+    ensures moved { drop 2 octets.new ≡ take (length octets.old - 2) octets.old }
+    ensures len { length octets.new ≡ length octets.old }
 {
-    let next = put(bytes, at, first);
-    let _end = put(bytes, next, second);
+    let size = octets.len() - 2;
+    if 8 <= size && size <= 16 {
+        lift_eight(octets, size);
+    } else if 4 <= size && size < 8 {
+        lift_four(octets, size);
+    } else {
+        octets.copy_within(0..size, 2);
+    }
+}
+
+/// Moves 8 to 16 octets up by two, as the first eight and the last eight of them.
+fn lift_eight(octets: &mut [u8], size: usize)
+    requires low { 8 ≤ size }
+    requires high { size ≤ 16 }
+    requires len { length octets.old ≡ size + 2 }
+    ensures moved { drop 2 octets.new ≡ take size octets.old }
+    ensures len { length octets.new ≡ length octets.old }
+{
+    let mut front = [0u8; 8];
+    front.copy_from_slice(&octets[..8]);
+    let mut back = [0u8; 8];
+    back.copy_from_slice(&octets[size - 8..size]);
+    octets[2..10].copy_from_slice(&front);
+    octets[size - 6..size + 2].copy_from_slice(&back);
+}
+
+/// Moves 4 to 8 octets up by two, as the first four and the last four of them.
+fn lift_four(octets: &mut [u8], size: usize)
+    requires low { 4 ≤ size }
+    requires high { size ≤ 8 }
+    requires len { length octets.old ≡ size + 2 }
+    ensures moved { drop 2 octets.new ≡ take size octets.old }
+    ensures len { length octets.new ≡ length octets.old }
+{
+    let mut front = [0u8; 4];
+    front.copy_from_slice(&octets[..4]);
+    let mut back = [0u8; 4];
+    back.copy_from_slice(&octets[size - 4..size]);
+    octets[2..6].copy_from_slice(&front);
+    octets[size - 2..size + 2].copy_from_slice(&back);
 }
 
 /// Makes octets the contents of an element, whatever its identifier and its length.
