@@ -230,24 +230,31 @@ fn append_element(bytes: &mut Vec<u8>, tag: Tag, contents: &[u8]) -> Result<(), 
     ensures ok { OnOk result (bytes.new.items ≡ bytes.old.items ++ element_octets tag contents.now) }
     ensures err { OnErr result (bytes.new.items ≡ bytes.old.items) }
 {
-    if tag.number < 31 && contents.len() < 128 {
+    if tag.number < 31 && contents.len() < 128 && has_room(bytes, contents.len() + 2) {
         let first = head(tag, tag.number as u8);
-        append_short(bytes, first, contents.len() as u8, contents)
+        append_short(bytes, first, contents.len() as u8, contents);
+        Ok(())
     } else {
         append_any(bytes, tag, contents)
     }
 }
 
-/// Appends two octets and more.
-fn append_short(bytes: &mut Vec<u8>, first: u8, second: u8, more: &[u8]) -> Result<(), Memory>
-    ensures ok { OnOk result (bytes.new.items ≡ bytes.old.items ++ first ∷ second ∷ more.now) }
-    ensures err { OnErr result (bytes.new.items ≡ bytes.old.items) }
+/// Appends two octets and more, for which there is room.
+fn append_short(bytes: &mut Vec<u8>, first: u8, second: u8, more: &[u8])
+    requires { vec_len bytes.old + length more.now + 2 ≤ vec_capacity bytes.old }
+    ensures { bytes.new.items ≡ bytes.old.items ++ first ∷ second ∷ more.now }
 {
-    bytes.reserve(more.len() + 2)?;
     bytes.push_reserved(first);
     bytes.push_reserved(second);
     append_reserved(bytes, more);
-    Ok(())
+}
+
+/// Whether so many octets more need no memory.
+fn has_room(bytes: &Vec<u8>, more: usize) -> bool
+    requires { more < 256 }
+    ensures { IsTrue result ↔ (vec_len bytes.now + more ≤ vec_capacity bytes.now) }
+{
+    bytes.len() + more <= bytes.capacity()
 }
 
 /// Appends one element, whatever its identifier and its length.
@@ -283,23 +290,22 @@ fn append_integer(bytes: &mut Vec<u8>, tag: Tag, n: i64) -> Result<(), Memory>
     ensures ok { OnOk result (bytes.new.items ≡ bytes.old.items ++ element_octets tag (integer_octets n)) }
     ensures err { OnErr result (bytes.new.items ≡ bytes.old.items) }
 {
-    if tag.number < 31 && 0 <= n && n < 128 {
-        append_three(bytes, head(tag, tag.number as u8), 1, n as u8)
+    if tag.number < 31 && 0 <= n && n < 128 && has_room(bytes, 3) {
+        append_three(bytes, head(tag, tag.number as u8), 1, n as u8);
+        Ok(())
     } else {
         append_any_integer(bytes, tag, n)
     }
 }
 
-/// Appends three octets.
-fn append_three(bytes: &mut Vec<u8>, first: u8, second: u8, third: u8) -> Result<(), Memory>
-    ensures ok { OnOk result (bytes.new.items ≡ bytes.old.items ++ first ∷ second ∷ third ∷ []) }
-    ensures err { OnErr result (bytes.new.items ≡ bytes.old.items) }
+/// Appends three octets, for which there is room.
+fn append_three(bytes: &mut Vec<u8>, first: u8, second: u8, third: u8)
+    requires { vec_len bytes.old + 3 ≤ vec_capacity bytes.old }
+    ensures { bytes.new.items ≡ bytes.old.items ++ first ∷ second ∷ third ∷ [] }
 {
-    bytes.reserve(3)?;
     bytes.push_reserved(first);
     bytes.push_reserved(second);
     bytes.push_reserved(third);
-    Ok(())
 }
 
 /// Appends the element of a number, whatever its identifier and the number.
@@ -356,22 +362,23 @@ fn enclose_from(bytes: &mut Vec<u8>, since: usize, tag: Tag) -> Result<(), Memor
     ensures err { OnErr result (bytes.new.items ≡ bytes.old.items) }
 {
     let size = bytes.len() - since;
-    if tag.number < 31 && size < 128 {
-        insert_two(bytes, since, head(tag, tag.number as u8), size as u8)
+    if tag.number < 31 && size < 128 && has_room(bytes, 2) {
+        insert_two(bytes, since, head(tag, tag.number as u8), size as u8);
+        Ok(())
     } else {
         enclose_any(bytes, since, tag)
     }
 }
 
-/// Puts two octets before those from this place on.
-fn insert_two(bytes: &mut Vec<u8>, at: usize, first: u8, second: u8) -> Result<(), Memory>
+/// Puts two octets, for which there is room, before those from this place on.
+fn insert_two(bytes: &mut Vec<u8>, at: usize, first: u8, second: u8)
     requires place { at ≤ vec_len bytes.old }
-    ensures ok { OnOk result (bytes.new.items ≡ take at bytes.old.items ++ first ∷ second ∷ drop at bytes.old.items) }
-    ensures err { OnErr result (bytes.new.items ≡ bytes.old.items) }
+    requires room { vec_len bytes.old + 2 ≤ vec_capacity bytes.old }
+    ensures { bytes.new.items ≡ take at bytes.old.items ++ first ∷ second ∷ drop at bytes.old.items }
 {
-    bytes.extend_from_slice(&[first, second])?;
+    bytes.push_reserved(first);
+    bytes.push_reserved(second);
     put_in_front(&mut bytes.as_mut_slice()[at..], first, second);
-    Ok(())
 }
 
 /// Moves all octets but the last two up by two, and writes two in front of them.
