@@ -1,3 +1,9 @@
 pub mod Held
 pub mod HeldLaws
+pub mod History
+pub mod Known
 pub mod Numbers
+pub mod Passes
+pub mod Plays
+pub mod Rule
+pub mod Tables
