@@ -1,8 +1,8 @@
 -- A claim, won or lost, and a release keep the rule.
-use Rattle.std.proofs.Common.{◌≡◌, ◌≢◌, ℕ, zero, suc, ◌+◌, ◌-◌, ◌<◌, ◌≤◌, List, [], ◌∷◌, ◌++◌, length, set, get_or, slice_get, eqb, eq-eqb, ne_eqb, Option, None, Some, inl, inr, refl, sym, ◌∙◌, ap, subst, arith, length-set}
+use Rattle.std.proofs.Common.{◌≡◌, ◌≢◌, ℕ, ◌+◌, ◌-◌, ◌<◌, List, [], ◌∷◌, ◌++◌, length, set, get_or, slice_get, eqb, eq-eqb, ne_eqb, Option, None, Some, inl, refl, sym, ◌∙◌, ap, subst, arith, length-set}
 use Rattle.std.proofs.lemmas.List.{set-get_or}
 use native.Mathlib.Decide.{ℕ_discrete}
-use mathlib.Core.Option.{Option as Maybe, some, none, some-injective}
+use mathlib.Core.Option.{some, none, some-injective}
 use prog.Atomic.{either}
 use lib.ListN.{get_elem?}
 use Rattle.atomic_table.specs.Table.{State, Me, Act, keeps, takes, gives, stepped, step as stepping, Allows, carried_after, Valid, rest}
@@ -10,11 +10,11 @@ use Rattle.atomic_table.proofs.Lists.{set_here, set_else}
 use Rattle.part_table.specs.declared.view.Setting.{Setting}
 use Rattle.part_table.specs.declared.view.Account.{Account}
 use Rattle.part_table.specs.declared.view.View.{View}
+use Rattle.part_table.specs.HeldLaws.{held_set_here, held_set_else, held_within}
 use Rattle.part_table.specs.Held.{held_at}
 use Rattle.part_table.specs.Passes.{number_of}
 use Rattle.part_table.specs.Plays.{Takes, Loses, Claims, Gives}
-use Rattle.part_table.specs.Rule.{IsIn, Keeps, Holds, parts_after, Fits, Kept, KeptAt}
-use Rattle.part_table.proofs.Hands.{held_set_here, held_set_else, held_within}
+use Rattle.part_table.specs.Rule.{IsIn, Keeps, parts_after, Kept, KeptAt}
 use Rattle.part_table.proofs.Moves.{Moves, moved, quiet}
 
 module _ {B T E : Type 0} (value : B → T) (step : E → List T → List T) (may_make : ℕ → E → Type 0) (setting : Setting T) where

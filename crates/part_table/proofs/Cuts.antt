@@ -16,11 +16,11 @@ use Rattle.part_table.specs.Known.{Known, newcomer, nothing}
 use Rattle.part_table.specs.Tables.{opened}
 use Rattle.part_table.specs.declared.view.Key.{Key}
 use Rattle.part_table.specs.Plays.{starting, accounts_from, first_account, other_accounts, with_first, without_first, note_of}
-use Rattle.part_table.specs.Rule.{setting_of, IsIn, lefts, Keeps, Holds, Somewhere, total_left, IsAccount, Fits, Kept, KeptAt}
+use Rattle.part_table.specs.Rule.{setting_of, IsIn, lefts, Keeps, Holds, Somewhere, Fits, Kept, KeptAt}
 use Rattle.part_table.proofs.Views.{get_at, total_set, total_snoc, before, still_once, each_set, IsKeptOnce}
 use Rattle.part_table.proofs.Hands.{nothing_held, nothing_long}
 use Rattle.part_table.proofs.Moves.{same_account}
-use Rattle.part_table.proofs.Opening.{IsFresh, fresh}
+use Rattle.part_table.proofs.Opening.{fresh}
 
 pub at_end : {A : Type 0} (l : List A) (a b : A) (j : ℕ) → get_elem? (l ++ a ∷ []) j ≡ some b → (get_elem? l j ≡ some b) ⊎ ((j ≡ length l) × (a ≡ b))
 at_end [] a b zero e = inr (refl, some-injective a b e)
@@ -139,38 +139,42 @@ module _ {B T E : Type 0} (value : B → T) (step : E → List T → List T) (ma
 
   -- a note is made
   pub splits_note : (id : ℕ) (v : View T E) → Splits (Kept value step may_make setting) id v v (note_of v)
-  splits_note id v s kept at =
-      (kept.0, cut kept.0 s kept.1 id v at v.callers [] [] (record {
-        from_left = λ a i. i;
-        from_right = λ a i. absurd i;
-        either = λ a i. inl i;
-        apart = λ a b i j. absurd j;
-        sum = omega arith;
-        empty = λ i. refl;
-        places = λ a i. absurd i;
-        stays = λ i x e a j. j;
-      }))
+  splits_note id v s kept at = (
+    kept.0,
+    cut kept.0 s kept.1 id v at v.callers [] [] (record {
+      from_left = λ a i. i;
+      from_right = λ a i. absurd i;
+      either = λ a i. inl i;
+      apart = λ a b i j. absurd j;
+      sum = omega arith;
+      empty = λ i. refl;
+      places = λ a i. absurd i;
+      stays = λ i x e a j. j;
+    }),
+  )
 
   -- the first number is given to a new view
   pub splits_first : (id : ℕ) (v : View T E) (quota from callers : ℕ) → v.callers ≡ accounts_from quota from (suc callers) → ((i : ℕ) → held_at v.held i ≡ None) → length v.held ≡ length v.setting.opening
       → Splits (Kept value step may_make setting) id v (without_first v) (with_first v)
-  splits_first id v quota from callers is empty places s kept at =
-      (kept.0, cut kept.0 s kept.1 id v at (other_accounts v.callers) (first_account v.callers) (nothing (length v.setting.opening)) (record {
-        from_left = λ a i. later v.callers a i;
-        from_right = λ a i. first v.callers a i;
-        either = λ a i. cases v.callers a i;
-        apart = λ a b i j same.
-            (let x = subst (λ (q : List Account). IsIn (other_accounts q) a) is i in
-            let f = fresh quota (from + 1) callers a x in
-            let above = f.above in
-            let y : (record { number = from; own = []; left = quota } ≡ b) ⊎ ⊥ = subst (λ (q : List Account). IsIn (first_account q) b) is j in
-            let z : from ≡ b.number = elim y [ inl p ↦ ap (λ (q : Account). q.number) p | inr t ↦ absurd t ] in
-            omega arith);
-        sum = added v.callers;
-        empty = nothing_held T (length v.setting.opening);
-        places = λ a i. nothing_long T (length v.setting.opening) ∙ sym places;
-        stays = λ i x e a j. absurd (let n = empty i in cc (n, e));
-      }))
+  splits_first id v quota from callers is empty places s kept at = (
+    kept.0,
+    cut kept.0 s kept.1 id v at (other_accounts v.callers) (first_account v.callers) (nothing (length v.setting.opening)) (record {
+      from_left = λ a i. later v.callers a i;
+      from_right = λ a i. first v.callers a i;
+      either = λ a i. cases v.callers a i;
+      apart = λ a b i j same.
+          (let x = subst (λ (q : List Account). IsIn (other_accounts q) a) is i in
+          let f = fresh quota (from + 1) callers a x in
+          let above = f.above in
+          let y : (record { number = from; own = []; left = quota } ≡ b) ⊎ ⊥ = subst (λ (q : List Account). IsIn (first_account q) b) is j in
+          let z : from ≡ b.number = elim y [ inl p ↦ ap (λ (q : Account). q.number) p | inr t ↦ absurd t ] in
+          omega arith);
+      sum = added v.callers;
+      empty = nothing_held T (length v.setting.opening);
+      places = λ a i. nothing_long T (length v.setting.opening) ∙ sym places;
+      stays = λ i x e a j. absurd (let n = empty i in cc (n, e));
+    }),
+  )
     where
       later : (l : List Account) (a : Account) → IsIn (other_accounts l) a → IsIn l a
       later [] a h = h
@@ -221,9 +225,9 @@ module _ {C B T E : Type 0} (value : B → T) (step : E → List T → List T) (
   splits_next id m quota from callers is lt =
       let e : callers - from ≡ suc (callers - (from + 1)) = omega arith in
       splits_first value step may_make setting id m.0 quota from (callers - (from + 1))
-          (ap (λ (q : Me C (View T E)). q.0.callers) is ∙ ap (λ n. accounts_from quota from n) e)
-          (λ i. ap (λ (q : Me C (View T E)). held_at q.0.held i) is ∙ nothing_held T (length setting.opening) i)
-          (ap (λ (q : Me C (View T E)). length q.0.held) is ∙ nothing_long T (length setting.opening) ∙ ap (λ (q : Me C (View T E)). length q.0.setting.opening) (sym is))
+      (ap (λ (q : Me C (View T E)). q.0.callers) is ∙ ap (λ n. accounts_from quota from n) e)
+      (λ i. ap (λ (q : Me C (View T E)). held_at q.0.held i) is ∙ nothing_held T (length setting.opening) i)
+      (ap (λ (q : Me C (View T E)). length q.0.held) is ∙ nothing_long T (length setting.opening) ∙ ap (λ (q : Me C (View T E)). length q.0.setting.opening) (sym is))
 
 module _ {B T E : Type 0} (setting : Setting T) (accounts : List Account) (m : Me B (View T E)) (is : m ≡ (starting setting accounts, [])) where
   pub settled : m.0.setting ≡ setting

@@ -1,29 +1,11 @@
 -- Hands of which one place changes.
-use Rattle.std.proofs.Common.{◌≡◌, ◌≢◌, ℕ, zero, suc, ◌+◌, ◌<◌, ◌≤◌, Bool, true, false, List, [], ◌∷◌, length, set, slice_get, is_some, Option, None, Some, refl, sym, ◌∙◌, ap, subst, arith}
+use Rattle.std.proofs.Common.{◌≡◌, ℕ, zero, suc, ◌+◌, ◌<◌, ◌≤◌, List, [], ◌∷◌, length, set, Option, None, Some, refl, ◌∙◌, ap, arith}
 use Rattle.part_table.specs.Known.{nothing}
-use Rattle.part_table.specs.Held.{held_at, places_held}
+use Rattle.part_table.specs.Held.{held_at}
+use Rattle.part_table.specs.HeldLaws.{held_set_else}
 use Rattle.part_table.specs.Passes.{held_count, one_if_held}
 
 module _ {T : Type 0} where
-  pub held_set_here : (hand : List (Option T)) (i : ℕ) (y : Option T) → i < length hand → held_at (set hand i y) i ≡ y
-  held_set_here [] i y lt = absurd (omega arith)
-  held_set_here (h ∷ hand) zero y lt = refl
-  held_set_here (h ∷ hand) (suc i) y lt = held_set_here hand i y (omega arith)
-
-  pub held_set_else : (hand : List (Option T)) (i j : ℕ) (y : Option T) → j ≢ i → held_at (set hand i y) j ≡ held_at hand j
-  held_set_else [] i j y ne = refl
-  held_set_else (h ∷ hand) zero zero y ne = absurd (ne refl)
-  held_set_else (h ∷ hand) zero (suc j) y ne = refl
-  held_set_else (h ∷ hand) (suc i) zero y ne = refl
-  held_set_else (h ∷ hand) (suc i) (suc j) y ne = held_set_else hand i j y (λ e. ne (ap suc e))
-
-  -- a part that is held has a place
-  pub held_within : (hand : List (Option T)) (i : ℕ) (x : T) → held_at hand i ≡ Some x → i < length hand
-  held_within [] i x e = absurd (cc e)
-  held_within (h ∷ hand) zero x e = omega arith
-  held_within (h ∷ hand) (suc i) x e = let r = held_within hand i x e in omega arith
-
-  -- a place that isn't held stays so, where it is emptied
   -- one part more is held
   pub count_put : (hand : List (Option T)) (i : ℕ) (x : T) → i < length hand → held_at hand i ≡ None → held_count (set hand i (Some x)) ≡ held_count hand + 1
   count_put [] i x lt free = absurd (omega arith)
@@ -62,3 +44,15 @@ nothing_held T (suc n) (suc i) = nothing_held T n i
 pub nothing_long : (T : Type 0) (n : ℕ) → length (nothing {T = T} n) ≡ n
 nothing_long T zero = refl
 nothing_long T (suc n) = let h = nothing_long T n in omega arith
+
+-- nothing is held, once what was taken is given back
+pub given_back : (T : Type 0) (n i : ℕ) (x : T) → set (set (nothing {T = T} n) i (Some x)) i None ≡ nothing n
+given_back T zero i x = refl
+given_back T (suc n) zero x = refl
+given_back T (suc n) (suc i) x = ap (λ (l : List (Option T)). None ∷ l) (given_back T n i x)
+
+-- where none from a part on is held, none behind it is once it is taken
+pub free_behind : {T : Type 0} (hand new : List (Option T)) (part : ℕ) (x : T) → ((i : ℕ) → part ≤ i → held_at hand i ≡ None) → new ≡ set hand part (Some x)
+    → (i : ℕ) → part + 1 ≤ i → held_at new i ≡ None
+free_behind hand new part x free is i le =
+    ap (λ l. held_at l i) is ∙ held_set_else hand part i (Some x) (λ e. let a : part + 1 ≤ i = le in omega arith) ∙ free i (omega arith)

@@ -1,17 +1,17 @@
 -- One owner word is changed by one seat, as by a claim that wins and by a release; or only what one seat knows changes.
-use Rattle.std.proofs.Common.{◌≡◌, ◌≢◌, ◌⊎◌, ℕ, zero, suc, ◌+◌, ◌*◌, ◌<◌, ◌≤◌, List, [], ◌∷◌, ◌++◌, length, set, get_or, slice_get, Option, None, Some, inl, inr, refl, sym, ◌∙◌, ap, subst, arith, length-set, get_or-set_same, get_or-set_other}
+use Rattle.std.proofs.Common.{◌≡◌, ◌≢◌, ℕ, ◌+◌, ◌<◌, List, length, set, get_or, slice_get, Option, Some, refl, sym, ◌∙◌, ap, subst, arith, length-set, get_or-set_same, get_or-set_other}
 use native.Mathlib.Decide.{ℕ_discrete}
-use mathlib.Core.Option.{Option as Maybe, some, none, some-injective}
+use mathlib.Core.Option.{Option as Maybe, some}
 use lib.ListN.{get_elem?}
 use Rattle.atomic_table.specs.Table.{State}
-use Rattle.atomic_table.proofs.Lists.{set_here, set_else}
+use Rattle.atomic_table.proofs.Lists.{set_here}
 use Rattle.part_table.specs.declared.view.Setting.{Setting}
 use Rattle.part_table.specs.declared.view.Account.{Account}
 use Rattle.part_table.specs.declared.view.View.{View}
 use Rattle.part_table.specs.History.{StartsWith}
 use Rattle.part_table.specs.Held.{held_at}
-use Rattle.part_table.specs.Rule.{IsIn, Keeps, Holds, total_left, Somewhere, parts_after, IsAccount, Fits, Kept, KeptAt}
-use Rattle.part_table.proofs.Views.{get_at, total_set, before, still_once, each_set, somewhere_set}
+use Rattle.part_table.specs.Rule.{Keeps, Holds, Somewhere, parts_after, IsAccount, Fits, KeptAt}
+use Rattle.part_table.proofs.Views.{get_at, total_set, still_once, each_set, somewhere_set}
 
 module _ {B T E : Type 0} (value : B → T) (step : E → List T → List T) (may_make : ℕ → E → Type 0) (setting : Setting T)
     (history : List (ℕ × E)) (s : State (Option B) (View T E)) (k : KeptAt value step may_make setting history s)

@@ -1,15 +1,13 @@
 -- The table at the start keeps the rule.
-use Rattle.std.proofs.Common.{◌≡◌, ◌≢◌, ℕ, zero, suc, ◌+◌, ◌*◌, ◌^◌, ◌≤◌, ◌<◌, List, [], ◌∷◌, ◌++◌, length, map, get_or, replicate, slice_get, Option, None, Some, inl, inr, refl, sym, ◌∙◌, ap, subst, arith, suc-mul, zero-mul}
+use Rattle.std.proofs.Common.{◌≡◌, ℕ, zero, suc, ◌+◌, ◌*◌, ◌^◌, ◌≤◌, ◌<◌, List, [], ◌∷◌, length, map, get_or, replicate, slice_get, Option, Some, inl, inr, refl, sym, ◌∙◌, ap, subst, arith, suc-mul, zero-mul}
 use mathlib.Core.Option.{some, some-injective, some-ne-none}
 use lib.ListN.{get_elem?}
-use Rattle.atomic_table.specs.Table.{State, opening}
+use Rattle.atomic_table.specs.Table.{opening}
 use Rattle.part_table.specs.declared.view.Setting.{Setting}
 use Rattle.part_table.specs.declared.view.Account.{Account}
 use Rattle.part_table.specs.declared.view.View.{View}
-use Rattle.part_table.specs.Held.{held_at}
-use Rattle.part_table.specs.Known.{nothing}
 use Rattle.part_table.specs.Plays.{accounts_from, starting}
-use Rattle.part_table.specs.Rule.{IsIn, lefts, Keeps, Holds, IsAccount, Fits, Kept, KeptAt}
+use Rattle.part_table.specs.Rule.{IsIn, lefts, Fits, Kept}
 use Rattle.part_table.proofs.Hands.{nothing_held, nothing_long}
 
 -- every word is 0

@@ -1,6 +1,5 @@
 -- The order of the slots that are out with a seat.
-use Rattle.std.proofs.Common.{◌≡◌, ◌≢◌, ℕ, zero, suc, ◌+◌, ◌-◌, ◌<◌, ◌≤◌, List, [], ◌∷◌, ◌++◌, length, take, drop, remove, get_or, slice_get, eqb, eq-eqb, ne_eqb, cond, Option, None, Some, refl, sym, ◌∙◌, ap, subst, arith, append_assoc}
-use native.Mathlib.Decide.{ℕ_discrete}
+use Rattle.std.proofs.Common.{◌≡◌, ◌≢◌, ℕ, zero, suc, ◌+◌, ◌<◌, ◌≤◌, List, [], ◌∷◌, ◌++◌, length, take, drop, get_or, slice_get, eqb, eq-eqb, ne_eqb, cond, Option, None, Some, refl, sym, ◌∙◌, ap, arith, append_assoc}
 use mathlib.Core.Option.{some, some-injective, some-ne-none}
 use lib.ListN.{get_elem?}
 use Rattle.atomic_table.specs.Table.{turned}

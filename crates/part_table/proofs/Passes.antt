@@ -1,17 +1,17 @@
 -- What is inside a pass after each call.
-use Rattle.std.proofs.Common.{◌≡◌, ◌≢◌, ℕ, zero, suc, ◌+◌, ◌*◌, ◌<◌, ◌≤◌, Bool, true, false, List, [], ◌∷◌, ◌++◌, length, set, drop, take, remove, slice_get, eqb, eq-eqb, ne_eqb, cond, is_some, Option, None, Some, refl, sym, ◌∙◌, ap, subst, arith, length-set, length-append}
+use Rattle.std.proofs.Common.{◌≡◌, ℕ, zero, suc, ◌+◌, ◌*◌, ◌<◌, ◌≤◌, List, [], ◌∷◌, ◌++◌, length, set, drop, take, slice_get, eqb, eq-eqb, ne_eqb, cond, Option, None, Some, refl, sym, ◌∙◌, ap, subst, arith, length-set, length-append}
 use native.Mathlib.Decide.{ℕ_discrete}
 use Rattle.atomic_table.specs.Seated.{TableId}
 use Rattle.atomic_table.specs.Table.{Me, rest}
 use Rattle.part_table.specs.declared.view.Setting.{Setting}
 use Rattle.part_table.specs.declared.view.Account.{Account}
 use Rattle.part_table.specs.declared.view.View.{View}
-use Rattle.part_table.specs.Held.{held_at, places_held}
-use Rattle.part_table.specs.HeldLaws.{free_by_places, length-by_places}
-use Rattle.part_table.specs.Known.{Known, IsTrueOf, nothing}
-use Rattle.part_table.specs.Passes.{IsPass, known, empties, times, one_if_held, held_count, own_of, left_of}
+use Rattle.part_table.specs.Held.{held_at}
+use Rattle.part_table.specs.HeldLaws.{held_set_here, held_set_else, held_within}
+use Rattle.part_table.specs.Known.{IsTrueOf, nothing}
+use Rattle.part_table.specs.Passes.{IsPass, known, empties, times, one_if_held}
 use Rattle.part_table.specs.Plays.{starting}
-use Rattle.part_table.proofs.Hands.{held_set_here, held_set_else, held_within, nothing_held, nothing_counted, nothing_long, count_put, count_taken, count_lt}
+use Rattle.part_table.proofs.Hands.{nothing_held, nothing_counted, nothing_long, count_put, count_taken, count_lt}
 use Rattle.part_table.proofs.Order.{times_turned, drop_next}
 
 sums : (a b c d e : ℕ) → a ≡ c → b ≡ d → e ≡ c + d → a + b ≡ e

@@ -1,5 +1,5 @@
 -- A table of parts and the passes of its callers, as contracts see them (this profile's choice).
-use Rattle.std.specs.Prelude.{◌≡◌, ℕ, ◌+◌, ◌*◌, ◌<◌, ◌≤◌, List, [], ◌∷◌, Option, None, length, map, replicate}
+use Rattle.std.specs.Prelude.{◌≡◌, ℕ, ◌+◌, ◌*◌, ◌<◌, ◌≤◌, List, [], Option, None, length, replicate}
 use Rattle.atomic_table.specs.Seated.{TableId}
 use Rattle.part_table.specs.History.{places_of, IsMade}
 use Rattle.part_table.specs.Held.{places_held}

@@ -1,11 +1,11 @@
 -- What is inside a pass: its seat at the table, and the slots that are out with it.
-use Rattle.std.specs.Prelude.{◌≡◌, ℕ, ◌+◌, ◌≤◌, Bool, true, false, List, [], ◌∷◌, Option, None, length, is_some, ◌==◌, if◌then◌else◌}
+use Rattle.std.specs.Prelude.{◌≡◌, ℕ, ◌+◌, ◌≤◌, List, [], ◌∷◌, Option, None, length, is_some, ◌==◌, if◌then◌else◌}
 use Rattle.atomic_table.specs.Seated.{TableId}
 use Rattle.atomic_table.specs.Table.{Me}
 use Rattle.part_table.specs.declared.view.Account.{Account}
 use Rattle.part_table.specs.declared.view.View.{View}
 use Rattle.part_table.specs.Held.{held_at}
-use Rattle.part_table.specs.Known.{Known, Opened, IsTrueOf}
+use Rattle.part_table.specs.Known.{Known, IsTrueOf}
 
 -- the number, the own places and the commits left of the first account
 abbrev pub number_of : List Account → ℕ

@@ -1,6 +1,6 @@
 -- The rule of the table, which holds between any two atomic steps. Word 0 counts the one history, and word 1 + i says who owns the part i: 0 is nobody, and b + 1 the caller b.
 -- The history exists in proofs alone.
-use Rattle.std.specs.Prelude.{◌≡◌, ℕ, ◌+◌, ◌*◌, ◌^◌, ◌<◌, ◌≤◌, ◌⊎◌, List, [], ◌∷◌, ◌++◌, length, slice_index, slice_get, Option, None, Some, map}
+use Rattle.std.specs.Prelude.{◌≡◌, ℕ, ◌+◌, ◌*◌, ◌^◌, ◌<◌, ◌≤◌, ◌⊎◌, List, [], ◌∷◌, length, slice_index, slice_get, Option, Some, map}
 use mathlib.Core.Option.{some}
 use lib.ListN.{get_elem?}
 use Rattle.std.specs.Box.{box_value}
@@ -72,28 +72,21 @@ module _ {B T E : Type 0} (value : B → T) (step : E → List T → List T) (ma
     pub sized : length s.words ≡ length s.homes + 1
     pub opened : length setting.opening ≡ length s.homes
     pub parts : length (parts_after history) ≡ length s.homes
-
     -- the quotas together fit the commit word
     pub limit : setting.callers * setting.quota ≤ 65 * 2 ^ 40
-
     -- the commit word is the history's length, which with all commits left is at most the quotas together
     pub count : slice_index s.words 0 ≡ length history
     pub room : length history + total_left s.views ≤ setting.callers * setting.quota
-
     -- each place names a caller of the table who may make its event
     pub made : IsMade setting.callers may_make history
-
     -- every view fits the history, and one that keeps a number has seen all of it
     pub fits : (seat : ℕ) (v : View T E) → get_elem? s.views seat ≡ some v → Fits s.words history v
     pub whole : Somewhere (λ v. (v.seen ≡ history) × ((a : Account) × IsIn v.callers a)) s.views
-
     -- a number is kept by one view
     pub one : (p q : ℕ) (v w : View T E) (b : ℕ) → get_elem? s.views p ≡ some v → get_elem? s.views q ≡ some w → Keeps v b → Keeps w b → p ≡ q
-
     -- a part that nobody owns is at home, and is that of the parts replayed
     pub home : (i : ℕ) → i < length s.homes → slice_index s.words (i + 1) ≡ 0
         → (x : B) × (get_elem? s.homes i ≡ some (some (Some x))) × (slice_get (parts_after history) i ≡ Some (value x))
-
     -- where the owner word shows a caller, the view that keeps its number holds the part
     pub owned : (i b : ℕ) → i < length s.homes → slice_index s.words (i + 1) ≡ b + 1 → Somewhere (λ v. Keeps v b × Holds v i) s.views
 

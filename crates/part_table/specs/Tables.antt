@@ -1,5 +1,5 @@
 -- What is inside a table of parts.
-use Rattle.std.specs.Prelude.{◌≡◌, ℕ, ◌+◌, ◌≤◌, length}
+use Rattle.std.specs.Prelude.{◌≡◌, ◌+◌, ◌≤◌, length}
 use Rattle.atomic_table.specs.Seated.{TableId}
 use Rattle.part_table.specs.declared.view.Key.{Key}
 use Rattle.part_table.specs.Rule.{setting_of}

@@ -12,6 +12,8 @@ mod plays;
 mod steps;
 mod table;
 #[cfg(test)]
+mod table_tests;
+#[cfg(test)]
 mod tests;
 mod view;
 

@@ -9,7 +9,7 @@ ghost use Rattle.part_table.specs.Tables.{opened};
 
 use crate::memory::{Held, Memory};
 use crate::object::Object;
-use crate::pass::{Pass, PartSeat, bring, place_of, put_first};
+use crate::pass::{PartSeat, Pass, bring, place_of, put_first};
 use crate::plays::First;
 use crate::steps::{Slots, claim, release};
 use crate::view::Key;

@@ -1,4 +1,4 @@
-use Rattle.std.proofs.Common.{rules, arith, sym, ◌∙◌, ap, ◌<◌, length}
+use Rattle.std.proofs.Common.{arith, ◌∙◌, ap, ◌<◌, length}
 use Rattle.atomic_table.specs.Table.{turned}
 use Rattle.part_table.proofs.Order.{turn_next}
 use Rattle.part_table.proofs.pass.bring.Goals as goal

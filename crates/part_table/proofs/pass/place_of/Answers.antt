@@ -1,4 +1,3 @@
-use Rattle.std.proofs.Common.{rules, arith, drop}
 use Rattle.part_table.proofs.Order.{not_here, none_behind, found_at}
 use Rattle.part_table.proofs.pass.place_of.Goals as goal
 

@@ -1,8 +1,8 @@
-use Rattle.std.proofs.Common.{◌≡◌, rules, arith, sym, ◌∙◌, ap, refl, Some, None, ◌∷◌, ◌+◌}
+use Rattle.std.proofs.Common.{◌≡◌, rules, arith, sym, ◌∙◌, ap, Some, ◌∷◌, ◌+◌}
 use Rattle.std.specs.Box.{box_value}
 use Rattle.atomic_table.specs.Table.{rest}
 use Rattle.part_table.specs.Rule.{setting_of}
-use Rattle.part_table.proofs.Claims.{claims_by, taken, lost}
+use Rattle.part_table.proofs.Claims.{claims_by, taken}
 use Rattle.part_table.proofs.steps.claim.Goals as goal
 
 pub compare_exchange-found-requires : goal.compare_exchange-found-requires

@@ -1,7 +1,7 @@
-use Rattle.std.proofs.Common.{rules, arith, sym, ◌∙◌, None}
+use Rattle.std.proofs.Common.{arith, ◌∙◌}
 use Rattle.std.specs.Box.{box_value}
 use Rattle.part_table.specs.Rule.{setting_of}
-use Rattle.part_table.proofs.Claims.{releases_at, given}
+use Rattle.part_table.proofs.Claims.{releases_at}
 use Rattle.part_table.proofs.steps.release.Goals as goal
 
 pub store-requires : goal.store-requires

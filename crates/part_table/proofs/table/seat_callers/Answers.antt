@@ -1,10 +1,10 @@
-use Rattle.std.proofs.Common.{◌≡◌, ◌+◌, ◌-◌, ◌<◌, ◌≤◌, ◌++◌, ◌∷◌, [], map, rules, arith, sym, ◌∙◌, ap, subst}
+use Rattle.std.proofs.Common.{◌≡◌, ◌+◌, ◌-◌, ◌<◌, map, rules, arith, ◌∙◌, ap}
 use Rattle.std.specs.Box.{box_value}
 use Rattle.std.specs.List.{range_with_len}
 use Rattle.part_table.specs.Rule.{setting_of}
 use Rattle.part_table.specs.Known.{newcomer}
 use Rattle.part_table.specs.Tables.{opened}
-use Rattle.part_table.proofs.Cuts.{splits_next, first_starts, rest_starts, settled, starts_so, seated, one_pass_more, last_starts}
+use Rattle.part_table.proofs.Cuts.{splits_next, first_starts, rest_starts, settled, starts_so, seated, one_pass_more}
 use Rattle.part_table.proofs.table.seat_callers.Goals as goal
 
 pub split_seat-own-requires : goal.split_seat-own-requires

@@ -1,4 +1,4 @@
-use Rattle.std.proofs.Common.{◌≡◌, ◌<◌, length, None, rules, arith, sym, ◌∙◌, ap, subst}
+use Rattle.std.proofs.Common.{◌≡◌, ◌<◌, length, None, arith, ◌∙◌, ap, subst}
 use Rattle.part_table.specs.Held.{held_at}
 use Rattle.part_table.specs.Passes.{number_of}
 use Rattle.part_table.proofs.Passes.{lost_pass, took_pass, room_for}
@@ -26,4 +26,4 @@ invariant_of-pass-2 g c =
     let free : held_at c.pass.inside.seat.me.0.held c.args.part ≡ None = ap (λ k. held_at k.taken c.args.part) c.pass.view_is ∙ c.requires.free in
     let e = c.in_ok-value.ensures in
     took_pass g.O.Object.may_make c.pass.inside.seat.table_id _ c.pass.inside.seat.me _ _ _ _ _ c.pass.invariant c.args.part c.in_ok-value.value.value _ _ e.taken (omega (arith, same, c.requires.part)) free
-        c.put_first.ensures.items c.put_first.ensures.room
+    c.put_first.ensures.items c.put_first.ensures.room
