@@ -1,7 +1,7 @@
 -- Hands of which one place changes.
-use Rattle.std.proofs.Common.{◌≡◌, ℕ, zero, suc, ◌+◌, ◌<◌, ◌≤◌, List, [], ◌∷◌, length, set, Option, None, Some, refl, ◌∙◌, ap, arith}
+use Rattle.std.proofs.Common.{is_some, if◌then◌else◌, ◌≡◌, ℕ, zero, suc, ◌+◌, ◌<◌, ◌≤◌, List, [], ◌∷◌, length, set, Option, None, Some, refl, ◌∙◌, ap, arith}
 use Rattle.part_table.specs.Known.{nothing}
-use Rattle.part_table.specs.Held.{held_at}
+use Rattle.part_table.specs.Held.{held_at, places_held}
 use Rattle.part_table.specs.HeldLaws.{held_set_else}
 use Rattle.part_table.specs.Passes.{held_count, one_if_held}
 
@@ -17,6 +17,25 @@ module _ {T : Type 0} where
   count_taken [] i x held = absurd (cc held)
   count_taken (h ∷ hand) zero x held = let e : one_if_held h ≡ 1 = ap one_if_held held in omega arith
   count_taken (h ∷ hand) (suc i) x held = let r = count_taken hand i x held in omega arith
+
+  -- where the same places are held, as many are
+  pub one_by_places : (one other : List (Option T)) (i : ℕ) → places_held one ≡ places_held other → one_if_held (held_at one i) ≡ one_if_held (held_at other i)
+  one_by_places [] [] i same = refl
+  one_by_places [] (y ∷ other) i same = absurd (cc same)
+  one_by_places (x ∷ one) [] i same = absurd (cc same)
+  one_by_places (x ∷ one) (y ∷ other) zero same = let first : is_some x ≡ is_some y = cc same in ap (λ b. if b then 1 else 0) first
+  one_by_places (x ∷ one) (y ∷ other) (suc i) same = let rest : places_held one ≡ places_held other = cc same in one_by_places one other i rest
+
+  pub count_by_places : (one other : List (Option T)) → places_held one ≡ places_held other → held_count one ≡ held_count other
+  count_by_places [] [] same = refl
+  count_by_places [] (y ∷ other) same = absurd (cc same)
+  count_by_places (x ∷ one) [] same = absurd (cc same)
+  count_by_places (x ∷ one) (y ∷ other) same =
+      let first : is_some x ≡ is_some y = cc same in
+      let rest : places_held one ≡ places_held other = cc same in
+      let here : one_if_held x ≡ one_if_held y = ap (λ b. if b then 1 else 0) first in
+      let more = count_by_places one other rest in
+      omega arith
 
   one_at_most : (h : Option T) → one_if_held h ≤ 1
   one_at_most None = omega arith

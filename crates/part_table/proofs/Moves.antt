@@ -8,7 +8,7 @@ use Rattle.atomic_table.proofs.Lists.{set_here}
 use Rattle.part_table.specs.declared.view.Setting.{Setting}
 use Rattle.part_table.specs.declared.view.Account.{Account}
 use Rattle.part_table.specs.declared.view.View.{View}
-use Rattle.part_table.specs.History.{StartsWith}
+use Rattle.part_table.specs.History.{StartsWith, BeginsEach}
 use Rattle.part_table.specs.Held.{held_at}
 use Rattle.part_table.specs.Rule.{Keeps, Holds, Somewhere, parts_after, IsAccount, Fits, KeptAt}
 use Rattle.part_table.proofs.Views.{get_at, total_set, still_once, each_set, somewhere_set}
@@ -111,7 +111,7 @@ module _ {B T E : Type 0} (value : B → T) (step : E → List T → List T) (ma
       }
 
   -- the rule is kept where only what one seat knows changes
-  pub quiet : (seen told : List (ℕ × E)) (lost : List (ℕ × ℕ)) → StartsWith history seen → StartsWith history told → (v.seen ≡ history → seen ≡ history)
+  pub quiet : (seen : List (ℕ × E)) (told : List (List (ℕ × E))) (lost : List (ℕ × ℕ)) → StartsWith history seen → BeginsEach history told → (v.seen ≡ history → seen ≡ history)
       → KeptAt value step may_make setting history (record { words = s.words; homes = s.homes; views = set s.views id (record v { seen = seen; told = told; lost = lost }) })
   quiet seen told lost saw heard whole =
       let w : View T E = record v { seen = seen; told = told; lost = lost } in

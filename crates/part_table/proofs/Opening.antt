@@ -71,7 +71,7 @@ module _ {B T E : Type 0} (value : B → T) (step : E → List T → List T) (ma
   first_fits : (ws : List ℕ) → Fits value step may_make setting ws [] founding
   first_fits ws = record {
     seen = ([], refl);
-    told = ([], refl);
+    told = tt;
     accounts = λ a h.
         let f = fresh quota 0 callers a h in
         let below = f.below in

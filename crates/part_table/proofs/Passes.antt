@@ -1,17 +1,17 @@
 -- What is inside a pass after each call.
-use Rattle.std.proofs.Common.{◌≡◌, ℕ, zero, suc, ◌+◌, ◌*◌, ◌<◌, ◌≤◌, List, [], ◌∷◌, ◌++◌, length, set, drop, take, slice_get, eqb, eq-eqb, ne_eqb, cond, Option, None, Some, refl, sym, ◌∙◌, ap, subst, arith, length-set, length-append}
+use Rattle.std.proofs.Common.{◌-◌, ◌^◌, ◌≡◌, ℕ, zero, suc, ◌+◌, ◌*◌, ◌<◌, ◌≤◌, List, [], ◌∷◌, ◌++◌, length, set, drop, take, slice_get, eqb, eq-eqb, ne_eqb, cond, Option, None, Some, refl, sym, ◌∙◌, ap, subst, arith, length-set, length-append}
 use native.Mathlib.Decide.{ℕ_discrete}
 use Rattle.atomic_table.specs.Seated.{TableId}
 use Rattle.atomic_table.specs.Table.{Me, rest}
 use Rattle.part_table.specs.declared.view.Setting.{Setting}
 use Rattle.part_table.specs.declared.view.Account.{Account}
 use Rattle.part_table.specs.declared.view.View.{View}
-use Rattle.part_table.specs.Held.{held_at}
-use Rattle.part_table.specs.HeldLaws.{held_set_here, held_set_else, held_within}
+use Rattle.part_table.specs.Held.{held_at, places_held}
+use Rattle.part_table.specs.HeldLaws.{held_set_here, held_set_else, held_within, length-by_places}
 use Rattle.part_table.specs.Known.{IsTrueOf, nothing}
-use Rattle.part_table.specs.Passes.{IsPass, known, empties, times, one_if_held}
-use Rattle.part_table.specs.Plays.{starting}
-use Rattle.part_table.proofs.Hands.{nothing_held, nothing_counted, nothing_long, count_put, count_taken, count_lt}
+use Rattle.part_table.specs.Passes.{own_of, held_count, IsPass, known, empties, times, one_if_held}
+use Rattle.part_table.specs.Plays.{starting, committed, noted}
+use Rattle.part_table.proofs.Hands.{nothing_held, nothing_counted, nothing_long, count_put, count_taken, count_lt, count_by_places, one_by_places}
 use Rattle.part_table.proofs.Order.{times_turned, drop_next}
 
 sums : (a b c d e : ℕ) → a ≡ c → b ≡ d → e ≡ c + d → a + b ≡ e
@@ -55,7 +55,7 @@ module _ {B T E : Type 0} (may_make : ℕ → E → Type 0) where
         room = omega arith;
         places = size;
         few = (omega arith, callers);
-        true_of = λ hand. record { number = below; own = refl; quota = sym_plus quota s.quota same; made = tt; size = zero_least (s.callers * s.quota) };
+        true_of = λ hand. record { number = below; own = refl; quota = sym_plus quota s.quota same; made = tt; size = zero_least (65 * 2 ^ 40) };
       } in
       subst (λ l. IsPass may_make id m l capacity by quota) (sym none) (subst P (sym is) base)
     where
@@ -84,6 +84,47 @@ module _ {B T E : Type 0} (may_make : ℕ → E → Type 0) where
     -- there is room for the slot of a part that isn't held
     pub room_for : (i : ℕ) → i < length m.0.setting.opening → held_at m.0.held i ≡ None → length order < capacity
     room_for i lt free = let places = p.places in let c = count_lt m.0.held i (omega arith) free in let n = p.count in let r = p.room in omega arith
+
+    -- a history was seen
+    pub seen_pass : (seen : List (ℕ × E)) (told : List (List (ℕ × E))) → w ≡ (record m.0 { seen = seen; told = told }, m.1) → ((hand : List (Option T)) → IsTrueOf may_make (known other (record m.0 { seen = seen }) hand))
+        → IsPass may_make other w order capacity by left
+    seen_pass seen told is truth =
+        subst (λ (q : Me (Option B) (View T E)). IsPass may_make other q order capacity by left) (sym is)
+        (record {
+          account = p.account;
+          slots = p.slots;
+          turns = p.turns;
+          count = p.count;
+          room = p.room;
+          places = p.places;
+          few = p.few;
+          true_of = λ hand. (let t = truth hand in record { number = t.number; own = t.own; quota = t.quota; made = t.made; size = t.size });
+        })
+
+    -- an event was added
+    pub committed_pass : (after : E → List (Option T) → List (Option T)) (e : E) (h : List (ℕ × E)) (less : ℕ) → w ≡ (committed after e h m.0, m.1) → places_held (after e m.0.held) ≡ places_held m.0.held
+        → ((hand : List (Option T)) → IsTrueOf may_make (known other (committed after e h m.0) hand)) → less ≡ left - 1 → IsPass may_make other w order capacity by less
+    committed_pass after e h less is same truth fewer =
+        let hand = after e m.0.held in
+        let long : length hand ≡ length m.0.held = length-by_places hand m.0.held same in
+        let few = p.few in
+        let fits = p.room in
+        let count = p.count in
+        let counted : held_count hand ≡ held_count m.0.held = count_by_places hand m.0.held same in
+        let v : View T E = committed after e h m.0 in
+        let P : ℕ → Type 0 = λ n. IsPass may_make other (v, m.1) order capacity by n in
+        let noted_is : noted m.0.callers (length h + 1) ≡ record { number = by; own = own_of m.0.callers ++ (length h + 1) ∷ []; left = left - 1 } ∷ [] = ap (λ (l : List Account). noted l (length h + 1)) p.account in
+        let base : P (left - 1) = record {
+          account = noted_is ∙ ap (λ (l : List ℕ). record { number = by; own = l; left = left - 1 } ∷ []) (sym (ap own_of noted_is));
+          slots = p.slots;
+          turns = λ i. p.turns i ∙ one_by_places m.0.held hand i (sym same);
+          count = omega arith;
+          room = omega arith;
+          places = long ∙ p.places;
+          few = (let f = few.0 in omega arith, few.1);
+          true_of = truth;
+        } in
+        subst (λ (q : Me (Option B) (View T E)). IsPass may_make other q order capacity by less) (sym is) (subst P (sym fewer) base)
 
     turns_put : (i : ℕ) (x : T) → i < length m.0.held → held_at m.0.held i ≡ None → (j : ℕ) → Dec (j ≡ i) → times j (i ∷ order) ≡ one_if_held (held_at (set m.0.held i (Some x)) j)
     turns_put i x lt free j (yes e) =

@@ -5,6 +5,11 @@ use Rattle.std.specs.Prelude.{◌≡◌, ℕ, ◌+◌, ◌<◌, List, [], ◌∷
 abbrev pub StartsWith : {X : Type 0} → List X → List X → Type 0
 StartsWith {X} all front = (rest : List X) × (all ≡ front ++ rest)
 
+-- all begins with each of these
+abbrev pub BeginsEach : {X : Type 0} → List X → List (List X) → Type 0
+BeginsEach all [] = Unit {0}
+BeginsEach all (front ∷ fronts) = StartsWith all front × BeginsEach all fronts
+
 module _ {T E : Type 0} where
   -- the parts after a history, by the parts at its start
   abbrev pub replayed : (E → List T → List T) → List T → List (ℕ × E) → List T
@@ -17,9 +22,9 @@ module _ {E : Type 0} where
   places_from at caller [] = []
   places_from at caller (made ∷ history) = if made.0 == caller then at ∷ places_from (at + 1) caller history else places_from (at + 1) caller history
 
-  -- the places of a history that name a caller
+  -- the places of a history that name a caller, of which the first is 1
   abbrev pub places_of : ℕ → List (ℕ × E) → List ℕ
-  places_of caller history = places_from 0 caller history
+  places_of caller history = places_from 1 caller history
 
   -- each place names a caller of a lower number, who may make its event
   abbrev pub IsMade : ℕ → (ℕ → E → Type 0) → List (ℕ × E) → Type 0

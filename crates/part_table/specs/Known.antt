@@ -1,5 +1,5 @@
 -- A table of parts and the passes of its callers, as contracts see them (this profile's choice).
-use Rattle.std.specs.Prelude.{◌≡◌, ℕ, ◌+◌, ◌*◌, ◌<◌, ◌≤◌, List, [], Option, None, length, replicate}
+use Rattle.std.specs.Prelude.{◌≡◌, ℕ, ◌+◌, ◌*◌, ◌^◌, ◌<◌, ◌≤◌, List, [], Option, None, length, replicate}
 use Rattle.atomic_table.specs.Seated.{TableId}
 use Rattle.part_table.specs.History.{places_of, IsMade}
 use Rattle.part_table.specs.Held.{places_held}
@@ -46,10 +46,10 @@ module _ {T E : Type 0} where
   IsInHand pass = places_held pass.hand ≡ places_held pass.taken
 
   -- of a history that a pass knows: the places that name its caller are exactly its own, and with the commits left they are its quota;
-  -- each place names a caller of the table who may make its event; and it is no longer than all quotas together
+  -- each place names a caller of the table who may make its event; and it is no longer than the largest quotas of the most callers together
   pub record IsTrueOf (may_make : ℕ → E → Type 0) (pass : Known T E) : Type 0 where
     pub number : pass.by < pass.table.callers
     pub own : pass.own ≡ places_of pass.by pass.seen
     pub quota : length pass.own + pass.left ≡ pass.table.quota
     pub made : IsMade pass.table.callers may_make pass.seen
-    pub size : length pass.seen ≤ pass.table.callers * pass.table.quota
+    pub size : length pass.seen ≤ 65 * 2 ^ 40

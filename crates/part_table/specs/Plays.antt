@@ -5,7 +5,7 @@ use Rattle.atomic_table.specs.Seated.{TableId}
 use Rattle.part_table.specs.declared.view.Setting.{Setting}
 use Rattle.part_table.specs.declared.view.Account.{Account}
 use Rattle.part_table.specs.declared.view.View.{View}
-use Rattle.part_table.specs.History.{StartsWith, replayed}
+use Rattle.part_table.specs.History.{StartsWith, BeginsEach, replayed}
 use Rattle.part_table.specs.Held.{IsHandOf}
 use Rattle.part_table.specs.Known.{IsTrueOf, nothing}
 use Rattle.part_table.specs.Passes.{number_of, known}
@@ -59,7 +59,7 @@ module _ {T E : Type 0} where
 
   -- this view, with the numbers of that one and what that one has seen
   abbrev pub joined : View T E → View T E → View T E
-  joined v w = record v { callers = w.callers ++ v.callers; seen = longer v.seen w.seen; told = shorter v.seen w.seen }
+  joined v w = record v { callers = w.callers ++ v.callers; seen = longer v.seen w.seen; told = shorter v.seen w.seen ∷ v.told }
 
   -- what is left of a view that was joined into another
   abbrev pub spent : View T E
@@ -84,21 +84,25 @@ module _ {B T E : Type 0} (value : B → T) where
   Claims st m found w = (found ≡ 0 → Takes (st.word - 1) m w) × (found ≢ 0 → Loses (st.word - 1) (found - 1) m w)
 
 module _ {T E : Type 0} (step : E → List T → List T) (may_make : ℕ → E → Type 0) where
-  -- of a seat at which the history h was seen: it begins with what was seen before and what was told, and what is held is as the parts replayed have it
+  -- of a seat at which the history h was seen: it begins with what was seen before, and what is held is as the parts replayed have it
   pub record SeesTo (h : List (ℕ × E)) (v : View T E) : Type 0 where
     pub seen : StartsWith h v.seen
-    pub told : StartsWith h v.told
     pub held : IsHandOf v.held (replayed step v.setting.opening h)
     pub true_of : (id : TableId) (hand : List (Option T)) → IsTrueOf may_make (known id (record v { seen = h }) hand)
 
+-- a seat that was told what another had seen, and then saw the history so far
+abbrev pub Informed : {S T E : Type 0} → (E → List T → List T) → (ℕ → E → Type 0) → Me S (View T E) → View T E → Me S (View T E) → Type 0
+Informed {S} {T} {E} step may_make m v w =
+    (seen : List (ℕ × E)) × (told : List (List (ℕ × E))) × (w ≡ (record m.0 { seen = seen; told = told }, m.1)) × SeesTo step may_make seen m.0 × StartsWith seen v.seen
+
 -- a view that has seen h after the commit of e at its end
 abbrev pub committed : {T E : Type 0} → (E → List (Option T) → List (Option T)) → E → List (ℕ × E) → View T E → View T E
-committed after e h v = record v { callers = noted v.callers (length h); seen = h ++ (number_of v.callers, e) ∷ []; held = after e v.held }
+committed after e h v = record v { callers = noted v.callers (length h + 1); seen = h ++ (number_of v.callers, e) ∷ []; held = after e v.held }
 
 module _ {B T E : Type 0} (step : E → List T → List T) (may_make : ℕ → E → Type 0) where
   -- the history so far was seen, of which the word tells the length
   abbrev pub Sees : Step (Option B) → Me (Option B) (View T E) → ℕ → Me (Option B) (View T E) → Type 0
-  Sees st m found w = (h : List (ℕ × E)) × (w ≡ (record m.0 { seen = h }, m.1)) × (found ≡ length h) × SeesTo step may_make h m.0
+  Sees st m found w = (h : List (ℕ × E)) × (w ≡ (record m.0 { seen = h }, m.1)) × (found ≡ length h) × SeesTo step may_make h m.0 × BeginsEach h m.0.told
 
   -- the event was added to the history so far
   abbrev pub Commits : (E → List (Option T) → List (Option T)) → E → Step (Option B) → Me (Option B) (View T E) → ℕ → Me (Option B) (View T E) → Type 0

@@ -9,7 +9,7 @@ use Rattle.part_table.specs.declared.view.Key.{Key}
 use Rattle.part_table.specs.declared.view.Setting.{Setting}
 use Rattle.part_table.specs.declared.view.Account.{Account}
 use Rattle.part_table.specs.declared.view.View.{View}
-use Rattle.part_table.specs.History.{StartsWith, replayed, places_of, IsMade}
+use Rattle.part_table.specs.History.{StartsWith, BeginsEach, replayed, places_of, IsMade}
 use Rattle.part_table.specs.Held.{held_at}
 
 -- what callers know of what a table is told
@@ -62,7 +62,7 @@ module _ {B T E : Type 0} (value : B → T) (step : E → List T → List T) (ma
   -- shows a number that it keeps
   pub record Fits (words : List ℕ) (history : List (ℕ × E)) (v : View T E) : Type 0 where
     pub seen : StartsWith history v.seen
-    pub told : StartsWith history v.told
+    pub told : BeginsEach history v.told
     pub accounts : (a : Account) → IsIn v.callers a → IsAccount history v a
     pub rows : (i : ℕ) (x : T) → held_at v.held i ≡ Some x
         → (slice_get (parts_after history) i ≡ Some x) × ((b : ℕ) × Keeps v b × (slice_index words (i + 1) ≡ b + 1))

@@ -5,6 +5,7 @@
 mod hand;
 mod laws;
 mod lends;
+mod meeting;
 mod memory;
 mod object;
 mod pass;

@@ -22,7 +22,7 @@ use std::snapshot::Snapshot;
 /// table it is, its opening parts, the number of its callers and the quota of each.
 #[derive(Drop)]
 pub struct PartTable<O: Object> {
-    table: Slots<O>,
+    pub(crate) table: Slots<O>,
 }
 
 impl<O: Object> Model for PartTable<O> {

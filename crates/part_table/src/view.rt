@@ -41,8 +41,8 @@ pub struct View<T, E> {
     pub callers: LinkedList<Account>,
     /// The history that it has seen: callers and their events.
     pub seen: LinkedList<(u64, E)>,
-    /// What it was told of and had not seen.
-    pub told: LinkedList<(u64, E)>,
+    /// The histories that it was told of, beside the one that it has seen.
+    pub told: LinkedList<LinkedList<(u64, E)>>,
     /// The parts that it holds, each with its value as taken or committed.
     pub held: LinkedList<Option<T>>,
     /// The claims that it lost: parts and their owners.
