@@ -1,25 +1,23 @@
 -- A commit and a look at the commit word keep the rule.
-use Rattle.std.proofs.Common.{◌≡◌, ◌≢◌, ◌⊎◌, ℕ, zero, suc, ◌+◌, ◌-◌, ◌*◌, ◌^◌, ◌%◌, ◌<◌, ◌≤◌, Bool, List, [], ◌∷◌, ◌++◌, length, set, get_or, slice_get, Option, None, Some, inl, inr, refl, sym, ◌∙◌, ap, subst, arith, append-nil, length-append, length-set, get_or-set_same, get_or-set_other}
+use Rattle.std.proofs.Common.{◌≡◌, ◌≢◌, ℕ, ◌+◌, ◌-◌, ◌*◌, ◌^◌, ◌%◌, ◌<◌, ◌≤◌, List, [], ◌∷◌, ◌++◌, length, set, get_or, slice_get, Option, None, Some, inl, inr, refl, sym, ◌∙◌, ap, subst, arith, length-append, length-set, get_or-set_same, get_or-set_other}
 use Rattle.std.proofs.Math.Nat.{mod-eq_of_lt}
 use Rattle.std.proofs.lemmas.List.{set-get_or}
-use native.Mathlib.Decide.{ℕ_discrete}
-use mathlib.Core.Option.{Option as Maybe, some, none, some-injective}
+use mathlib.Core.Option.{some, none}
 use lib.ListN.{get_elem?}
 use Rattle.atomic_table.specs.Seated.{TableId}
-use Rattle.atomic_table.specs.Table.{State, Me, Act, keeps, stepped, step as stepping, Allows, carried_after, Valid}
-use Rattle.atomic_table.proofs.Lists.{set_here, set_else}
+use Rattle.atomic_table.specs.Table.{State, Me, Act, keeps, step as stepping, Allows, carried_after}
 use Rattle.part_table.specs.declared.view.Setting.{Setting}
 use Rattle.part_table.specs.declared.view.Account.{Account}
 use Rattle.part_table.specs.declared.view.View.{View}
-use Rattle.part_table.specs.History.{StartsWith, replayed, places_of, IsMade}
+use Rattle.part_table.specs.History.{replayed, places_of}
 use Rattle.part_table.specs.Held.{held_at, places_held, laid_over, IsHandOf}
 use Rattle.part_table.specs.HeldLaws.{hand_of, laid_over-held, laid_over-free, length-laid_over, free_by_places, length-by_places}
 use Rattle.part_table.specs.Known.{IsTrueOf}
 use Rattle.part_table.specs.Passes.{known, number_of}
 use Rattle.part_table.specs.Plays.{SeesTo, Sees, Commits, committed, noted}
-use Rattle.part_table.specs.Rule.{IsIn, lefts, Keeps, Holds, total_left, parts_after, IsAccount, Fits, Kept, KeptAt}
+use Rattle.part_table.specs.Rule.{IsIn, lefts, Keeps, Holds, parts_after, IsAccount, Fits, Kept, KeptAt}
 use Rattle.part_table.proofs.Histories.{starts_refl, starts_more, each_more, replayed_more, places_more, places_same, made_more}
-use Rattle.part_table.proofs.Views.{get_at, total_set, total_at, still_once, each_set, somewhere_set, here}
+use Rattle.part_table.proofs.Views.{total_set, total_at, still_once, each_set, somewhere_set, here}
 use Rattle.part_table.proofs.Moves.{quiet}
 
 -- where the same places are held, what is held in the one is held in the other

@@ -1,5 +1,5 @@
 -- Each place of a history is counted once, with the caller whom it names.
-use Rattle.std.proofs.Common.{◌≡◌, ◌≢◌, ℕ, zero, suc, ◌+◌, ◌<◌, ◌≤◌, Bool, true, false, cond, List, [], ◌∷◌, ◌++◌, length, slice_get, eqb, eq-eqb, ne_eqb, None, Some, refl, sym, ◌∙◌, ap, subst, arith, length-append, append-nil}
+use Rattle.std.proofs.Common.{◌≡◌, ℕ, zero, suc, ◌+◌, ◌<◌, ◌≤◌, Bool, true, false, cond, List, [], ◌∷◌, ◌++◌, length, slice_get, eqb, eq-eqb, ne_eqb, Some, refl, sym, ◌∙◌, ap, arith, length-append, append-nil}
 use native.Mathlib.Decide.{ℕ_discrete}
 use Rattle.part_table.specs.History.{StartsWith, places_from, places_of, IsMade}
 use Rattle.part_table.specs.Known.{Known}

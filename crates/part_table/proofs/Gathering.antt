@@ -1,8 +1,8 @@
 -- After two rounds of meetings all passes know one beginning, which holds every own place.
-use Rattle.std.proofs.Common.{◌≢◌, get_or, length-set, ◌≡◌, ℕ, zero, suc, ◌+◌, ◌<◌, ◌≤◌, List, [], ◌∷◌, ◌++◌, length, set, slice_get, None, Some, refl, sym, ◌∙◌, ap, subst, arith}
+use Rattle.std.proofs.Common.{◌≢◌, get_or, length-set, ◌≡◌, ℕ, zero, suc, ◌+◌, ◌<◌, ◌≤◌, List, [], ◌∷◌, ◌++◌, length, set, slice_get, Some, refl, sym, ◌∙◌, ap, subst, arith}
 use Rattle.part_table.specs.History.{StartsWith, places_of, IsMade}
 use Rattle.part_table.specs.Known.{Known, Opened, IsTrueOf}
-use Rattle.part_table.specs.Gathered.{AreAll, own_places, HasMet, HasMetEach, HaveGathered}
+use Rattle.part_table.specs.Gathered.{AreAll, HasMet, HasMetEach, HaveGathered}
 use native.Mathlib.Decide.{ℕ_discrete}
 use Rattle.part_table.proofs.Histories.{starts_refl, starts_trans}
 use Rattle.part_table.proofs.Counting.{made_front, places_between, count_own}

@@ -1,7 +1,7 @@
 -- A history that grows.
-use Rattle.std.proofs.Common.{◌≡◌, ◌≢◌, ◌⊎◌, ℕ, zero, suc, ◌+◌, ◌<◌, ◌≤◌, Bool, true, false, cond, List, [], ◌∷◌, ◌++◌, length, eqb, eq-eqb, ne_eqb, ltb, nat_lt, if◌then◌else◌, inl, inr, refl, sym, ◌∙◌, ap, subst, arith, append-nil, append_assoc, length-append}
+use Rattle.std.proofs.Common.{◌≡◌, ◌≢◌, ◌⊎◌, ℕ, ◌+◌, ◌<◌, ◌≤◌, Bool, true, false, cond, List, [], ◌∷◌, ◌++◌, length, eqb, eq-eqb, ne_eqb, nat_lt, if◌then◌else◌, inl, inr, refl, sym, ◌∙◌, ap, arith, append-nil, append_assoc, length-append}
 use Rattle.std.proofs.lemmas.Bool.{ltb-true, ltb-false}
-use Rattle.part_table.specs.History.{StartsWith, BeginsEach, replayed, places_from, places_of, IsMade}
+use Rattle.part_table.specs.History.{StartsWith, BeginsEach, replayed, places_from, IsMade}
 use Rattle.part_table.specs.Plays.{longer, shorter}
 
 module _ {X : Type 0} where

@@ -1,16 +1,16 @@
 -- A view is joined into another, as a note is, or at the end the pass of another caller.
-use Rattle.std.proofs.Common.{◌≡◌, ◌≢◌, ◌⊎◌, ℕ, zero, suc, ◌+◌, ◌≤◌, ◌<◌, List, [], ◌∷◌, ◌++◌, length, set, Option, None, Some, inl, inr, refl, sym, ◌∙◌, ap, subst, arith}
+use Rattle.std.proofs.Common.{◌≡◌, ◌≢◌, ◌⊎◌, ℕ, ◌<◌, List, [], ◌∷◌, length, set, Option, None, inl, inr, refl, sym, ◌∙◌, ap, subst, arith}
 use native.Mathlib.Decide.{ℕ_discrete}
 use mathlib.Core.Option.{some, some-injective}
 use lib.ListN.{get_elem?}
-use Rattle.atomic_table.specs.Table.{State, Me, Joins}
+use Rattle.atomic_table.specs.Table.{State, Joins}
 use Rattle.atomic_table.proofs.Lists.{set_here, set_else}
 use Rattle.part_table.specs.declared.view.Setting.{Setting}
 use Rattle.part_table.specs.declared.view.Account.{Account}
 use Rattle.part_table.specs.declared.view.View.{View}
 use Rattle.part_table.specs.Held.{held_at}
-use Rattle.part_table.specs.Plays.{joined, spent, longer, shorter}
-use Rattle.part_table.specs.Rule.{IsIn, lefts, Keeps, Holds, Somewhere, total_left, IsAccount, Fits, Kept, KeptAt}
+use Rattle.part_table.specs.Plays.{joined, spent}
+use Rattle.part_table.specs.Rule.{IsIn, Keeps, Holds, Somewhere, Fits, Kept, KeptAt}
 use Rattle.part_table.proofs.Histories.{starts_nil, longer_starts, shorter_starts, longer_whole}
 use Rattle.part_table.proofs.Views.{get_at, in_either, in_left, in_right, lefts-append, total_set, before, each_set, IsKeptOnce}
 use Rattle.part_table.proofs.Moves.{same_account}

@@ -1,9 +1,9 @@
 -- What a seat knows once it was told what another had seen.
-use Rattle.std.proofs.Common.{◌≡◌, ℕ, ◌+◌, ◌<◌, List, [], ◌∷◌, length, Option, None, refl, sym, ◌∙◌, ap, subst, arith}
+use Rattle.std.proofs.Common.{◌≡◌, ℕ, ◌<◌, List, [], ◌∷◌, length, None, sym, ◌∙◌, ap, subst, arith}
 use Rattle.atomic_table.specs.Table.{Me}
 use Rattle.part_table.specs.declared.view.Account.{Account}
 use Rattle.part_table.specs.declared.view.View.{View}
-use Rattle.part_table.specs.History.{StartsWith, BeginsEach}
+use Rattle.part_table.specs.History.{BeginsEach}
 use Rattle.part_table.specs.Held.{held_at}
 use Rattle.part_table.specs.Passes.{number_of, own_of, left_of}
 use Rattle.part_table.specs.Plays.{SeesTo, Informed, joined, note_of, longer, shorter}

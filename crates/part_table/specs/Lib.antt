@@ -1,4 +1,5 @@
 pub mod Amounts
+pub mod Closing
 pub mod Gathered
 pub mod Held
 pub mod HeldLaws

@@ -2,6 +2,7 @@
 //! the hand that holds parts, and a table of the parts that many callers share.
 #![tactic(auto)]
 
+mod closing;
 mod hand;
 mod laws;
 mod lends;
@@ -18,6 +19,7 @@ mod table_tests;
 mod tests;
 mod view;
 
+pub use closing::Unclosed;
 pub use hand::Hand;
 pub use laws::a_step_changes_held_parts_alone;
 pub use memory::{Held, Memory};

@@ -114,11 +114,7 @@ fn add_chosen<O: Object, C: Chosen<O::Event>>(
 }
 
 /// Adds an event to the history so far, and answers the length of that.
-pub(crate) fn add<O: Object>(
-    table: &Slots<O>,
-    seat: &mut PartSeat<O>,
-    event: &O::Event,
-) -> u64
+pub(crate) fn add<O: Object>(table: &Slots<O>, seat: &mut PartSeat<O>, event: &O::Event) -> u64
     requires table { seat.old.table_id ≡ table.now.shared.table_id }
     requires words { 0 < table.now.shared.table_id.words }
     requires number { seat.old.me.0.callers ≡ record { number = number_of seat.old.me.0.callers; own = own_of seat.old.me.0.callers; left = left_of seat.old.me.0.callers } ∷ [] }

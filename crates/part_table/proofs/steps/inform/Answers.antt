@@ -1,4 +1,4 @@
-use Rattle.std.proofs.Common.{◌≡◌, sym, ◌∙◌, ap}
+use Rattle.std.proofs.Common.{◌∙◌, ap}
 use Rattle.part_table.specs.Plays.{joined}
 use Rattle.part_table.proofs.Meetings.{note_joined, informed}
 use Rattle.part_table.proofs.steps.inform.Goals as goal

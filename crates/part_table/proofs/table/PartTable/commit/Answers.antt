@@ -1,4 +1,4 @@
-use Rattle.std.proofs.Common.{◌≡◌, ◌∷◌, [], rules, arith, refl, sym, subst, length-append}
+use Rattle.std.proofs.Common.{◌∷◌, [], arith, refl, sym, subst, length-append}
 use Rattle.part_table.specs.Passes.{number_of}
 use Rattle.part_table.proofs.Passes.{committed_pass}
 use Rattle.part_table.proofs.table.PartTable.commit.Goals as goal
