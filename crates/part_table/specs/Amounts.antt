@@ -1,9 +1,10 @@
 -- An example: an object whose parts are numbers, of which an event moves an amount from one to another. Where one of the two is odd, the amount goes to the third part, so that
 -- which parts an event touches depends on their numbers.
-use Rattle.std.specs.Prelude.{◌≡◌, ℕ, ◌+◌, ◌-◌, ◌%◌, ◌^◌, Bool, true, false, not, ◌&&◌, ◌||◌, ◌==◌, nat_le, nat_lt, if◌then◌else◌, Option, Some, List, slice_index, slice_set, refl}
+use Rattle.std.specs.Prelude.{◌≡◌, ℕ, ◌+◌, ◌-◌, ◌%◌, ◌^◌, Bool, true, false, not, ◌&&◌, ◌||◌, ◌==◌, nat_le, nat_lt, if◌then◌else◌, Option, None, Some, List, [], ◌∷◌, slice_index, slice_set, refl}
 use Rattle.std.proofs.Common.{sym, ap, ◌∙◌}
 use native.Mathlib.Decide.{ℕ_discrete}
 use Rattle.std.proofs.lemmas.Option.{get_or_from_slice_get}
+use Rattle.part_table.specs.Known.{Known, Opened}
 use Rattle.part_table.specs.Held.{laid_over, held_at, places_held, IsHandOf}
 use Rattle.part_table.specs.HeldLaws.{laid_over-set, held_of_list, places_held-set, held_set_here, held_set_else, held_within}
 use Rattle.part_table.specs.Numbers.{number_at, IsHeld}
@@ -42,6 +43,11 @@ moved_in_hand hand from to amount = transferred_in_hand hand from (target_in_han
 -- the two parts are held, and where the amount goes
 abbrev pub holds_touched : List (Option ℕ) → ℕ → ℕ → Type 0
 holds_touched hand from to = IsHeld hand from × IsHeld hand to × IsHeld hand (target_in_hand hand from to)
+
+-- these are passes of a table, none holding a part, in the order of their numbers from one on
+abbrev pub AreInOrder : {E : Type 0} → Opened ℕ → ℕ → List (Known ℕ E) → Type 0
+AreInOrder table from [] = Unit {0}
+AreInOrder table from (p ∷ passes) = (p.table ≡ table) × (p.by ≡ from) × ((part : ℕ) → held_at p.taken part ≡ None) × AreInOrder table (from + 1) passes
 
 -- ---- the laws
 

@@ -8,6 +8,8 @@ mod laws;
 mod lends;
 mod meeting;
 mod memory;
+#[cfg(test)]
+mod move_tests;
 mod object;
 mod pass;
 mod plays;
@@ -24,5 +26,5 @@ pub use hand::Hand;
 pub use laws::a_step_changes_held_parts_alone;
 pub use memory::{Held, Memory};
 pub use object::Object;
-pub use pass::{Pass, a_pass_knows_its_own_places};
+pub use pass::{Pass, a_pass_has_a_place_for_each_part, a_pass_knows_its_own_places};
 pub use table::PartTable;

@@ -103,6 +103,13 @@ pub fn a_pass_knows_its_own_places<O: Object>(pass: &Pass<O>)
     let _ = &pass.by;
 }
 
+/// What is true of each pass: it has a place for each part of its table.
+pub fn a_pass_has_a_place_for_each_part<O: Object>(pass: &Pass<O>)
+    ensures { length pass.now.taken ≡ length pass.now.table.opening }
+{
+    let _ = &pass.by;
+}
+
 /// Turns the slots that are out until that of a part is the first.
 pub(crate) fn bring<O: Object>(seat: &mut PartSeat<O>, order: &mut Vec<u32>, place: usize)
     requires slots { seat.old.me.1 ≡ empties order.old.items }

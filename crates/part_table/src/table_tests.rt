@@ -10,7 +10,7 @@ use std::thread::join;
 
 /// Numbers. An event is made by a caller, and moves an amount from one part to another, or to the
 /// third part where one of the two numbers is odd.
-struct Amounts;
+pub(crate) struct Amounts;
 
 impl Object for Amounts {
     ghost use Rattle.std.specs.Prelude.{◌≡◌};
@@ -34,7 +34,7 @@ impl Object for Amounts {
 }
 
 /// A table of these numbers, and the passes of its callers.
-fn table_of(
+pub(crate) fn table_of(
     alloc: Global,
     numbers: &[u64],
     callers: u32,
