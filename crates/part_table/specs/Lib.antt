@@ -1,3 +1,12 @@
+pub mod Amounts
+pub mod Closing
+pub mod Gathered
 pub mod Held
 pub mod HeldLaws
+pub mod History
+pub mod Known
 pub mod Numbers
+pub mod Passes
+pub mod Plays
+pub mod Rule
+pub mod Tables

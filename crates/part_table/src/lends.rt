@@ -1,11 +1,13 @@
-// The clause of `get_mut` names the row of `Hand`, which the file that declares it cannot import.
+// The clauses of these calls name the rows of `Hand` and `Pass`, which the files that declare them
+// cannot import.
 ghost use Rattle.std.specs.Prelude.{◌≡◌, Some, slice_set};
-ghost use Rattle.std.specs.Borrow.{sem, LendsIf};
+ghost use Rattle.std.specs.Borrow.{sem, Lends, LendsIf};
 ghost use Rattle.std.specs.Option.{option_copied_mut};
 ghost use Rattle.part_table.specs.Held.{held_at};
 ghost use Rattle.part_table.specs.contracts.hand.Hand.{the_row};
+ghost use Rattle.part_table.specs.contracts.pass.Pass.{the_row as pass_row};
 
-use crate::{Hand, Object};
+use crate::{Hand, Object, Pass};
 
 impl<O: Object> Hand<O> {
     /// The part, to write, and None exactly where it is not held. What is written changes that part
@@ -21,5 +23,15 @@ impl<O: Object> Hand<O> {
             Some(held) => Some(&mut **held),
             None => None,
         }
+    }
+}
+
+impl<O: Object> Pass<O> {
+    /// The parts that the caller holds, to change as it likes.
+    pub fn hand_mut(&mut self) -> &mut Hand<O>
+        ensures* writes_back { sem 𝓛 (Lends (pass_row O.row O.Part.row O.Event.row O.Object) (the_row O.row O.Part.row O.Event.row O.Object) self.entry result (λ hand. record self.old { hand = hand })) }
+        ensures value { result.now ≡ self.old.hand }
+    {
+        &mut self.hand
     }
 }

@@ -1,14 +1,30 @@
 //! Any object that is cut into parts, of which a caller holds some: what a step of such an object is,
-//! and the hand that holds parts.
+//! the hand that holds parts, and a table of the parts that many callers share.
 #![tactic(auto)]
 
+mod closing;
 mod hand;
 mod laws;
 mod lends;
+mod meeting;
+mod memory;
+#[cfg(test)]
+mod move_tests;
 mod object;
+mod pass;
+mod plays;
+mod steps;
+mod table;
+#[cfg(test)]
+mod table_tests;
 #[cfg(test)]
 mod tests;
+mod view;
 
+pub use closing::Unclosed;
 pub use hand::Hand;
 pub use laws::a_step_changes_held_parts_alone;
+pub use memory::{Held, Memory};
 pub use object::Object;
+pub use pass::{Pass, a_pass_has_a_place_for_each_part, a_pass_knows_its_own_places};
+pub use table::PartTable;

@@ -1,0 +1,7 @@
+use Rattle.part_table.proofs.Passes.{seen_pass}
+use Rattle.part_table.proofs.table.PartTable.see_places.Goals as goal
+
+pub invariant_of-pass : goal.invariant_of-pass
+invariant_of-pass g c =
+    let saw = c.look.ensures.seen in
+    seen_pass g.O.Object.may_make c.pass.inside.seat.table_id _ c.pass.inside.seat.me _ _ _ _ _ c.pass.invariant saw.0 _ saw.1 (saw.3.true_of _)

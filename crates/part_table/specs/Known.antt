@@ -1,0 +1,55 @@
+-- A table of parts and the passes of its callers, as contracts see them (this profile's choice).
+use Rattle.std.specs.Prelude.{◌≡◌, ℕ, ◌+◌, ◌*◌, ◌^◌, ◌<◌, ◌≤◌, List, [], Option, None, length, replicate}
+use Rattle.atomic_table.specs.Seated.{TableId}
+use Rattle.part_table.specs.History.{places_of, IsMade}
+use Rattle.part_table.specs.Held.{places_held}
+
+-- a table: which one it is, its opening parts, how many callers it has, and how many commits each of them has in all
+pub record Opened (T : Type 0) : Type 0 where
+  pub id : TableId
+  pub opening : List T
+  pub callers : ℕ
+  pub quota : ℕ
+
+-- a pass: its table, its caller's number, the history seen, the places of its own events, the commits left, the claims lost as parts and owners,
+-- and the parts held, as taken or committed and as the hand has them now
+pub record Known (T E : Type 0) : Type 0 where
+  pub table : Opened T
+  pub by : ℕ
+  pub seen : List (ℕ × E)
+  pub own : List ℕ
+  pub left : ℕ
+  pub lost : List (ℕ × ℕ)
+  pub taken : List (Option T)
+  pub hand : List (Option T)
+
+-- nothing is held, of that many parts
+abbrev pub nothing : {T : Type 0} → ℕ → List (Option T)
+nothing parts = replicate parts None
+
+module _ {T E : Type 0} where
+  -- the pass of a caller at the start
+  abbrev pub newcomer : Opened T → ℕ → Known T E
+  newcomer table by = record {
+    table = table;
+    by = by;
+    seen = [];
+    own = [];
+    left = table.quota;
+    lost = [];
+    taken = nothing (length table.opening);
+    hand = nothing (length table.opening);
+  }
+
+  -- the hand holds exactly the parts that were taken, and has a place for each part
+  abbrev pub IsInHand : Known T E → Type 0
+  IsInHand pass = places_held pass.hand ≡ places_held pass.taken
+
+  -- of a history that a pass knows: the places that name its caller are exactly its own, and with the commits left they are its quota;
+  -- each place names a caller of the table who may make its event; and it is no longer than the largest quotas of the most callers together
+  pub record IsTrueOf (may_make : ℕ → E → Type 0) (pass : Known T E) : Type 0 where
+    pub number : pass.by < pass.table.callers
+    pub own : pass.own ≡ places_of pass.by pass.seen
+    pub quota : length pass.own + pass.left ≡ pass.table.quota
+    pub made : IsMade pass.table.callers may_make pass.seen
+    pub size : length pass.seen ≤ 65 * 2 ^ 40
