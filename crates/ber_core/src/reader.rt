@@ -138,32 +138,8 @@ fn length_of(bytes: &[u8]) -> Result<(u64, &[u8]), BerError>
     }
 }
 
-/// The first element with a definite length: on a short path where its identifier and its length have one octet each.
-fn definite(bytes: &[u8]) -> Result<(Element<'_>, &[u8]), BerError>
-    ensures exact { MatchResult result (λ x. definite_at bytes.now ≡ Ok (part x.0, x.1.now)) (λ e. definite_at bytes.now ≡ Err e) }
-    ensures shorter { IfOk result (λ x. length x.1.now < length bytes.now) }
-{
-    match bytes {
-        [a, size, rest @ ..] => {
-            let number = *a % 32;
-            let size = usize::from(*size);
-            if number < 31 && size < 128 && size <= rest.len() {
-                let (contents, rest) = rest.split_at(size);
-                let tag = tag_of(*a, u32::from(number));
-                Ok((Element { tag, contents }, rest))
-            } else {
-                definite_any(bytes)
-            }
-        }
-        _ => definite_any(bytes),
-    }
-}
-
-/// The same, whatever its identifier and its length.
-#[cold]
-#[inline(never)]
 #[tactic(auto, unfolding(crate::specs::Reading::definite_at))]
-fn definite_any(bytes: &[u8]) -> Result<(Element<'_>, &[u8]), BerError>
+fn definite(bytes: &[u8]) -> Result<(Element<'_>, &[u8]), BerError>
     ensures exact { MatchResult result (λ x. definite_at bytes.now ≡ Ok (part x.0, x.1.now)) (λ e. definite_at bytes.now ≡ Err e) }
     ensures shorter { IfOk result (λ x. length x.1.now < length bytes.now) }
 {
