@@ -12,8 +12,8 @@ use mms_types::{Edition, Octets};
 use std::alloc::Global;
 use toml::{Table, Value};
 
-#[tactic(auto, using(crate::proofs::Documents::read, crate::proofs::Documents::refused))]
 /// The TOML document that the text is.
+#[tactic(auto, using(crate::proofs::Documents::read, crate::proofs::Documents::refused))]
 fn document(alloc: Global, text: &[u8]) -> Result<Table, BadConfig>
     ensures document { IfOk result (λ table. document_of text.now ≡ Some (table_view table)) }
     ensures rule { IfErr result (λ bad. TellsRule (Err bad) (least_broken text.now)) }

@@ -11,9 +11,9 @@ use crate::Named;
 use mms_types::Key;
 
 impl<T: Drop> Named<T> {
-    #[tactic(auto, using(crate::proofs::Found::found_lent))]
     /// The value under a name, to write: the table has what was written under it, and is else as
     /// before. None where the table does not have the name. The time does not grow with the table.
+    #[tactic(auto, using(crate::proofs::Found::found_lent))]
     pub fn get_mut(&mut self, key: &Key) -> Option<&mut T>
         ensures* writes_back { sem 𝓛 (LendsSo (the_row T.row) T.row self.entry result (λ after written. after ≡ set_value (key_eq key.now) self.old written) (λ after. after ≡ self.old)) }
         ensures value { option_copied_mut result ≡ lookup (key_eq key.now) self.old }

@@ -16,9 +16,9 @@ pub struct Names {
     pub more: bool,
 }
 
-#[tactic(auto, using(crate::proofs::NameOrder::same_names, crate::proofs::NameOrder::stand_in_order))]
 /// Names in order of octets are the same names, each as often as before, and none comes before the one in
 /// front of it.
+#[tactic(auto, using(crate::proofs::NameOrder::same_names, crate::proofs::NameOrder::stand_in_order))]
 pub fn names_stand_in_order(names: &Identifiers)
     ensures same { IsPermutation names.now (sorted_names names.now) }
     ensures sorted { IsSorted name_order (sorted_names names.now) }

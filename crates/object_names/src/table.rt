@@ -76,9 +76,9 @@ impl<T: Drop> Named<T> {
         }
     }
 
-    #[tactic(auto, using(crate::proofs::Found::found_shared))]
     /// The value under a name. None where the table does not have the name. The time does not grow with
     /// the table.
+    #[tactic(auto, using(crate::proofs::Found::found_shared))]
     pub fn get(&self, key: &Key) -> Option<&T>
         ensures value { option_copied result ≡ lookup (key_eq key.now) self.now }
         ensures found { IsSome result ↔ Contains (keys_of self.now) key.now }
@@ -86,9 +86,9 @@ impl<T: Drop> Named<T> {
         self.rows.get(key)
     }
 
-    #[tactic(auto, using(crate::proofs::Found::found))]
     /// Takes a name and its value out. The rows behind it move up, and all others stay as they are in
     /// their order. None where the table does not have the name.
+    #[tactic(auto, using(crate::proofs::Found::found))]
     pub fn remove(&mut self, key: &Key) -> Option<T>
         ensures value { result ≡ lookup (key_eq key.now) self.old }
         ensures found { IsSome result ↔ Contains (keys_of self.old) key.now }
