@@ -1,5 +1,5 @@
 -- What is kept of a line is enough to tell what it says.
-use Rattle.std.proofs.Common.{◌≡◌, ℕ, ◌+◌, ◌-◌, ◌<◌, ◌≤◌, Bool, true, false, List, [], ◌∷◌, length, take, refl, sym, ap, ◌∙◌, arith, Some, Err, nat_le, nat_lt, nat_eq, if◌then◌else◌}
+use Rattle.std.proofs.Common.{◌≡◌, ℕ, ◌+◌, ◌-◌, ◌<◌, ◌≤◌, Bool, true, false, List, [], ◌∷◌, length, take, refl, sym, ap, ◌∙◌, arith, length-append, Some, None, Err, nat_le, nat_lt, nat_eq, if◌then◌else◌}
 use Rattle.std.proofs.lemmas.Bool.Decides.{nat_tests}
 use Rattle.std.proofs.lemmas.List.{take_all, length-take-le}
 use Rattle.std.proofs.lemmas.Grind.{common_steps}
@@ -7,7 +7,7 @@ use Rattle.std.specs.Cmp.Lexicographic.{pointwise}
 use Rattle.cell_io.specs.Lines.{kept_of}
 use Rattle.cell_record.specs.Words.{ends_with, dropped, content, is_long}
 use Rattle.cell_record.specs.EventLine.{same, said_of}
-use Rattle.cell_record.specs.Recording.{size_by, setup_word}
+use Rattle.cell_record.specs.Recording.{in_text, size_by, setup_word}
 use Rattle.cell_record.specs.declared.refusal.BadWord.TheVariants as bad
 
 -- ---- lengths
@@ -62,3 +62,23 @@ kept_by size line = kept (size_by size) size line (nat_le (length line) 196612) 
 
 pub kept_word : (total : ℕ) (line : List ℕ) → setup_word total (kept_of line) ≡ setup_word total line
 kept_word total line = kept (setup_word total) (if nat_lt 1048576 total then Some bad.Config else Some bad.Long) line (nat_le (length line) 196612) refl (λ l h. rw (long_is l h) refl)
+
+-- of a line that isn't too long all is kept
+pub kept_text : (line : List ℕ) → is_long line ≡ false → in_text (kept_of line) ≡ in_text line
+kept_text line short = by_size (nat_le (length line) 196612) refl
+  where
+    by_size : (b : Bool) → nat_le (length line) 196612 ≡ b → in_text (kept_of line) ≡ in_text line
+    by_size true e = ap in_text (kept_whole line (grind (arith, nat_tests, e)))
+    by_size false e = let k = long_is line (grind (arith, nat_tests, e)) in absurd (cc (k, short))
+
+-- a line that the text may have isn't too long, and adds its content and one line feed
+pub no_word : (total : ℕ) (line : List ℕ) → setup_word total line ≡ None → (total ≤ 1048576) × (is_long line ≡ false)
+no_word total line h = two (nat_lt 1048576 total) (is_long line) refl refl h
+  where
+    two : (a b : Bool) → nat_lt 1048576 total ≡ a → is_long line ≡ b → (if a then Some bad.Config else if b then Some bad.Long else None) ≡ None → (total ≤ 1048576) × (is_long line ≡ false)
+    two true b x y e = cc
+    two false true x y e = cc
+    two false false x y e = (grind (arith, nat_tests, x), y)
+
+pub short_size : (whole : ℕ) (line : List ℕ) → is_long line ≡ false → size_by whole line ≡ length (in_text line)
+short_size whole line short = rw short (sym (length-append (content line) (10 ∷ [])))

@@ -15,10 +15,12 @@ use Rattle.mms_types.specs.declared.identifier.Edition.TheVariants.{One}
 use Rattle.mms_types.specs.declared.event.What.{What}
 use Rattle.mms_types.specs.declared.event.CellEvent.{CellEvent}
 use Rattle.mms_types.specs.declared.event.CellEvent.TheVariants.{Heard, Lost, Tick, Ends, Drain}
+use Rattle.cell_config.specs.declared.config.Config.{Config}
+use Rattle.cell_config.proofs.Holding.{configuration_holds}
 use Rattle.cell_record.specs.Words.{between, content, trim, word_of, argument_of, is_remark, begins_with_digit, number_of, pairs_of}
 use Rattle.cell_record.specs.EventLine.{IsRecorded, MayHappen, same, heard_of, lost_of, tick_of, worded, said_of}
-use Rattle.cell_record.specs.Recording.{onto, default_clients}
-use Rattle.cell_record.specs.Grammar.{Says, phases_of, ReadsRecording}
+use Rattle.cell_record.specs.Recording.{onto}
+use Rattle.cell_record.specs.Grammar.{text_of, Says, phases_of, ReadsRecording}
 use Rattle.mms_types.specs.Actors.{clients_to}
 use Rattle.cell_record.specs.History.{drains, Interleaves}
 use Rattle.cell_record.specs.Report.{event_text, placed_line, served_line, sections, phase_head, placed_from, taken, report_from, report}
@@ -251,7 +253,9 @@ from_one said n m number before (p ∷ ps) (x ∷ xs) (y ∷ ys) s a i j e =
     let rest = from_one said n m (number + 1) (before ++ (x ++ drains (clients_to n))) ps xs ys s a.1 i.1 j.1 behind in
     ap (λ (b : List CellEvent). b ∷ xs) body.0 ∙ ap (λ (r : List (List CellEvent)). y ∷ r) rest
 
-pub one_history : (said : List CellEvent → ℕ → List What) (text : List ℕ) (phases bodies others : List (List CellEvent)) → ReadsRecording text phases → Interleaves bodies phases → Interleaves others phases
-    → report said default_clients bodies ≡ report said default_clients others → bodies ≡ others
-one_history said text phases bodies others r i j e =
-    from_one said default_clients default_clients 1 [] phases bodies others (omega arith) (subst (Each (Each (IsRecorded default_clients))) (sym r.split) (phases_recorded default_clients r.body r.said r.each)) i j e
+pub one_history : (said : List CellEvent → ℕ → List What) (text : List ℕ) (configured : Config) (phases bodies others : List (List CellEvent)) → ReadsRecording text configured phases → Interleaves bodies phases → Interleaves others phases
+    → report said configured.clients bodies ≡ report said configured.clients others → bodies ≡ others
+one_history said text configured phases bodies others r i j e =
+    let n = configured.clients in
+    let few = (configuration_holds (text_of r.setup) configured r.rules r.says).few_clients in
+    from_one said n n 1 [] phases bodies others (omega (arith, few)) (subst (Each (Each (IsRecorded n))) (sym r.split) (phases_recorded n r.body r.said r.each)) i j e

@@ -1,5 +1,5 @@
 -- What one line makes of what is said of the lines ahead.
-use Rattle.std.proofs.Common.{◌≡◌, ℕ, ◌+◌, ◌-◌, ◌<◌, ◌≤◌, true, false, List, [], ◌∷◌, length, codes, refl, sym, ap, ◌∙◌, arith, Some, None, IfSome, Ok, Err}
+use Rattle.std.proofs.Common.{◌≡◌, ℕ, ◌+◌, ◌-◌, ◌<◌, ◌≤◌, true, false, List, [], ◌∷◌, ◌++◌, length, codes, refl, sym, ap, ◌∙◌, arith, Some, None, IfSome, Ok, Err}
 use Rattle.std.proofs.lemmas.Bool.Decides.{nat_tests}
 use Rattle.std.specs.Option.{option_map}
 use Rattle.std.specs.declared.option.Option.{Option}
@@ -7,15 +7,15 @@ use Rattle.cell_io.specs.Lines.{lines_of, first_line, after_line, kept_of}
 use Rattle.cell_io.proofs.Texts.{lines_first}
 use Rattle.cell_record.specs.Words.{content}
 use Rattle.cell_record.specs.EventLine.{same, said_of}
-use Rattle.cell_record.specs.Recording.{Place, Opening, behind, fits, expected, size_by, size_in_text, setup_word, refusal_of, moved, makes, refused}
-use Rattle.cell_record.specs.Numbered.{Gives, EndsThere, setup, opened, phases}
+use Rattle.cell_record.specs.Recording.{Place, Opening, behind, fits, expected, in_text, size_by, size_in_text, setup_word, configured, refusal_of, moved, makes, refused}
+use Rattle.cell_record.specs.Numbered.{Gives, EndsThere, setup, phases}
 use Rattle.cell_record.specs.Progress.{Becomes}
 use Rattle.cell_record.specs.declared.said.Said.{Said}
 use Rattle.cell_record.specs.declared.counts.Counts.{Counts}
 use Rattle.cell_record.specs.declared.refusal.BadWord.{BadWord}
 use Rattle.cell_record.specs.declared.refusal.RecordError.{RecordError}
 use Rattle.cell_record.specs.declared.refusal.RecordError.TheVariants.{Bad, TooMuch}
-use Rattle.cell_record.proofs.Kept.{kept_same, kept_said, kept_by, kept_word}
+use Rattle.cell_record.proofs.Kept.{kept_same, kept_said, kept_by, kept_word, kept_text, no_word}
 
 -- what is said of the lines of a text, where that is told
 abbrev pub told : {T : Type 0} → (List (List ℕ) → Place → T) → Place → Option (List ℕ) → Option T
@@ -23,7 +23,7 @@ told f p text = option_map (λ t. f (lines_of t) p) text
 
 -- the place one line on
 abbrev pub next_to : Place → ℕ → Place
-next_to p given = record { clients = p.clients; lines = p.lines + 1; octets = given }
+next_to p given = record { lines = p.lines + 1; octets = given }
 
 some : (text : List ℕ) → 0 < length text → ¬ (text ≡ [])
 some text h e = let z = ap length e in omega (arith, h, z)
@@ -72,6 +72,16 @@ pub missing_both : {T : Type 0} (f : List (List ℕ) → Place → T) (r : T) (a
 missing_both f r None b p q h e k = tt
 missing_both f r (Some text) b p q h e k = rw (h.0, h.1) (e, ap Some (k ∙ sym e))
 
+-- ---- the same is said of all lines
+
+pub same_told : {T : Type 0} (f g : List (List ℕ) → Place → T) (p : Place) (a : Option (List ℕ)) → ((lines : List (List ℕ)) (q : Place) → f lines q ≡ g lines q) → Becomes (told f p a) (λ r. r) (told g p a)
+same_told f g p None e = tt
+same_told f g p (Some text) e = ap Some (sym (e (lines_of text) p))
+
+pub all_told : {T : Type 0} (f : List (List ℕ) → Place → T) (r : T) (p : Place) (a : Option (List ℕ)) → ((lines : List (List ℕ)) (q : Place) → f lines q ≡ r) → IfSome (told f p a) (λ x. x ≡ r)
+all_told f r p None e = tt
+all_told f r p (Some text) e = e (lines_of text) p
+
 -- ---- a wanted line
 
 pub wanted : (want : List ℕ) (word : BadWord) (next : List (List ℕ) → Place → Opening) (p : Place) (line l : List ℕ) (rest : List (List ℕ)) → length want < 196608 → same (content line) want ≡ true
@@ -91,8 +101,8 @@ much_wanted want word next p l rest f = rw f refl
 
 -- ---- a line of the configuration
 
-pub at_end : (size : ℕ) (p : Place) (line l : List ℕ) (rest : List (List ℕ)) → same (content line) (codes "end") ≡ true → line ≡ kept_of l → fits p l ≡ true → setup size (l ∷ rest) p ≡ opened rest (behind p l)
-at_end size p line l rest e k f =
+pub at_end : (text : List ℕ) (p : Place) (line l : List ℕ) (rest : List (List ℕ)) → same (content line) (codes "end") ≡ true → line ≡ kept_of l → fits p l ≡ true → setup text (l ∷ rest) p ≡ configured text rest (behind p l)
+at_end text p line l rest e k f =
     let is : same (content l) (codes "end") ≡ true = sym (kept_same l (codes "end") (omega arith)) ∙ ap (λ (x : List ℕ). same (content x) (codes "end")) (sym k) ∙ e in
     rw (f, is) refl
 
@@ -101,46 +111,49 @@ total_is size whole p given line l k g w =
     let n : whole ≡ length l = omega (arith, g, w) in
     ap (λ (x : List ℕ). size + size_by whole x) k ∙ ap (λ (n : ℕ). size + n) (kept_by whole l) ∙ ap (λ (m : ℕ). size + size_by m l) n
 
-pub not_end : (size whole : ℕ) (p : Place) (given : ℕ) (line l : List ℕ) (rest : List (List ℕ)) → same (content line) (codes "end") ≡ false → None ≡ setup_word (size + size_by whole line) line → whole ≡ given - p.octets
-    → line ≡ kept_of l → given ≡ p.octets + length l → fits p l ≡ true → setup size (l ∷ rest) p ≡ setup (size + size_by whole line) rest (behind p l)
-not_end size whole p given line l rest e s w k g f =
-    let total = total_is size whole p given line l k g w in
-    let is : same (content l) (codes "end") ≡ false = sym (kept_same l (codes "end") (omega arith)) ∙ ap (λ (x : List ℕ). same (content x) (codes "end")) (sym k) ∙ e in
-    let none : setup_word (size + size_in_text l) l ≡ None = sym (s ∙ ap (λ (x : List ℕ). setup_word (size + size_by whole line) x) k ∙ kept_word (size + size_by whole line) l ∙ ap (λ (n : ℕ). setup_word n l) total) in
-    rw (f, is, none, total) refl
+word_is : (size whole : ℕ) (p : Place) (given : ℕ) (line l : List ℕ) → line ≡ kept_of l → given ≡ p.octets + length l → whole ≡ given - p.octets → setup_word (size + size_in_text l) l ≡ setup_word (size + size_by whole line) line
+word_is size whole p given line l k g w =
+    sym (ap (λ (x : List ℕ). setup_word (size + size_by whole line) x) k ∙ kept_word (size + size_by whole line) l ∙ ap (λ (n : ℕ). setup_word n l) (total_is size whole p given line l k g w))
 
-pub bad_setup : (size whole : ℕ) (p : Place) (given : ℕ) (line l : List ℕ) (rest : List (List ℕ)) (word : BadWord) → same (content line) (codes "end") ≡ false → Some word ≡ setup_word (size + size_by whole line) line → whole ≡ given - p.octets
-    → line ≡ kept_of l → given ≡ p.octets + length l → fits p l ≡ true → setup size (l ∷ rest) p ≡ Err (Bad (p.lines + 1) word)
-bad_setup size whole p given line l rest word e s w k g f =
-    let total = total_is size whole p given line l k g w in
+pub not_end : (text : List ℕ) (whole : ℕ) (p : Place) (given : ℕ) (line l : List ℕ) (rest : List (List ℕ)) → same (content line) (codes "end") ≡ false → None ≡ setup_word (length text + size_by whole line) line → whole ≡ given - p.octets
+    → line ≡ kept_of l → given ≡ p.octets + length l → fits p l ≡ true → setup text (l ∷ rest) p ≡ setup (text ++ in_text line) rest (behind p l)
+not_end text whole p given line l rest e s w k g f =
     let is : same (content l) (codes "end") ≡ false = sym (kept_same l (codes "end") (omega arith)) ∙ ap (λ (x : List ℕ). same (content x) (codes "end")) (sym k) ∙ e in
-    let there : setup_word (size + size_in_text l) l ≡ Some word = sym (s ∙ ap (λ (x : List ℕ). setup_word (size + size_by whole line) x) k ∙ kept_word (size + size_by whole line) l ∙ ap (λ (n : ℕ). setup_word n l) total) in
+    let none : setup_word (length text + size_in_text l) l ≡ None = word_is (length text) whole p given line l k g w ∙ sym s in
+    let added : in_text line ≡ in_text l = ap in_text k ∙ kept_text l (no_word (length text + size_in_text l) l none).1 in
+    rw (f, is, none) (ap (λ (x : List ℕ). setup (text ++ x) rest (behind p l)) (sym added))
+
+pub bad_setup : (text : List ℕ) (whole : ℕ) (p : Place) (given : ℕ) (line l : List ℕ) (rest : List (List ℕ)) (word : BadWord) → same (content line) (codes "end") ≡ false → Some word ≡ setup_word (length text + size_by whole line) line → whole ≡ given - p.octets
+    → line ≡ kept_of l → given ≡ p.octets + length l → fits p l ≡ true → setup text (l ∷ rest) p ≡ Err (Bad (p.lines + 1) word)
+bad_setup text whole p given line l rest word e s w k g f =
+    let is : same (content l) (codes "end") ≡ false = sym (kept_same l (codes "end") (omega arith)) ∙ ap (λ (x : List ℕ). same (content x) (codes "end")) (sym k) ∙ e in
+    let there : setup_word (length text + size_in_text l) l ≡ Some word = word_is (length text) whole p given line l k g w ∙ sym s in
     rw (f, is, there) refl
 
-pub much_setup : (size : ℕ) (p : Place) (l : List ℕ) (rest : List (List ℕ)) → fits p l ≡ false → setup size (l ∷ rest) p ≡ Err (TooMuch (p.lines + 1))
-much_setup size p l rest f = rw f refl
+pub much_setup : (text : List ℕ) (p : Place) (l : List ℕ) (rest : List (List ℕ)) → fits p l ≡ false → setup text (l ∷ rest) p ≡ Err (TooMuch (p.lines + 1))
+much_setup text p l rest f = rw f refl
 
 -- ---- an event line
 
-pub says : (c d : Counts) (p : Place) (line l : List ℕ) (rest : List (List ℕ)) (s : Said) → said_of p.clients (content line) ≡ Ok s → d ≡ moved c s → None ≡ refusal_of (p.lines + 1) d s
-    → line ≡ kept_of l → fits p l ≡ true → phases c (l ∷ rest) p ≡ makes s (phases d rest (behind p l))
-says c d p line l rest s e m n k f =
-    let is : said_of p.clients (content l) ≡ Ok s = sym (kept_said p.clients l) ∙ ap (λ (x : List ℕ). said_of p.clients (content x)) (sym k) ∙ e in
+pub says : (clients : ℕ) (c d : Counts) (p : Place) (line l : List ℕ) (rest : List (List ℕ)) (s : Said) → said_of clients (content line) ≡ Ok s → d ≡ moved c s → None ≡ refusal_of (p.lines + 1) d s
+    → line ≡ kept_of l → fits p l ≡ true → phases clients c (l ∷ rest) p ≡ makes s (phases clients d rest (behind p l))
+says clients c d p line l rest s e m n k f =
+    let is : said_of clients (content l) ≡ Ok s = sym (kept_said clients l) ∙ ap (λ (x : List ℕ). said_of clients (content x)) (sym k) ∙ e in
     let none : refusal_of (p.lines + 1) (moved c s) s ≡ None = ap (λ (x : Counts). refusal_of (p.lines + 1) x s) (sym m) ∙ sym n in
     rw (f, is, none, m) refl
 
-pub says_much : (c d : Counts) (p : Place) (line l : List ℕ) (rest : List (List ℕ)) (s : Said) (x : RecordError) → said_of p.clients (content line) ≡ Ok s → d ≡ moved c s → Some x ≡ refusal_of (p.lines + 1) d s
-    → line ≡ kept_of l → fits p l ≡ true → phases c (l ∷ rest) p ≡ refused x
-says_much c d p line l rest s x e m n k f =
-    let is : said_of p.clients (content l) ≡ Ok s = sym (kept_said p.clients l) ∙ ap (λ (x : List ℕ). said_of p.clients (content x)) (sym k) ∙ e in
+pub says_much : (clients : ℕ) (c d : Counts) (p : Place) (line l : List ℕ) (rest : List (List ℕ)) (s : Said) (x : RecordError) → said_of clients (content line) ≡ Ok s → d ≡ moved c s → Some x ≡ refusal_of (p.lines + 1) d s
+    → line ≡ kept_of l → fits p l ≡ true → phases clients c (l ∷ rest) p ≡ refused x
+says_much clients c d p line l rest s x e m n k f =
+    let is : said_of clients (content l) ≡ Ok s = sym (kept_said clients l) ∙ ap (λ (x : List ℕ). said_of clients (content x)) (sym k) ∙ e in
     let there : refusal_of (p.lines + 1) (moved c s) s ≡ Some x = ap (λ (y : Counts). refusal_of (p.lines + 1) y s) (sym m) ∙ sym n in
     rw (f, is, there) refl
 
-pub says_bad : (c : Counts) (p : Place) (line l : List ℕ) (rest : List (List ℕ)) (word : BadWord) → said_of p.clients (content line) ≡ Err word
-    → line ≡ kept_of l → fits p l ≡ true → phases c (l ∷ rest) p ≡ refused (Bad (p.lines + 1) word)
-says_bad c p line l rest word e k f =
-    let is : said_of p.clients (content l) ≡ Err word = sym (kept_said p.clients l) ∙ ap (λ (x : List ℕ). said_of p.clients (content x)) (sym k) ∙ e in
+pub says_bad : (clients : ℕ) (c : Counts) (p : Place) (line l : List ℕ) (rest : List (List ℕ)) (word : BadWord) → said_of clients (content line) ≡ Err word
+    → line ≡ kept_of l → fits p l ≡ true → phases clients c (l ∷ rest) p ≡ refused (Bad (p.lines + 1) word)
+says_bad clients c p line l rest word e k f =
+    let is : said_of clients (content l) ≡ Err word = sym (kept_said clients l) ∙ ap (λ (x : List ℕ). said_of clients (content x)) (sym k) ∙ e in
     rw (f, is) refl
 
-pub much_says : (c : Counts) (p : Place) (l : List ℕ) (rest : List (List ℕ)) → fits p l ≡ false → phases c (l ∷ rest) p ≡ refused (TooMuch (p.lines + 1))
-much_says c p l rest f = rw f refl
+pub much_says : (clients : ℕ) (c : Counts) (p : Place) (l : List ℕ) (rest : List (List ℕ)) → fits p l ≡ false → phases clients c (l ∷ rest) p ≡ refused (TooMuch (p.lines + 1))
+much_says clients c p l rest f = rw f refl

@@ -1,15 +1,20 @@
 -- The texts that are recordings are those that are read.
-use Rattle.std.proofs.Common.{◌≡◌, ℕ, ◌+◌, ◌<◌, ◌≤◌, ◌||◌, Bool, true, false, List, [], ◌∷◌, ◌++◌, length, codes, refl, sym, ap, ◌∙◌, subst, arith, Some, None, Result, Ok, Err, nat_lt, nat_eq, if◌then◌else◌, ◌↔◌}
+use Rattle.std.proofs.Common.{◌≡◌, ℕ, ◌+◌, ◌<◌, ◌≤◌, ◌||◌, Bool, true, false, List, [], ◌∷◌, ◌++◌, length, codes, refl, sym, ap, ◌∙◌, subst, arith, append_assoc, append-nil, length-append, Some, None, Result, Ok, Err, nat_lt, nat_eq, if◌then◌else◌, ◌↔◌}
 use Rattle.std.proofs.lemmas.Bool.Decides.{nat_tests}
 use Rattle.std.proofs.lemmas.Grind.{common_steps}
 use Rattle.std.specs.Cmp.Lexicographic.{pointwise}
 use Rattle.std.specs.declared.option.Option.{Option}
 use Rattle.cell_io.specs.Lines.{lines_of, onto_first}
 use Rattle.mms_types.specs.declared.event.CellEvent.{CellEvent}
-use Rattle.cell_record.specs.Words.{content, is_long, trim, is_remark}
+use Rattle.std.specs.Option.{option_map}
+use Rattle.cell_config.specs.declared.config.Config.{Config}
+use Rattle.cell_config.specs.Rules.{document_of, least_broken}
+use Rattle.cell_config.specs.Said.{config_of}
+use Rattle.cell_config.proofs.Holding.{configuration_holds}
+use Rattle.cell_record.specs.Words.{content}
 use Rattle.cell_record.specs.EventLine.{same, said_of}
-use Rattle.cell_record.specs.Recording.{Place, Reading, Opened, Opening, behind, front, default_clients, fits, refused, onto, with_event, with_phase, fresh, counted, is_past, excess, unless, with_said, reading_of, expected, size_in_text, setup_word, unless_word, setup_of, opening_of, after_opening, reading_of_text, opening_of_text, ms_in, octets_in}
-use Rattle.cell_record.specs.Grammar.{AreRemarks, text_size, Says, phases_of, all_ms, AreFew, ReadsRecording}
+use Rattle.cell_record.specs.Recording.{Place, Reading, Opened, Opening, behind, front, fits, refused, onto, with_event, with_phase, fresh, counted, is_past, excess, unless, with_said, reading_of, expected, in_text, size_in_text, setup_word, unless_word, opened, opened_unless, configured, config_in, config_of_text, setup_of, opening_of, after_opening, reading_of_text, opening_of_text, ms_in, octets_in}
+use Rattle.cell_record.specs.Grammar.{AreShort, text_of, Says, phases_of, all_ms, AreFew, ReadsRecording}
 use Rattle.cell_record.specs.declared.said.Said.{Said}
 use Rattle.cell_record.specs.declared.said.Said.TheVariants.{Nothing, Phase, Happens}
 use Rattle.cell_record.specs.declared.counts.Counts.{Counts}
@@ -17,6 +22,7 @@ use Rattle.cell_record.specs.declared.refusal.BadWord.{BadWord}
 use Rattle.cell_record.specs.declared.refusal.BadWord.TheVariants as bad
 use Rattle.cell_record.specs.declared.refusal.RecordError.{RecordError}
 use Rattle.cell_record.specs.declared.refusal.RecordError.TheVariants.{Bad, TooMuch}
+use Rattle.cell_record.proofs.Kept.{no_word, short_size}
 
 -- ---- texts and sizes
 
@@ -79,22 +85,22 @@ no_excess line c a b m =
     let octets : nat_lt 67108864 c.octets ≡ false = grind (arith, nat_tests, b) in
     rw (past, events, octets) refl
 
-reads : (lines : List (List ℕ)) (p : Place) (c : Counts) (ss : List Said) → Says p.clients lines ss → AreFew c.events c.octets (phases_of ss) → c.moment + all_ms (phases_of ss) ≤ 5662310399999 → p.octets + total lines ≤ 4294967296
-    → reading_of lines p c ≡ record { phases = phases_of ss; refusal = None }
-reads [] p c [] h f m t = refl
-reads [] p c (s ∷ ss) h f m t = absurd h
-reads (l ∷ ls) p c [] h f m t = absurd h
-reads (l ∷ ls) p c (Nothing ∷ ss) h f m t =
-    rw (fit p l (omega (arith, t)), h.0) (reads ls (behind p l) c ss h.1 f m (omega (arith, t)))
-reads (l ∷ ls) p c (Phase ∷ ss) h f m t =
-    rw (fit p l (omega (arith, t)), h.0) (ap (with_phase []) (reads ls (behind p l) (fresh c.moment) ss h.1 f.2 (omega (arith, m)) (omega (arith, t))))
-reads (l ∷ ls) p c (Happens e ∷ ss) h f m t =
+reads : (clients : ℕ) (lines : List (List ℕ)) (p : Place) (c : Counts) (ss : List Said) → Says clients lines ss → AreFew c.events c.octets (phases_of ss) → c.moment + all_ms (phases_of ss) ≤ 5662310399999 → p.octets + total lines ≤ 4294967296
+    → reading_of clients lines p c ≡ record { phases = phases_of ss; refusal = None }
+reads n [] p c [] h f m t = refl
+reads n [] p c (s ∷ ss) h f m t = absurd h
+reads n (l ∷ ls) p c [] h f m t = absurd h
+reads n (l ∷ ls) p c (Nothing ∷ ss) h f m t =
+    rw (fit p l (omega (arith, t)), h.0) (reads n ls (behind p l) c ss h.1 f m (omega (arith, t)))
+reads n (l ∷ ls) p c (Phase ∷ ss) h f m t =
+    rw (fit p l (omega (arith, t)), h.0) (ap (with_phase []) (reads n ls (behind p l) (fresh c.moment) ss h.1 f.2 (omega (arith, m)) (omega (arith, t))))
+reads n (l ∷ ls) p c (Happens e ∷ ss) h f m t =
     let some = some_phase ss in
     let small = first_few c.events c.octets e (phases_of ss) some f in
     let ms = onto-ms e (phases_of ss) some in
     let d = counted c e in
     rw (fit p l (omega (arith, t)), h.0, no_excess (p.lines + 1) d small.0 small.1 (omega (arith, m, ms)))
-    (ap (with_event e) (reads ls (behind p l) d ss h.1 (onto-few c.events c.octets e (phases_of ss) f) (omega (arith, m, ms)) (omega (arith, t))))
+    (ap (with_event e) (reads n ls (behind p l) d ss h.1 (onto-few c.events c.octets e (phases_of ss) f) (omega (arith, m, ms)) (omega (arith, t))))
 
 -- ---- and the lines before them
 
@@ -102,43 +108,48 @@ decide : (b : Bool) → (P : Type 0) → (b ≡ true → P) → (b ≡ false →
 decide true P t f = t refl
 decide false P t f = f refl
 
-no_end : (l : List ℕ) → is_remark (trim (content l)) ≡ true → same (content l) (codes "end") ≡ false
-no_end l h = decide (same (content l) (codes "end")) (same (content l) (codes "end") ≡ false)
-    (λ t. let k : is_remark (trim (content l)) ≡ false = ap (λ (x : List ℕ). is_remark (trim x)) ((same_text (content l) (codes "end")).0 t) in absurd (true_false (sym h ∙ k))) (λ f. f)
-  where
-    true_false : true ≡ false → ⊥
-    true_false e = cc
+no_end : (l : List ℕ) → ¬ (content l ≡ codes "end") → same (content l) (codes "end") ≡ false
+no_end l h = decide (same (content l) (codes "end")) (same (content l) (codes "end") ≡ false) (λ t. absurd (h ((same_text (content l) (codes "end")).0 t))) (λ f. f)
 
-reads_setup : (setup body : List (List ℕ)) (last : List ℕ) (p : Place) (size : ℕ) → AreRemarks setup → content last ≡ codes "end" → size + text_size setup ≤ 1048576 → p.octets + total (setup ++ last ∷ body) ≤ 4294967296
-    → setup_of (setup ++ last ∷ body) p size ≡ Ok (record { rest = body; place = behind (place_after p setup) last })
-reads_setup [] body last p size h e s t =
+more_text : (text : List ℕ) (l : List ℕ) (ls : List (List ℕ)) → (text ++ in_text l) ++ text_of ls ≡ text ++ text_of (l ∷ ls)
+more_text text l ls = append_assoc text (in_text l) (text_of ls)
+
+reads_setup : (setup body : List (List ℕ)) (last : List ℕ) (p : Place) (text : List ℕ) → AreShort setup → content last ≡ codes "end" → length (text ++ text_of setup) ≤ 1048576 → p.octets + total (setup ++ last ∷ body) ≤ 4294967296
+    → setup_of (setup ++ last ∷ body) p text ≡ configured (text ++ text_of setup) body (behind (place_after p setup) last)
+reads_setup [] body last p text h e s t =
     let is : same (content last) (codes "end") ≡ true = (same_text (content last) (codes "end")).1 e in
-    rw (fit p last (omega (arith, t)), is) refl
-reads_setup (l ∷ ls) body last p size h e s t =
-    let few : nat_lt 1048576 (size + (length (content l) + 1)) ≡ false = grind (arith, nat_tests, s) in
-    rw (fit p l (omega (arith, t)), no_end l h.1, h.0, few, h.1) (reads_setup ls body last (behind p l) (size + (length (content l) + 1)) h.2 e (omega (arith, s)) (omega (arith, t)))
+    rw (fit p last (omega (arith, t)), is) (ap (λ (x : List ℕ). configured x body (behind p last)) (sym (append-nil text)))
+reads_setup (l ∷ ls) body last p text h e s t =
+    let more = more_text text l ls in
+    let size = short_size (length l) l h.0 in
+    let sum = length-append (text ++ in_text l) (text_of ls) in
+    let one = length-append text (in_text l) in
+    let within : length text + size_in_text l ≤ 1048576 = omega (arith, s, ap length more, sum, one, size) in
+    let few : nat_lt 1048576 (length text + size_in_text l) ≡ false = grind (arith, nat_tests, within) in
+    let rest = reads_setup ls body last (behind p l) (text ++ in_text l) h.2 e (omega (arith, s, ap length more)) (omega (arith, t)) in
+    rw (fit p l (omega (arith, t)), no_end l h.1, few, h.0) (rest ∙ ap (λ (x : List ℕ). configured x body (behind (place_after (behind p l) ls) last)) more)
+
+configured_is : (text : List ℕ) (config : Config) (lines : List (List ℕ)) (p : Place) → least_broken text ≡ None → option_map config_of (document_of text) ≡ Some config → configured text lines p ≡ opened config lines p
+configured_is text config lines p r s = rw (r, s) refl
 
 octets_after : (setup body : List (List ℕ)) (last : List ℕ) (p : Place) → (behind (place_after p setup) last).octets + total body ≡ p.octets + total (setup ++ last ∷ body)
 octets_after [] body last p = omega arith
 octets_after (l ∷ ls) body last p = let k = octets_after ls body last (behind p l) in omega (arith, k)
 
-clients_after : (setup : List (List ℕ)) (p : Place) → (place_after p setup).clients ≡ p.clients
-clients_after [] p = refl
-clients_after (l ∷ ls) p = clients_after ls (behind p l)
-
-pub recording_is_read : (text : List ℕ) (phases : List (List CellEvent)) → ReadsRecording text phases → reading_of_text text ≡ record { phases = phases; refusal = None }
-recording_is_read text phases r =
-    let p = front default_clients in
+pub recording_is_read : (text : List ℕ) (config : Config) (phases : List (List CellEvent)) → ReadsRecording text config phases → (config_of_text text ≡ Some config) × (reading_of_text text ≡ record { phases = phases; refusal = None })
+recording_is_read text config phases r =
+    let p = front in
     let q = behind (behind p r.header) r.config in
     let o = behind (place_after q r.setup) r.last in
     let whole : length r.header + (length r.config + total (r.setup ++ r.last ∷ r.body)) ≤ 4294967296 = omega (arith, ap total (sym r.lines), total_is text, r.size) in
     let header : same (content r.header) (codes "mms-recording 1") ≡ true = (same_text (content r.header) (codes "mms-recording 1")).1 r.is_header in
-    let config : same (content r.config) (codes "config") ≡ true = (same_text (content r.config) (codes "config")).1 r.is_config in
-    let setup = reads_setup r.setup r.body r.last q 0 r.remarks r.is_end (omega (arith, r.small)) (omega (arith, whole)) in
-    let body = reads r.body o (fresh 0) r.said (subst (λ (n : ℕ). Says n r.body r.said) (sym (clients_after r.setup q)) r.each) (subst (AreFew 0 0) r.split r.few) (omega (arith, r.clock, ap all_ms r.split)) (omega (arith, whole, octets_after r.setup r.body r.last q)) in
-    ap (λ (ls : List (List ℕ)). after_opening (opening_of ls p)) r.lines
-    ∙ rw (fit p r.header (omega (arith, whole)), header, fit (behind p r.header) r.config (omega (arith, whole)), config, setup) body
-    ∙ ap (λ (ps : List (List CellEvent)). record { phases = ps; refusal = None }) (sym r.split)
+    let named : same (content r.config) (codes "config") ≡ true = (same_text (content r.config) (codes "config")).1 r.is_config in
+    let setup = reads_setup r.setup r.body r.last q [] r.short r.is_end r.small (omega (arith, whole)) ∙ configured_is (text_of r.setup) config r.body o r.rules r.says in
+    let opening : opening_of_text text ≡ opened config r.body o =
+    ap (λ (ls : List (List ℕ)). opening_of ls p) r.lines
+    ∙ rw (fit p r.header (omega (arith, whole)), header, fit (behind p r.header) r.config (omega (arith, whole)), named) setup in
+    let body = reads config.clients r.body o (fresh config.start.0) r.said r.each (subst (AreFew 0 0) r.split r.few) (omega (arith, r.clock, ap all_ms r.split)) (omega (arith, whole, octets_after r.setup r.body r.last q)) in
+    (ap config_in opening, ap after_opening opening ∙ body ∙ ap (λ (ps : List (List CellEvent)). record { phases = ps; refusal = None }) (sym r.split))
 
 -- ---- a text that is read is a recording: its event lines
 
@@ -153,6 +164,9 @@ pub record IsRead (clients octets : ℕ) (c : Counts) (lines : List (List ℕ)) 
   pub few : AreFew c.events c.octets phases
   pub clock : c.moment + all_ms phases ≤ 5662310399999
   pub size : octets + total lines ≤ 4294967296
+
+true_false : true ≡ false → ⊥
+true_false e = cc
 
 no_refusal : (r : Reading) → r.refusal ≡ None → r ≡ record { phases = r.phases; refusal = None }
 no_refusal r e = ap (λ (o : Option RecordError). record { phases = r.phases; refusal = o }) e
@@ -179,14 +193,14 @@ onto_ms : (e : CellEvent) (ps : List (List CellEvent)) (m : ℕ) → m + ms_in e
 onto_ms e [] m h k = omega (arith, h)
 onto_ms e (p ∷ ps) m h k = omega (arith, k)
 
-read_line : (l : List ℕ) (ls : List (List ℕ)) (p : Place) (c : Counts) (phases : List (List CellEvent)) (rest : Counts → Reading) (s : Result Said BadWord) → (c.events ≤ 16384) × (c.octets ≤ 67108864) × (c.moment ≤ 5662310399999)
-    → said_of p.clients (content l) ≡ s
-    → ((d : Counts) (ps : List (List CellEvent)) → (d.events ≤ 16384) × (d.octets ≤ 67108864) × (d.moment ≤ 5662310399999) → rest d ≡ record { phases = ps; refusal = None } → IsRead p.clients (p.octets + length l) d ls ps)
-    → with_said (p.lines + 1) c s rest ≡ record { phases = phases; refusal = None } → IsRead p.clients p.octets c (l ∷ ls) phases
-read_line l ls p c phases rest (Err word) m e ih h = let k = ap (λ (r : Reading). r.refusal) h in cc
-read_line l ls p c phases rest (Ok Nothing) m e ih h = let i = ih c phases m h in
+read_line : (n : ℕ) (l : List ℕ) (ls : List (List ℕ)) (p : Place) (c : Counts) (phases : List (List CellEvent)) (rest : Counts → Reading) (s : Result Said BadWord) → (c.events ≤ 16384) × (c.octets ≤ 67108864) × (c.moment ≤ 5662310399999)
+    → said_of n (content l) ≡ s
+    → ((d : Counts) (ps : List (List CellEvent)) → (d.events ≤ 16384) × (d.octets ≤ 67108864) × (d.moment ≤ 5662310399999) → rest d ≡ record { phases = ps; refusal = None } → IsRead n (p.octets + length l) d ls ps)
+    → with_said (p.lines + 1) c s rest ≡ record { phases = phases; refusal = None } → IsRead n p.octets c (l ∷ ls) phases
+read_line n l ls p c phases rest (Err word) m e ih h = let k = ap (λ (r : Reading). r.refusal) h in cc
+read_line n l ls p c phases rest (Ok Nothing) m e ih h = let i = ih c phases m h in
     record { said = Nothing ∷ i.said; each = (e, i.each); split = i.split; few = i.few; clock = i.clock; size = omega (arith, i.size) }
-read_line l ls p c phases rest (Ok Phase) m e ih h =
+read_line n l ls p c phases rest (Ok Phase) m e ih h =
     let r = rest (fresh c.moment) in
     let i = ih (fresh c.moment) r.phases (omega arith, omega arith, m.2) (no_refusal r (ap (λ (r : Reading). r.refusal) h)) in
     let ps = ap (λ (r : Reading). r.phases) h in
@@ -198,7 +212,7 @@ read_line l ls p c phases rest (Ok Phase) m e ih h =
       clock = subst (λ (l : List (List CellEvent)). c.moment + all_ms l ≤ 5662310399999) ps (omega (arith, i.clock));
       size = omega (arith, i.size);
     }
-read_line l ls p c phases rest (Ok (Happens x)) m e ih h =
+read_line n l ls p c phases rest (Ok (Happens x)) m e ih h =
     let d = counted c x in
     let r = rest d in
     let u = unless_none (excess (p.lines + 1) d) (with_event x r) phases h in
@@ -214,9 +228,9 @@ read_line l ls p c phases rest (Ok (Happens x)) m e ih h =
       size = omega (arith, i.size);
     }
 
-read : (lines : List (List ℕ)) (p : Place) (c : Counts) (phases : List (List CellEvent)) → (c.events ≤ 16384) × (c.octets ≤ 67108864) × (c.moment ≤ 5662310399999) → p.octets ≤ 4294967296 → reading_of lines p c ≡ record { phases = phases; refusal = None }
-    → IsRead p.clients p.octets c lines phases
-read [] p c phases m o h = let ps = ap (λ (r : Reading). r.phases) h in
+read : (n : ℕ) (lines : List (List ℕ)) (p : Place) (c : Counts) (phases : List (List CellEvent)) → (c.events ≤ 16384) × (c.octets ≤ 67108864) × (c.moment ≤ 5662310399999) → p.octets ≤ 4294967296 → reading_of n lines p c ≡ record { phases = phases; refusal = None }
+    → IsRead n p.octets c lines phases
+read n [] p c phases m o h = let ps = ap (λ (r : Reading). r.phases) h in
     record {
       said = [];
       each = tt;
@@ -225,10 +239,10 @@ read [] p c phases m o h = let ps = ap (λ (r : Reading). r.phases) h in
       clock = subst (λ (l : List (List CellEvent)). c.moment + all_ms l ≤ 5662310399999) ps (omega (arith, m.2));
       size = omega (arith, o);
     }
-read (l ∷ ls) p c phases m o h =
-    let rest : Counts → Reading = λ d. reading_of ls (behind p l) d in
-    let f = fits_line phases (fits p l) (with_said (p.lines + 1) c (said_of p.clients (content l)) rest) (TooMuch (p.lines + 1)) h in
-    read_line l ls p c phases rest (said_of p.clients (content l)) m refl (λ d ps k e. read ls (behind p l) d ps k (fit_is p l f.0) e) f.1
+read n (l ∷ ls) p c phases m o h =
+    let rest : Counts → Reading = λ d. reading_of n ls (behind p l) d in
+    let f = fits_line phases (fits p l) (with_said (p.lines + 1) c (said_of n (content l)) rest) (TooMuch (p.lines + 1)) h in
+    read_line n l ls p c phases rest (said_of n (content l)) m refl (λ d ps k e. read n ls (behind p l) d ps k (fit_is p l f.0) e) f.1
 
 -- ---- and the lines before them
 
@@ -240,22 +254,27 @@ word_ok : (line : ℕ) (w : Option BadWord) (r : Opening) (o : Opened) → unles
 word_ok line None r o h = (refl, h)
 word_ok line (Some w) r o h = cc
 
-three_tests : (a b c : Bool) → (if a then Some bad.Config else if b then Some bad.Long else if c then None else Some bad.Later) ≡ None → (a ≡ false) × (b ≡ false) × (c ≡ true)
-three_tests true b c h = cc
-three_tests false true c h = cc
-three_tests false false true h = (refl, refl, refl)
-three_tests false false false h = cc
-
-pub record IsSetup (lines : List (List ℕ)) (p : Place) (size : ℕ) (o : Opened) : Type 0 where
+pub record IsSetup (lines : List (List ℕ)) (p : Place) (text : List ℕ) (o : Opened) : Type 0 where
   pub setup : List (List ℕ)
   pub last : List ℕ
   pub lines_are : lines ≡ setup ++ last ∷ o.rest
-  pub remarks : AreRemarks setup
-  pub small : size + text_size setup ≤ 1048576
+  pub short : AreShort setup
+  pub small : length (text ++ text_of setup) ≤ 1048576
   pub is_end : content last ≡ codes "end"
-  pub clients : o.place.clients ≡ p.clients
+  pub rules : least_broken (text ++ text_of setup) ≡ None
+  pub says : option_map config_of (document_of (text ++ text_of setup)) ≡ Some o.config
   pub octets : o.place.octets + total o.rest ≡ p.octets + total lines
   pub most : o.place.octets ≤ 4294967296
+
+pub record IsConfigured (text : List ℕ) (lines : List (List ℕ)) (p : Place) (o : Opened) : Type 0 where
+  pub rules : least_broken text ≡ None
+  pub says : option_map config_of (document_of text) ≡ Some o.config
+  pub rest : lines ≡ o.rest
+  pub place : p ≡ o.place
+
+abbrev config_from : Opening → Config → Config
+config_from (Ok o) c = o.config
+config_from (Err e) c = c
 
 abbrev rest_in : Opening → List (List ℕ)
 rest_in (Ok o) = o.rest
@@ -263,46 +282,60 @@ rest_in (Err e) = []
 
 abbrev place_in : Opening → Place
 place_in (Ok o) = o.place
-place_in (Err e) = front 0
+place_in (Err e) = front
 
-rest_is : (x : Opening) (o : Opened) → x ≡ Ok o → (rest_in x ≡ o.rest) × (place_in x ≡ o.place)
-rest_is x o h = (ap rest_in h, ap place_in h)
-
-read_setup : (lines : List (List ℕ)) (p : Place) (size : ℕ) (o : Opened) → size ≤ 1048576 → setup_of lines p size ≡ Ok o → IsSetup lines p size o
-read_setup [] p size o s h = cc
-read_setup (l ∷ ls) p size o s h =
-    let f = if_ok (fits p l) (if same (content l) (codes "end") then Ok (record { rest = ls; place = behind p l }) else unless_word (p.lines + 1) (setup_word (size + size_in_text l) l) (setup_of ls (behind p l) (size + size_in_text l))) (TooMuch (p.lines + 1)) o h in
-    decided (λ n e. read_setup ls (behind p l) (size + size_in_text l) o n e) (same (content l) (codes "end")) refl (fit_is p l f.0) f.1
+is_configured : (text : List ℕ) (lines : List (List ℕ)) (p : Place) (o : Opened) → configured text lines p ≡ Ok o → IsConfigured text lines p o
+is_configured text lines p o h = by_rule (least_broken text) (option_map config_of (document_of text)) refl refl h
   where
-    decided : (size + size_in_text l ≤ 1048576 → setup_of ls (behind p l) (size + size_in_text l) ≡ Ok o → IsSetup ls (behind p l) (size + size_in_text l) o) → (b : Bool) → same (content l) (codes "end") ≡ b → p.octets + length l ≤ 4294967296
-        → (if b then Ok (record { rest = ls; place = behind p l }) else unless_word (p.lines + 1) (setup_word (size + size_in_text l) l) (setup_of ls (behind p l) (size + size_in_text l))) ≡ Ok o → IsSetup (l ∷ ls) p size o
+    by_rule : (rule : Option ℕ) (config : Option Config) → least_broken text ≡ rule → option_map config_of (document_of text) ≡ config → opened_unless rule config lines p ≡ Ok o → IsConfigured text lines p o
+    by_rule (Some rule) config r s e = cc
+    by_rule None None r s e = cc
+    by_rule None (Some config) r s e =
+        record {
+          rules = r;
+          says = s ∙ ap (λ (x : Opening). Some (config_from x config)) e;
+          rest = ap rest_in e;
+          place = ap place_in e;
+        }
+
+read_setup : (lines : List (List ℕ)) (p : Place) (text : List ℕ) (o : Opened) → length text ≤ 1048576 → setup_of lines p text ≡ Ok o → IsSetup lines p text o
+read_setup [] p text o s h = cc
+read_setup (l ∷ ls) p text o s h =
+    let f = if_ok (fits p l) (if same (content l) (codes "end") then configured text ls (behind p l) else unless_word (p.lines + 1) (setup_word (length text + size_in_text l) l) (setup_of ls (behind p l) (text ++ in_text l))) (TooMuch (p.lines + 1)) o h in
+    decided (λ n e. read_setup ls (behind p l) (text ++ in_text l) o n e) (same (content l) (codes "end")) refl (fit_is p l f.0) f.1
+  where
+    decided : (length (text ++ in_text l) ≤ 1048576 → setup_of ls (behind p l) (text ++ in_text l) ≡ Ok o → IsSetup ls (behind p l) (text ++ in_text l) o) → (b : Bool) → same (content l) (codes "end") ≡ b → p.octets + length l ≤ 4294967296
+        → (if b then configured text ls (behind p l) else unless_word (p.lines + 1) (setup_word (length text + size_in_text l) l) (setup_of ls (behind p l) (text ++ in_text l))) ≡ Ok o → IsSetup (l ∷ ls) p text o
     decided ih true e f k =
-        let x = rest_is (Ok (record { rest = ls; place = behind p l })) o k in
+        let x = is_configured text ls (behind p l) o k in
+        let none = append-nil text in
         record {
           setup = [];
           last = l;
-          lines_are = ap (λ (r : List (List ℕ)). l ∷ r) x.0;
-          remarks = tt;
-          small = omega (arith, s);
+          lines_are = ap (λ (r : List (List ℕ)). l ∷ r) x.rest;
+          short = tt;
+          small = omega (arith, s, ap length none);
           is_end = (same_text (content l) (codes "end")).0 e;
-          clients = ap (λ (q : Place). q.clients) (sym x.1);
-          octets = let a = ap (λ (q : Place). q.octets) x.1 in let b = ap total x.0 in omega (arith, a, b);
-          most = let a = ap (λ (q : Place). q.octets) x.1 in omega (arith, a, f);
+          rules = ap least_broken none ∙ x.rules;
+          says = ap (λ (t : List ℕ). option_map config_of (document_of t)) none ∙ x.says;
+          octets = let a = ap (λ (q : Place). q.octets) x.place in let b = ap total x.rest in omega (arith, a, b);
+          most = let a = ap (λ (q : Place). q.octets) x.place in omega (arith, a, f);
         }
     decided ih false e f k =
-        let w = word_ok (p.lines + 1) (setup_word (size + size_in_text l) l) (setup_of ls (behind p l) (size + size_in_text l)) o k in
-        let t = three_tests (nat_lt 1048576 (size + size_in_text l)) (is_long l) (is_remark (trim (content l))) w.0 in
-        let n : size + size_in_text l ≤ 1048576 = grind (arith, nat_tests, t.0) in
-        let in_text : size_in_text l ≡ length (content l) + 1 = rw t.1 refl in
+        let w = word_ok (p.lines + 1) (setup_word (length text + size_in_text l) l) (setup_of ls (behind p l) (text ++ in_text l)) o k in
+        let t = no_word (length text + size_in_text l) l w.0 in
+        let n : length (text ++ in_text l) ≤ 1048576 = omega (arith, t.0, length-append text (in_text l), short_size (length l) l t.1) in
         let i = ih n w.1 in
+        let more = more_text text l i.setup in
         record {
           setup = l ∷ i.setup;
           last = i.last;
           lines_are = ap (λ (r : List (List ℕ)). l ∷ r) i.lines_are;
-          remarks = (t.1, t.2, i.remarks);
-          small = omega (arith, i.small, in_text);
+          short = (t.1, (λ is. true_false (sym ((same_text (content l) (codes "end")).1 is) ∙ e)), i.short);
+          small = omega (arith, i.small, ap length more);
           is_end = i.is_end;
-          clients = i.clients;
+          rules = ap least_broken (sym more) ∙ i.rules;
+          says = ap (λ (t : List ℕ). option_map config_of (document_of t)) (sym more) ∙ i.says;
           octets = omega (arith, i.octets);
           most = i.most;
         }
@@ -321,19 +354,19 @@ read_expected want word next (l ∷ ls) p o h =
     let s = if_ok (same (content l) want) (next ls (behind p l)) (Bad (p.lines + 1) word) o f.1 in
     record { line = l; rest = ls; lines_are = refl; is = (same_text (content l) want).0 s.0; next_is = s.1 }
 
-opened : (x : Opening) (phases : List (List CellEvent)) → after_opening x ≡ record { phases = phases; refusal = None } → (o : Opened) × (x ≡ Ok o) × (reading_of o.rest o.place (fresh 0) ≡ record { phases = phases; refusal = None })
-opened (Err e) phases h = let k = ap (λ (r : Reading). r.refusal) h in cc
-opened (Ok o) phases h = (o, refl, h)
+was_opened : (x : Opening) (config : Config) (phases : List (List CellEvent)) → config_in x ≡ Some config → after_opening x ≡ record { phases = phases; refusal = None }
+    → (o : Opened) × (x ≡ Ok o) × (o.config ≡ config) × (reading_of o.config.clients o.rest o.place (fresh o.config.start.0) ≡ record { phases = phases; refusal = None })
+was_opened (Err e) config phases c h = let k = ap (λ (r : Reading). r.refusal) h in cc
+was_opened (Ok o) config phases c h = (o, refl, cc, h)
 
-pub read_is_recording : (text : List ℕ) (phases : List (List CellEvent)) → reading_of_text text ≡ record { phases = phases; refusal = None } → ReadsRecording text phases
-read_is_recording text phases h =
-    let p = front default_clients in
-    let x = opened (opening_of_text text) phases h in
-    let o = x.0 in
-    let a = read_expected (codes "mms-recording 1") bad.Header (expected (codes "config") bad.Config (λ rest q. setup_of rest q 0)) (lines_of text) p o x.1 in
-    let b = read_expected (codes "config") bad.Config (λ rest q. setup_of rest q 0) a.rest (behind p a.line) o a.next_is in
-    let s = read_setup b.rest (behind (behind p a.line) b.line) 0 o (omega arith) b.next_is in
-    let i = read o.rest o.place (fresh 0) phases (omega arith, omega arith, omega arith) s.most x.2 in
+is_recording : (text : List ℕ) (phases : List (List CellEvent)) (o : Opened) → opening_of_text text ≡ Ok o → reading_of o.config.clients o.rest o.place (fresh o.config.start.0) ≡ record { phases = phases; refusal = None } → ReadsRecording text o.config phases
+is_recording text phases o x h =
+    let p = front in
+    let a = read_expected (codes "mms-recording 1") bad.Header (expected (codes "config") bad.Config (λ rest q. setup_of rest q [])) (lines_of text) p o x in
+    let b = read_expected (codes "config") bad.Config (λ rest q. setup_of rest q []) a.rest (behind p a.line) o a.next_is in
+    let s = read_setup b.rest (behind (behind p a.line) b.line) [] o (omega arith) b.next_is in
+    let dated = (configuration_holds (text_of s.setup) o.config s.rules s.says).dated in
+    let i = read o.config.clients o.rest o.place (fresh o.config.start.0) phases (omega arith, omega arith, omega (arith, dated)) s.most h in
     let whole : lines_of text ≡ a.line ∷ b.line ∷ (s.setup ++ s.last ∷ o.rest) = a.lines_are ∙ ap (λ (r : List (List ℕ)). a.line ∷ r) (b.lines_are ∙ ap (λ (r : List (List ℕ)). b.line ∷ r) s.lines_are) in
     record {
       header = a.line;
@@ -345,12 +378,19 @@ read_is_recording text phases h =
       lines = whole;
       is_header = a.is;
       is_config = b.is;
-      remarks = s.remarks;
-      small = omega (arith, s.small);
+      short = s.short;
+      small = s.small;
+      rules = s.rules;
+      says = s.says;
       is_end = s.is_end;
-      each = subst (λ (n : ℕ). Says n o.rest i.said) s.clients i.each;
+      each = i.each;
       split = i.split;
       few = i.few;
-      clock = omega (arith, i.clock);
+      clock = i.clock;
       size = omega (arith, i.size, s.octets, ap total whole, ap total s.lines_are, total_is text);
     }
+
+pub read_is_recording : (text : List ℕ) (config : Config) (phases : List (List CellEvent)) → (config_of_text text ≡ Some config) × (reading_of_text text ≡ record { phases = phases; refusal = None }) → ReadsRecording text config phases
+read_is_recording text config phases h =
+    let x = was_opened (opening_of_text text) config phases h.0 h.1 in
+    subst (λ (c : Config). ReadsRecording text c phases) x.2 (is_recording text phases x.0 x.1 x.3)

@@ -1,22 +1,26 @@
 -- What a recording is, said of its whole text (this profile's choice).
-use Rattle.std.specs.Prelude.{ℕ, ◌+◌, ◌≡◌, ◌≤◌, ◌++◌, true, false, List, [], ◌∷◌, length, codes, Ok}
+use Rattle.std.specs.Prelude.{ℕ, ◌+◌, ◌≡◌, ◌≢◌, ◌≤◌, ◌++◌, false, List, [], ◌∷◌, length, codes, Ok, Some, None}
+use Rattle.std.specs.Option.{option_map}
 use Rattle.cell_io.specs.Lines.{lines_of}
 use Rattle.mms_types.specs.declared.event.CellEvent.{CellEvent}
-use Rattle.cell_record.specs.Words.{content, is_long, trim, is_remark}
+use Rattle.cell_config.specs.declared.config.Config.{Config}
+use Rattle.cell_config.specs.Rules.{document_of, least_broken}
+use Rattle.cell_config.specs.Said.{config_of}
+use Rattle.cell_record.specs.Words.{content, is_long}
 use Rattle.cell_record.specs.EventLine.{said_of}
-use Rattle.cell_record.specs.Recording.{onto, ms_in, octets_in, default_clients}
+use Rattle.cell_record.specs.Recording.{in_text, onto, ms_in, octets_in}
 use Rattle.cell_record.specs.declared.said.Said.{Said}
 use Rattle.cell_record.specs.declared.said.Said.TheVariants.{Nothing, Phase, Happens}
 
--- each of the configuration's lines is blank or a comment, and none is too long
-abbrev pub AreRemarks : List (List ℕ) → Type 0
-AreRemarks [] = Unit {0}
-AreRemarks (line ∷ lines) = (is_long line ≡ false) × (is_remark (trim (content line)) ≡ true) × AreRemarks lines
+-- none of the configuration's lines is too long, and none is `end`
+abbrev pub AreShort : List (List ℕ) → Type 0
+AreShort [] = Unit {0}
+AreShort (line ∷ lines) = (is_long line ≡ false) × (content line ≢ codes "end") × AreShort lines
 
--- the octets of the configuration's text, each line with one line feed
-abbrev pub text_size : List (List ℕ) → ℕ
-text_size [] = 0
-text_size (line ∷ lines) = length (content line) + 1 + text_size lines
+-- the configuration's text: each line with one line feed
+abbrev pub text_of : List (List ℕ) → List ℕ
+text_of [] = []
+text_of (line ∷ lines) = in_text line ++ text_of lines
 
 -- each event line says this
 abbrev pub Says : ℕ → List (List ℕ) → List Said → Type 0
@@ -51,8 +55,8 @@ abbrev pub AreFew : ℕ → ℕ → List (List CellEvent) → Type 0
 AreFew events octets [] = Unit {0}
 AreFew events octets (phase ∷ rest) = (events + length phase ≤ 16384) × (octets + pdu_octets phase ≤ 67108864) × AreFew 0 0 rest
 
--- a text that is a recording, and its phases
-pub record ReadsRecording (text : List ℕ) (phases : List (List CellEvent)) : Type 0 where
+-- a text that is a recording, its configuration and its phases
+pub record ReadsRecording (text : List ℕ) (configured : Config) (phases : List (List CellEvent)) : Type 0 where
   pub header : List ℕ
   pub config : List ℕ
   pub setup : List (List ℕ)
@@ -62,11 +66,13 @@ pub record ReadsRecording (text : List ℕ) (phases : List (List CellEvent)) : T
   pub lines : lines_of text ≡ header ∷ config ∷ (setup ++ last ∷ body)
   pub is_header : content header ≡ codes "mms-recording 1"
   pub is_config : content config ≡ codes "config"
-  pub remarks : AreRemarks setup
-  pub small : text_size setup ≤ 1048576
+  pub short : AreShort setup
+  pub small : length (text_of setup) ≤ 1048576
+  pub rules : least_broken (text_of setup) ≡ None
+  pub says : option_map config_of (document_of (text_of setup)) ≡ Some configured
   pub is_end : content last ≡ codes "end"
-  pub each : Says default_clients body said
+  pub each : Says configured.clients body said
   pub split : phases ≡ phases_of said
   pub few : AreFew 0 0 phases
-  pub clock : all_ms phases ≤ 5662310399999
+  pub clock : configured.start.0 + all_ms phases ≤ 5662310399999
   pub size : length text ≤ 4294967296

@@ -1,5 +1,5 @@
 -- The lines of a text with their numbers.
-use Rattle.std.specs.Prelude.{◌≡◌, ℕ, ◌+◌, ◌<◌, ◌≤◌, List, [], length, Ok, Some, IfSome}
+use Rattle.std.specs.Prelude.{◌≡◌, ℕ, ◌+◌, ◌<◌, ◌≤◌, List, [], length, Some, IfSome}
 use Rattle.std.specs.Option.{option_map}
 use Rattle.std.specs.declared.option.Option.{Option}
 use Rattle.cell_io.specs.Lines.{lines_of, first_line, after_line, kept_of}
@@ -30,28 +30,24 @@ abbrev pub EndsThere : Option (List ℕ) → Option (List ℕ) → Type 0
 EndsThere before after = IfSome before (λ text. (text ≡ []) × (after ≡ Some []))
 
 -- the place behind the last line that was given
-abbrev pub place_at : ℕ → Numbered → Place
-place_at clients n = record { clients = clients; lines = n.lines; octets = n.held.given }
+abbrev pub place_at : Numbered → Place
+place_at n = record { lines = n.lines; octets = n.held.given }
 
 -- what is said of the lines ahead
-abbrev pub at : {T : Type 0} → (List (List ℕ) → Place → T) → ℕ → Numbered → Option (List ℕ) → Option T
-at f clients n left = option_map (λ text. f (lines_of text) (place_at clients n)) (ahead n.held left)
+abbrev pub at : {T : Type 0} → (List (List ℕ) → Place → T) → Numbered → Option (List ℕ) → Option T
+at f n left = option_map (λ text. f (lines_of text) (place_at n)) (ahead n.held left)
 
--- the configuration's lines, with so many octets before them
-abbrev pub setup : ℕ → List (List ℕ) → Place → Opening
-setup size lines p = setup_of lines p size
+-- the configuration's lines, behind those that have this text
+abbrev pub setup : List ℕ → List (List ℕ) → Place → Opening
+setup text lines p = setup_of lines p text
 
--- the line `end` was read
-abbrev pub opened : List (List ℕ) → Place → Opening
-opened lines p = Ok (record { rest = lines; place = p })
-
--- the event lines, with so much of the phase before them
-abbrev pub phases : Counts → List (List ℕ) → Place → Reading
-phases c lines p = reading_of lines p c
+-- the event lines, for so many clients and with so much of the phase before them
+abbrev pub phases : ℕ → Counts → List (List ℕ) → Place → Reading
+phases clients c lines p = reading_of clients lines p c
 
 -- the lines after a phase, of which there is none after the last
-abbrev pub after_phase : Bool → ℕ → List (List ℕ) → Place → Reading
-after_phase last moment lines p = if last then ended else reading_of lines p (fresh moment)
+abbrev pub after_phase : ℕ → Bool → ℕ → List (List ℕ) → Place → Reading
+after_phase clients last moment lines p = if last then ended else reading_of clients lines p (fresh moment)
 
 -- no more than a phase has, and no later than a time names
 abbrev pub IsWithin : Counts → Type 0

@@ -4,14 +4,15 @@ use Rattle.std.specs.Option.{option_map}
 use Rattle.std.specs.declared.option.Option.{Option}
 use Rattle.cell_io.specs.Lines.{lines_of}
 use Rattle.cell_io.specs.Held.{Held, ahead}
+use Rattle.cell_config.specs.declared.config.Config.{Config}
 use Rattle.cell_record.specs.Recording.{Place, Reading, reading_of, refused, ended, fresh}
 use Rattle.cell_record.specs.declared.refusal.RecordError.{RecordError}
 use Rattle.cell_record.specs.declared.refusal.RecordError.TheVariants.{ReadFault, Bad, BadConfig, TooMuch, Memory}
 
--- what the reader of lines holds, the clients, the lines so far, the moment, the phases given, whether the last one was, and the refusal that is kept
+-- what the reader of lines holds, the configuration, the lines so far, the moment, the phases given, whether the last one was, and the refusal that is kept
 pub record Progress : Type 0 where
   pub held : Held
-  pub clients : ℕ
+  pub config : Config
   pub lines : ℕ
   pub moment : ℕ
   pub number : ℕ
@@ -20,7 +21,7 @@ pub record Progress : Type 0 where
 
 -- where the reading goes on
 abbrev pub place_of : Progress → Place
-place_of p = record { clients = p.clients; lines = p.lines; octets = p.held.given }
+place_of p = record { lines = p.lines; octets = p.held.given }
 
 abbrev pub rest_by : Option RecordError → Bool → Reading → Reading
 rest_by (Some e) over r = refused e
@@ -28,7 +29,7 @@ rest_by None over r = if over then ended else r
 
 -- what a recording still says, where so much is left in the source
 abbrev pub rest_of : Progress → Option (List ℕ) → Option Reading
-rest_of p left = option_map (λ text. rest_by p.refusal p.over (reading_of (lines_of text) (place_of p) (fresh p.moment))) (ahead p.held left)
+rest_of p left = option_map (λ text. rest_by p.refusal p.over (reading_of p.config.clients (lines_of text) (place_of p) (fresh p.moment))) (ahead p.held left)
 
 -- where it is told, the one is what `f` makes of the other
 abbrev pub Becomes : {T : Type 0} → Option T → (T → T) → Option T → Type 0

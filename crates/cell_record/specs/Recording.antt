@@ -1,10 +1,14 @@
 -- What a recording says: the lines up to `end`, and then its phases (this profile's choice).
-use Rattle.std.specs.Prelude.{ℕ, ◌+◌, ◌||◌, Bool, if◌then◌else◌, List, [], ◌∷◌, length, codes, Result, Ok, Err, Some, None, nat_le, nat_lt}
+use Rattle.std.specs.Prelude.{ℕ, ◌+◌, ◌||◌, Bool, if◌then◌else◌, List, [], ◌∷◌, ◌++◌, length, codes, Result, Ok, Err, Some, None, nat_le, nat_lt}
+use Rattle.std.specs.Option.{option_map}
 use Rattle.std.specs.declared.option.Option.{Option}
 use Rattle.cell_io.specs.Lines.{lines_of}
 use Rattle.mms_types.specs.declared.event.CellEvent.{CellEvent}
 use Rattle.mms_types.specs.declared.event.CellEvent.TheVariants.{Heard, Lost, Tick, Ends, Drain}
-use Rattle.cell_record.specs.Words.{content, is_long, trim, is_remark}
+use Rattle.cell_config.specs.declared.config.Config.{Config}
+use Rattle.cell_config.specs.Rules.{document_of, least_broken}
+use Rattle.cell_config.specs.Said.{config_of}
+use Rattle.cell_record.specs.Words.{content, is_long}
 use Rattle.cell_record.specs.EventLine.{same, said_of}
 use Rattle.cell_record.specs.declared.said.Said.{Said}
 use Rattle.cell_record.specs.declared.said.Said.TheVariants.{Nothing, Phase, Happens}
@@ -12,17 +16,16 @@ use Rattle.cell_record.specs.declared.counts.Counts.{Counts}
 use Rattle.cell_record.specs.declared.refusal.BadWord.{BadWord}
 use Rattle.cell_record.specs.declared.refusal.BadWord.TheVariants as bad
 use Rattle.cell_record.specs.declared.refusal.RecordError.{RecordError}
-use Rattle.cell_record.specs.declared.refusal.RecordError.TheVariants.{Bad, TooMuch}
+use Rattle.cell_record.specs.declared.refusal.RecordError.TheVariants.{Bad, BadConfig, TooMuch}
 
--- how far a reading has come: the clients, the lines and the octets so far
+-- how far a reading has come: the lines and the octets so far
 pub record Place : Type 0 where
-  pub clients : ℕ
   pub lines : ℕ
   pub octets : ℕ
 
 -- the place behind a line
 abbrev pub behind : Place → List ℕ → Place
-behind p line = record { clients = p.clients; lines = p.lines + 1; octets = p.octets + length line }
+behind p line = record { lines = p.lines + 1; octets = p.octets + length line }
 
 -- the input has at most 4,294,967,296 octets up to the line's end
 abbrev pub fits : Place → List ℕ → Bool
@@ -121,18 +124,19 @@ abbrev pub with_said : ℕ → Counts → Result Said BadWord → (Counts → Re
 with_said line c (Err word) rest = refused (Bad line word)
 with_said line c (Ok said) rest = unless (refusal_of line (moved c said) said) (makes said (rest (moved c said)))
 
--- what event lines say from a place on, with so much of the phase before them
-abbrev pub reading_of : List (List ℕ) → Place → Counts → Reading
-reading_of [] p c = whole
-reading_of (line ∷ rest) p c =
+-- what event lines say to so many clients from a place on, with so much of the phase before them
+abbrev pub reading_of : ℕ → List (List ℕ) → Place → Counts → Reading
+reading_of clients [] p c = whole
+reading_of clients (line ∷ rest) p c =
     if fits p line
-    then with_said (p.lines + 1) c (said_of p.clients (content line)) (λ d. reading_of rest (behind p line) d)
+    then with_said (p.lines + 1) c (said_of clients (content line)) (λ d. reading_of clients rest (behind p line) d)
     else refused (TooMuch (p.lines + 1))
 
 -- ---- the lines before them
 
--- what stands behind the line `end`, and where that is
+-- the configuration, what stands behind the line `end`, and where that is
 pub record Opened : Type 0 where
+  pub config : Config
   pub rest : List (List ℕ)
   pub place : Place
 
@@ -147,7 +151,11 @@ expected want word next (line ∷ rest) p =
     then (if same (content line) want then next rest (behind p line) else Err (Bad (p.lines + 1) word))
     else Err (TooMuch (p.lines + 1))
 
--- how much a line adds to the configuration's text that has so many octets as it stands: its content and one line feed, but a line that is too long all that it has
+-- what a line adds to the configuration's text: its content and one line feed
+abbrev pub in_text : List ℕ → List ℕ
+in_text line = content line ++ 10 ∷ []
+
+-- how much that is, of a line that has so many octets as it stands; a line that is too long counts with all that it has
 abbrev pub size_by : ℕ → List ℕ → ℕ
 size_by size line = if is_long line then size else length (content line) + 1
 
@@ -159,44 +167,61 @@ abbrev pub setup_word : ℕ → List ℕ → Option BadWord
 setup_word total line =
     if nat_lt 1048576 total then Some bad.Config
     else if is_long line then Some bad.Long
-    else if is_remark (trim (content line)) then None
-    else Some bad.Later
+    else None
 
 abbrev pub unless_word : ℕ → Option BadWord → Opening → Opening
 unless_word line None r = r
 unless_word line (Some word) r = Err (Bad line word)
 
--- the configuration's lines, up to the line `end`
-abbrev pub setup_of : List (List ℕ) → Place → ℕ → Opening
-setup_of [] p size = Err (Bad (p.lines + 1) bad.Config)
-setup_of (line ∷ rest) p size =
+-- the line `end` was read, behind a configuration
+abbrev pub opened : Config → List (List ℕ) → Place → Opening
+opened config lines p = Ok (record { config = config; rest = lines; place = p })
+
+-- the least rule that the configuration's text breaks refuses the recording; one that breaks none is a document, so that the second case never comes
+abbrev pub opened_unless : Option ℕ → Option Config → List (List ℕ) → Place → Opening
+opened_unless (Some rule) config lines p = Err (BadConfig rule)
+opened_unless None None lines p = Err (BadConfig 0)
+opened_unless None (Some config) lines p = opened config lines p
+
+-- the line `end` was read, behind a configuration's text
+abbrev pub configured : List ℕ → List (List ℕ) → Place → Opening
+configured text = opened_unless (least_broken text) (option_map config_of (document_of text))
+
+-- the configuration's lines, up to the line `end`, behind those that have this text
+abbrev pub setup_of : List (List ℕ) → Place → List ℕ → Opening
+setup_of [] p text = Err (Bad (p.lines + 1) bad.Config)
+setup_of (line ∷ rest) p text =
     if fits p line
     then (if same (content line) (codes "end")
-    then Ok (record { rest = rest; place = behind p line })
-    else unless_word (p.lines + 1) (setup_word (size + size_in_text line) line) (setup_of rest (behind p line) (size + size_in_text line)))
+    then configured text rest (behind p line)
+    else unless_word (p.lines + 1) (setup_word (length text + size_in_text line) line) (setup_of rest (behind p line) (text ++ in_text line)))
     else Err (TooMuch (p.lines + 1))
 
 -- the header, the line `config`, and the configuration's lines up to `end`
 abbrev pub opening_of : List (List ℕ) → Place → Opening
-opening_of lines p = expected (codes "mms-recording 1") bad.Header (expected (codes "config") bad.Config (λ rest q. setup_of rest q 0)) lines p
+opening_of lines p = expected (codes "mms-recording 1") bad.Header (expected (codes "config") bad.Config (λ rest q. setup_of rest q [])) lines p
 
 -- ---- the whole text
 
 -- where the reading of a text begins
-abbrev pub front : ℕ → Place
-front clients = record { clients = clients; lines = 0; octets = 0 }
-
--- how many clients there are
-abbrev pub default_clients : ℕ
-default_clients = 4
+abbrev pub front : Place
+front = record { lines = 0; octets = 0 }
 
 abbrev pub opening_of_text : List ℕ → Opening
-opening_of_text text = opening_of (lines_of text) (front default_clients)
+opening_of_text text = opening_of (lines_of text) front
 
--- the phases of a text that was opened, from the moment 0 on
+-- the configuration of a text that was opened
+abbrev pub config_in : Opening → Option Config
+config_in (Err e) = None
+config_in (Ok o) = Some o.config
+
+abbrev pub config_of_text : List ℕ → Option Config
+config_of_text text = config_in (opening_of_text text)
+
+-- the phases of a text that was opened, for the clients of its configuration and from its moment on
 abbrev pub after_opening : Opening → Reading
 after_opening (Err e) = refused e
-after_opening (Ok o) = reading_of o.rest o.place (fresh 0)
+after_opening (Ok o) = reading_of o.config.clients o.rest o.place (fresh o.config.start.0)
 
 -- what a whole text says
 abbrev pub reading_of_text : List ℕ → Reading

@@ -1,15 +1,20 @@
-//! The lines of a recording up to `end`.
+//! The lines of a recording up to `end`, and the configuration in them.
 
-ghost use Rattle.std.specs.Prelude.{◌≡◌, ◌+◌, ◌<◌, ◌≤◌, ◌++◌, true, false, ℕ, List, length, codes, IfOk, IfErr, IfSome, OnOk, Ok, Err};
+ghost use Rattle.std.specs.Prelude.{◌≡◌, ◌+◌, ◌<◌, ◌≤◌, ◌++◌, [], true, false, ℕ, List, length, codes, IfOk, IfErr, IfSome, OnOk, Ok, Err};
 ghost use Rattle.cell_io.specs.Faults.{Rose};
-ghost use Rattle.cell_record.specs.Recording.{Place, Opening, expected, size_by, setup_word, opening_of, default_clients};
-ghost use Rattle.cell_record.specs.Numbered.{IsPart, at, setup, opened};
+ghost use Rattle.cell_config.specs.Said.{IsConfig};
+ghost use Rattle.cell_record.specs.Words.{is_long};
+ghost use Rattle.cell_record.specs.Recording.{Place, Opening, expected, in_text, size_by, setup_word, opened, configured, opening_of};
+ghost use Rattle.cell_record.specs.Numbered.{IsPart, at, setup};
 ghost use Rattle.cell_record.specs.Progress.{Becomes, IsStated};
 
 use crate::numbered::NumberedLines;
-use crate::words::{content, is_remark, trim};
+use crate::words::content;
 use crate::{BadWord, RecordError};
+use cell_config::{BadConfig, Config, read_config};
 use cell_io::{MOST, Source};
+use mms_types::Edition;
+use std::alloc::Global;
 
 const MOST_IN_LINE: usize = 196_608;
 
@@ -23,9 +28,9 @@ fn expect<S: Source>(
     word: BadWord,
 ) -> Result<(), RecordError>
     requires short { length want.now < 196608 }
-    ensures there { OnOk result ((next : List (List ℕ) → Place → Opening) → Becomes (at (expected want.now word next) default_clients lines.old (S.left input.old)) (λ r. r)
-        (at next default_clients lines.new (S.left input.new))) }
-    ensures refused { IfErr result (λ e. IsStated e → (next : List (List ℕ) → Place → Opening) → IfSome (at (expected want.now word next) default_clients lines.old (S.left input.old)) (λ r. r ≡ Err e)) }
+    ensures there { OnOk result ((next : List (List ℕ) → Place → Opening) → Becomes (at (expected want.now word next) lines.old (S.left input.old)) (λ r. r)
+        (at next lines.new (S.left input.new))) }
+    ensures refused { IfErr result (λ e. IsStated e → (next : List (List ℕ) → Place → Opening) → IfSome (at (expected want.now word next) lines.old (S.left input.old)) (λ r. r ≡ Err e)) }
     ensures fault { IfErr result (λ e. e ≡ RecordError.ReadFault → Rose (S.faults input.old) (S.faults input.new)) }
     ensures grows { OnOk result (lines.old.held.given < lines.new.held.given) }
     ensures left { IsPart (S.left input.old) (S.left input.new) }
@@ -64,32 +69,44 @@ fn size_in_text(line: &[u8], whole: u64) -> u64
 fn broken(total: u64, line: &[u8]) -> Option<BadWord>
     ensures { result ≡ setup_word total line.now }
 {
-    let content = content(line);
     if total > MOST_IN_TEXT {
         Some(BadWord::Config)
-    } else if content.len() > MOST_IN_LINE {
+    } else if content(line).len() > MOST_IN_LINE {
         Some(BadWord::Long)
-    } else if is_remark(trim(content)) {
-        None
     } else {
-        Some(BadWord::Later)
+        None
     }
 }
 
-/// Reads the next line of the configuration, of whose text there are so many octets: true where it
-/// is `end`.
+/// Puts a line behind the configuration's text: its content and one line feed.
+fn add_line(text: &mut Vec<u8>, line: &[u8]) -> Result<(), RecordError>
+    ensures text { OnOk result (text.new.items ≡ text.old.items ++ in_text line.now) }
+    ensures memory { IfErr result (λ e. e ≡ RecordError.Memory) }
+{
+    match text.extend_from_slice(content(line)) {
+        Ok(()) => {}
+        Err(_) => return Err(RecordError::Memory),
+    }
+    match text.push(b'\n') {
+        Ok(()) => Ok(()),
+        Err(_) => Err(RecordError::Memory),
+    }
+}
+
+/// Reads the next line of the configuration, behind those that have this text: true where it is
+/// `end`.
 fn read_setup_line<S: Source>(
     lines: &mut NumberedLines,
     input: &mut S,
-    size: &mut u64,
+    text: &mut Vec<u8>,
 ) -> Result<bool, RecordError>
-    requires { size.old ≤ 1048576 }
-    ensures more { IfOk result (λ end. end ≡ false → Becomes (at (setup size.old) default_clients lines.old (S.left input.old)) (λ r. r)
-        (at (setup size.new) default_clients lines.new (S.left input.new))) }
-    ensures end { IfOk result (λ end. end ≡ true → Becomes (at (setup size.old) default_clients lines.old (S.left input.old)) (λ r. r)
-        (at opened default_clients lines.new (S.left input.new))) }
-    ensures size { OnOk result (size.new ≤ 1048576) }
-    ensures refused { IfErr result (λ e. IsStated e → IfSome (at (setup size.old) default_clients lines.old (S.left input.old)) (λ r. r ≡ Err e)) }
+    requires { length text.old.items ≤ 1048576 }
+    ensures more { IfOk result (λ end. end ≡ false → Becomes (at (setup text.old.items) lines.old (S.left input.old)) (λ r. r)
+        (at (setup text.new.items) lines.new (S.left input.new))) }
+    ensures end { IfOk result (λ end. end ≡ true → Becomes (at (setup text.old.items) lines.old (S.left input.old)) (λ r. r)
+        (at (configured text.new.items) lines.new (S.left input.new))) }
+    ensures size { OnOk result (length text.new.items ≤ 1048576) }
+    ensures refused { IfErr result (λ e. IsStated e → IfSome (at (setup text.old.items) lines.old (S.left input.old)) (λ r. r ≡ Err e)) }
     ensures fault { IfErr result (λ e. e ≡ RecordError.ReadFault → Rose (S.faults input.old) (S.faults input.new)) }
     ensures grows { OnOk result (lines.old.held.given < lines.new.held.given) }
     ensures most { lines.new.held.given ≤ 4294967296 }
@@ -112,30 +129,35 @@ fn read_setup_line<S: Source>(
         return Ok(true);
     }
     let whole = lines.given() - before;
-    let total = *size + size_in_text(lines.line(), whole);
+    let total = text.len() as u64 + size_in_text(lines.line(), whole);
     match broken(total, lines.line()) {
-        None => {
-            *size = total;
-            Ok(false)
-        }
-        Some(word) => Err(RecordError::Bad { line: number, word }),
+        None => {}
+        Some(word) => return Err(RecordError::Bad { line: number, word }),
+    }
+    match add_line(text, lines.line()) {
+        Ok(()) => Ok(false),
+        Err(refusal) => Err(refusal),
     }
 }
 
-/// Reads the configuration's lines and the line `end`.
-fn read_setup<S: Source>(lines: &mut NumberedLines, input: &mut S) -> Result<(), RecordError>
-    ensures opens { OnOk result (Becomes (at (setup 0) default_clients lines.old (S.left input.old)) (λ r. r) (at opened default_clients lines.new (S.left input.new))) }
-    ensures refused { IfErr result (λ e. IsStated e → IfSome (at (setup 0) default_clients lines.old (S.left input.old)) (λ r. r ≡ Err e)) }
+/// Reads the configuration's lines and the line `end`, and gives the configuration's text.
+fn read_setup<S: Source>(
+    alloc: Global,
+    lines: &mut NumberedLines,
+    input: &mut S,
+) -> Result<Vec<u8>, RecordError>
+    ensures text { IfOk result (λ text. Becomes (at (setup []) lines.old (S.left input.old)) (λ r. r) (at (configured text.items) lines.new (S.left input.new))) }
+    ensures refused { IfErr result (λ e. IsStated e → IfSome (at (setup []) lines.old (S.left input.old)) (λ r. r ≡ Err e)) }
     ensures fault { IfErr result (λ e. e ≡ RecordError.ReadFault → Rose (S.faults input.old) (S.faults input.new)) }
     ensures grows { OnOk result (lines.old.held.given < lines.new.held.given) }
     ensures left { IsPart (S.left input.old) (S.left input.new) }
     ensures later { S.faults input.old ≤ S.faults input.new }
 {
-    let mut size = 0;
+    let mut text = Vec::new(alloc);
     let _given = lines.given();
     for _turn in 0..MOST + 1 {
-        match read_setup_line(lines, input, &mut size) {
-            Ok(true) => return Ok(()),
+        match read_setup_line(lines, input, &mut text) {
+            Ok(true) => return Ok(text),
             Ok(false) => {}
             Err(refusal) => return Err(refusal),
         }
@@ -143,10 +165,29 @@ fn read_setup<S: Source>(lines: &mut NumberedLines, input: &mut S) -> Result<(),
     unreachable!()
 }
 
-/// Reads the lines of a recording up to `end`.
-pub fn read_opening<S: Source>(lines: &mut NumberedLines, input: &mut S) -> Result<(), RecordError>
-    ensures opens { OnOk result (Becomes (at opening_of default_clients lines.old (S.left input.old)) (λ r. r) (at opened default_clients lines.new (S.left input.new))) }
-    ensures refused { IfErr result (λ e. IsStated e → IfSome (at opening_of default_clients lines.old (S.left input.old)) (λ r. r ≡ Err e)) }
+/// The configuration that the text of its lines tells.
+fn read_text(alloc: Global, text: &[u8]) -> Result<Config, RecordError>
+    ensures config { IfOk result (λ config. (lines : List (List ℕ)) (p : Place) → configured text.now lines p ≡ opened config lines p) }
+    ensures valid { IfOk result IsConfig }
+    ensures rule { IfErr result (λ e. IsStated e → (lines : List (List ℕ)) (p : Place) → configured text.now lines p ≡ Err e) }
+    ensures known { IfErr result (λ e. e ≡ RecordError.ReadFault → ⊥) }
+{
+    match read_config(alloc, text, Edition::One) {
+        Ok(config) => Ok(config),
+        Err(BadConfig::Rule(rule)) => Err(RecordError::BadConfig { rule }),
+        Err(BadConfig::Memory) => Err(RecordError::Memory),
+    }
+}
+
+/// Reads the lines of a recording up to `end`, and gives the configuration.
+pub fn read_opening<S: Source>(
+    alloc: Global,
+    lines: &mut NumberedLines,
+    input: &mut S,
+) -> Result<Config, RecordError>
+    ensures opens { IfOk result (λ config. Becomes (at opening_of lines.old (S.left input.old)) (λ r. r) (at (opened config) lines.new (S.left input.new))) }
+    ensures valid { IfOk result IsConfig }
+    ensures refused { IfErr result (λ e. IsStated e → IfSome (at opening_of lines.old (S.left input.old)) (λ r. r ≡ Err e)) }
     ensures fault { IfErr result (λ e. e ≡ RecordError.ReadFault → Rose (S.faults input.old) (S.faults input.new)) }
     ensures grows { OnOk result (lines.old.held.given + 3 ≤ lines.new.held.given) }
     ensures left { IsPart (S.left input.old) (S.left input.new) }
@@ -160,8 +201,12 @@ pub fn read_opening<S: Source>(lines: &mut NumberedLines, input: &mut S) -> Resu
         Ok(()) => {}
         Err(refusal) => return Err(refusal),
     }
-    match read_setup(lines, input) {
-        Ok(()) => Ok(()),
+    let text = match read_setup(alloc, lines, input) {
+        Ok(text) => text,
+        Err(refusal) => return Err(refusal),
+    };
+    match read_text(alloc, &text) {
+        Ok(config) => Ok(config),
         Err(refusal) => Err(refusal),
     }
 }

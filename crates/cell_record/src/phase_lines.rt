@@ -37,13 +37,13 @@ fn next_said<S: Source>(
 ) -> Result<Option<Said>, RecordError>
     requires { IsWithin counts.old }
     ensures says { IfOk result (λ o. MatchOption o
-        (IfSome (at (phases counts.old) clients lines.old (S.left input.old)) (λ r. (r ≡ whole) × (at (phases counts.old) clients lines.new (S.left input.new) ≡ Some r)))
-        (λ s. Becomes (at (phases counts.old) clients lines.old (S.left input.old)) (makes s) (at (phases counts.new) clients lines.new (S.left input.new)))) }
+        (IfSome (at (phases clients counts.old) lines.old (S.left input.old)) (λ r. (r ≡ whole) × (at (phases clients counts.old) lines.new (S.left input.new) ≡ Some r)))
+        (λ s. Becomes (at (phases clients counts.old) lines.old (S.left input.old)) (makes s) (at (phases clients counts.new) lines.new (S.left input.new)))) }
     ensures may { IfOk result (λ o. MatchOption o ⊤ (MayHappen clients)) }
     ensures counts { IfOk result (λ o. MatchOption o (counts.new ≡ counts.old) (λ s. counts.new ≡ moved counts.old s)) }
     ensures within { IfOk result (λ _. IsWithin counts.new) }
     ensures over { IfOk result (λ o. MatchOption o (IsAtEnd (S.left input.new)) (λ _. ⊤)) }
-    ensures refused { IfErr result (λ e. IsStated e → IfSome (at (phases counts.old) clients lines.old (S.left input.old)) (λ r. r ≡ refused e)) }
+    ensures refused { IfErr result (λ e. IsStated e → IfSome (at (phases clients counts.old) lines.old (S.left input.old)) (λ r. r ≡ refused e)) }
     ensures fault { IfErr result (λ e. e ≡ RecordError.ReadFault → Rose (S.faults input.old) (S.faults input.new)) }
     ensures grows { IfOk result (λ o. MatchOption o ⊤ (λ _. lines.old.held.given < lines.new.held.given)) }
     ensures order { lines.old.held.given ≤ lines.new.held.given }
@@ -79,14 +79,14 @@ pub fn read_phase<S: Source>(
 ) -> Result<Piece, RecordError>
     requires within { IsWithin counts.old }
     requires begins { counts.old.events ≡ 0 }
-    ensures phase { IfOk result (λ p. Becomes (at (phases counts.old) clients lines.old (S.left input.old)) (with_phase p.events)
-        (at (after_phase p.last counts.new.moment) clients lines.new (S.left input.new))) }
+    ensures phase { IfOk result (λ p. Becomes (at (phases clients counts.old) lines.old (S.left input.old)) (with_phase p.events)
+        (at (after_phase clients p.last counts.new.moment) lines.new (S.left input.new))) }
     ensures recorded { IfOk result (λ p. All (IsRecorded clients) p.events) }
     ensures few { IfOk result (λ p. length p.events ≤ 16384) }
     ensures within { IfOk result (λ _. IsWithin counts.new) }
     ensures moment { IfOk result (λ p. counts.new.moment ≡ counts.old.moment + phase_ms p.events) }
     ensures over { IfOk result (λ p. p.last ≡ true → IsAtEnd (S.left input.new)) }
-    ensures refused { IfErr result (λ e. IsStated e → IfSome (at (phases counts.old) clients lines.old (S.left input.old)) (λ r. r ≡ refused e)) }
+    ensures refused { IfErr result (λ e. IsStated e → IfSome (at (phases clients counts.old) lines.old (S.left input.old)) (λ r. r ≡ refused e)) }
     ensures fault { IfErr result (λ e. e ≡ RecordError.ReadFault → Rose (S.faults input.old) (S.faults input.new)) }
     ensures grows { IfOk result (λ p. p.last ≡ false → lines.old.held.given < lines.new.held.given) }
     ensures order { lines.old.held.given ≤ lines.new.held.given }

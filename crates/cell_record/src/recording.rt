@@ -6,10 +6,11 @@ ghost use Rattle.std.specs.Option.{option_map};
 ghost use Rattle.cell_io.specs.Faults.{Rose};
 ghost use Rattle.cell_io.specs.Lines.{lines_of};
 ghost use Rattle.cell_io.specs.Held.{ahead, IsLaterPart};
+ghost use Rattle.cell_config.specs.Said.{IsConfig};
 ghost use Rattle.cell_record.specs.EventLine.{IsRecorded};
-ghost use Rattle.cell_record.specs.Recording.{reading_of_text, opening_of_text, default_clients, refused, ended, with_phase};
+ghost use Rattle.cell_record.specs.Recording.{reading_of_text, opening_of_text, config_of_text, opened, refused, ended, with_phase};
 ghost use Rattle.cell_record.specs.Grammar.{phase_ms};
-ghost use Rattle.cell_record.specs.Numbered.{opened, IsPart};
+ghost use Rattle.cell_record.specs.Numbered.{IsPart};
 ghost use Rattle.cell_record.specs.Progress.{Progress, place_of, rest_of, Becomes, IsStated};
 
 use crate::RecordError;
@@ -17,12 +18,11 @@ use crate::counts::Counts;
 use crate::numbered::NumberedLines;
 use crate::opening::read_opening;
 use crate::phase_lines::read_phase;
+use cell_config::Config;
 use cell_io::Source;
 use mms_types::Events;
 use std::alloc::Global;
 use std::marker::Model;
-
-const CLIENTS: u32 = 4;
 
 /// A phase of a recording.
 #[derive(Drop)]
@@ -37,7 +37,7 @@ pub struct Phase {
 #[derive(Drop)]
 pub struct Recording {
     lines: NumberedLines,
-    clients: u32,
+    config: Config,
     moment: u64,
     number: u32,
     over: bool,
@@ -54,7 +54,7 @@ impl Model for Recording {
 
     ghost view = { λ s. record {
       held = s.lines.held;
-      clients = s.clients;
+      config = s.config;
       lines = s.lines.lines;
       moment = s.moment;
       number = s.number;
@@ -66,16 +66,20 @@ impl Model for Recording {
 }
 
 impl Recording {
-    /// Reads the lines of a recording up to `end`: the header, `config`, and lines that are blank or
-    /// comments. `Bad` tells the first line that breaks a rule, or is missing, and `TooMuch` the line
-    /// that holds the octet after the last that may be read. Part of the source may have been read
-    /// after any refusal.
+    /// Reads the lines of a recording up to `end`: the header, `config`, and the configuration. `Bad`
+    /// tells the first line that breaks a rule, or is missing, `TooMuch` the line that holds the octet
+    /// after the last that may be read, and `BadConfig` the least rule that the configuration breaks,
+    /// once its lines and `end` were read. Part of the source may have been read after any refusal.
     pub fn open<S: Source>(alloc: Global, input: &mut S) -> Result<Recording, RecordError>
         // The lines up to `end` are of their forms, and the phases are those of what is ahead.
         ensures opens { IfOk result (λ r. Becomes (option_map opening_of_text (S.left input.old)) (λ o. o)
-            (option_map (λ text. opened (lines_of text) (place_of r)) (ahead r.held (S.left input.new)))) }
+            (option_map (λ text. opened r.config (lines_of text) (place_of r)) (ahead r.held (S.left input.new)))) }
         ensures begins { IfOk result (λ r. Becomes (option_map reading_of_text (S.left input.old)) (λ s. s) (rest_of r (S.left input.new))) }
-        ensures new { IfOk result (λ r. (r.clients ≡ default_clients) × (r.moment ≡ 0) × (r.number ≡ 0) × (r.over ≡ false) × (r.refusal ≡ None)) }
+
+        // It begins with the configuration that the text tells, at its moment.
+        ensures new { IfOk result (λ r. (r.moment ≡ r.config.start.0) × (r.number ≡ 0) × (r.over ≡ false) × (r.refusal ≡ None)) }
+        ensures tells { IfOk result (λ r. IfSome (S.left input.old) (λ text. config_of_text text ≡ Some r.config)) }
+        ensures config { IfOk result (λ r. IsConfig r.config) }
 
         // Why it is refused.
         ensures refused { IfErr result (λ e. IsStated e → IfSome (S.left input.old) (λ text. opening_of_text text ≡ Err e)) }
@@ -89,14 +93,15 @@ impl Recording {
             Ok(lines) => lines,
             Err(refusal) => return Err(refusal),
         };
-        match read_opening(&mut lines, input) {
-            Ok(()) => {}
+        let config = match read_opening(alloc, &mut lines, input) {
+            Ok(config) => config,
             Err(refusal) => return Err(refusal),
-        }
+        };
+        let moment = config.start.0;
         Ok(Recording {
             lines,
-            clients: CLIENTS,
-            moment: 0,
+            config,
+            moment,
             number: 0,
             over: false,
             refusal: None,
@@ -104,11 +109,11 @@ impl Recording {
         })
     }
 
-    /// How many clients there are.
-    pub fn clients(&self) -> u32
-        ensures { result ≡ self.now.clients }
+    /// The configuration that was read. Takes no memory.
+    pub fn config(&self) -> &Config
+        ensures { result.now ≡ self.now.config }
     {
-        self.clients
+        &self.config
     }
 
     /// Reads the next phase whole: None exactly at the end of the input, after the last phase. `Bad`
@@ -128,7 +133,7 @@ impl Recording {
         ensures ended { IfOk result (λ o. MatchOption o ⊤ (λ _. self.new.over ≡ true → IsAtEnd (S.left input.new))) }
         ensures unread { IfOk result (λ o. MatchOption o (input.new ≡ input.old) (λ _. ⊤)) }
         ensures number { IfOk result (λ o. MatchOption o ⊤ (λ p. (p.number ≡ self.old.number + 1) × (self.new.number ≡ p.number) × (p.number < 2 ^ 32))) }
-        ensures recorded { IfOk result (λ o. MatchOption o ⊤ (λ p. All (IsRecorded self.new.clients) p.events)) }
+        ensures recorded { IfOk result (λ o. MatchOption o ⊤ (λ p. All (IsRecorded self.new.config.clients) p.events)) }
         ensures few { IfOk result (λ o. MatchOption o ⊤ (λ p. length p.events ≤ 16384)) }
 
         // The moment goes on with the phase's ticks, and never passes the last one.
@@ -143,7 +148,7 @@ impl Recording {
         ensures again { MatchOption self.old.refusal ⊤ (λ e. result ≡ Err e) }
 
         // On every answer.
-        ensures clients { self.new.clients ≡ self.old.clients }
+        ensures config { self.new.config ≡ self.old.config }
         ensures left { IsLaterPart (S.left input.old) (S.left input.new) }
         ensures later { S.faults input.old ≤ S.faults input.new }
     {
@@ -173,14 +178,14 @@ impl Recording {
         requires open { self.old.over ≡ false }
         requires unrefused { self.old.refusal ≡ None }
         ensures phase { IfOk result (λ es. Becomes (rest_of self.old (S.left input.old)) (with_phase es) (rest_of self.new (S.left input.new))) }
-        ensures recorded { IfOk result (λ es. All (IsRecorded self.old.clients) es) }
+        ensures recorded { IfOk result (λ es. All (IsRecorded self.old.config.clients) es) }
         ensures few { IfOk result (λ es. length es ≤ 16384) }
         ensures moment { IfOk result (λ es. self.new.moment ≡ self.old.moment + phase_ms es) }
         ensures over { OnOk result (self.new.over ≡ true → IsAtEnd (S.left input.new)) }
         ensures number { OnOk result (self.new.number ≡ self.old.number + 1) }
         ensures refused { IfErr result (λ e. IsStated e → IfSome (rest_of self.old (S.left input.old)) (λ r. r ≡ refused e)) }
         ensures fault { IfErr result (λ e. e ≡ RecordError.ReadFault → Rose (S.faults input.old) (S.faults input.new)) }
-        ensures same { (self.new.clients ≡ self.old.clients) × (self.new.refusal ≡ self.old.refusal) }
+        ensures same { (self.new.config ≡ self.old.config) × (self.new.refusal ≡ self.old.refusal) }
         ensures left { IsPart (S.left input.old) (S.left input.new) }
         ensures later { S.faults input.old ≤ S.faults input.new }
     {
@@ -189,7 +194,7 @@ impl Recording {
         match read_phase(
             alloc,
             &mut self.lines,
-            self.clients,
+            self.config.clients,
             &mut counts,
             &mut self.buffer,
             input,

@@ -11,7 +11,7 @@ pub enum BadWord {
     /// 1,048,576 octets.
     #[error("config")]
     Config,
-    /// The line has more than 196,608 octets.
+    /// The line has more than 196,608 octets, its end not counted.
     #[error("long")]
     Long,
     /// The line begins with no digit, and is of no form.
@@ -27,9 +27,6 @@ pub enum BadWord {
     /// The moment would pass the last one that a time names.
     #[error("clock")]
     Clock,
-    /// A line of the configuration is neither blank nor a comment, and isn't read yet.
-    #[error("later")]
-    Later,
 }
 
 /// Why a recording isn't read any further.
@@ -41,7 +38,7 @@ pub enum RecordError {
     /// The line of that number, from 1, breaks a rule, or is missing.
     #[error("bad {line} {word}")]
     Bad { line: u64, word: BadWord },
-    /// The configuration breaks the rule of that number.
+    /// The configuration breaks the rule of that number, and no rule of a lesser one.
     #[error("bad config {rule}")]
     BadConfig { rule: u8 },
     /// With the line of that number, from 1, a phase has more than 16,384 events or 67,108,864

@@ -2,11 +2,15 @@ use crate::{
     BadWord, ClientOutputs, PlacedEvents, RecordError, Recording, Told, WriteError, write_phase,
 };
 use cell_io::{MemorySink, MemorySource};
-use mms_types::{CellEvent, Memory, Octets, What};
+use mms_types::{CellEvent, Memory, Moment, Octets, What};
 use std::alloc::{AllocError, Global};
 use std::test::Fail;
 
-const HEAD: &[u8] = b"mms-recording 1\nconfig\nend\n";
+/// The lines before the configuration's.
+const FRONT: &[u8] = b"mms-recording 1\nconfig\n";
+
+/// The lines of a configuration that starts at the last moment.
+const AT_LAST: &[u8] = b"day = 65535\nms = 86399999\n";
 
 /// What was read of a text: how many phases and events, and what refused it.
 #[derive(Clone, Copy, Debug, PartialEq, Eq)]
@@ -46,11 +50,24 @@ fn read_all(alloc: Global, text: Vec<u8>) -> Summary {
     summary
 }
 
-/// The text of a recording with these event lines.
-fn recorded(alloc: Global, lines: &[u8]) -> Result<Vec<u8>, AllocError> {
-    let mut text = Vec::from_slice(alloc, HEAD)?;
+/// The text of a recording with these lines of the configuration and these event lines.
+fn configured(alloc: Global, config: &[u8], lines: &[u8]) -> Result<Vec<u8>, AllocError> {
+    let mut text = Vec::from_slice(alloc, FRONT)?;
+    text.extend_from_slice(config)?;
+    text.extend_from_slice(b"end\n")?;
     text.extend_from_slice(lines)?;
     Ok(text)
+}
+
+/// The text of a recording with these event lines.
+fn recorded(alloc: Global, lines: &[u8]) -> Result<Vec<u8>, AllocError> {
+    configured(alloc, b"", lines)
+}
+
+/// Puts an octet so many times behind a text.
+fn put_many(text: &mut Vec<u8>, octet: u8, count: usize) -> Result<(), AllocError> {
+    let end = text.len().saturating_add(count);
+    text.resize(end, octet)
 }
 
 fn bad(line: u64, word: BadWord) -> Option<RecordError> {
@@ -60,10 +77,11 @@ fn bad(line: u64, word: BadWord) -> Option<RecordError> {
 #[test]
 fn the_lines_up_to_end_stand_first(rt: HostRuntime) -> Result<(), Fail> {
     let alloc = rt.alloc();
-    let texts: [(&[u8], u64, BadWord); 10] = [
+    let texts: [(&[u8], u64, BadWord); 11] = [
         (b"", 1, BadWord::Header),
         (b"mms-recording 2\n", 1, BadWord::Header),
         (b" mms-recording 1\nconfig\nend\n", 1, BadWord::Header),
+        (b"9 A\nconfig\nend\n", 1, BadWord::Header),
         (b"mms-recording 1\n", 2, BadWord::Config),
         (b"mms-recording 1\nconfig \nend\n", 2, BadWord::Config),
         (b"mms-recording 1\nconfig\n", 3, BadWord::Config),
@@ -73,11 +91,11 @@ fn the_lines_up_to_end_stand_first(rt: HostRuntime) -> Result<(), Fail> {
             BadWord::Config,
         ),
         (
-            b"mms-recording 1\nconfig\nclients = 4\nend\n",
-            3,
-            BadWord::Later,
+            b"mms-recording 1\nconfig\nclients = 0\nx\n",
+            5,
+            BadWord::Config,
         ),
-        (b"mms-recording 1\nconfig\n end\nend\n", 3, BadWord::Later),
+        (b"mms-recording 1\nconfig\n end", 4, BadWord::Config),
         (
             b"mms-recording 1\nconfig\n \t# one\n\nend\nx",
             6,
@@ -87,6 +105,80 @@ fn the_lines_up_to_end_stand_first(rt: HostRuntime) -> Result<(), Fail> {
     for (text, line, word) in texts {
         let read = read_all(alloc, Vec::from_slice(alloc, text)?);
         assert_eq!(rt; read.refusal, bad(line, word));
+    }
+    Ok(())
+}
+
+#[test]
+fn a_configuration_is_told_by_its_least_broken_rule(rt: HostRuntime) -> Result<(), Fail> {
+    let alloc = rt.alloc();
+    for (config, rule) in [
+        ("clients\n", 0),
+        (" end\n", 0),
+        ("vendor = '''\nend\n'''\n", 0),
+        ("client = 4\n", 1),
+        ("clients = 0\r\n", 2),
+        ("vendor = ''\n", 3),
+        ("vendor = ''\n# one\n\nday = 65536\n", 2),
+    ] {
+        let text = configured(alloc, config.as_bytes(), b"x\n")?;
+        assert_eq!(rt;
+            read_all(alloc, text).refusal,
+            Some(RecordError::BadConfig { rule }),
+            "of {config:?}"
+        );
+    }
+    Ok(())
+}
+
+#[test]
+fn a_configuration_is_kept(rt: HostRuntime) -> Result<(), Fail> {
+    let alloc = rt.alloc();
+    for (config, clients, start, vendor) in [
+        ("", 4, 0, "VMD"),
+        ("\r\n# one\r\nclients = 64\r\n", 64, 0, "VMD"),
+        (
+            "clients = 1\nday = 1\nms = 2\nvendor = 'end'\n",
+            1,
+            86_400_002,
+            "end",
+        ),
+    ] {
+        let text = configured(alloc, config.as_bytes(), b"")?;
+        let mut source = MemorySource::new(text, Vec::new(alloc));
+        let recording = Recording::open(alloc, &mut source)?;
+        let told = recording.config();
+        assert!(rt;
+            (told.clients, told.start, told.vendor.as_slice())
+                == (clients, Moment(start), vendor.as_bytes()),
+            "of {config:?}"
+        );
+    }
+    Ok(())
+}
+
+#[test]
+fn events_are_of_the_clients_and_the_moment_of_the_configuration(
+    rt: HostRuntime,
+) -> Result<(), Fail> {
+    let alloc = rt.alloc();
+    let texts: [(&[u8], &[u8], Option<RecordError>); 8] = [
+        (b"clients = 64\n", b"64 8B00\nlost 64\n", None),
+        (b"clients = 64\n", b"65 8B00\n", bad(5, BadWord::Client)),
+        (b"clients = 1\n", b"lost 2\n", bad(5, BadWord::Client)),
+        (AT_LAST, b"tick 1\n", bad(6, BadWord::Clock)),
+        (AT_LAST, b"1 8B00\nphase\ntick 1\n", bad(8, BadWord::Clock)),
+        (b"day = 65535\nms = 86399998\n", b"tick 1\n", None),
+        (
+            b"day = 65535\nms = 86399998\n",
+            b"tick 1\nphase\ntick 1\n",
+            bad(8, BadWord::Clock),
+        ),
+        (b"day = 65534\nms = 86399999\n", b"tick 3600000\n", None),
+    ];
+    for (config, lines, refusal) in texts {
+        let text = configured(alloc, config, lines)?;
+        assert_eq!(rt; read_all(alloc, text).refusal, refusal);
     }
     Ok(())
 }
@@ -171,13 +263,136 @@ fn phase_lines_part_phases(rt: HostRuntime) -> Result<(), Fail> {
     Ok(())
 }
 
+/// An event line of `front`, so many spaces and `back`, behind so many events.
+#[derive(Clone, Copy)]
+struct Line {
+    config: &'static [u8],
+    events: usize,
+    front: &'static [u8],
+    spaces: usize,
+    back: &'static [u8],
+}
+
+impl Line {
+    fn new(config: &'static [u8], events: usize, front: &'static [u8]) -> Line {
+        Line {
+            config,
+            events,
+            front,
+            spaces: 0,
+            back: b"",
+        }
+    }
+
+    /// A line that is too long.
+    fn long(
+        config: &'static [u8],
+        events: usize,
+        front: &'static [u8],
+        back: &'static [u8],
+    ) -> Line {
+        Line {
+            config,
+            events,
+            front,
+            spaces: 196_608,
+            back,
+        }
+    }
+
+    fn text(&self, alloc: Global) -> Result<Vec<u8>, AllocError> {
+        let mut text = configured(alloc, self.config, b"")?;
+        for _ in 0..self.events {
+            text.extend_from_slice(b"lost 1\n")?;
+        }
+        text.extend_from_slice(self.front)?;
+        put_many(&mut text, b' ', self.spaces)?;
+        text.extend_from_slice(self.back)?;
+        Ok(text)
+    }
+}
+
+#[test]
+fn the_first_word_that_applies_to_an_event_line_is_told(rt: HostRuntime) -> Result<(), Fail> {
+    let alloc = rt.alloc();
+    let much = Some(RecordError::TooMuch { line: 16_388 });
+    let lines = [
+        (Line::long(b"", 0, b"x", b"y"), bad(4, BadWord::Long)),
+        (Line::long(b"", 0, b"1 8", b"0"), bad(4, BadWord::Long)),
+        (Line::long(b"", 0, b"9 8B", b"00"), bad(4, BadWord::Long)),
+        (Line::long(AT_LAST, 0, b"tick", b"1"), bad(6, BadWord::Long)),
+        (
+            Line::long(b"", 16_384, b"lost", b"1"),
+            bad(16_388, BadWord::Long),
+        ),
+        (
+            Line::new(b"", 0, b"lost 1234567890"),
+            bad(4, BadWord::Event),
+        ),
+        (
+            Line::new(AT_LAST, 0, b"tick 3600001"),
+            bad(6, BadWord::Event),
+        ),
+        (Line::new(b"", 16_384, b"x"), bad(16_388, BadWord::Event)),
+        (Line::new(b"", 0, b"9 8B0"), bad(4, BadWord::Hex)),
+        (Line::new(b"", 16_384, b"1 8B0"), bad(16_388, BadWord::Hex)),
+        (
+            Line::new(b"", 16_384, b"9 8B"),
+            bad(16_388, BadWord::Client),
+        ),
+        (
+            Line::new(AT_LAST, 16_384, b"tick 1"),
+            bad(16_390, BadWord::Clock),
+        ),
+        (Line::new(b"", 16_384, b"# 9"), None),
+        (Line::new(b"", 16_384, b"1 8B"), much),
+    ];
+    for (line, refusal) in lines {
+        assert_eq!(rt; read_all(alloc, line.text(alloc)?).refusal, refusal);
+    }
+    Ok(())
+}
+
+#[test]
+fn the_configurations_text_and_its_lines_have_limits(rt: HostRuntime) -> Result<(), Fail> {
+    let alloc = rt.alloc();
+    let long = 196_608;
+    // So many lines of that length, and a last one.
+    for (count, last, refusal) in [
+        (5, 65_530, None),
+        (5, 65_531, bad(8, BadWord::Config)),
+        (5, long + 1, bad(8, BadWord::Config)),
+        (0, long + 1, bad(3, BadWord::Long)),
+        (0, 1_048_575, bad(3, BadWord::Long)),
+        (0, 1_048_576, bad(3, BadWord::Config)),
+    ] {
+        let mut text = Vec::from_slice(alloc, FRONT)?;
+        for _ in 0..count {
+            put_many(&mut text, b'#', long)?;
+            text.push(b'\n')?;
+        }
+        put_many(&mut text, b'#', last)?;
+        text.push(b'\n')?;
+        text.extend_from_slice(b"end\n")?;
+        assert_eq!(rt; read_all(alloc, text).refusal, refusal);
+    }
+    for (front, refusal) in [
+        (b"".as_slice(), bad(1, BadWord::Header)),
+        (b"mms-recording 1\n".as_slice(), bad(2, BadWord::Config)),
+    ] {
+        let mut text = Vec::from_slice(alloc, front)?;
+        put_many(&mut text, b'#', long + 1)?;
+        assert_eq!(rt; read_all(alloc, text).refusal, refusal);
+    }
+    Ok(())
+}
+
 #[test]
 fn limits_are_met_at_the_line_that_passes_them(rt: HostRuntime) -> Result<(), Fail> {
     let alloc = rt.alloc();
     for (size, refusal) in [(196_608, None), (196_609, bad(4, BadWord::Long))] {
         let mut text = recorded(alloc, b"")?;
-        let end = text.len().saturating_add(size);
-        text.resize(end, b'#')?;
+        put_many(&mut text, b'#', size)?;
         text.extend_from_slice(b"\r\n")?;
         assert_eq!(rt; read_all(alloc, text).refusal, refusal);
     }
@@ -198,7 +413,7 @@ fn a_refusal_is_answered_again(rt: HostRuntime) -> Result<(), Fail> {
     let text = recorded(alloc, b"4 8B 0a\nphase\nlost 5\n1 A0\n")?;
     let mut source = MemorySource::new(text, Vec::new(alloc));
     let mut recording = Recording::open(alloc, &mut source)?;
-    assert_eq!(rt; recording.clients(), 4);
+    assert_eq!(rt; recording.config().clients, 4);
     let Some(phase) = recording.next_phase(alloc, &mut source)? else {
         panic!(rt; "no phase")
     };

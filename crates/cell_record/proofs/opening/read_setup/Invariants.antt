@@ -1,13 +1,12 @@
-use Rattle.std.proofs.Common.{◌+◌, ◌≤◌}
-use Rattle.cell_record.specs.Recording.{default_clients}
+use Rattle.std.proofs.Common.{◌+◌, ◌≤◌, [], length}
 use Rattle.cell_record.specs.Numbered.{IsPart, at, setup}
 use Rattle.cell_record.specs.Progress.{Becomes}
 use Rattle.cell_record.proofs.opening.read_setup.Given as goal
 
 abbrev pub invariant-loop-turn : goal.invariant-loop-turn
 invariant-loop-turn g l = record {
-  rest : Becomes (at (setup 0) default_clients l.initial.lines (g.S.Source.left l.initial.input)) (λ r. r) (at (setup l.size) default_clients l.lines (g.S.Source.left l.input));
-  size : l.size ≤ 1048576;
+  rest : Becomes (at (setup []) l.initial.lines (g.S.Source.left l.initial.input)) (λ r. r) (at (setup l.text.items) l.lines (g.S.Source.left l.input));
+  size : length l.text.items ≤ 1048576;
   turns : l._turn + l.initial.lines.held.given ≤ l.lines.held.given;
   most : l.lines.held.given ≤ 4294967296;
   left : IsPart (g.S.Source.left l.initial.input) (g.S.Source.left l.input);

@@ -10,32 +10,32 @@ use Rattle.cell_record.proofs.phase_lines.next_said.Goals as goal
 pub returns-in-Err-clause-refused : goal.returns-in-Err-clause-refused
 returns-in-Err-clause-refused g c = λ s.
     let m = c.in-Err.ensures.too_much s in
-    let p = place_at c.args.clients c.args.lines.now in
-    rw m.0 (much (phases c.args.counts.now) (refused (TooMuch (p.lines + 1))) (ahead c.args.lines.now.held (g.S.Source.left c.args.input.now)) p (omega (arith, c.given-given.ensures.given, c.given-given.ensures.most)) m.1
-    (λ l rest f. much_says c.args.counts.now p l rest f))
+    let p = place_at c.args.lines.now in
+    rw m.0 (much (phases c.args.clients c.args.counts.now) (refused (TooMuch (p.lines + 1))) (ahead c.args.lines.now.held (g.S.Source.left c.args.input.now)) p (omega (arith, c.given-given.ensures.given, c.given-given.ensures.most)) m.1
+    (λ l rest f. much_says c.args.clients c.args.counts.now p l rest f))
 
 pub returns-in-None-clause-says : goal.returns-in-None-clause-says
 returns-in-None-clause-says g c =
-    let p = place_at c.args.clients c.args.lines.now in
+    let p = place_at c.args.lines.now in
     let e = ap (said_of c.args.clients) (sym c.content.ensures) ∙ c.in-Ok.ensures.says in
     let none = c.in-None.ensures.refusal ∙ ap (λ (n : ℕ). refusal_of (n + 1) c.count.new.self c.in-Ok.said) c.count-number.ensures.count in
-    rw (c.in-Ok-true.ensures.count c.in-Ok-true.field-0-test) (there (phases c.args.counts.now) (phases c.count.new.self) (makes c.in-Ok.said) (ahead c.args.lines.now.held (g.S.Source.left c.args.input.now))
+    rw (c.in-Ok-true.ensures.count c.in-Ok-true.field-0-test) (there (phases c.args.clients c.args.counts.now) (phases c.args.clients c.count.new.self) (makes c.in-Ok.said) (ahead c.args.lines.now.held (g.S.Source.left c.args.input.now))
     (ahead c.next.new.self.held (g.S.Source.left c.next.new.input)) c.next.new.self.line p c.next.new.self.held.given c.next.ensures.most (c.in-Ok-true.ensures.gives c.in-Ok-true.field-0-test)
-    (λ l rest k n f. says c.args.counts.now c.count.new.self p c.next.new.self.line l rest c.in-Ok.said e c.in-None.ensures.counts none k f))
+    (λ l rest k n f. says c.args.clients c.args.counts.now c.count.new.self p c.next.new.self.line l rest c.in-Ok.said e c.in-None.ensures.counts none k f))
 
 pub returns-in-Some-clause-refused : goal.returns-in-Some-clause-refused
 returns-in-Some-clause-refused g c = λ _.
-    let p = place_at c.args.clients c.args.lines.now in
+    let p = place_at c.args.lines.now in
     let e = ap (said_of c.args.clients) (sym c.content.ensures) ∙ c.in-Ok.ensures.says in
     let there = c.in-Some.ensures.refusal ∙ ap (λ (n : ℕ). refusal_of (n + 1) c.count.new.self c.in-Ok.said) c.count-number.ensures.count in
-    is (phases c.args.counts.now) (refused c.in-Some.refusal) (ahead c.args.lines.now.held (g.S.Source.left c.args.input.now))
+    is (phases c.args.clients c.args.counts.now) (refused c.in-Some.refusal) (ahead c.args.lines.now.held (g.S.Source.left c.args.input.now))
     (ahead c.next.new.self.held (g.S.Source.left c.next.new.input)) c.next.new.self.line p c.next.new.self.held.given c.next.ensures.most (c.in-Ok-true.ensures.gives c.in-Ok-true.field-0-test)
-    (λ l rest k n f. says_much c.args.counts.now c.count.new.self p c.next.new.self.line l rest c.in-Ok.said c.in-Some.refusal e c.in-Some.ensures.counts there k f)
+    (λ l rest k n f. says_much c.args.clients c.args.counts.now c.count.new.self p c.next.new.self.line l rest c.in-Ok.said c.in-Some.refusal e c.in-Some.ensures.counts there k f)
 
 pub returns-in-Err-Bad-clause-refused : goal.returns-in-Err-Bad-clause-refused
 returns-in-Err-Bad-clause-refused g c = λ _.
-    let p = place_at c.args.clients c.args.lines.now in
+    let p = place_at c.args.lines.now in
     let e = ap (said_of c.args.clients) (sym c.content.ensures) ∙ (rw c.in-Err-Bad.field-0-is at c.in-Err-Bad.ensures.bad) in
-    rw c.count-number.ensures.count (is (phases c.args.counts.now) (refused (Bad (p.lines + 1) c.in-Err-Bad.word)) (ahead c.args.lines.now.held (g.S.Source.left c.args.input.now))
+    rw c.count-number.ensures.count (is (phases c.args.clients c.args.counts.now) (refused (Bad (p.lines + 1) c.in-Err-Bad.word)) (ahead c.args.lines.now.held (g.S.Source.left c.args.input.now))
     (ahead c.next.new.self.held (g.S.Source.left c.next.new.input)) c.next.new.self.line p c.next.new.self.held.given c.next.ensures.most (c.in-Ok-true.ensures.gives c.in-Ok-true.field-0-test)
-    (λ l rest k n f. says_bad c.args.counts.now p c.next.new.self.line l rest c.in-Err-Bad.word e k f))
+    (λ l rest k n f. says_bad c.args.clients c.args.counts.now p c.next.new.self.line l rest c.in-Err-Bad.word e k f))

@@ -9,7 +9,7 @@ use Rattle.cell_record.proofs.phase_lines.read_phase.Given as goal
 
 abbrev pub invariant-loop-turn : goal.invariant-loop-turn
 invariant-loop-turn g l = record {
-  rest : Becomes (at (phases l.initial.counts) l.clients l.initial.lines (g.S.Source.left l.initial.input)) (with_events l.events) (at (phases l.counts) l.clients l.lines (g.S.Source.left l.input));
+  rest : Becomes (at (phases l.clients l.initial.counts) l.initial.lines (g.S.Source.left l.initial.input)) (with_events l.events) (at (phases l.clients l.counts) l.lines (g.S.Source.left l.input));
   recorded : All (IsRecorded l.clients) l.events;
   size : length l.events ≡ l.counts.events;
   within : IsWithin l.counts;

@@ -1,5 +1,4 @@
 use Rattle.std.proofs.Common.{◌≡◌, ◌<◌, ℕ, List, length, Some, slice_get, ap, ap₂, sym, ◌∙◌, subst, arith}
-use Rattle.std.specs.List.{zip}
 use Rattle.mms_types.specs.declared.event.CellEvent.{CellEvent}
 use Rattle.cell_record.proofs.Placing.{zip_length, zip_at}
 use Rattle.cell_record.proofs.told.PlacedEvents.at.Goals as goal
