@@ -4,3 +4,4 @@ pub mod Order
 pub mod KeyLaws
 pub mod OptionBits
 pub mod Moments
+pub mod Classes

@@ -1,5 +1,8 @@
-ghost use Rattle.std.specs.Prelude.{◌≡◌, ◌==◌, [], ◌∷◌, ◌++◌, OnOk, OnErr, IfOk, length, slice_get};
+ghost use Rattle.std.specs.Prelude.{◌≡◌, ◌==◌, [], ◌∷◌, ◌++◌, OnOk, OnErr, IfOk, length, nat_eq, slice_get};
+ghost use Rattle.std.specs.Cmp.Lexicographic.{pointwise};
+ghost use Rattle.std.specs.Cmp.Rules.{comparing};
 ghost use Rattle.std.specs.Option.{option_copied};
+ghost use Rattle.std.proofs.Common.{rules};
 
 use crate::{Identifier, Memory};
 use std::alloc::Global;
@@ -76,6 +79,29 @@ impl Identifiers {
         }
         Ok(names)
     }
+}
+
+/// The identifiers of a vector, in its order.
+impl From<Vec<Identifier>> for Identifiers {
+    ghost from_gives = { λ list names. names ≡ list.items };
+
+    fn from(list: Vec<Identifier>) -> Identifiers {
+        Identifiers { list }
+    }
+}
+
+impl PartialEq for Identifiers {
+    ghost eq = { pointwise (pointwise nat_eq) };
+
+    ghost laws = { Prim.search (comparing, rules) };
+
+    fn eq(&self, other: &Identifiers) -> bool {
+        self.list == other.list
+    }
+}
+
+impl Eq for Identifiers {
+    ghost laws = { Prim.search (comparing, rules) };
 }
 
 #[cfg(test)]

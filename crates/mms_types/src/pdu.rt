@@ -1,10 +1,22 @@
-use crate::{Initiate, InitiateAnswer, Octets, ServiceError};
+use crate::{
+    Identifier, Identifiers, Initiate, InitiateAnswer, ObjectClass, ObjectScope, Octets,
+    ServiceError,
+};
 
 /// What a client asks of the server (ISO 9506-2, ConfirmedServiceRequest).
 #[derive(Debug, PartialEq, Eq, Drop)]
 pub enum Request {
     /// The state of the device; `derivation` asks for the extended one.
-    Status { derivation: bool },
+    Status {
+        derivation: bool,
+    },
+    /// The names of the objects of a class in a scope, in order of octets: those that come after a name, where one is given, and
+    /// otherwise from the first.
+    GetNameList {
+        class: ObjectClass,
+        scope: ObjectScope,
+        after: Option<Identifier>,
+    },
     /// Who made the device, which one it is and its revision.
     Identify,
 }
@@ -16,6 +28,11 @@ pub enum Answer {
     Status {
         logical: u8,
         physical: u8,
+    },
+    /// The names, and whether more come after them.
+    GetNameList {
+        names: Identifiers,
+        more: bool,
     },
     /// The texts that identify the device.
     Identify {

@@ -112,11 +112,12 @@ fn bits_of_options(rt: HostRuntime) {
         assert_eq!(rt; parameters.has(bit), want, "at {bit}");
     }
     let services = ServiceOptions {
-        octets: [0xA0, 0, 0, 0, 0, 0, 0, 0, 0, 0, 0x18],
+        octets: [0xE0, 0, 0, 0, 0, 0, 0, 0, 0, 0, 0x18],
     };
     for bit in 0..85 {
         let want = [
             ServiceOptions::STATUS,
+            ServiceOptions::GET_NAME_LIST,
             ServiceOptions::IDENTIFY,
             ServiceOptions::CONCLUDE,
             ServiceOptions::CANCEL,
@@ -149,4 +150,27 @@ fn the_last_moment(rt: HostRuntime) {
     assert_eq!(rt; Moment::of(65_535, 86_399_999), Moment::LAST);
     assert!(rt; Moment::LAST.is_dated());
     assert!(rt; !Moment(5_662_310_400_000).is_dated());
+}
+
+#[test]
+fn classes_by_their_numbers(rt: HostRuntime) {
+    let table = [
+        ObjectClass::NamedVariable,
+        ObjectClass::ScatteredAccess,
+        ObjectClass::NamedVariableList,
+        ObjectClass::NamedType,
+        ObjectClass::Semaphore,
+        ObjectClass::EventCondition,
+        ObjectClass::EventAction,
+        ObjectClass::EventEnrollment,
+        ObjectClass::Journal,
+        ObjectClass::Domain,
+        ObjectClass::ProgramInvocation,
+        ObjectClass::OperatorStation,
+    ];
+    for number in 0..12 {
+        let class = table[usize::from(number)];
+        assert_eq!(rt; ObjectClass::numbered(number), class);
+        assert_eq!(rt; class.number(), number);
+    }
 }

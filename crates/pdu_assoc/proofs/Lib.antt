@@ -1,3 +1,4 @@
 pub mod Numbered
 pub mod InRange
 pub mod Back
+pub mod NameLists

@@ -7,3 +7,4 @@ pub mod Identify
 pub mod Cancel
 pub mod ConfirmedError
 pub mod Heard
+pub mod NameList

@@ -1,7 +1,10 @@
 //! What holds of the forms that are read and written.
 
 ghost use Rattle.std.specs.Prelude.{◌≡◌, Bool, ⊤};
+ghost use Rattle.ber_forms.specs.Spelling.{spelling};
+ghost use Rattle.mms_types.specs.declared.identifier.Edition.{Edition};
 ghost use Rattle.mms_types.specs.declared.initiate.Initiate.{Initiate};
+ghost use Rattle.mms_types.specs.Spelling.{widest};
 ghost use Rattle.pdu_names.specs.Spells.{Spells};
 ghost use Rattle.pdu_names.specs.Ranges.{IsUnsigned32};
 ghost use Rattle.pdu_assoc.specs.Cancel.{cancel_form, cancel_value, cancel_error_form, cancel_error_value, IsCancelError};
@@ -9,6 +12,9 @@ ghost use Rattle.pdu_assoc.specs.Conclude.{conclude_form, conclude_value};
 ghost use Rattle.pdu_assoc.specs.ConfirmedError.{confirmed_error_form, confirmed_error_value, IsConfirmedError};
 ghost use Rattle.pdu_assoc.specs.Identify.{identify_form, identify_value, identify_answer_form, identify_answer_value, IsIdentifyAnswer};
 ghost use Rattle.pdu_assoc.specs.Initiate.{initiate_form, initiate_value, initiate_of, IsProposal, initiate_answer_form, initiate_answer_value, IsInitiateAnswer};
+ghost use Rattle.pdu_assoc.specs.declared.name_list.GetNameList.{GetNameList};
+ghost use Rattle.pdu_assoc.specs.declared.name_list.GetNameListAnswer.{GetNameListAnswer};
+ghost use Rattle.pdu_assoc.specs.NameList.{name_list_form, name_list_value, name_list_of, IsNameList, name_list_answer_form, name_list_answer_value, name_list_answer_of, IsNameListAnswer};
 ghost use Rattle.pdu_assoc.specs.Reject.{reject_form, reject_value, IsReject};
 ghost use Rattle.pdu_assoc.specs.ServiceErrors.{service_error_form, service_error_value, IsServiceError};
 ghost use Rattle.pdu_assoc.specs.Status.{status_form, status_value, status_answer_form, status_answer_value, IsStatusAnswer};
@@ -37,6 +43,17 @@ pub fn spells_each_cancel()
 pub fn spells_each_identify()
     ensures requests { Spells {X = Unit {0}} identify_form (λ _. identify_value) (λ _. Unit {0}) }
     ensures answers { Spells identify_answer_form identify_answer_value IsIdentifyAnswer }
+{}
+
+/// Of each edition, GetNameList requests and their answers have one spelling each, which is read as what was spelled. Their values tell
+/// them, and they are spelled alike in each edition.
+pub fn spells_each_name_list()
+    ensures requests { (edition : Edition) → Spells (name_list_form edition) name_list_value (IsNameList edition) }
+    ensures answers { (edition : Edition) → Spells (name_list_answer_form edition) name_list_answer_value (IsNameListAnswer edition) }
+    ensures asked { (x : GetNameList) → name_list_of (name_list_value x) ≡ x }
+    ensures told { (x : GetNameListAnswer) → name_list_answer_of (name_list_answer_value x) ≡ x }
+    ensures asked_alike { (edition : Edition) (x : GetNameList) → spelling (name_list_form edition) (name_list_value x) ≡ spelling (name_list_form widest) (name_list_value x) }
+    ensures told_alike { (edition : Edition) (x : GetNameListAnswer) → spelling (name_list_answer_form edition) (name_list_answer_value x) ≡ spelling (name_list_answer_form widest) (name_list_answer_value x) }
 {}
 
 /// Rejects have one spelling each, which is read as what was spelled.

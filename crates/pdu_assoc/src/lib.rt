@@ -1,4 +1,4 @@
-//! The forms of the association's PDUs and of Status and Identify, both ways (ISO 9506-2).
+//! The forms of the association's PDUs and of Status, GetNameList and Identify, both ways (ISO 9506-2).
 #![tactic(auto)]
 
 mod cancel;
@@ -10,6 +10,7 @@ mod identify;
 mod initiate;
 mod initiate_answer;
 mod laws;
+mod name_list;
 mod reject;
 mod service_error;
 mod status;
@@ -31,9 +32,13 @@ pub use initiate::{read_initiate, write_initiate};
 pub use initiate_answer::{read_initiate_answer, write_initiate_answer};
 pub use laws::{
     spells_each_cancel, spells_each_error, spells_each_identify, spells_each_initiate,
-    spells_each_reject, spells_each_status,
+    spells_each_name_list, spells_each_reject, spells_each_status,
 };
 pub use mms_types::{Edition, Memory, ServiceError};
+pub use name_list::{
+    GetNameList, GetNameListAnswer, read_get_name_list, read_get_name_list_answer,
+    write_get_name_list, write_get_name_list_answer, write_name_list_asked, write_names_listed,
+};
 pub use reject::{read_reject, write_reject};
 pub use service_error::{read_service_error, write_service_error};
 pub use status::{

@@ -1,9 +1,11 @@
 use crate::*;
 use ber_core::Writer;
 use mms_types::{
-    Initiate, InitiateAnswer, InitiateDetail, ParameterOptions, Reject, RejectReason,
-    ServiceOptions, StateInfo,
+    Identifier, Identifiers, Initiate, InitiateAnswer, InitiateDetail, ObjectClass, ObjectScope,
+    ParameterOptions, Reject, RejectReason, ServiceOptions, StateInfo, Unnamed,
 };
+use std::alloc::Global;
+use std::test::Fail;
 
 /// A proposal as a client sends it: 65,000 octets, ten requests on each side, nesting 5.
 const PROPOSAL: [u8; 38] = [
@@ -291,4 +293,107 @@ fn what_is_only_heard(rt: HostRuntime) {
         assert_eq!(rt; read_heard_cancel(octets, Edition::One), Ok(()));
         assert_eq!(rt; read_heard_cancel_error(octets, Edition::One), Ok(()));
     }
+}
+
+fn name(alloc: Global, octets: &[u8]) -> Result<Identifier, Unnamed> {
+    Identifier::read(alloc, octets, Edition::One)
+}
+
+#[test]
+fn name_lists_are_asked_for(rt: HostRuntime) -> Result<(), Fail> {
+    let alloc = rt.alloc();
+    let table: [(&[u8], ObjectClass, ObjectScope, Option<Identifier>); 4] = [
+        (
+            b"\xA0\x03\x80\x01\x09\xA1\x02\x80\x00",
+            ObjectClass::Domain,
+            ObjectScope::Vmd,
+            None,
+        ),
+        (
+            b"\xA0\x03\x80\x01\x04\xA1\x03\x81\x01\x58",
+            ObjectClass::Semaphore,
+            ObjectScope::Domain(name(alloc, b"X")?),
+            None,
+        ),
+        (
+            b"\xA0\x03\x80\x01\x0B\xA1\x02\x82\x00\x82\x03S12",
+            ObjectClass::OperatorStation,
+            ObjectScope::Association,
+            Some(name(alloc, b"S12")?),
+        ),
+        (
+            b"\xA0\x03\x80\x01\x00\xA1\x22\x81\x20abcdefghijklmnopqrstuvwxyz_$0123\x82\x01A",
+            ObjectClass::NamedVariable,
+            ObjectScope::Domain(name(alloc, b"abcdefghijklmnopqrstuvwxyz_$0123")?),
+            Some(name(alloc, b"A")?),
+        ),
+    ];
+    for (octets, class, scope, after) in table {
+        let asked = GetNameList {
+            class,
+            scope,
+            after,
+        };
+        let mut out = Writer::new(alloc);
+        write_get_name_list(&mut out, &asked)?;
+        assert_eq!(rt; out.octets(), octets);
+        assert_eq!(rt; read_get_name_list(alloc, octets, Edition::One), Ok(asked));
+    }
+    Ok(())
+}
+
+#[test]
+fn contents_that_ask_for_no_name_list(rt: HostRuntime) {
+    let table: [&[u8]; 12] = [
+        b"",
+        // class 12, class -1, and a class that isn't basic
+        b"\xA0\x03\x80\x01\x0C\xA1\x02\x80\x00",
+        b"\xA0\x03\x80\x01\xFF\xA1\x02\x80\x00",
+        b"\xA0\x03\x81\x01\x09\xA1\x02\x80\x00",
+        // no scope, an empty one, two of them, one with an octet where none is, and one of another tag
+        b"\xA0\x03\x80\x01\x09",
+        b"\xA0\x03\x80\x01\x09\xA1\x00",
+        b"\xA0\x03\x80\x01\x09\xA1\x04\x80\x00\x82\x00",
+        b"\xA0\x03\x80\x01\x09\xA1\x03\x80\x01\x58",
+        b"\xA0\x03\x80\x01\x09\xA1\x02\x83\x00",
+        // a domain without a name, a name of 33 octets, and an octet behind it all
+        b"\xA0\x03\x80\x01\x09\xA1\x02\x81\x00",
+        b"\xA0\x03\x80\x01\x09\xA1\x23\x81\x21TTTTTTTTTTTTTTTTTTTTTTTTTTTTTTTTT",
+        b"\xA0\x03\x80\x01\x09\xA1\x02\x80\x00\x82\x01\x54\x00",
+    ];
+    for octets in table {
+        let read = read_get_name_list(rt.alloc(), octets, Edition::One);
+        assert_eq!(rt; read, Err(Unread::Malformed), "of {octets:?}");
+    }
+}
+
+#[test]
+fn name_lists_are_answered(rt: HostRuntime) -> Result<(), Fail> {
+    let alloc = rt.alloc();
+    let table: [(&[u8], &[&str], bool); 3] = [
+        (b"\xA0\x00\x81\x01\x00", &[], false),
+        (b"\xA0\x03\x1A\x01\x54\x81\x01\x00", &["T"], false),
+        (
+            b"\xA0\x07\x1A\x01\x54\x1A\x02\x54\x31\x81\x01\xFF",
+            &["T", "T1"],
+            true,
+        ),
+    ];
+    for (octets, texts, more) in table {
+        let mut names = Identifiers::new(alloc);
+        for text in texts {
+            names.push(name(alloc, text.as_bytes())?)?;
+        }
+        let answer = GetNameListAnswer { names, more };
+        let mut out = Writer::new(alloc);
+        write_get_name_list_answer(&mut out, &answer)?;
+        assert_eq!(rt; out.octets(), octets);
+        assert_eq!(rt;
+            read_get_name_list_answer(alloc, octets, Edition::One),
+            Ok(answer)
+        );
+    }
+    let unsaid = read_get_name_list_answer(alloc, b"\xA0\x00", Edition::One);
+    assert_eq!(rt; unsaid, Err(Unread::Malformed));
+    Ok(())
 }

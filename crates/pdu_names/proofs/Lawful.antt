@@ -1,13 +1,13 @@
 -- A form that is sound, whose views fit it and tell what they are of, is lawful.
-use Rattle.std.proofs.Common.{Option, Some, None, refl, ◌≡◌, ℕ, ◌<◌, sym, ap, ◌∙◌}
+use Rattle.std.proofs.Common.{Option, Some, None, List, [], ◌∷◌, map, refl, ◌≡◌, ℕ, ◌<◌, sym, ap, ap₂, ◌∙◌}
 use Rattle.std.specs.Prelude.{IsTrue}
 use Rattle.std.proofs.lemmas.Bool.{lt-ltb}
-use Rattle.ber_forms.specs.Value.{Value, optionally}
+use Rattle.ber_forms.specs.Value.{Value, optionally, all_of}
 use Rattle.ber_forms.specs.Form.{Form, tagged}
 use Rattle.ber_forms.specs.Fits.{Fits, is_sound, sound_member}
 use Rattle.ber_forms.proofs.Spelled.{form_spelled}
 use Rattle.ber_forms.proofs.Again.{spelled_says, one_spelling, no_other_member}
-use Rattle.pdu_names.specs.Said.{if_given}
+use Rattle.pdu_names.specs.Said.{if_given, each_given}
 use Rattle.pdu_names.specs.Spells.{Spells}
 
 member_sound : (class n : ℕ) (f : Form) → class < 4 → n < 16384 → IsTrue (is_sound f) → IsTrue (sound_member (tagged class n f))
@@ -33,3 +33,8 @@ lawful f view InRange sound fits back again = record {
 pub if_given_again : {X : Type 0} (view : X → Value) (back : Value → X) → ((x : X) → back (view x) ≡ x) → (o : Option X) → if_given back (optionally view o) ≡ o
 if_given_again view back again None = refl
 if_given_again {X} view back again (Some x) = ap (λ (y : X). Some y) (again x)
+
+-- the members of a list, turned round
+pub each_given_again : {X : Type 0} (view : X → Value) (back : Value → X) → ((x : X) → back (view x) ≡ x) → (xs : List X) → each_given back (all_of (map view xs)) ≡ xs
+each_given_again view back again [] = refl
+each_given_again {X} view back again (x ∷ xs) = ap₂ (λ (y : X) (ys : List X). y ∷ ys) (again x) (each_given_again view back again xs)

@@ -1,7 +1,7 @@
 -- Identifier and ObjectName (ISO 9506-2).
-use Rattle.std.specs.Prelude.{ℕ, List}
-use Rattle.ber_forms.specs.Value.{Value, text, chosen, parts, given, done, slot}
-use Rattle.ber_forms.specs.Form.{Form, Member, Alternatives, octet_string, sequence, choice, no_more, required, universal, or, no_other}
+use Rattle.std.specs.Prelude.{ℕ, List, map}
+use Rattle.ber_forms.specs.Value.{Value, text, chosen, parts, given, done, slot, all_of}
+use Rattle.ber_forms.specs.Form.{Form, Member, Alternatives, octet_string, sequence, choice, list_of, any_number, no_more, required, universal, or, no_other}
 use Rattle.mms_types.specs.Spelling.{is_identifier, IsIdentifier}
 use Rattle.mms_types.specs.declared.identifier.Edition.{Edition}
 use Rattle.mms_types.specs.declared.object_name.ObjectName.{ObjectName}
@@ -17,6 +17,13 @@ identifier_value octets = text octets
 -- the universal tag of VisibleString (ITU-T X.680, 8.4)
 abbrev pub identifier_member : Edition → Member
 identifier_member edition = universal 26 (identifier_form edition)
+
+-- identifiers one after the other
+abbrev pub identifiers_form : Edition → Form
+identifiers_form edition = list_of any_number (identifier_member edition)
+
+abbrev pub identifiers_value : List (List ℕ) → Value
+identifiers_value names = parts (all_of (map identifier_value names))
 
 -- a domain, and an item in it
 abbrev pub in_domain_form : Edition → Form

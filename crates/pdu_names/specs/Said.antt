@@ -1,6 +1,6 @@
 -- What a value says, and a default for a value of another form: by these the views of typed values are turned round.
-use Rattle.std.specs.Prelude.{ℕ, ℤ, pos, Bool, false, List, [], Option, Some, None}
-use Rattle.ber_forms.specs.Value.{Value, Slot, truth, number, bits, text, missing, given}
+use Rattle.std.specs.Prelude.{ℕ, ℤ, pos, Bool, false, List, [], ◌∷◌, Option, Some, None}
+use Rattle.ber_forms.specs.Value.{Value, Slot, Slots, truth, number, bits, text, parts, missing, given, done, slot}
 
 abbrev pub truth_of : Value → Bool
 truth_of (truth b) = b
@@ -28,3 +28,13 @@ text_of v = []
 abbrev pub if_given : {X : Type 0} → (Value → X) → Slot → Option X
 if_given back missing = None
 if_given back (given v) = Some (back v)
+
+-- what each member of a list says
+abbrev pub each_given : {X : Type 0} → (Value → X) → Slots → List X
+each_given back done = []
+each_given back (slot missing more) = each_given back more
+each_given back (slot (given v) more) = back v ∷ each_given back more
+
+abbrev pub members_of : {X : Type 0} → (Value → X) → Value → List X
+members_of back (parts vs) = each_given back vs
+members_of back v = []

@@ -1,6 +1,6 @@
 //! Identifiers.
 
-ghost use Rattle.std.specs.Prelude.{◌≡◌, ◌<◌, ◌++◌, Ok, Err, Some, None, OnOk, OnErr};
+ghost use Rattle.std.specs.Prelude.{◌≡◌, ◌<◌, ◌++◌, Ok, Err, Some, None, OnOk, OnErr, length};
 ghost use Rattle.ber_forms.specs.Form.{context};
 ghost use Rattle.ber_forms.specs.Value.{optionally};
 ghost use Rattle.ber_forms.specs.Reading.{Gives, reading, required_at, optional_at};
@@ -66,6 +66,7 @@ pub fn universal_identifier(
 ) -> Result<Identifier, Unread>
     ensures exact { Gives (λ i. (identifier_value i, parts.new.octets)) result (required_at parts.old.lengths (identifier_member edition) parts.old.octets) }
     ensures kept { parts.new.lengths ≡ parts.old.lengths }
+    ensures shorter { OnOk result (length parts.new.octets < length parts.old.octets) }
 {
     let element = parts.required(Tag {
         class: 0,

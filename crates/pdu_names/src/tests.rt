@@ -1,7 +1,7 @@
 use crate::*;
 use ber_core::Writer;
 use ber_forms::Unread;
-use mms_types::{Edition, Identifier, ObjectName};
+use mms_types::{Edition, Identifier, Identifiers, ObjectName};
 use std::alloc::Global;
 
 /// 32 octets, the most of an identifier, and one more.
@@ -97,4 +97,46 @@ fn names_as_components(rt: HostRuntime) {
         assert!(rt; put_optional_identifier(&mut out, 3, fourth.as_ref()).is_ok());
     }
     assert_eq!(rt; out.octets(), octets);
+}
+
+fn read_list(alloc: Global, octets: &[u8]) -> Result<Identifiers, Unread> {
+    let mut parts = cursor(Edition::One, octets);
+    let names = required_identifiers(alloc, &mut parts, Edition::One, 4)?;
+    parts.end()?;
+    Ok(names)
+}
+
+#[test]
+fn lists_of_identifiers_both_ways(rt: HostRuntime) {
+    let table: [(&[u8], usize); 3] = [
+        (b"\xA4\x00", 0),
+        (b"\xA4\x03\x1A\x01T", 1),
+        (b"\xA4\x07\x1A\x02T1\x1A\x01A", 2),
+    ];
+    for (octets, count) in table {
+        let read = read_list(rt.alloc(), octets);
+        assert!(rt; read.is_ok());
+        if let Ok(names) = read {
+            assert_eq!(rt; names.len(), count);
+            let mut out = Writer::new(rt.alloc());
+            assert!(rt; put_identifiers(&mut out, 4, &names).is_ok());
+            assert_eq!(rt; out.octets(), octets);
+        }
+    }
+}
+
+#[test]
+fn contents_of_no_list_of_identifiers(rt: HostRuntime) {
+    let table: [&[u8]; 6] = [
+        b"",
+        b"\x84\x00",
+        b"\xA4\x02\x1A\x00",
+        b"\xA4\x03\x80\x01T",
+        b"\xA4\x06\x1A\x01T\x1A\x019",
+        b"\xA4\x04\x1A\x01T\x1A",
+    ];
+    for octets in table {
+        let read = read_list(rt.alloc(), octets);
+        assert_eq!(rt; read, Err(Unread::Malformed));
+    }
 }
