@@ -42,9 +42,9 @@ refusal_of p = first_error (causes p)
 abbrev pub parameters_of_both : List ℕ → List ℕ
 parameters_of_both octets = bit_and (slice_index octets 0) 0xE9 ∷ bit_and (slice_index octets 1) 0x00 ∷ []
 
--- the services that the server offers, 85 bits: status, identify, conclude and cancel
+-- the services that the server offers, 85 bits: status, getNameList, identify, conclude and cancel
 abbrev pub offered : List ℕ
-offered = 0xA0 ∷ 0 ∷ 0 ∷ 0 ∷ 0 ∷ 0 ∷ 0 ∷ 0 ∷ 0 ∷ 0 ∷ 0x18 ∷ []
+offered = 0xE0 ∷ 0 ∷ 0 ∷ 0 ∷ 0 ∷ 0 ∷ 0 ∷ 0 ∷ 0 ∷ 0 ∷ 0x18 ∷ []
 
 -- the answer to a proposal: of each value the lesser of the proposal's and the server's (65,000 octets, 10, 10, 10, version 1), the parameters of both
 abbrev pub answer_to : Initiate → InitiateAnswer

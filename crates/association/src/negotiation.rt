@@ -20,8 +20,8 @@ const VERSION: i16 = 1;
 /// The parameters that the server supports: str1, str2, vnam, vadr and vlis.
 const PARAMETERS: [u8; 2] = [0xE9, 0x00];
 
-/// The services that the server offers: status, identify, conclude and cancel.
-const SERVICES: [u8; 11] = [0xA0, 0, 0, 0, 0, 0, 0, 0, 0, 0, 0x18];
+/// The services that the server offers: status, getNameList, identify, conclude and cancel.
+const SERVICES: [u8; 11] = [0xE0, 0, 0, 0, 0, 0, 0, 0, 0, 0, 0x18];
 
 /// What an association was negotiated to (ISO 9506-1, Initiate).
 #[derive(Clone, Copy, Debug, PartialEq, Eq)]

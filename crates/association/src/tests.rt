@@ -36,7 +36,7 @@ fn answer_of(values: (i32, i16, i16, i8), parameters: [u8; 2]) -> InitiateAnswer
             version: 1,
             parameters: ParameterOptions { octets: parameters },
             services: ServiceOptions {
-                octets: [0xA0, 0, 0, 0, 0, 0, 0, 0, 0, 0, 0x18],
+                octets: [0xE0, 0, 0, 0, 0, 0, 0, 0, 0, 0, 0x18],
             },
         },
     }

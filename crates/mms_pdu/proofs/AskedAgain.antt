@@ -1,51 +1,32 @@
 -- PDUs by which a client asks: what is spelled is heard as what it says, and says nothing else.
-use Rattle.std.proofs.Common.{◌≡◌, ℕ, ◌<◌, ◌^◌, Bool, true, false, List, ◌++◌, length, Result, Ok, refl, sym, ap, subst, ◌∙◌, arith}
-use Rattle.std.specs.Prelude.{IsTrue, ◌==◌, ◌||◌, if◌then◌else◌}
+use Rattle.std.proofs.Common.{◌≡◌, ℕ, pos, ◌<◌, ◌^◌, Bool, true, false, List, ◌++◌, length, Result, Ok, refl, sym, ap, subst, ◌∙◌, arith}
+use Rattle.std.specs.Prelude.{IsTrue, ◌==◌, ◌||◌}
 use Rattle.ber_core.specs.declared.element.Lengths.{Lengths}
-use Rattle.ber_forms.specs.Value.{Value, nothing, chosen, parts, given, slot}
-use Rattle.ber_forms.specs.Form.{choice, one_of}
+use Rattle.ber_core.specs.Spelling.{element_octets}
+use Rattle.ber_forms.specs.Value.{Value, number, chosen}
+use Rattle.ber_forms.specs.Form.{choice, one_of, universal, unsigned32}
 use Rattle.ber_forms.specs.InForm.{InForm}
-use Rattle.ber_forms.specs.Spelling.{spelling}
+use Rattle.ber_forms.specs.Spelling.{tag_of, spelling, member_octets}
 use Rattle.ber_forms.specs.Fits.{is_sound, FitsOne}
 use Rattle.ber_forms.proofs.Told.{natural_fits}
 use Rattle.ber_forms.proofs.Spelled.{form_spelled}
 use Rattle.ber_forms.proofs.Again.{no_other_member}
+use Rattle.mms_types.specs.declared.identifier.Edition.{Edition}
 use Rattle.mms_types.specs.declared.pdu.Request.{Request}
 use Rattle.mms_types.specs.declared.pdu.Request.TheVariants as request
 use Rattle.mms_types.specs.declared.pdu.Pdu.{Pdu}
 use Rattle.mms_types.specs.declared.pdu.Pdu.TheVariants as pdu
-use Rattle.pdu_names.specs.Said.{natural_of, truth_of}
-use Rattle.pdu_assoc.specs.Initiate.{initiate_of}
+use Rattle.mms_types.specs.Spelling.{widest}
+use Rattle.pdu_assoc.specs.NameList.{name_list_form}
 use Rattle.pdu_assoc.proofs.InRange.{initiate_fits}
-use Rattle.pdu_assoc.proofs.Back.{initiate_again}
+use Rattle.pdu_assoc.proofs.NameLists.{asked_fits, asked_alike}
 use Rattle.mms_pdu.specs.declared.refusal.Refusal.{Refusal}
-use Rattle.mms_pdu.specs.Pdus.{requests, request_value, pdu_value, pdu_octets}
+use Rattle.mms_pdu.specs.Pdus.{requests, request_value, request_form, pdu_value, pdu_octets}
 use Rattle.mms_pdu.specs.Hearing.{whole_pdus, heard}
-use Rattle.mms_pdu.specs.Asking.{IsAsking}
+use Rattle.mms_pdu.specs.Heard.{pdu_of}
+use Rattle.mms_pdu.specs.Asking.{IsRequest, IsAsking}
+use Rattle.mms_pdu.proofs.HeardAgain.{pdu_again}
 use Rattle.mms_pdu.proofs.Whole.{heard_again}
-
--- ---- what is asked fits, and is spelled
-
-request_fits : (r : Request) → FitsOne requests (request_value r)
-request_fits (request.Status derivation) = tt
-request_fits request.Identify = tt
-
-asking_fits : (p : Pdu) → IsAsking p → FitsOne whole_pdus (pdu_value p)
-asking_fits (pdu.ConfirmedRequest invoke asked) h = (natural_fits 4294967295 invoke (omega (arith, h)), (request_fits asked, tt))
-asking_fits (pdu.CancelRequest invoke) h = natural_fits 4294967295 invoke (omega (arith, h))
-asking_fits (pdu.InitiateRequest proposal) h = initiate_fits proposal h
-asking_fits pdu.ConcludeRequest h = tt
-asking_fits p h = absurd h
-
-asking_spelled : (p : Pdu) → IsAsking p → spelling (choice whole_pdus) (pdu_value p) ≡ pdu_octets p
-asking_spelled (pdu.ConfirmedRequest invoke asked) h = refl
-asking_spelled (pdu.CancelRequest invoke) h = refl
-asking_spelled (pdu.InitiateRequest proposal) h = refl
-asking_spelled pdu.ConcludeRequest h = refl
-asking_spelled p h = absurd h
-
-whole_sound : IsTrue (is_sound (choice whole_pdus))
-whole_sound = refl
 
 -- ---- a value tells what was asked
 
@@ -53,71 +34,79 @@ abbrev asks : Value → Bool
 asks (chosen n v) = (n == 0) || (n == 5) || (n == 8) || (n == 11)
 asks v = false
 
-abbrev first_of : Value → Value
-first_of (parts (slot (given a) rest)) = a
-first_of v = nothing
-
-abbrev second_of : Value → Value
-second_of (parts (slot a (slot (given b) rest))) = b
-second_of v = nothing
-
-abbrev request_back : Value → Request
-request_back (chosen n v) = if n == 0 then request.Status (truth_of v) else request.Identify
-request_back v = request.Identify
-
-abbrev back : Value → Pdu
-back (chosen n v) =
-    if n == 0 then pdu.ConfirmedRequest (natural_of (first_of v)) (request_back (second_of v))
-    else if n == 5 then pdu.CancelRequest (natural_of v)
-    else if n == 8 then pdu.InitiateRequest (initiate_of v)
-    else pdu.ConcludeRequest
-back v = pdu.ConcludeRequest
-
-asked_back : (p : Pdu) → asks (pdu_value p) ≡ true → back (pdu_value p) ≡ p
-asked_back (pdu.ConfirmedRequest invoke (request.Status derivation)) e = refl
-asked_back (pdu.ConfirmedRequest invoke request.Identify) e = refl
+asked_back : (p : Pdu) → asks (pdu_value p) ≡ true → pdu_of (pdu_value p) ≡ p
+asked_back (pdu.ConfirmedRequest invoke asked) e = pdu_again (pdu.ConfirmedRequest invoke asked) tt
 asked_back (pdu.CancelRequest invoke) e = refl
-asked_back (pdu.InitiateRequest proposal) e = ap pdu.InitiateRequest (initiate_again proposal)
+asked_back (pdu.InitiateRequest proposal) e = pdu_again (pdu.InitiateRequest proposal) tt
 asked_back pdu.ConcludeRequest e = refl
 asked_back p e = absurd cc
-
-asking_asks : (p : Pdu) → IsAsking p → asks (pdu_value p) ≡ true
-asking_asks (pdu.ConfirmedRequest invoke asked) h = refl
-asking_asks (pdu.CancelRequest invoke) h = refl
-asking_asks (pdu.InitiateRequest proposal) h = refl
-asking_asks pdu.ConcludeRequest h = refl
-asking_asks p h = absurd h
-
-told : (p q : Pdu) → IsAsking p → pdu_value p ≡ pdu_value q → p ≡ q
-told p q h e =
-    let asked = asking_asks p h in
-    sym (asked_back p asked) ∙ ap back e ∙ asked_back q (sym (ap asks e) ∙ asked)
-
--- ---- the laws
 
 same_told : (v w : Value) (r : Result Value Refusal) → r ≡ Ok v → r ≡ Ok w → v ≡ w
 same_told v w r e f = cc (e, f)
 
-pub asking_heard : (lengths : Lengths) (p : Pdu) → IsAsking p → length (pdu_octets p) < 2 ^ 64 → heard lengths (pdu_octets p) ≡ Ok (pdu_value p)
-asking_heard lengths p h room =
-    let same = asking_spelled p h in
-    heard_again lengths (pdu_octets p) (pdu_value p)
-    (subst (λ (o : List ℕ). InForm lengths (choice whole_pdus) o (pdu_value p)) same
-    (form_spelled lengths (choice whole_pdus) (pdu_value p) whole_sound (asking_fits p h) (subst (λ (o : List ℕ). length o < 2 ^ 64) (sym same) room)))
+module _ (edition : Edition) where
+  asking_asks : (p : Pdu) → IsAsking edition p → asks (pdu_value p) ≡ true
+  asking_asks (pdu.ConfirmedRequest invoke asked) h = refl
+  asking_asks (pdu.CancelRequest invoke) h = refl
+  asking_asks (pdu.InitiateRequest proposal) h = refl
+  asking_asks pdu.ConcludeRequest h = refl
+  asking_asks p h = absurd h
 
-pub asking_only : (lengths : Lengths) (p q : Pdu) → IsAsking p → length (pdu_octets p) < 2 ^ 64 → heard lengths (pdu_octets p) ≡ Ok (pdu_value q) → p ≡ q
-asking_only lengths p q h room e = told p q h (same_told (pdu_value p) (pdu_value q) (heard lengths (pdu_octets p)) (asking_heard lengths p h room) e)
+  told : (p q : Pdu) → IsAsking edition p → pdu_value p ≡ pdu_value q → p ≡ q
+  told p q h e =
+      let asked = asking_asks p h in
+      sym (asked_back p asked) ∙ ap pdu_of e ∙ asked_back q (sym (ap asks e) ∙ asked)
 
-pub asking_one : (lengths : Lengths) (p q : Pdu) → IsAsking p → IsAsking q → length (pdu_octets p) < 2 ^ 64 → pdu_octets p ≡ pdu_octets q → p ≡ q
-asking_one lengths p q h k room e =
-    asking_only lengths p q h room (ap (heard lengths) e ∙ asking_heard lengths q k (subst (λ (o : List ℕ). length o < 2 ^ 64) e room))
+  -- ---- what is asked fits, and is spelled
 
-pub asking_whole : (p q : Pdu) (a b : List ℕ) → IsAsking p → IsAsking q → length (pdu_octets p) < 2 ^ 64 → length (pdu_octets q) < 2 ^ 64 → pdu_octets p ++ a ≡ pdu_octets q ++ b → pdu_octets p ≡ pdu_octets q
-asking_whole p q a b h k room space e =
-    let same = asking_spelled p h in
-    let alike = asking_spelled q k in
-    sym same
-    ∙ no_other_member (one_of whole_pdus) (one_of whole_pdus) (pdu_value p) (pdu_value q) a b whole_sound whole_sound (asking_fits p h) (asking_fits q k)
-    (subst (λ (o : List ℕ). length o < 2 ^ 64) (sym same) room) (subst (λ (o : List ℕ). length o < 2 ^ 64) (sym alike) space)
-    (ap (λ (o : List ℕ). o ++ a) same ∙ e ∙ ap (λ (o : List ℕ). o ++ b) (sym alike))
-    ∙ alike
+  request_fits : (r : Request) → IsRequest edition r → FitsOne (requests edition) (request_value r)
+  request_fits (request.Status derivation) h = tt
+  request_fits (request.GetNameList class scope after) h = asked_fits edition (record { class = class; scope = scope; after = after }) h
+  request_fits request.Identify h = tt
+
+  asking_fits : (p : Pdu) → IsAsking edition p → FitsOne (whole_pdus edition) (pdu_value p)
+  asking_fits (pdu.ConfirmedRequest invoke asked) h = (natural_fits 4294967295 invoke (omega (arith, h.0)), (request_fits asked h.1, tt))
+  asking_fits (pdu.CancelRequest invoke) h = natural_fits 4294967295 invoke (omega (arith, h))
+  asking_fits (pdu.InitiateRequest proposal) h = initiate_fits proposal h
+  asking_fits pdu.ConcludeRequest h = tt
+  asking_fits p h = absurd h
+
+  asking_spelled : (p : Pdu) → IsAsking edition p → spelling (choice (whole_pdus edition)) (pdu_value p) ≡ pdu_octets p
+  asking_spelled (pdu.ConfirmedRequest invoke (request.Status derivation)) h = refl
+  asking_spelled (pdu.ConfirmedRequest invoke (request.GetNameList class scope after)) h =
+      ap (λ (o : List ℕ). element_octets (tag_of 2 0 (request_form widest)) (member_octets (universal 2 unsigned32) (number (pos invoke)) ++ element_octets (tag_of 2 1 (name_list_form widest)) o))
+      (asked_alike edition (record { class = class; scope = scope; after = after }))
+  asking_spelled (pdu.ConfirmedRequest invoke request.Identify) h = refl
+  asking_spelled (pdu.CancelRequest invoke) h = refl
+  asking_spelled (pdu.InitiateRequest proposal) h = refl
+  asking_spelled pdu.ConcludeRequest h = refl
+  asking_spelled p h = absurd h
+
+  whole_sound : IsTrue (is_sound (choice (whole_pdus edition)))
+  whole_sound = refl
+
+  -- ---- the laws
+
+  pub asking_heard : (lengths : Lengths) (p : Pdu) → IsAsking edition p → length (pdu_octets p) < 2 ^ 64 → heard lengths edition (pdu_octets p) ≡ Ok (pdu_value p)
+  asking_heard lengths p h room =
+      let same = asking_spelled p h in
+      heard_again lengths edition (pdu_octets p) (pdu_value p)
+      (subst (λ (o : List ℕ). InForm lengths (choice (whole_pdus edition)) o (pdu_value p)) same
+      (form_spelled lengths (choice (whole_pdus edition)) (pdu_value p) whole_sound (asking_fits p h) (subst (λ (o : List ℕ). length o < 2 ^ 64) (sym same) room)))
+
+  pub asking_only : (lengths : Lengths) (p q : Pdu) → IsAsking edition p → length (pdu_octets p) < 2 ^ 64 → heard lengths edition (pdu_octets p) ≡ Ok (pdu_value q) → p ≡ q
+  asking_only lengths p q h room e = told p q h (same_told (pdu_value p) (pdu_value q) (heard lengths edition (pdu_octets p)) (asking_heard lengths p h room) e)
+
+  pub asking_one : (lengths : Lengths) (p q : Pdu) → IsAsking edition p → IsAsking edition q → length (pdu_octets p) < 2 ^ 64 → pdu_octets p ≡ pdu_octets q → p ≡ q
+  asking_one lengths p q h k room e =
+      asking_only lengths p q h room (ap (heard lengths edition) e ∙ asking_heard lengths q k (subst (λ (o : List ℕ). length o < 2 ^ 64) e room))
+
+  pub asking_whole : (p q : Pdu) (a b : List ℕ) → IsAsking edition p → IsAsking edition q → length (pdu_octets p) < 2 ^ 64 → length (pdu_octets q) < 2 ^ 64 → pdu_octets p ++ a ≡ pdu_octets q ++ b → pdu_octets p ≡ pdu_octets q
+  asking_whole p q a b h k room space e =
+      let same = asking_spelled p h in
+      let alike = asking_spelled q k in
+      sym same
+      ∙ no_other_member (one_of (whole_pdus edition)) (one_of (whole_pdus edition)) (pdu_value p) (pdu_value q) a b whole_sound whole_sound (asking_fits p h) (asking_fits q k)
+      (subst (λ (o : List ℕ). length o < 2 ^ 64) (sym same) room) (subst (λ (o : List ℕ). length o < 2 ^ 64) (sym alike) space)
+      (ap (λ (o : List ℕ). o ++ a) same ∙ e ∙ ap (λ (o : List ℕ). o ++ b) (sym alike))
+      ∙ alike

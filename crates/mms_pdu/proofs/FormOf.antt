@@ -16,6 +16,7 @@ use Rattle.pdu_names.specs.Said.{natural_of}
 use Rattle.pdu_assoc.specs.Heard.{heard_reject_form, answering_form, answered}
 use Rattle.mms_pdu.specs.declared.refusal.Refusal.{Refusal}
 use Rattle.mms_pdu.specs.declared.refusal.Refusal.TheVariants as refusal
+use Rattle.mms_types.specs.declared.identifier.Edition.{Edition}
 use Rattle.mms_pdu.specs.Pdus.{requests, request_form, with_invoke_value}
 use Rattle.mms_pdu.specs.Hearing.{Asked, asking, has_service, is_pdu, kept_pdus, whole_pdus, noted_pdus, valid, and_then, argued, sole_part, service_of, asked_at, request_told, reject_told, part_told, heard}
 use Rattle.mms_pdu.proofs.Whole.{invoke_is}
@@ -83,10 +84,6 @@ module _ (lengths : Lengths) where
   unfolding chosen_by
   chosen_so others c p rest v e f = rw (e, f) refl
 
-  request_read : (c : List ℕ) (x : Value × List ℕ) (rest : List ℕ) (w : Value) → required_at lengths (universal 2 unsigned32) c ≡ Ok x → chosen_by lengths (alternatives lengths requests) x.1 ≡ Ok (w, rest) → at_end rest ≡ Ok tt
-      → reading lengths request_form c ≡ Ok (parts (slot (given x.0) (slot (given w) done)))
-  request_read c x rest w e f ends = rw (e, f, ends) refl
-
   -- ---- a confirmed-Request
 
   pub record Parted (c : List ℕ) (a : Asked) : Type 0 where
@@ -114,62 +111,68 @@ module _ (lengths : Lengths) where
             subst (λ (o : List ℕ). Alone o a.service) (untouched test i.0.1 m.0 m.1 none) (alone m.0.1 a.service (p.1 ∙ ap (λ (q : Part). Ok q) same));
       }
 
-  pub record Granted (a : Asked) (v : Value) : Type 0 where
-    pub plain : a.modified ≡ false
-    pub argument : Value
-    pub read_so : alternatives lengths requests a.service ≡ Ok argument
-    pub is : chosen 0 (with_invoke_value a.invoke argument) ≡ v
-
-  granted : (a : Asked) (v : Value) → request_told lengths a ≡ Ok v → Granted a v
-  unfolding request_told
-  granted a v e = by_modified a.modified (has_service requests a.service.tag.number) refl e
-    where
-      by_modified : (b k : Bool) → a.modified ≡ b → cond b (Err (refusal.Modifier a.invoke)) (cond k (argued a.invoke (alternatives lengths requests a.service)) (Err (refusal.Service a.invoke))) ≡ Ok v → Granted a v
-      by_modified true k m f = absurd cc
-      by_modified false false m f = absurd cc
-      by_modified false true m f =
-          let w = argued_is a.invoke (alternatives lengths requests a.service) v f in
-          record { plain = m; argument = w.0; read_so = w.1; is = w.2 }
-
-  request_of : (c : List ℕ) (v : Value) → and_then (valid (asked_at lengths c)) (request_told lengths) ≡ Ok v → (reading lengths request_form c >>= λ w. Ok (chosen 0 w)) ≡ Ok v
-  request_of c v e =
-      let s = stepped (valid (asked_at lengths c)) (request_told lengths) v e in
-      let a = parted c s.0 (valid_is (asked_at lengths c) s.0 s.1) in
-      let g = granted s.0 v s.2 in
-      let service = a.service g.plain in
-      let read = request_read c a.invoke service.rest g.argument a.invoked (chosen_so requests a.invoke.1 s.0.service service.rest g.argument service.first g.read_so) service.ends in
-      let is : parts (slot (given a.invoke.0) (slot (given g.argument) done)) ≡ with_invoke_value s.0.invoke g.argument =
-      ap (λ (n : Value). parts (slot (given n) (slot (given g.argument) done))) (invoke_is lengths c a.invoke a.invoked ∙ ap (λ (n : ℕ). number (pos n)) a.number_is) in
-      ap (λ (r : Result Value Fault). r >>= λ w. Ok (chosen 0 w)) read ∙ ap (λ (w : Value). Ok (chosen 0 w)) is ∙ ap (λ (w : Value). Ok w) g.is
-
-  -- ---- a PDU
-
   reject_is : (c : List ℕ) (n : ℕ) (w : Value) → reject_told lengths c ≡ Ok (chosen n w) → n ≡ 4
   unfolding reject_told
   reject_is c n w e =
       let s = stepped (valid (reading lengths heard_reject_form c)) (λ _. Ok (chosen 4 (parts (slot (optionally (λ k. number (pos k)) (answered (reading lengths answering_form c))) done)))) (chosen n w) e in
       cc (s.2)
 
-  part_of : (p : Part) (n : ℕ) (w : Value) → (n ≡ 4 → ⊥) → part_told lengths p ≡ Ok (chosen n w) → alternatives lengths whole_pdus p ≡ Ok (chosen n w)
+-- what of this depends on the edition
+module _ (lengths : Lengths) (edition : Edition) where
+  request_read : (c : List ℕ) (x : Value × List ℕ) (rest : List ℕ) (w : Value) → required_at lengths (universal 2 unsigned32) c ≡ Ok x → chosen_by lengths (alternatives lengths (requests edition)) x.1 ≡ Ok (w, rest) → at_end rest ≡ Ok tt
+      → reading lengths (request_form edition) c ≡ Ok (parts (slot (given x.0) (slot (given w) done)))
+  request_read c x rest w e f ends = rw (e, f, ends) refl
+
+  pub record Granted (a : Asked) (v : Value) : Type 0 where
+    pub plain : a.modified ≡ false
+    pub argument : Value
+    pub read_so : alternatives lengths (requests edition) a.service ≡ Ok argument
+    pub is : chosen 0 (with_invoke_value a.invoke argument) ≡ v
+
+  granted : (a : Asked) (v : Value) → request_told lengths edition a ≡ Ok v → Granted a v
+  unfolding request_told
+  granted a v e = by_modified a.modified (has_service (requests edition) a.service.tag.number) refl e
+    where
+      by_modified : (b k : Bool) → a.modified ≡ b → cond b (Err (refusal.Modifier a.invoke)) (cond k (argued a.invoke (alternatives lengths (requests edition) a.service)) (Err (refusal.Service a.invoke))) ≡ Ok v → Granted a v
+      by_modified true k m f = absurd cc
+      by_modified false false m f = absurd cc
+      by_modified false true m f =
+          let w = argued_is a.invoke (alternatives lengths (requests edition) a.service) v f in
+          record { plain = m; argument = w.0; read_so = w.1; is = w.2 }
+
+  request_of : (c : List ℕ) (v : Value) → and_then (valid (asked_at lengths c)) (request_told lengths edition) ≡ Ok v → (reading lengths (request_form edition) c >>= λ w. Ok (chosen 0 w)) ≡ Ok v
+  request_of c v e =
+      let s = stepped (valid (asked_at lengths c)) (request_told lengths edition) v e in
+      let a = parted lengths c s.0 (valid_is (asked_at lengths c) s.0 s.1) in
+      let g = granted s.0 v s.2 in
+      let service = a.service g.plain in
+      let read = request_read c a.invoke service.rest g.argument a.invoked (chosen_so lengths (requests edition) a.invoke.1 s.0.service service.rest g.argument service.first g.read_so) service.ends in
+      let is : parts (slot (given a.invoke.0) (slot (given g.argument) done)) ≡ with_invoke_value s.0.invoke g.argument =
+      ap (λ (n : Value). parts (slot (given n) (slot (given g.argument) done))) (invoke_is lengths c a.invoke a.invoked ∙ ap (λ (n : ℕ). number (pos n)) a.number_is) in
+      ap (λ (r : Result Value Fault). r >>= λ w. Ok (chosen 0 w)) read ∙ ap (λ (w : Value). Ok (chosen 0 w)) is ∙ ap (λ (w : Value). Ok w) g.is
+
+  -- ---- a PDU
+
+  part_of : (p : Part) (n : ℕ) (w : Value) → (n ≡ 4 → ⊥) → part_told lengths edition p ≡ Ok (chosen n w) → alternatives lengths (whole_pdus edition) p ≡ Ok (chosen n w)
   unfolding part_told
   part_of p n w ne e = by_tags (is_pdu p.tag) (is_tag 2 true 0 p.tag) (is_tag 2 true 4 p.tag) (has_tag noted_pdus p.tag) e
     where
       by_tags : (a b d f : Bool)
-          → cond a (cond b (and_then (valid (asked_at lengths p.contents)) (request_told lengths)) (cond d (reject_told lengths p.contents) (cond f (Ok nothing) (valid (alternatives lengths kept_pdus p))))) (Err refusal.UnknownType) ≡ Ok (chosen n w)
-          → cond b (reading lengths request_form p.contents >>= λ w. Ok (chosen 0 w)) (alternatives lengths kept_pdus p) ≡ Ok (chosen n w)
+          → cond a (cond b (and_then (valid (asked_at lengths p.contents)) (request_told lengths edition)) (cond d (reject_told lengths p.contents) (cond f (Ok nothing) (valid (alternatives lengths (kept_pdus edition) p))))) (Err refusal.UnknownType) ≡ Ok (chosen n w)
+          → cond b (reading lengths (request_form edition) p.contents >>= λ w. Ok (chosen 0 w)) (alternatives lengths (kept_pdus edition) p) ≡ Ok (chosen n w)
       by_tags false b d f e = absurd cc
       by_tags true true d f e = request_of p.contents (chosen n w) e
-      by_tags true false true f e = absurd (ne (reject_is p.contents n w e))
+      by_tags true false true f e = absurd (ne (reject_is lengths p.contents n w e))
       by_tags true false false true e = absurd cc
-      by_tags true false false false e = valid_is (alternatives lengths kept_pdus p) (chosen n w) e
+      by_tags true false false false e = valid_is (alternatives lengths (kept_pdus edition) p) (chosen n w) e
 
-  choice_read : (c : List ℕ) (p : Part) (rest : List ℕ) (v : Value) → chosen_by lengths (alternatives lengths whole_pdus) c ≡ Ok (v, rest) → at_end rest ≡ Ok tt → reading lengths (choice whole_pdus) c ≡ Ok v
+  choice_read : (c : List ℕ) (p : Part) (rest : List ℕ) (v : Value) → chosen_by lengths (alternatives lengths (whole_pdus edition)) c ≡ Ok (v, rest) → at_end rest ≡ Ok tt → reading lengths (choice (whole_pdus edition)) c ≡ Ok v
   choice_read c p rest v e ends = rw (e, ends) refl
 
-  pub heard_of : (c : List ℕ) (n : ℕ) (w : Value) → IsBytes c → (n ≡ 4 → ⊥) → heard lengths c ≡ Ok (chosen n w) → InForm lengths (choice whole_pdus) c (chosen n w)
+  pub heard_of : (c : List ℕ) (n : ℕ) (w : Value) → IsBytes c → (n ≡ 4 → ⊥) → heard lengths edition c ≡ Ok (chosen n w) → InForm lengths (choice (whole_pdus edition)) c (chosen n w)
   unfolding heard
   heard_of c n w fits ne e =
-      let s = stepped (valid (sole_part lengths c)) (part_told lengths) (chosen n w) e in
-      let a = alone c s.0 (valid_is (sole_part lengths c) s.0 s.1) in
-      reading_sound lengths (choice whole_pdus) c (chosen n w) fits
-      (choice_read c s.0 a.rest (chosen n w) (chosen_so whole_pdus c s.0 a.rest (chosen n w) a.first (part_of s.0 n w ne s.2)) a.ends)
+      let s = stepped (valid (sole_part lengths c)) (part_told lengths edition) (chosen n w) e in
+      let a = alone lengths c s.0 (valid_is (sole_part lengths c) s.0 s.1) in
+      reading_sound lengths (choice (whole_pdus edition)) c (chosen n w) fits
+      (choice_read c s.0 a.rest (chosen n w) (chosen_so lengths (whole_pdus edition) c s.0 a.rest (chosen n w) a.first (part_of s.0 n w ne s.2)) a.ends)

@@ -13,6 +13,7 @@ use Rattle.ber_forms.specs.InForm.{InForm}
 use Rattle.ber_forms.proofs.Sound.{fine_is, bound, integer_sound}
 use Rattle.ber_forms.proofs.Complete.{reading_complete}
 use Rattle.pdu_names.specs.Said.{natural_of}
+use Rattle.mms_types.specs.declared.identifier.Edition.{Edition}
 use Rattle.mms_pdu.specs.Pdus.{requests, request_form, with_invoke_value}
 use Rattle.mms_pdu.specs.Hearing.{Asked, asking, has_service, is_pdu, kept_pdus, whole_pdus, valid, and_then, sole_part, asked_at, request_told, part_told, heard}
 
@@ -44,8 +45,8 @@ this_or_later {P} n k later e here there = by_number (eqb n k) refl
     by_number true f = here (eqb-true n k f)
     by_number false f = there (sym (ap (λ (b : Bool). cond b true later) f) ∙ e)
 
-kept_number : (n : ℕ) → has_service kept_pdus n ≡ true → IsKeptNumber n
-kept_number n e =
+kept_number : (edition : Edition) (n : ℕ) → has_service (kept_pdus edition) n ≡ true → IsKeptNumber n
+kept_number edition n e =
     this_or_later n 1 _ e (at 1 (refl, λ f. omega (arith, f), λ f. omega (arith, f), λ f. omega (arith, f), λ f. omega (arith, f)))
     (λ e. this_or_later n 2 _ e (at 2 (refl, λ f. omega (arith, f), λ f. omega (arith, f), λ f. omega (arith, f), λ f. omega (arith, f)))
     (λ e. this_or_later n 5 _ e (at 5 (refl, λ f. omega (arith, f), λ f. omega (arith, f), λ f. omega (arith, f), λ f. omega (arith, f)))
@@ -136,56 +137,58 @@ module _ (lengths : Lengths) where
   unfolding asked_at
   asked_again c x p rest e f s k = rw (e, unmodified x.1 p rest f k, s, eq-eqb p.tag.class 2 k) refl
 
-  argued_again : (n : ℕ) (p : Part) (v : Value) → has_service requests p.tag.number ≡ true → alternatives lengths requests p ≡ Ok v → request_told lengths (asking n false p) ≡ Ok (chosen 0 (with_invoke_value n v))
+-- what of this depends on the edition
+module _ (lengths : Lengths) (edition : Edition) where
+  argued_again : (n : ℕ) (p : Part) (v : Value) → has_service (requests edition) p.tag.number ≡ true → alternatives lengths (requests edition) p ≡ Ok v → request_told lengths edition (asking n false p) ≡ Ok (chosen 0 (with_invoke_value n v))
   unfolding request_told
   argued_again n p v k e = rw (k, e) refl
 
-  request_again : (c : List ℕ) (w : Value) → reading lengths request_form c ≡ Ok w → and_then (valid (asked_at lengths c)) (request_told lengths) ≡ Ok (chosen 0 w)
+  request_again : (c : List ℕ) (w : Value) → reading lengths (request_form edition) c ≡ Ok w → and_then (valid (asked_at lengths c)) (request_told lengths edition) ≡ Ok (chosen 0 w)
   request_again c w e =
-      let tail : Components = required (one_of requests) no_more in
+      let tail : Components = required (one_of (requests edition)) no_more in
       let a = bound (components lengths (required (universal 2 unsigned32) tail) c) (λ vs. Ok (parts vs)) w e in
       let b = bound (required_at lengths (universal 2 unsigned32) c) (λ x. components lengths tail x.1 >>= λ vs. Ok (slot (given x.0) vs)) a.0 a.1 in
       let d = bound (components lengths tail b.0.1) (λ vs. Ok (slot (given b.0.0) vs)) a.0 b.2 in
-      let f = bound (chosen_by lengths (alternatives lengths requests) b.0.1) (λ y. (at_end y.1 >>= λ _. Ok done) >>= λ vs. Ok (slot (given y.0) vs)) d.0 d.1 in
+      let f = bound (chosen_by lengths (alternatives lengths (requests edition)) b.0.1) (λ y. (at_end y.1 >>= λ _. Ok done) >>= λ vs. Ok (slot (given y.0) vs)) d.0 d.1 in
       let g = bound (at_end f.0.1 >>= λ _. Ok done) (λ vs. Ok (slot (given f.0.0) vs)) d.0 f.2 in
       let h = bound (at_end f.0.1) (λ _. Ok done) g.0 g.1 in
-      let s = sole_again (alternatives lengths requests) b.0.1 f.0 h.0 f.1 h.1 in
-      let t = alternative_tag requests s.part f.0.0 s.read_so in
+      let s = sole_again lengths (alternatives lengths (requests edition)) b.0.1 f.0 h.0 f.1 h.1 in
+      let t = alternative_tag lengths (requests edition) s.part f.0.0 s.read_so in
       let ends : done ≡ g.0 = fine_is done g.0 h.2 in
       let service : slot (given f.0.0) done ≡ d.0 = ap (λ (vs : Slots). slot (given f.0.0) vs) ends ∙ fine_is (slot (given f.0.0) g.0) d.0 g.2 in
       let whole : parts (slot (given b.0.0) (slot (given f.0.0) done)) ≡ w =
       ap (λ (vs : Slots). parts (slot (given b.0.0) vs)) service ∙ ap parts (fine_is (slot (given b.0.0) d.0) a.0 d.2) ∙ fine_is (parts a.0) w a.2 in
       let told : with_invoke_value (natural_of b.0.0) f.0.0 ≡ w =
-      ap (λ (v : Value). parts (slot (given v) (slot (given f.0.0) done))) (sym (invoke_is c b.0 b.1)) ∙ whole in
-      ap (λ (r : Result Asked Fault). and_then (valid r) (request_told lengths)) (asked_again c b.0 s.part f.0.1 b.1 s.first s.sole t.0)
+      ap (λ (v : Value). parts (slot (given v) (slot (given f.0.0) done))) (sym (invoke_is lengths c b.0 b.1)) ∙ whole in
+      ap (λ (r : Result Asked Fault). and_then (valid r) (request_told lengths edition)) (asked_again lengths c b.0 s.part f.0.1 b.1 s.first s.sole t.0)
       ∙ argued_again (natural_of b.0.0) s.part f.0.0 t.1 s.read_so
       ∙ ap (λ (v : Value). Ok (chosen 0 v)) told
 
   -- ---- a PDU
 
-  part_again : (p : Part) (v : Value) → alternatives lengths whole_pdus p ≡ Ok v → part_told lengths p ≡ Ok v
+  part_again : (p : Part) (v : Value) → alternatives lengths (whole_pdus edition) p ≡ Ok v → part_told lengths edition p ≡ Ok v
   unfolding part_told
   part_again p v e = by_tag (is_tag 2 true 0 p.tag) refl
     where
-      by_tag : (b : Bool) → is_tag 2 true 0 p.tag ≡ b → part_told lengths p ≡ Ok v
+      by_tag : (b : Bool) → is_tag 2 true 0 p.tag ≡ b → part_told lengths edition p ≡ Ok v
       by_tag true t =
           let is = tag_class true 0 p.tag t in
-          let own = sym (ap (λ (b : Bool). cond b (reading lengths request_form p.contents >>= λ w. Ok (chosen 0 w)) (alternatives lengths kept_pdus p)) t) ∙ e in
-          let b = bound (reading lengths request_form p.contents) (λ w. Ok (chosen 0 w)) v own in
+          let own = sym (ap (λ (b : Bool). cond b (reading lengths (request_form edition) p.contents >>= λ w. Ok (chosen 0 w)) (alternatives lengths (kept_pdus edition) p)) t) ∙ e in
+          let b = bound (reading lengths (request_form edition) p.contents) (λ w. Ok (chosen 0 w)) v own in
           let pdu : is_pdu p.tag ≡ true = rw (eq-eqb p.tag.class 2 is.0, is.1) refl in
           rw (pdu, t) (request_again p.contents b.0 b.1 ∙ ap (λ (w : Value). Ok w) (fine_is (chosen 0 b.0) v b.2))
       by_tag false t =
-          let own = sym (ap (λ (b : Bool). cond b (reading lengths request_form p.contents >>= λ w. Ok (chosen 0 w)) (alternatives lengths kept_pdus p)) t) ∙ e in
-          let is = alternative_tag kept_pdus p v own in
-          let k = kept_number p.tag.number is.1 in
+          let own = sym (ap (λ (b : Bool). cond b (reading lengths (request_form edition) p.contents >>= λ w. Ok (chosen 0 w)) (alternatives lengths (kept_pdus edition) p)) t) ∙ e in
+          let is = alternative_tag lengths (kept_pdus edition) p v own in
+          let k = kept_number edition p.tag.number is.1 in
           let pdu : is_pdu p.tag ≡ true = rw (eq-eqb p.tag.class 2 is.0, k.0) refl in
           rw (pdu, t, other_number true 4 p.tag k.1, other_number true 3 p.tag k.2, other_number false 6 p.tag k.3, other_number true 7 p.tag k.4, own) refl
 
-  pub heard_again : (c : List ℕ) (v : Value) → InForm lengths (choice whole_pdus) c v → heard lengths c ≡ Ok v
+  pub heard_again : (c : List ℕ) (v : Value) → InForm lengths (choice (whole_pdus edition)) c v → heard lengths edition c ≡ Ok v
   unfolding heard
   heard_again c v h =
-      let e = reading_complete lengths (choice whole_pdus) c v h in
-      let a = bound (chosen_by lengths (alternatives lengths whole_pdus) c) (λ x. at_end x.1 >>= λ _. Ok x.0) v e in
+      let e = reading_complete lengths (choice (whole_pdus edition)) c v h in
+      let a = bound (chosen_by lengths (alternatives lengths (whole_pdus edition)) c) (λ x. at_end x.1 >>= λ _. Ok x.0) v e in
       let b = bound (at_end a.0.1) (λ _. Ok a.0.0) v a.2 in
-      let s = sole_again (alternatives lengths whole_pdus) c a.0 b.0 a.1 b.1 in
-      ap (λ (r : Result Part Fault). and_then (valid r) (part_told lengths)) s.sole ∙ part_again s.part a.0.0 s.read_so ∙ ap (λ (w : Value). Ok w) (fine_is a.0.0 v b.2)
+      let s = sole_again lengths (alternatives lengths (whole_pdus edition)) c a.0 b.0 a.1 b.1 in
+      ap (λ (r : Result Part Fault). and_then (valid r) (part_told lengths edition)) s.sole ∙ part_again s.part a.0.0 s.read_so ∙ ap (λ (w : Value). Ok w) (fine_is a.0.0 v b.2)

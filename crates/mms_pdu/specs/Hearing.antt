@@ -12,6 +12,7 @@ use Rattle.ber_forms.specs.Value.{Value, nothing, number, chosen, parts, optiona
 use Rattle.ber_forms.specs.Form.{Alternatives, unsigned32, universal, or, no_other}
 use Rattle.ber_forms.specs.Reading.{is_tag, has_tag, at_end, part_at, optional_part, required_at, reading, alternatives}
 use Rattle.ber_forms.specs.Reading.{◌>>=◌}
+use Rattle.mms_types.specs.declared.identifier.Edition.{Edition}
 use Rattle.mms_types.specs.declared.pdu.Pdu.{Pdu}
 use Rattle.pdu_names.specs.Said.{natural_of}
 use Rattle.pdu_assoc.specs.Cancel.{cancel_form}
@@ -45,12 +46,12 @@ abbrev pub is_pdu : Tag → Bool
 is_pdu t = (t.class == 2) && nat_le t.number 13
 
 -- the PDUs that a client may send and that are kept, but for confirmed-Request and reject
-abbrev pub kept_pdus : Alternatives
-kept_pdus = or 1 response_form (or 2 heard_error_form (or 5 cancel_form (or 8 initiate_form (or 11 conclude_form no_other))))
+abbrev pub kept_pdus : Edition → Alternatives
+kept_pdus edition = or 1 (response_form edition) (or 2 heard_error_form (or 5 cancel_form (or 8 initiate_form (or 11 conclude_form no_other))))
 
 -- and with a confirmed-Request without modifiers
-abbrev pub whole_pdus : Alternatives
-whole_pdus = or 0 request_form kept_pdus
+abbrev pub whole_pdus : Edition → Alternatives
+whole_pdus edition = or 0 (request_form edition) (kept_pdus edition)
 
 -- unconfirmed, cancel-Response and cancel-Error: whatever their contents, nothing is kept
 abbrev pub noted_pdus : Alternatives
@@ -93,32 +94,34 @@ module _ (lengths : Lengths) where
       service_of p >>= λ s.
       Ok (asking (natural_of i.0) (is_some m.0) s)
 
-  -- a list of modifiers is refused, then a service that is not offered, and then its argument
-  unfoldable pub request_told : Asked → Result Value Refusal
-  request_told asked =
-      if asked.modified then Err (refusal.Modifier asked.invoke)
-      else if has_service requests asked.service.tag.number then argued asked.invoke (alternatives lengths requests asked.service)
-      else Err (refusal.Service asked.invoke)
-
   -- a reject: elements, of which the first may say the invokeID
   unfoldable pub reject_told : List ℕ → Result Value Refusal
   reject_told octets =
       and_then (valid (reading lengths heard_reject_form octets)) (λ _.
       Ok (chosen 4 (parts (slot (optionally (λ n. number (pos n)) (answered (reading lengths answering_form octets))) done))))
 
+-- Each of these takes the edition as well.
+module _ (lengths : Lengths) (edition : Edition) where
+  -- a list of modifiers is refused, then a service that is not offered, and then its argument
+  unfoldable pub request_told : Asked → Result Value Refusal
+  request_told asked =
+      if asked.modified then Err (refusal.Modifier asked.invoke)
+      else if has_service (requests edition) asked.service.tag.number then argued asked.invoke (alternatives lengths (requests edition) asked.service)
+      else Err (refusal.Service asked.invoke)
+
   -- an element of no PDU's tag is refused, then one that is not of its PDU's form, also one that only the server sends
   unfoldable pub part_told : Part → Result Value Refusal
   part_told p =
       if is_pdu p.tag then
-      (if is_tag 2 true 0 p.tag then and_then (valid (asked_at p.contents)) request_told
-      else if is_tag 2 true 4 p.tag then reject_told p.contents
+      (if is_tag 2 true 0 p.tag then and_then (valid (asked_at lengths p.contents)) request_told
+      else if is_tag 2 true 4 p.tag then reject_told lengths p.contents
       else if has_tag noted_pdus p.tag then Ok nothing
-      else valid (alternatives lengths kept_pdus p))
+      else valid (alternatives lengths (kept_pdus edition) p))
       else Err refusal.UnknownType
 
   -- what the octets are: what is not one whole element is refused first
   unfoldable pub heard : List ℕ → Result Value Refusal
-  heard octets = and_then (valid (sole_part octets)) part_told
+  heard octets = and_then (valid (sole_part lengths octets)) part_told
 
 -- How deep the data and the type of a request nest: of the services that are offered none has any.
 abbrev pub depth_of : Pdu → ℕ

@@ -3,38 +3,44 @@ use Rattle.std.specs.Prelude.{ℕ, pos, List, []}
 use Rattle.ber_forms.specs.Value.{Value, nothing, number, chosen, parts, optionally, given, done, slot}
 use Rattle.ber_forms.specs.Form.{Form, Alternatives, unsigned32, sequence, no_more, required, universal, one_of, or, no_other}
 use Rattle.ber_forms.specs.Spelling.{alternative_octets}
+use Rattle.mms_types.specs.declared.identifier.Edition.{Edition}
 use Rattle.mms_types.specs.declared.pdu.Request.{Request}
 use Rattle.mms_types.specs.declared.pdu.Request.TheVariants as request
 use Rattle.mms_types.specs.declared.pdu.Answer.{Answer}
 use Rattle.mms_types.specs.declared.pdu.Answer.TheVariants as answer
 use Rattle.mms_types.specs.declared.pdu.Pdu.{Pdu}
 use Rattle.mms_types.specs.declared.pdu.Pdu.TheVariants as pdu
+use Rattle.mms_types.specs.Spelling.{widest}
 use Rattle.pdu_assoc.specs.Cancel.{cancel_form, cancel_value, cancel_error_form, cancel_error_value}
 use Rattle.pdu_assoc.specs.Conclude.{conclude_form, conclude_value}
 use Rattle.pdu_assoc.specs.ConfirmedError.{confirmed_error_form, confirmed_error_value}
 use Rattle.pdu_assoc.specs.Heard.{heard_error_value}
 use Rattle.pdu_assoc.specs.Identify.{identify_form, identify_value, identify_answer_form, texts_value}
 use Rattle.pdu_assoc.specs.Initiate.{initiate_form, initiate_value, initiate_answer_form, initiate_answer_value}
+use Rattle.pdu_assoc.specs.NameList.{name_list_form, asked_value, name_list_answer_form, listed_value}
 use Rattle.pdu_assoc.specs.Reject.{reject_form, reject_value}
 use Rattle.pdu_assoc.specs.ServiceErrors.{service_error_form, service_error_value}
 use Rattle.pdu_assoc.specs.Status.{status_form, status_value, status_answer_form, status_answer_value}
 
 -- ---- services
 
--- ConfirmedServiceRequest: the services that are offered, each by its number with the form of its argument. VMD support: Status 0, Identify 2.
-abbrev pub requests : Alternatives
-requests = or 0 status_form (or 2 identify_form no_other)
+-- ConfirmedServiceRequest: the services that are offered, each by its number with the form of its argument. VMD support: Status 0, GetNameList 1,
+-- Identify 2.
+abbrev pub requests : Edition → Alternatives
+requests edition = or 0 status_form (or 1 (name_list_form edition) (or 2 identify_form no_other))
 
 abbrev pub request_value : Request → Value
 request_value (request.Status derivation) = chosen 0 (status_value derivation)
+request_value (request.GetNameList class scope after) = chosen 1 (asked_value class scope after)
 request_value request.Identify = chosen 2 identify_value
 
 -- ConfirmedServiceResponse: the same, with their answers
-abbrev pub answers : Alternatives
-answers = or 0 status_answer_form (or 2 identify_answer_form no_other)
+abbrev pub answers : Edition → Alternatives
+answers edition = or 0 status_answer_form (or 1 (name_list_answer_form edition) (or 2 identify_answer_form no_other))
 
 abbrev pub answer_value : Answer → Value
 answer_value (answer.Status logical physical) = chosen 0 (status_answer_value (record { logical = logical; physical = physical }))
+answer_value (answer.GetNameList names more) = chosen 1 (listed_value names more)
 answer_value (answer.Identify vendor model revision) = chosen 2 (texts_value vendor model revision)
 
 -- ---- PDUs
@@ -51,16 +57,16 @@ with_invoke_value invoke service = parts (
     slot (given service) done))
 
 -- a confirmed-Request without modifiers
-abbrev pub request_form : Form
-request_form = with_invoke requests
+abbrev pub request_form : Edition → Form
+request_form edition = with_invoke (requests edition)
 
-abbrev pub response_form : Form
-response_form = with_invoke answers
+abbrev pub response_form : Edition → Form
+response_form edition = with_invoke (answers edition)
 
--- the PDUs as they are sent, but for unconfirmed ones
+-- the PDUs as they are sent, but for unconfirmed ones, with the names of any edition
 abbrev pub pdus : Alternatives
 pdus =
-    or 0 request_form (or 1 response_form (or 2 confirmed_error_form (or 4 reject_form (or 5 cancel_form (or 6 cancel_form (or 7 cancel_error_form
+    or 0 (request_form widest) (or 1 (response_form widest) (or 2 confirmed_error_form (or 4 reject_form (or 5 cancel_form (or 6 cancel_form (or 7 cancel_error_form
     (or 8 initiate_form (or 9 initiate_answer_form (or 10 service_error_form (or 11 conclude_form (or 12 conclude_form (or 13 service_error_form no_other))))))))))))
 
 -- what a PDU says: of those that were only heard, what is kept of them

@@ -28,7 +28,7 @@ pub struct Read {
 
 /// The PDU of the element, of a kind that is kept, but for confirmed-Request and reject.
 fn kept_pdu(alloc: Global, element: Element<'_>, edition: Edition) -> Result<Pdu, Unread>
-    ensures told { Gives pdu_value result (alternatives (lengths_of edition) kept_pdus (part element.entry)) }
+    ensures told { Gives pdu_value result (alternatives (lengths_of edition) (kept_pdus edition) (part element.entry)) }
     ensures client { IfOk result IsHeard }
 {
     let Element { tag, contents } = element;
@@ -76,12 +76,12 @@ fn invalid(unread: Unread) -> Refusal
 }
 
 /// What the contents of a confirmed-Request are.
-fn confirmed(contents: &[u8], edition: Edition) -> Result<Pdu, Refusal>
-    ensures told { Hears pdu_value result (and_then (valid (asked_at (lengths_of edition) contents.now)) (request_told (lengths_of edition))) }
+fn confirmed(alloc: Global, contents: &[u8], edition: Edition) -> Result<Pdu, Refusal>
+    ensures told { Hears pdu_value result (and_then (valid (asked_at (lengths_of edition) contents.now)) (request_told (lengths_of edition) edition)) }
     ensures client { IfOk result IsHeard }
 {
     match asked(contents, edition) {
-        Ok((invoke, modified, service)) => request(invoke, modified, service, edition),
+        Ok((invoke, modified, service)) => request(alloc, invoke, modified, service, edition),
         Err(unread) => Err(invalid(unread)),
     }
 }
@@ -100,7 +100,7 @@ fn rejected(contents: &[u8], edition: Edition) -> Result<Pdu, Refusal>
 
 /// What an element of another kind is.
 fn other(alloc: Global, element: Element<'_>, edition: Edition) -> Result<Pdu, Refusal>
-    ensures told { Hears pdu_value result (valid (alternatives (lengths_of edition) kept_pdus (part element.entry))) }
+    ensures told { Hears pdu_value result (valid (alternatives (lengths_of edition) (kept_pdus edition) (part element.entry))) }
     ensures client { IfOk result IsHeard }
 {
     match kept_pdu(alloc, element, edition) {
@@ -112,14 +112,14 @@ fn other(alloc: Global, element: Element<'_>, edition: Edition) -> Result<Pdu, R
 /// What an element is.
 #[tactic(auto, unfolding(crate::specs::Hearing::part_told))]
 fn element(alloc: Global, element: Element<'_>, edition: Edition) -> Result<Pdu, Refusal>
-    ensures told { Hears pdu_value result (part_told (lengths_of edition) (part element.entry)) }
+    ensures told { Hears pdu_value result (part_told (lengths_of edition) edition (part element.entry)) }
     ensures client { IfOk result IsHeard }
 {
     let tag = element.tag;
     if !is_pdu(tag) {
         Err(Refusal::UnknownType)
     } else if has_tag(tag, 2, true, 0) {
-        confirmed(element.contents, edition)
+        confirmed(alloc, element.contents, edition)
     } else if has_tag(tag, 2, true, 4) {
         rejected(element.contents, edition)
     } else if is_noted(tag) {
@@ -132,7 +132,7 @@ fn element(alloc: Global, element: Element<'_>, edition: Edition) -> Result<Pdu,
 /// What all the octets are.
 #[tactic(auto, unfolding(crate::specs::Hearing::heard))]
 fn whole(alloc: Global, octets: &[u8], edition: Edition) -> Result<Pdu, Refusal>
-    ensures told { Hears pdu_value result (heard (lengths_of edition) octets.now) }
+    ensures told { Hears pdu_value result (heard (lengths_of edition) edition octets.now) }
     ensures client { IfOk result IsHeard }
 {
     let mut parts = cursor(edition, octets);
@@ -143,10 +143,12 @@ fn whole(alloc: Global, octets: &[u8], edition: Edition) -> Result<Pdu, Refusal>
 }
 
 /// The PDU that a client's octets are (ISO 9506-2, MMSpdu), and how deep the data and the type of a request nest. Each refusal comes
-/// exactly where it is the first that applies, in the order of the variants of `Refusal`. Only texts of an answer are copied.
+/// exactly where it is the first that applies, in the order of the variants of `Refusal`. Names of a request, and
+/// names and texts of an answer, are copied.
+#[tactic(auto, using(crate::proofs::HeardAgain::pdu_again))]
 pub fn read_pdu(alloc: Global, octets: &[u8], edition: Edition) -> Result<Read, Refusal>
-    ensures heard { Hears (λ r. pdu_value r.pdu) result (heard (lengths_of edition) octets.now) }
-    ensures pdu { Hears (λ r. r.pdu) result (pdu_heard (lengths_of edition) octets.now) }
+    ensures heard { Hears (λ r. pdu_value r.pdu) result (heard (lengths_of edition) edition octets.now) }
+    ensures pdu { Hears (λ r. r.pdu) result (pdu_heard edition octets.now) }
     ensures client { IfOk result (λ r. IsHeard r.pdu) }
     ensures depth { IfOk result (λ r. r.depth ≡ depth_of r.pdu) }
 {

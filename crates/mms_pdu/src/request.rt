@@ -8,14 +8,15 @@ ghost use Rattle.ber_forms.specs.Reading.{Gives, required_at, alternatives};
 ghost use Rattle.pdu_names.specs.Editions.{lengths_of};
 ghost use Rattle.mms_pdu.specs.Pdus.{requests, request_value, pdu_value};
 ghost use Rattle.mms_pdu.specs.Heard.{IsHeard};
-ghost use Rattle.mms_pdu.specs.Hearing.{Hears, has_service, sole_part, service_of, asked_at, asking, request_told};
+ghost use Rattle.mms_pdu.specs.Hearing.{Hears, has_service, sole_part, service_of, asked_at, asking, argued, request_told};
 
 use crate::refusal::Refusal;
 use ber_core::{Element, Tag};
 use ber_forms::{Cursor, Unread, has_tag, unsigned32};
 use mms_types::{Edition, Pdu, Request};
-use pdu_assoc::{read_identify, read_status};
+use pdu_assoc::{read_get_name_list, read_identify, read_status};
 use pdu_names::cursor;
+use std::alloc::Global;
 
 /// The last element: nothing follows it.
 #[tactic(auto, unfolding(crate::specs::Hearing::sole_part))]
@@ -71,23 +72,32 @@ pub(crate) fn asked(contents: &[u8], edition: Edition) -> Result<(u32, bool, Ele
     Ok((invoke, modifiers.is_some(), element))
 }
 
-/// The services that are offered, by their numbers: Status and Identify.
-const OFFERED: [u32; 2] = [0, 2];
+/// The services that are offered, by their numbers: Status, GetNameList and Identify.
+const OFFERED: [u32; 3] = [0, 1, 2];
 
-/// The service of that number is offered.
-fn is_offered(number: u32) -> bool
-    ensures { result ≡ has_service requests number }
+/// The service of that number is offered by the edition.
+fn is_offered(number: u32, edition: Edition) -> bool
+    ensures { result ≡ has_service (requests edition) number }
 {
-    OFFERED.contains(&number)
+    match edition {
+        Edition::One => OFFERED.contains(&number),
+    }
 }
 
 /// The argument of a service for the support of the device.
-fn argument(service: Element<'_>, edition: Edition) -> Result<Request, Unread>
-    ensures { Gives request_value result (alternatives (lengths_of edition) requests (part service.entry)) }
+fn argument(alloc: Global, service: Element<'_>, edition: Edition) -> Result<Request, Unread>
+    ensures { Gives request_value result (alternatives (lengths_of edition) (requests edition) (part service.entry)) }
 {
     if has_tag(service.tag, 2, false, 0) {
         let derivation = read_status(service.contents, edition)?;
         Ok(Request::Status { derivation })
+    } else if has_tag(service.tag, 2, true, 1) {
+        let asked = read_get_name_list(alloc, service.contents, edition)?;
+        Ok(Request::GetNameList {
+            class: asked.class,
+            scope: asked.scope,
+            after: asked.after,
+        })
     } else if has_tag(service.tag, 2, false, 2) {
         read_identify(service.contents, edition)?;
         Ok(Request::Identify)
@@ -96,27 +106,41 @@ fn argument(service: Element<'_>, edition: Edition) -> Result<Request, Unread>
     }
 }
 
-/// The request that is asked for, or why it is refused.
-#[tactic(auto, unfolding(crate::specs::Hearing::request_told))]
-pub(crate) fn request(
+/// The request for a service that is offered, or why its argument is refused.
+fn argued(
+    alloc: Global,
     invoke: u32,
-    modified: bool,
     service: Element<'_>,
     edition: Edition,
 ) -> Result<Pdu, Refusal>
-    ensures told { Hears pdu_value result (request_told (lengths_of edition) (asking invoke modified (part service.entry))) }
+    ensures told { Hears pdu_value result (argued invoke (alternatives (lengths_of edition) (requests edition) (part service.entry))) }
     ensures client { IfOk result IsHeard }
 {
-    if modified {
-        return Err(Refusal::Modifier { invoke });
-    }
-    if !is_offered(service.tag.number) {
-        return Err(Refusal::Service { invoke });
-    }
-    match argument(service, edition) {
+    match argument(alloc, service, edition) {
         Ok(request) => Ok(Pdu::ConfirmedRequest { invoke, request }),
         Err(Unread::TooDeep) => Err(Refusal::Recursion { invoke }),
         Err(Unread::Malformed) => Err(Refusal::Argument { invoke }),
         Err(Unread::Memory) => Err(Refusal::Memory),
     }
+}
+
+/// The request that is asked for, or why it is refused.
+#[tactic(auto, unfolding(crate::specs::Hearing::request_told))]
+pub(crate) fn request(
+    alloc: Global,
+    invoke: u32,
+    modified: bool,
+    service: Element<'_>,
+    edition: Edition,
+) -> Result<Pdu, Refusal>
+    ensures told { Hears pdu_value result (request_told (lengths_of edition) edition (asking invoke modified (part service.entry))) }
+    ensures client { IfOk result IsHeard }
+{
+    if modified {
+        return Err(Refusal::Modifier { invoke });
+    }
+    if !is_offered(service.tag.number, edition) {
+        return Err(Refusal::Service { invoke });
+    }
+    argued(alloc, invoke, service, edition)
 }

@@ -1,8 +1,10 @@
 use crate::*;
 use mms_types::{
-    Answer, Initiate, InitiateAnswer, InitiateDetail, Octets, ParameterOptions, Reject,
-    RejectReason, Request, ServiceError, ServiceOptions, StateInfo,
+    Answer, Identifier, Identifiers, Initiate, InitiateAnswer, InitiateDetail, ObjectClass,
+    ObjectScope, Octets, ParameterOptions, Reject, RejectReason, Request, ServiceError,
+    ServiceOptions, StateInfo,
 };
+use std::test::Fail;
 
 /// A client's proposal: 65,000 octets, ten requests on each side, nesting 5.
 const PROPOSAL: [u8; 40] = [
@@ -122,7 +124,7 @@ fn what_a_client_sends_is_read(rt: HostRuntime) {
 
 #[test]
 fn what_is_refused_first(rt: HostRuntime) {
-    let table: [(&[u8], Refusal); 37] = [
+    let table: [(&[u8], Refusal); 43] = [
         // no octet, a request that ends early, and an octet behind one
         (b"", Refusal::InvalidPdu),
         (b"\xA0\x06\x02\x01\x07\x80", Refusal::InvalidPdu),
@@ -191,6 +193,31 @@ fn what_is_refused_first(rt: HostRuntime) {
         (
             b"\xA0\x05\x02\x01\x01\xA2\x00",
             Refusal::Argument { invoke: 1 },
+        ),
+        // lists of names: the constructed bit, class 12, no scope, an empty scope, a scope of no choice, and a domain's name of 33 octets
+        (
+            b"\xA0\x05\x02\x01\x05\x81\x00",
+            Refusal::Argument { invoke: 5 },
+        ),
+        (
+            b"\xA0\x0E\x02\x01\x05\xA1\x09\xA0\x03\x80\x01\x0C\xA1\x02\x80\x00",
+            Refusal::Argument { invoke: 5 },
+        ),
+        (
+            b"\xA0\x0A\x02\x01\x05\xA1\x05\xA0\x03\x80\x01\x09",
+            Refusal::Argument { invoke: 5 },
+        ),
+        (
+            b"\xA0\x0C\x02\x01\x05\xA1\x07\xA0\x03\x80\x01\x09\xA1\x00",
+            Refusal::Argument { invoke: 5 },
+        ),
+        (
+            b"\xA0\x0E\x02\x01\x05\xA1\x09\xA0\x03\x80\x01\x09\xA1\x02\x83\x00",
+            Refusal::Argument { invoke: 5 },
+        ),
+        (
+            b"\xA0\x2F\x02\x01\x06\xA1\x2A\xA0\x03\x80\x01\x04\xA1\x23\x81\x21TTTTTTTTTTTTTTTTTTTTTTTTTTTTTTTTT",
+            Refusal::Argument { invoke: 6 },
         ),
     ];
     for (octets, refusal) in table {
@@ -326,5 +353,77 @@ fn the_device_is_identified(rt: HostRuntime) -> Result<(), Memory> {
             depth: 0
         })
     );
+    Ok(())
+}
+
+#[test]
+fn lists_of_names_are_asked_for(rt: HostRuntime) -> Result<(), Fail> {
+    let alloc = rt.alloc();
+    let named = |text: &[u8]| Identifier::read(alloc, text, Edition::One);
+    let table: [(&[u8], u32, Request); 3] = [
+        (
+            b"\xA0\x0E\x02\x01\x05\xA1\x09\xA0\x03\x80\x01\x09\xA1\x02\x80\x00",
+            5,
+            Request::GetNameList {
+                class: ObjectClass::Domain,
+                scope: ObjectScope::Vmd,
+                after: None,
+            },
+        ),
+        (
+            b"\xA0\x0F\x02\x01\x06\xA1\x0A\xA0\x03\x80\x01\x04\xA1\x03\x81\x01\x58",
+            6,
+            Request::GetNameList {
+                class: ObjectClass::Semaphore,
+                scope: ObjectScope::Domain(named(b"X")?),
+                after: None,
+            },
+        ),
+        (
+            b"\xA0\x13\x02\x01\x07\xA1\x0E\xA0\x03\x80\x01\x04\xA1\x02\x82\x00\x82\x03S12",
+            7,
+            Request::GetNameList {
+                class: ObjectClass::Semaphore,
+                scope: ObjectScope::Association,
+                after: Some(named(b"S12")?),
+            },
+        ),
+    ];
+    for (octets, invoke, request) in table {
+        let pdu = Pdu::ConfirmedRequest { invoke, request };
+        assert_eq!(rt; write_pdu(alloc, &pdu)?.as_slice(), octets);
+        assert_eq!(rt;
+            read_pdu(alloc, octets, Edition::One),
+            Ok(Read { pdu, depth: 0 })
+        );
+    }
+    Ok(())
+}
+
+#[test]
+fn lists_of_names_are_answered(rt: HostRuntime) -> Result<(), Fail> {
+    let alloc = rt.alloc();
+    let table: [(&[u8], Option<&[u8]>); 2] = [
+        (b"\xA1\x0A\x02\x01\x05\xA1\x05\xA0\x00\x81\x01\x00", None),
+        (
+            b"\xA1\x0D\x02\x01\x05\xA1\x08\xA0\x03\x1A\x01\x54\x81\x01\x00",
+            Some(b"T"),
+        ),
+    ];
+    for (octets, text) in table {
+        let mut names = Identifiers::new(alloc);
+        if let Some(text) = text {
+            names.push(Identifier::read(alloc, text, Edition::One)?)?;
+        }
+        let pdu = Pdu::ConfirmedResponse {
+            invoke: 5,
+            answer: Answer::GetNameList { names, more: false },
+        };
+        assert_eq!(rt; write_pdu(alloc, &pdu)?.as_slice(), octets);
+        assert_eq!(rt;
+            read_pdu(alloc, octets, Edition::One),
+            Ok(Read { pdu, depth: 0 })
+        );
+    }
     Ok(())
 }

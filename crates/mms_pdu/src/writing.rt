@@ -4,6 +4,7 @@ ghost use Rattle.std.specs.Prelude.{◌≡◌, ◌++◌, ◌<◌, ◌≤◌, len
 ghost use Rattle.ber_core.specs.Spelling.{element_octets};
 ghost use Rattle.ber_forms.specs.Form.{context};
 ghost use Rattle.ber_forms.specs.Spelling.{alternative_octets, member_octets, appended, Begins};
+ghost use Rattle.mms_types.specs.Spelling.{widest};
 ghost use Rattle.mms_pdu.specs.Pdus.{requests, request_value, answers, answer_value, with_invoke_value, request_form, response_form, pdu_octets};
 
 use ber_core::{Tag, Writer};
@@ -12,7 +13,8 @@ use mms_types::{Answer, Memory, Pdu, Request};
 use pdu_assoc::{
     CancelError, ConfirmedError, StatusAnswer, write_cancel, write_cancel_error, write_conclude,
     write_confirmed_error, write_identify, write_identify_texts, write_initiate,
-    write_initiate_answer, write_reject, write_service_error, write_status, write_status_answer,
+    write_initiate_answer, write_name_list_asked, write_names_listed, write_reject,
+    write_service_error, write_status, write_status_answer,
 };
 use pdu_names::{enclosed, told};
 use std::alloc::Global;
@@ -43,7 +45,7 @@ fn under(
 /// The service with its argument.
 #[tactic(auto, using(ber_forms::proofs::Joined::writing))]
 fn put_argument(out: &mut Writer, request: &Request) -> Result<(), Memory>
-    ensures ok { OnOk result (out.new ≡ out.old ++ alternative_octets requests (request_value request.now)) }
+    ensures ok { OnOk result (out.new ≡ out.old ++ alternative_octets (requests widest) (request_value request.now)) }
     ensures err { OnErr result (out.new ≡ out.old) }
 {
     let since = out.len();
@@ -51,6 +53,14 @@ fn put_argument(out: &mut Writer, request: &Request) -> Result<(), Memory>
         Request::Status { derivation } => {
             let written = write_status(out, derivation);
             under(out, since, written, false, 0)
+        }
+        Request::GetNameList {
+            class,
+            scope,
+            after,
+        } => {
+            let written = write_name_list_asked(out, *class, scope, after.as_ref());
+            under(out, since, written, true, 1)
         }
         Request::Identify => {
             let written = write_identify(out);
@@ -62,7 +72,7 @@ fn put_argument(out: &mut Writer, request: &Request) -> Result<(), Memory>
 /// The service with its answer.
 #[tactic(auto, using(ber_forms::proofs::Joined::writing))]
 fn put_answer(out: &mut Writer, answer: &Answer) -> Result<(), Memory>
-    ensures ok { OnOk result (out.new ≡ out.old ++ alternative_octets answers (answer_value answer.now)) }
+    ensures ok { OnOk result (out.new ≡ out.old ++ alternative_octets (answers widest) (answer_value answer.now)) }
     ensures err { OnErr result (out.new ≡ out.old) }
 {
     let since = out.len();
@@ -74,6 +84,10 @@ fn put_answer(out: &mut Writer, answer: &Answer) -> Result<(), Memory>
             };
             let written = write_status_answer(out, &state);
             under(out, since, written, true, 0)
+        }
+        Answer::GetNameList { names, more } => {
+            let written = write_names_listed(out, names, *more);
+            under(out, since, written, true, 1)
         }
         Answer::Identify {
             vendor,
@@ -93,7 +107,7 @@ fn put_answer(out: &mut Writer, answer: &Answer) -> Result<(), Memory>
 
 #[tactic(auto, unfolding(ber_forms::specs::Spelling::appended), using(ber_forms::proofs::Joined::writing))]
 fn put_asked(out: &mut Writer, invoke: u32, request: &Request) -> Result<(), Memory>
-    ensures ok { OnOk result (out.new ≡ appended request_form (with_invoke_value invoke (request_value request.now)) out.old) }
+    ensures ok { OnOk result (out.new ≡ appended (request_form widest) (with_invoke_value invoke (request_value request.now)) out.old) }
     ensures begins { Begins out.old out.new }
 {
     told(put_universal_integer(out, i64::from(invoke)))?;
@@ -102,7 +116,7 @@ fn put_asked(out: &mut Writer, invoke: u32, request: &Request) -> Result<(), Mem
 
 #[tactic(auto, unfolding(ber_forms::specs::Spelling::appended), using(ber_forms::proofs::Joined::writing))]
 fn put_answered(out: &mut Writer, invoke: u32, answer: &Answer) -> Result<(), Memory>
-    ensures ok { OnOk result (out.new ≡ appended response_form (with_invoke_value invoke (answer_value answer.now)) out.old) }
+    ensures ok { OnOk result (out.new ≡ appended (response_form widest) (with_invoke_value invoke (answer_value answer.now)) out.old) }
     ensures begins { Begins out.old out.new }
 {
     told(put_universal_integer(out, i64::from(invoke)))?;
@@ -111,7 +125,7 @@ fn put_answered(out: &mut Writer, invoke: u32, answer: &Answer) -> Result<(), Me
 
 #[tactic(auto, using(ber_forms::proofs::Joined::writing))]
 fn put_request(out: &mut Writer, invoke: u32, request: &Request) -> Result<(), Memory>
-    ensures ok { OnOk result (out.new ≡ out.old ++ member_octets (context 0 request_form) (with_invoke_value invoke (request_value request.now))) }
+    ensures ok { OnOk result (out.new ≡ out.old ++ member_octets (context 0 (request_form widest)) (with_invoke_value invoke (request_value request.now))) }
     ensures err { OnErr result (out.new ≡ out.old) }
 {
     let since = out.len();
@@ -121,7 +135,7 @@ fn put_request(out: &mut Writer, invoke: u32, request: &Request) -> Result<(), M
 
 #[tactic(auto, using(ber_forms::proofs::Joined::writing))]
 fn put_response(out: &mut Writer, invoke: u32, answer: &Answer) -> Result<(), Memory>
-    ensures ok { OnOk result (out.new ≡ out.old ++ member_octets (context 1 response_form) (with_invoke_value invoke (answer_value answer.now))) }
+    ensures ok { OnOk result (out.new ≡ out.old ++ member_octets (context 1 (response_form widest)) (with_invoke_value invoke (answer_value answer.now))) }
     ensures err { OnErr result (out.new ≡ out.old) }
 {
     let since = out.len();
