@@ -1,6 +1,7 @@
 -- What contracts see of the device that one thread serves.
 use Rattle.std.specs.Prelude.{ℕ, ◌+◌, List, length}
 use Rattle.mms_types.specs.declared.event.CellEvent.{CellEvent}
+use Rattle.cell_config.specs.declared.config.Config.{Config}
 use Rattle.mms_step.specs.State.{State}
 use Rattle.mms_step.specs.Step.{step, replay}
 
@@ -13,6 +14,6 @@ pub record Served : Type 0 where
 abbrev pub served : Served → CellEvent → Served
 served device event = record { state = step device.state event; count = device.count + 1 }
 
--- the device with n clients after a history
-abbrev pub device_after : ℕ → List CellEvent → Served
-device_after n history = record { state = replay n history; count = length history }
+-- the configured device after a history
+abbrev pub device_after : Config → List CellEvent → Served
+device_after config history = record { state = replay config history; count = length history }

@@ -1,4 +1,5 @@
 use crate::Whole;
+use cell_config::read_config;
 use mms_types::{CellEvent, Edition, Identifier, Moment, Octets, What};
 use std::alloc::Global;
 use std::test::Fail;
@@ -8,7 +9,7 @@ const OPEN: &[u8] =
     b"\xA8\x26\x80\x03\x00\xFD\xE8\x81\x01\x0A\x82\x01\x0A\x83\x01\x05\xA4\x16\x80\x01\x01\x81\x03\x05\xF1\x00\x82\x0C\x03\xEE\x1C\x00\x00\x04\x08\x00\x00\x79\xEF\x18";
 
 const OPENED: &[u8] =
-    b"\xA9\x26\x80\x03\x00\xFD\xE8\x81\x01\x0A\x82\x01\x0A\x83\x01\x05\xA4\x16\x80\x01\x01\x81\x03\x05\xE1\x00\x82\x0C\x03\xA0\x00\x00\x00\x00\x00\x00\x00\x00\x00\x18";
+    b"\xA9\x26\x80\x03\x00\xFD\xE8\x81\x01\x0A\x82\x01\x0A\x83\x01\x05\xA4\x16\x80\x01\x01\x81\x03\x05\xE1\x00\x82\x0C\x03\xE0\x00\x00\x00\x00\x00\x00\x00\x00\x00\x18";
 
 const STATUS: &[u8] = b"\xA0\x06\x02\x01\x01\x80\x01\x00";
 
@@ -23,6 +24,14 @@ const CONCLUDE: &[u8] = b"\x8B\x00";
 const CONCLUDED: &[u8] = b"\x8C\x00";
 
 const INVALID: &[u8] = b"\xA4\x03\x85\x01\x01";
+
+/// The device that a text configures.
+fn configured(alloc: Global, text: &[u8]) -> Result<Whole, Fail> {
+    match read_config(alloc, text, Edition::One) {
+        Ok(config) => Ok(Whole::new(alloc, &config)?),
+        Err(_) => Err(Fail::from("no configuration")),
+    }
+}
 
 /// Lets octets be heard from a client, and answers the place.
 fn hears(alloc: Global, device: &mut Whole, client: u32, octets: &[u8]) -> Result<u64, Fail> {
@@ -69,7 +78,7 @@ fn takes(device: &mut Whole, client: u32, wanted: &[&[u8]]) -> Result<bool, Fail
 #[test]
 fn two_clients_open_ask_are_lost_and_open_again(rt: HostRuntime) -> Result<(), Fail> {
     let alloc = rt.alloc();
-    let mut device = Whole::new(alloc, 2)?;
+    let mut device = configured(alloc, b"clients = 2")?;
     for client in [1, 2] {
         hears(alloc, &mut device, client, OPEN)?;
         hears(alloc, &mut device, client, STATUS)?;
@@ -94,7 +103,7 @@ fn two_clients_open_ask_are_lost_and_open_again(rt: HostRuntime) -> Result<(), F
 #[test]
 fn a_second_proposal_aborts_the_association(rt: HostRuntime) -> Result<(), Fail> {
     let alloc = rt.alloc();
-    let mut device = Whole::new(alloc, 1)?;
+    let mut device = configured(alloc, b"clients = 1")?;
     for octets in [OPEN, OPEN, STATUS, OPEN, STATUS] {
         hears(alloc, &mut device, 1, octets)?;
     }
@@ -105,7 +114,7 @@ fn a_second_proposal_aborts_the_association(rt: HostRuntime) -> Result<(), Fail>
 #[test]
 fn what_is_heard_in_an_association(rt: HostRuntime) -> Result<(), Fail> {
     let alloc = rt.alloc();
-    let mut device = Whole::new(alloc, 1)?;
+    let mut device = configured(alloc, b"clients = 1")?;
     hears(alloc, &mut device, 1, OPEN)?;
     assert!(rt; takes(&mut device, 1, &[OPENED])?);
     let none: &[&[u8]] = &[];
@@ -142,7 +151,7 @@ fn what_is_heard_in_an_association(rt: HostRuntime) -> Result<(), Fail> {
 #[test]
 fn places_count_on_over_all_events(rt: HostRuntime) -> Result<(), Fail> {
     let alloc = rt.alloc();
-    let mut device = Whole::new(alloc, 64)?;
+    let mut device = configured(alloc, b"clients = 64")?;
     assert_eq!(rt; device.clients(), 64);
     assert_eq!(rt; hears(alloc, &mut device, 64, OPEN)?, 1);
     assert_eq!(rt; waits(alloc, &mut device, 3_600_000)?, 2);

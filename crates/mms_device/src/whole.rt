@@ -4,11 +4,13 @@ ghost use Rattle.std.specs.Prelude.{◌≡◌, ◌+◌, ◌-◌, ◌<◌, ◌≤
 ghost use Rattle.mms_types.specs.Actors.{IsAmong};
 ghost use Rattle.mms_types.specs.Moments.{IsDated};
 ghost use Rattle.mms_types.specs.declared.event.CellEvent.TheVariants.{Drain};
+ghost use Rattle.cell_config.specs.Said.{IsConfig};
 ghost use Rattle.mms_step.specs.State.{start, IsSound};
 ghost use Rattle.mms_step.specs.Step.{MayCome, outbox_of};
 ghost use Rattle.mms_step.specs.Partition.{parts_of, state_in};
 ghost use Rattle.mms_device.specs.Served.{served};
 
+use cell_config::Config;
 use mms_step::{Cell, Part, apply, drain, start_parts};
 use mms_types::{CellEvent, Memory, Moment, What};
 use part_table::Hand;
@@ -53,25 +55,24 @@ fn in_places(alloc: Global, parts: Vec<Box<Part>>) -> Result<Vec<Option<Box<Part
 
 /// The parts at the start, all held.
 #[tactic(auto, using(crate::proofs::AllHeld::unboxed_all))]
-fn all_held(alloc: Global, clients: u32) -> Result<Hand<Cell>, Memory>
-    requires some { 1 ≤ clients }
-    requires few { clients ≤ 64 }
-    ensures { IfOk result (λ hand. hand ≡ map Some (parts_of (start clients))) }
+fn all_held(alloc: Global, config: &Config) -> Result<Hand<Cell>, Memory>
+    requires config { IsConfig config.now }
+    ensures { IfOk result (λ hand. hand ≡ map Some (parts_of (start config.now))) }
 {
-    let parts = start_parts(alloc, clients)?;
+    let parts = start_parts(alloc, config)?;
     let places = in_places(alloc, parts)?;
     Ok(Hand::of(places))
 }
 
 impl Whole {
-    /// The device at the start, with clients 1 to `clients`: no association is open, nothing waits and nothing is to be sent.
-    pub fn new(alloc: Global, clients: u32) -> Result<Whole, Memory>
-        requires some { 1 ≤ clients }
-        requires few { clients ≤ 64 }
-        ensures { IfOk result (λ device. device ≡ record { state = start clients; count = 0 }) }
+    /// The device at the start, as it is configured: it is the configured moment, there are as many clients as are configured, no
+    /// association is open, nothing waits and nothing is to be sent.
+    pub fn new(alloc: Global, config: &Config) -> Result<Whole, Memory>
+        requires config { IsConfig config.now }
+        ensures { IfOk result (λ device. device ≡ record { state = start config.now; count = 0 }) }
     {
         Ok(Whole {
-            hand: all_held(alloc, clients)?,
+            hand: all_held(alloc, config)?,
             count: 0,
         })
     }

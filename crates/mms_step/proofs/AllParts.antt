@@ -4,21 +4,28 @@ use Rattle.std.proofs.Common.{ap, sym, ◌∙◌, subst, arith}
 use Rattle.mms_types.specs.Actors.{IsAmong}
 use Rattle.mms_types.specs.declared.event.CellEvent.{CellEvent}
 use Rattle.mms_types.specs.declared.event.CellEvent.TheVariants.{Heard, Lost, Tick, Ends, Drain}
+use Rattle.mms_types.specs.declared.name_list.ObjectClass.{ObjectClass}
+use Rattle.mms_types.specs.declared.name_list.ObjectClass.TheVariants as class
+use Rattle.mms_types.specs.declared.name_list.ObjectScope.{ObjectScope}
+use Rattle.mms_types.specs.declared.name_list.ObjectScope.TheVariants as scope
+use Rattle.mms_types.specs.declared.pdu.Request.{Request}
+use Rattle.mms_types.specs.declared.pdu.Request.TheVariants as request
 use Rattle.mms_types.specs.declared.pdu.Pdu.{Pdu}
 use Rattle.mms_types.specs.declared.pdu.Pdu.TheVariants as pdu
 use Rattle.mms_pdu.specs.declared.refusal.Refusal.{Refusal}
 use Rattle.mms_pdu.specs.Heard.{pdu_heard}
-use Rattle.pdu_names.specs.Editions.{lengths_of}
 use Rattle.association.specs.declared.negotiation.Association.{Association}
 use Rattle.association.specs.declared.negotiation.Association.TheVariants.{Idle, Open}
+use Rattle.association.specs.declared.client_part.NotAdmitted.{NotAdmitted}
 use Rattle.association.specs.declared.waiting.Waiting.{Waiting}
+use Rattle.association.specs.Admission.{admission}
 use Rattle.association.specs.Client.{ClientRow}
 use Rattle.association.specs.Waiting.{is_waiting}
 use Rattle.part_table.specs.Held.{held_at}
 use Rattle.mms_step.specs.declared.part.Part.{Part}
 use Rattle.mms_step.specs.State.{State}
 use Rattle.mms_step.specs.Partition.{parts_of, client_place, clients_among, row_in, domains_place}
-use Rattle.mms_step.specs.Needs.{footprint, further, shown, need, is_held, loss, conclusion, cancellation, asks_for, heard_by, hearing, lost_by, losing}
+use Rattle.mms_step.specs.Needs.{footprint, further, shown, need, is_held, loss, conclusion, cancellation, class_places, listing, serving, asks_for, heard_by, hearing, lost_by, losing}
 use Rattle.mms_step.proofs.PartsAfter.{length-parts}
 use Rattle.mms_step.proofs.Holding.{clients_counted, all_of_them}
 
@@ -60,16 +67,37 @@ module _ (s : State) where
   cancellation_held true = (at 0 (omega arith), (at (6 + length s.clients) (omega arith), tt))
   cancellation_held false = tt
 
+  class_held : (c : ObjectClass) → AreHeld hand (class_places (length s.clients) c)
+  class_held class.NamedVariable = (at 1 (omega arith), tt)
+  class_held class.NamedVariableList = (at 1 (omega arith), tt)
+  class_held class.Semaphore = (at (6 + length s.clients) (omega arith), tt)
+  class_held class.EventCondition = (at 4 (omega arith), tt)
+  class_held class.EventEnrollment = (at 4 (omega arith), tt)
+  class_held class.Journal = (at 5 (omega arith), tt)
+  class_held class.Domain = (at 2 (omega arith), tt)
+  class_held class.ProgramInvocation = (at 3 (omega arith), tt)
+  class_held c = tt
+
+  listing_held : (o : ObjectScope) (c : ObjectClass) → AreHeld hand (listing (length s.clients) o c)
+  listing_held (scope.Domain domain) class.Domain = (at 2 (omega arith), tt)
+  listing_held (scope.Domain domain) c = (at 2 (omega arith), class_held c)
+  listing_held o c = class_held c
+
+  serving_held : (admitted : Result Unit NotAdmitted) (asked : Request) → AreHeld hand (serving (length s.clients) admitted asked)
+  serving_held (Ok taken) (request.GetNameList c o after) = listing_held o c
+  serving_held admitted asked = tt
+
   asked_held : (other : List (Option Part)) (row : ClientRow) (heard : Result Pdu Refusal) → AreHeld hand (asks_for (length s.clients) other row heard)
   asked_held other row (Err refusal) = tt
   asked_held other row (Ok (pdu.InitiateRequest proposal)) = loss_held
   asked_held other row (Ok pdu.ConcludeRequest) = conclusion_held row.waiting (is_held other domains_place)
   asked_held other row (Ok (pdu.CancelRequest invoke)) = cancellation_held (is_waiting invoke row.waiting)
+  asked_held other row (Ok (pdu.ConfirmedRequest invoke asked)) = serving_held (admission invoke row) asked
   asked_held other row (Ok p) = tt
 
   heard_held : (other : List (Option Part)) (association : Association) (row : ClientRow) (octets : List ℕ) → AreHeld hand (heard_by (length s.clients) other association row octets)
   heard_held other Idle row octets = tt
-  heard_held other (Open values) row octets = asked_held other row (pdu_heard (lengths_of row.constants.edition) octets)
+  heard_held other (Open values) row octets = asked_held other row (pdu_heard row.constants.edition octets)
 
   hearing_held : (other : List (Option Part)) (octets : List ℕ) (row : Option ClientRow) → AreHeld hand (hearing (length s.clients) other octets row)
   hearing_held other octets None = tt

@@ -8,7 +8,9 @@ use Rattle.mms_types.specs.declared.event.CellEvent.TheVariants.{Heard, Lost, Ti
 use Rattle.association.specs.Client.{ClientRow, new_row, drained_row}
 use Rattle.mms_step.specs.declared.part.Part.{Part}
 use Rattle.mms_step.specs.declared.part.Part.TheVariants.{Clock, Variables, Domains, Programs, Conditions, Journals, Semaphores}
-use Rattle.mms_step.specs.State.{State, start, device, IsSound, last_moment}
+use Rattle.cell_config.specs.declared.config.Config.{Config}
+use Rattle.cell_config.specs.Said.{IsConfig}
+use Rattle.mms_step.specs.State.{State, start, device_of, first_rows, IsSound, last_moment}
 use Rattle.mms_step.specs.Association.{hear, lose}
 use Rattle.mms_step.specs.Step.{change, step, with_client, replay, MayCome, MayFollow}
 use Rattle.mms_step.specs.Partition.{parts_of, client_part, client_place}
@@ -65,11 +67,13 @@ length-clients_to : (n : ℕ) → length (clients_to n) ≡ n
 length-clients_to zero = refl
 length-clients_to (suc n) = length-append (clients_to n) (suc n ∷ []) ∙ omega (arith, length-clients_to n)
 
-pub length-start : (n : ℕ) → length (start n).clients ≡ n
-length-start n = length-map (clients_to n) (λ c. new_row c device) ∙ length-clients_to n
+pub length-start : (config : Config) → length (start config).clients ≡ config.clients
+length-start config = length-map (clients_to config.clients) (λ c. new_row c (device_of config)) ∙ length-clients_to config.clients
 
-pub start_sound : (n : ℕ) → 1 ≤ n → n ≤ 64 → IsSound (start n)
-start_sound n some few = record { some = omega (arith, length-start n); few = omega (arith, length-start n); dated = lit≤ tt }
+pub start_sound : (config : Config) → IsConfig config → IsSound (start config)
+start_sound config is =
+    let counted = length-start config in
+    record { some = omega (arith, counted, is.some_client); few = omega (arith, counted, is.few_clients); dated = omega (arith, is.dated) }
 
 client_sound : (s : State) (client : ℕ) (f : ClientRow → ClientRow) → IsSound s → IsSound (with_client s client f)
 client_sound s client f sound =
@@ -87,14 +91,15 @@ sound_along : (s : State) (history : List CellEvent) → IsSound s → MayFollow
 sound_along s [] sound may = sound
 sound_along s (event ∷ rest) sound may = sound_along (step s event) rest (step_sound s event sound may.0) may.1
 
-pub replay_sound : (n : ℕ) (history : List CellEvent) → 1 ≤ n → n ≤ 64 → MayFollow (start n) history → IsSound (replay n history)
-replay_sound n history some few may = sound_along (start n) history (start_sound n some few) may
+pub replay_sound : (config : Config) (history : List CellEvent) → IsConfig config → MayFollow (start config) history → IsSound (replay config history)
+replay_sound config history is may = sound_along (start config) history (start_sound config is) may
 
 -- one client more at the start
-pub start_more : (n : ℕ) → map client_part (start (n + 1)).clients ≡ map client_part (start n).clients ++ client_part (new_row (n + 1) device) ∷ []
-start_more n =
+pub start_more : (config : Config) (n : ℕ)
+    → map client_part (first_rows config (n + 1)) ≡ map client_part (first_rows config n) ++ client_part (new_row (n + 1) (device_of config)) ∷ []
+start_more config n =
     let next : n + 1 ≡ suc n = omega arith in
-    ap (λ (m : ℕ). map client_part (map (λ c. new_row c device) (clients_to m))) next
-    ∙ ap (λ (l : List ClientRow). map client_part l) (map-append (λ c. new_row c device) (clients_to n) (suc n ∷ []))
-    ∙ map-append client_part (map (λ c. new_row c device) (clients_to n)) (new_row (suc n) device ∷ [])
-    ∙ ap (λ (m : ℕ). map client_part (start n).clients ++ client_part (new_row m device) ∷ []) (sym next)
+    ap (λ (m : ℕ). map client_part (first_rows config m)) next
+    ∙ ap (λ (l : List ClientRow). map client_part l) (map-append (λ c. new_row c (device_of config)) (clients_to n) (suc n ∷ []))
+    ∙ map-append client_part (first_rows config n) (new_row (suc n) (device_of config) ∷ [])
+    ∙ ap (λ (m : ℕ). map client_part (first_rows config n) ++ client_part (new_row m (device_of config)) ∷ []) (sym next)

@@ -11,7 +11,6 @@ use Rattle.association.specs.declared.negotiation.Association.{Association}
 use Rattle.association.specs.declared.negotiation.Association.TheVariants.{Idle, Open}
 use Rattle.association.specs.declared.waiting.Waiting.{Waiting}
 use Rattle.association.specs.Client.{ClientRow}
-use Rattle.pdu_names.specs.Editions.{lengths_of}
 use Rattle.mms_pdu.specs.Heard.{pdu_heard}
 use Rattle.part_table.specs.Held.{held_at, IsHandOf}
 use Rattle.part_table.specs.HeldLaws.{held_of_list}
@@ -44,7 +43,7 @@ module _ (n : ℕ) (hand larger : List (Option Part)) (more : (other : ℕ) → 
 
   heard_grows : (association : Association) (row : ClientRow) (octets : List ℕ) → AllIn (heard_by n hand association row octets) (heard_by n larger association row octets)
   heard_grows Idle row octets place is = is
-  heard_grows (Open values) row octets place is = asks_grows row (pdu_heard (lengths_of row.constants.edition) octets) place is
+  heard_grows (Open values) row octets place is = asks_grows row (pdu_heard row.constants.edition octets) place is
 
   hearing_grows : (row : Option ClientRow) (octets : List ℕ) → AllIn (hearing n hand octets row) (hearing n larger octets row)
   hearing_grows None octets place is = is

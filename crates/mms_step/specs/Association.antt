@@ -5,6 +5,8 @@ use Rattle.mms_types.specs.declared.event.What.{What}
 use Rattle.mms_types.specs.declared.event.What.TheVariants.{Octets, Abort}
 use Rattle.mms_types.specs.declared.initiate.InitiateAnswer.{InitiateAnswer}
 use Rattle.mms_types.specs.declared.service_error.ServiceError.{ServiceError}
+use Rattle.mms_types.specs.declared.name_list.ObjectScope.{ObjectScope}
+use Rattle.mms_types.specs.declared.name_list.ObjectScope.TheVariants.{Domain}
 use Rattle.mms_types.specs.declared.pdu.Request.{Request}
 use Rattle.mms_types.specs.declared.pdu.Request.TheVariants as request
 use Rattle.mms_types.specs.declared.pdu.Answer.{Answer}
@@ -13,7 +15,6 @@ use Rattle.mms_types.specs.declared.pdu.Reject.{Reject}
 use Rattle.mms_types.specs.declared.pdu.RejectReason.TheVariants.{InvalidPdu, InvalidInvokeId, MaxServOutstandingExceeded}
 use Rattle.mms_types.specs.declared.pdu.Pdu.{Pdu}
 use Rattle.mms_types.specs.declared.pdu.Pdu.TheVariants as pdu
-use Rattle.pdu_names.specs.Editions.{lengths_of}
 use Rattle.mms_pdu.specs.declared.refusal.Refusal.{Refusal}
 use Rattle.mms_pdu.specs.Pdus.{pdu_octets}
 use Rattle.mms_pdu.specs.Rejects.{reject_of}
@@ -52,6 +53,10 @@ other_error = error 4 0
 abbrev pub cancel_error : ServiceError
 cancel_error = error 5 3
 
+-- class access, object-non-existent
+abbrev pub missing_error : ServiceError
+missing_error = error 7 2
+
 -- class conclude, further-communication-required
 abbrev pub further_error : ServiceError
 further_error = error 9 1
@@ -66,10 +71,17 @@ invalid_pdu = pdu.Reject (record { invoke = None; reason = InvalidPdu })
 
 -- ---- confirmed services
 
--- the answer to a request: Status is answered with state-changes-allowed and operational, Identify with the device's texts
-abbrev pub reply : Constants → Request → Answer
-reply device (request.Status derivation) = answer.Status 0 0
-reply device request.Identify = answer.Identify device.vendor device.model device.revision
+-- names are not listed where the domain of their scope is not live: there are no domains yet, so none is. No class has a name yet.
+abbrev pub listed : ObjectScope → Result Answer ServiceError
+listed (Domain domain) = Err missing_error
+listed scope = Ok (answer.GetNameList [] false)
+
+-- the answer to a request, or the cause for which it is refused: Status is answered with state-changes-allowed and operational, Identify with the device's
+-- texts
+abbrev pub reply : Constants → Request → Result Answer ServiceError
+reply device (request.Status derivation) = Ok (answer.Status 0 0)
+reply device (request.GetNameList class scope after) = listed scope
+reply device request.Identify = Ok (answer.Identify device.vendor device.model device.revision)
 
 -- a positive answer is sent unless it is longer than the negotiated size of a PDU; then the error is service, other
 abbrev pub response : ℕ → ℕ → Answer → Pdu
@@ -77,11 +89,16 @@ response size invoke told =
     if nat_le (length (pdu_octets (pdu.ConfirmedResponse invoke told))) size then pdu.ConfirmedResponse invoke told
     else pdu.ConfirmedError invoke None other_error
 
--- a request that is read is rejected where its invokeID waits, otherwise where as many requests wait as were negotiated, and is otherwise answered
+-- a cause is told by a confirmed-Error
+abbrev pub replied : ℕ → ℕ → Result Answer ServiceError → Pdu
+replied size invoke (Ok told) = response size invoke told
+replied size invoke (Err cause) = pdu.ConfirmedError invoke None cause
+
+-- a request that is read is rejected where its invokeID waits, otherwise where as many requests wait as were negotiated, and is otherwise answered or refused
 abbrev pub outcome : Result Unit NotAdmitted → Constants → ℕ → ℕ → Request → Pdu
 outcome (Err Waiting) device size invoke asked = pdu.Reject (record { invoke = Some invoke; reason = InvalidInvokeId })
 outcome (Err Outstanding) device size invoke asked = pdu.Reject (record { invoke = Some invoke; reason = MaxServOutstandingExceeded })
-outcome (Ok taken) device size invoke asked = response size invoke (reply device asked)
+outcome (Ok taken) device size invoke asked = replied size invoke (reply device asked)
 
 -- ---- the association
 
@@ -128,7 +145,7 @@ row_hears (Open values) row heard = open_hears values row heard
 
 -- the client's octets are heard
 abbrev pub hear : ClientRow → List ℕ → ClientRow
-hear row octets = row_hears row.association row (pdu_heard (lengths_of row.constants.edition) octets)
+hear row octets = row_hears row.association row (pdu_heard row.constants.edition octets)
 
 -- the client is lost, where there is an association
 abbrev pub lost_by : Association → ClientRow → ClientRow

@@ -2,14 +2,21 @@
 use Rattle.std.specs.Prelude.{◌≡◌, ℕ, ◌+◌, ◌-◌, Bool, true, false, not, List, [], ◌∷◌, ◌++◌, filter, is_some, length, Option, None, Some, Result, Ok, Err, if◌then◌else◌}
 use Rattle.mms_types.specs.declared.event.CellEvent.{CellEvent}
 use Rattle.mms_types.specs.declared.event.CellEvent.TheVariants.{Heard, Lost, Tick, Ends, Drain}
+use Rattle.mms_types.specs.declared.name_list.ObjectClass.{ObjectClass}
+use Rattle.mms_types.specs.declared.name_list.ObjectClass.TheVariants as class
+use Rattle.mms_types.specs.declared.name_list.ObjectScope.{ObjectScope}
+use Rattle.mms_types.specs.declared.name_list.ObjectScope.TheVariants as scope
+use Rattle.mms_types.specs.declared.pdu.Request.{Request}
+use Rattle.mms_types.specs.declared.pdu.Request.TheVariants as request
 use Rattle.mms_types.specs.declared.pdu.Pdu.{Pdu}
 use Rattle.mms_types.specs.declared.pdu.Pdu.TheVariants as pdu
-use Rattle.pdu_names.specs.Editions.{lengths_of}
 use Rattle.mms_pdu.specs.declared.refusal.Refusal.{Refusal}
 use Rattle.mms_pdu.specs.Heard.{pdu_heard}
 use Rattle.association.specs.declared.negotiation.Association.{Association}
 use Rattle.association.specs.declared.negotiation.Association.TheVariants.{Idle, Open}
+use Rattle.association.specs.declared.client_part.NotAdmitted.{NotAdmitted}
 use Rattle.association.specs.declared.waiting.Waiting.{Waiting}
+use Rattle.association.specs.Admission.{admission}
 use Rattle.association.specs.Client.{ClientRow}
 use Rattle.association.specs.Waiting.{is_waiting}
 use Rattle.part_table.specs.Held.{held_at}
@@ -41,16 +48,40 @@ conclusion n (first ∷ rest) domains = []
 abbrev pub cancellation : ℕ → Bool → List ℕ
 cancellation n waits = if waits then clock_place ∷ semaphores_place n ∷ [] else []
 
+-- the part with the names of a class; some classes have no names
+abbrev pub class_places : ℕ → ObjectClass → List ℕ
+class_places n class.NamedVariable = variables_place ∷ []
+class_places n class.NamedVariableList = variables_place ∷ []
+class_places n class.Semaphore = semaphores_place n ∷ []
+class_places n class.EventCondition = conditions_place ∷ []
+class_places n class.EventEnrollment = conditions_place ∷ []
+class_places n class.Journal = journals_place ∷ []
+class_places n class.Domain = domains_place ∷ []
+class_places n class.ProgramInvocation = programs_place ∷ []
+class_places n other = []
+
+-- names are listed from the part of their class, and whether the domain of their scope is live is looked up among domains
+abbrev pub listing : ℕ → ObjectScope → ObjectClass → List ℕ
+listing n (scope.Domain domain) class.Domain = domains_place ∷ []
+listing n (scope.Domain domain) c = domains_place ∷ class_places n c
+listing n s c = class_places n c
+
+-- a request that is not rejected
+abbrev pub serving : ℕ → Result Unit NotAdmitted → Request → List ℕ
+serving n (Ok taken) (request.GetNameList c s after) = listing n s c
+serving n admitted asked = []
+
 -- what a PDU asks for in an association
 abbrev pub asks_for : ℕ → List (Option Part) → ClientRow → Result Pdu Refusal → List ℕ
 asks_for n hand row (Ok (pdu.InitiateRequest proposal)) = loss n
 asks_for n hand row (Ok pdu.ConcludeRequest) = conclusion n row.waiting (is_held hand domains_place)
 asks_for n hand row (Ok (pdu.CancelRequest invoke)) = cancellation n (is_waiting invoke row.waiting)
+asks_for n hand row (Ok (pdu.ConfirmedRequest invoke asked)) = serving n (admission invoke row) asked
 asks_for n hand row heard = []
 
 abbrev pub heard_by : ℕ → List (Option Part) → Association → ClientRow → List ℕ → List ℕ
 heard_by n hand Idle row octets = []
-heard_by n hand (Open values) row octets = asks_for n hand row (pdu_heard (lengths_of row.constants.edition) octets)
+heard_by n hand (Open values) row octets = asks_for n hand row (pdu_heard row.constants.edition octets)
 
 abbrev pub lost_by : ℕ → Association → List ℕ
 lost_by n Idle = []

@@ -3,10 +3,12 @@ use Rattle.std.specs.Prelude.{◌≡◌, ℕ, ◌+◌, ◌-◌, List, [], ◌∷
 use Rattle.std.specs.List.{filter_map}
 use Rattle.mms_types.specs.declared.event.What.{What}
 use Rattle.association.specs.Client.{ClientRow, new_row, Client as RoomyRow}
+use Rattle.association.specs.declared.constants.Constants.{Constants}
+use Rattle.mms_types.specs.declared.identifier.Edition.TheVariants.{One}
 use Rattle.part_table.specs.Held.{held_at}
 use Rattle.mms_step.specs.declared.part.Part.{Part}
 use Rattle.mms_step.specs.declared.part.Part.TheVariants.{Clock, Variables, Domains, Programs, Conditions, Journals, Client, Semaphores}
-use Rattle.mms_step.specs.State.{State, device}
+use Rattle.mms_step.specs.State.{State}
 
 -- With n clients there are n + 7 parts: 0 the clock, 1 variables and their lists, 2 domains and uploads, 3 program invocations, 4 event conditions and
 -- enrolments, 5 journals, 5 + c client c, 6 + n semaphores.
@@ -70,10 +72,14 @@ abbrev pub outbox_held : Option Part → List What
 outbox_held (Some (Client client)) = client.row.outbox
 outbox_held other = []
 
--- a client's part, or another where none is held
+-- what stands where there is no client
+abbrev pub nobody : Constants
+nobody = record { edition = One; vendor = []; model = []; revision = [] }
+
+-- a client's part, or that of no client where none is held
 abbrev pub client_in : Option Part → RoomyRow
 client_in (Some (Client client)) = client
-client_in other = settled (new_row 0 device)
+client_in other = settled (new_row 0 nobody)
 
 -- the clock is held, and a client's part
 abbrev pub IsClock : Option Part → Type 0

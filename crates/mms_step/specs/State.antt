@@ -1,10 +1,10 @@
 -- The state of the device: plain lists of rows and the moment (ISO 9506-1, the virtual manufacturing device).
-use Rattle.std.specs.Prelude.{ℕ, ◌+◌, ◌-◌, ◌≤◌, List, map, length, slice_get, codes, Option, None, Some}
-use Rattle.mms_types.specs.Actors.{clients_to, IsAmong}
-use Rattle.mms_types.specs.declared.event.What.{What}
+use Rattle.std.specs.Prelude.{ℕ, ◌≤◌, List, map, length}
+use Rattle.mms_types.specs.Actors.{clients_to}
 use Rattle.mms_types.specs.declared.identifier.Edition.TheVariants.{One}
 use Rattle.association.specs.Client.{ClientRow, new_row}
 use Rattle.association.specs.declared.constants.Constants.{Constants}
+use Rattle.cell_config.specs.declared.config.Config.{Config}
 
 pub record State : Type 0 where
   -- the moment, in milliseconds since the beginning of 1 January 1984
@@ -12,13 +12,17 @@ pub record State : Type 0 where
   -- the rows of clients 1 to n, in this order
   pub clients : List ClientRow
 
--- what never changes of the device: its edition, and what it answers to Identify (this profile's choice of texts)
-abbrev pub device : Constants
-device = record { edition = One; vendor = codes "VMD"; model = codes "CELL"; revision = codes "1" }
+-- what never changes of a configured device: its edition, and the three texts that it answers to Identify (ISO 9506-2, Identify)
+abbrev pub device_of : Config → Constants
+device_of config = record { edition = One; vendor = config.vendor; model = config.model; revision = config.revision }
 
--- the start with n clients: it is moment 0, no association is open, nothing waits and nothing is to be sent
-abbrev pub start : ℕ → State
-start n = record { now = 0; clients = map (λ c. new_row c device) (clients_to n) }
+-- the rows of clients 1 to n at the start: no association is open, nothing waits and nothing is to be sent
+abbrev pub first_rows : Config → ℕ → List ClientRow
+first_rows config n = map (λ c. new_row c (device_of config)) (clients_to n)
+
+-- the start: it is the configured moment, and there are as many clients as are configured
+abbrev pub start : Config → State
+start config = record { now = config.start.0; clients = first_rows config config.clients }
 
 -- the last millisecond of day 65,535 (ISO 9506-2, TimeOfDay)
 abbrev pub last_moment : ℕ

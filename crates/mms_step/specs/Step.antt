@@ -5,6 +5,7 @@ use Rattle.mms_types.specs.declared.event.What.{What}
 use Rattle.mms_types.specs.declared.event.CellEvent.{CellEvent}
 use Rattle.mms_types.specs.declared.event.CellEvent.TheVariants.{Heard, Lost, Tick, Ends, Drain}
 use Rattle.association.specs.Client.{ClientRow, drained_row}
+use Rattle.cell_config.specs.declared.config.Config.{Config}
 use Rattle.mms_step.specs.State.{State, start, last_moment}
 use Rattle.mms_step.specs.Association.{hear, lose}
 
@@ -31,9 +32,9 @@ step s (Tick ms) = tick (s.now + ms) s
 step s (Ends name) = s
 step s (Drain client) = with_client s client drained_row
 
--- the state after a history of events, with n clients
-abbrev pub replay : ℕ → List CellEvent → State
-replay n history = fold step (start n) history
+-- the state after a history of events, from the start of a configured device on
+abbrev pub replay : Config → List CellEvent → State
+replay config history = fold step (start config) history
 
 -- what is to be sent to a client
 abbrev pub outbox_in : Option ClientRow → List What
@@ -44,8 +45,8 @@ abbrev pub outbox_of : State → ℕ → List What
 outbox_of s client = outbox_in (slice_get s.clients (client - 1))
 
 -- what a client takes that drains after a history
-abbrev pub said : ℕ → List CellEvent → ℕ → List What
-said n history client = outbox_of (replay n history) client
+abbrev pub said : Config → List CellEvent → ℕ → List What
+said config history client = outbox_of (replay config history) client
 
 -- time ends no later than the last moment
 abbrev pub IsInTime : ℕ → CellEvent → Type 0

@@ -19,7 +19,6 @@ use part_table::Hand;
 use std::alloc::Global;
 
 /// Lets octets be heard from a client.
-
 fn hear_from(alloc: Global, held: &mut Hand<Cell>, client: u32, octets: &[u8]) -> Result<(), Memory>
     requires small { client ≤ 64 }
     requires held { IsClient (held_at held.old (client_place client)) }
@@ -39,7 +38,6 @@ fn hear_from(alloc: Global, held: &mut Hand<Cell>, client: u32, octets: &[u8]) -
 }
 
 /// Lets a client be lost.
-
 fn lose(held: &mut Hand<Cell>, client: u32)
     requires small { client ≤ 64 }
     requires held { IsClient (held_at held.old (client_place client)) }
@@ -57,7 +55,6 @@ fn lose(held: &mut Hand<Cell>, client: u32)
 }
 
 /// Lets milliseconds go by.
-
 fn tick(held: &mut Hand<Cell>, ms: u32)
     requires held { IsClock (held_at held.old 0) }
     requires time { clock_in (held_at held.old 0) + ms ≤ last_moment }
@@ -74,7 +71,6 @@ fn tick(held: &mut Hand<Cell>, ms: u32)
 }
 
 /// Takes what is to be sent to a client out of its part: the step of `Drain` on the parts that are held. It takes no memory.
-
 pub fn drain(client: u32, held: &mut Hand<Cell>) -> Vec<What>
     requires small { client ≤ 64 }
     requires held { IsClient (held_at held.old (client_place client)) }

@@ -5,10 +5,9 @@ ghost use Rattle.association.specs.Admission.{admission};
 ghost use Rattle.association.specs.Client.{closed_row, drained_row, new_row};
 ghost use Rattle.association.specs.Negotiation.{negotiation};
 ghost use Rattle.association.specs.Waiting.{is_waiting};
-ghost use Rattle.pdu_names.specs.Editions.{lengths_of};
 ghost use Rattle.mms_pdu.specs.Pdus.{pdu_octets};
 ghost use Rattle.mms_pdu.specs.Heard.{pdu_heard};
-ghost use Rattle.mms_step.specs.Association.{with_pdu, with_abort, reply, response, outcome, negotiated, concluded, cancelled, idle_hears, open_hears, hear, lose};
+ghost use Rattle.mms_step.specs.Association.{with_pdu, with_abort, listed, reply, response, replied, outcome, negotiated, concluded, cancelled, idle_hears, open_hears, hear, lose};
 ghost use Rattle.mms_step.specs.Partition.{settled};
 
 use association::{Association, ClientPart, Constants, Negotiated, NotAdmitted, outcome_of};
@@ -16,8 +15,8 @@ use mms_pdu::{Refusal, Writer, put_pdu, read_pdu, reject_for};
 #[cfg(test)]
 use mms_types::Key;
 use mms_types::{
-    Answer, Edition, Initiate, Memory, Octets, Pdu, Reject, RejectReason, Request, ServiceError,
-    What,
+    Answer, Edition, Identifiers, Initiate, Memory, ObjectScope, Octets, Pdu, Reject, RejectReason,
+    Request, ServiceError, What,
 };
 use std::alloc::Global;
 use std::marker::Model;
@@ -44,7 +43,7 @@ pub(crate) fn heard(
     octets: &[u8],
     edition: Edition,
 ) -> Result<Result<Pdu, Refusal>, Memory>
-    ensures { IfOk result (λ told. told ≡ pdu_heard (lengths_of edition) octets.now) }
+    ensures { IfOk result (λ told. told ≡ pdu_heard edition octets.now) }
 {
     match read_pdu(alloc, octets, edition) {
         Ok(read) => Ok(Ok(read.pdu)),
@@ -53,20 +52,38 @@ pub(crate) fn heard(
     }
 }
 
-/// The answer to a request (ISO 9506-1, VMD support).
-fn reply(alloc: Global, device: &Constants, asked: &Request) -> Result<Answer, Memory>
+/// The names of a class in a scope, or why they are not listed (ISO 9506-1, VMD support, GetNameList). No class has a name yet.
+fn listed(alloc: Global, scope: &ObjectScope) -> Result<Answer, ServiceError>
+    ensures { result ≡ listed scope.now }
+{
+    match scope {
+        ObjectScope::Domain(_) => Err(ServiceError::OBJECT_NON_EXISTENT),
+        ObjectScope::Vmd | ObjectScope::Association => Ok(Answer::GetNameList {
+            names: Identifiers::new(alloc),
+            more: false,
+        }),
+    }
+}
+
+/// The answer to a request, or why it is refused (ISO 9506-1, VMD support).
+fn reply(
+    alloc: Global,
+    device: &Constants,
+    asked: &Request,
+) -> Result<Result<Answer, ServiceError>, Memory>
     ensures { IfOk result (λ told. told ≡ reply device.now asked.now) }
 {
     match asked {
-        Request::Status { .. } => Ok(Answer::Status {
+        Request::Status { .. } => Ok(Ok(Answer::Status {
             logical: 0,
             physical: 0,
-        }),
-        Request::Identify => Ok(Answer::Identify {
+        })),
+        Request::GetNameList { scope, .. } => Ok(listed(alloc, scope)),
+        Request::Identify => Ok(Ok(Answer::Identify {
             vendor: device.vendor.copy(alloc)?,
             model: device.model.copy(alloc)?,
             revision: device.revision.copy(alloc)?,
-        }),
+        })),
     }
 }
 
@@ -164,7 +181,43 @@ impl Client {
         }
     }
 
+    /// Refuses a confirmed request.
+    fn refuse(&mut self, alloc: Global, invoke: u32, error: ServiceError) -> Result<(), Memory>
+        ensures sent { OnOk result (self.new ≡ settled (with_pdu self.old.row (Pdu.ConfirmedError invoke None error))) }
+        ensures kept { OnErr result (self.new ≡ self.old) }
+    {
+        self.send(
+            alloc,
+            &Pdu::ConfirmedError {
+                invoke,
+                modifier: None,
+                error,
+            },
+        )
+    }
+
     /// Answers a confirmed request.
+    fn answer(
+        &mut self,
+        alloc: Global,
+        size: u32,
+        invoke: u32,
+        answer: Answer,
+    ) -> Result<(), Memory>
+        ensures sent { OnOk result (self.new ≡ settled (with_pdu self.old.row (response size invoke answer))) }
+        ensures kept { OnErr result (self.new ≡ self.old) }
+    {
+        let response = Pdu::ConfirmedResponse { invoke, answer };
+        let octets = self.spelled(alloc, &response)?;
+        if octets.len() > size as usize {
+            return self.refuse(alloc, invoke, ServiceError::OTHER);
+        }
+        self.part.reserve(1, 0)?;
+        self.part.push(What::Octets(octets));
+        Ok(())
+    }
+
+    /// Answers a confirmed request, or refuses it.
     fn respond(
         &mut self,
         alloc: Global,
@@ -172,23 +225,13 @@ impl Client {
         invoke: u32,
         asked: &Request,
     ) -> Result<(), Memory>
-        ensures sent { OnOk result (self.new ≡ settled (with_pdu self.old.row (response size invoke (reply self.old.row.constants asked.now)))) }
+        ensures sent { OnOk result (self.new ≡ settled (with_pdu self.old.row (replied size invoke (reply self.old.row.constants asked.now)))) }
         ensures kept { OnErr result (self.new ≡ self.old) }
     {
-        let answer = reply(alloc, self.part.constants(), asked)?;
-        let response = Pdu::ConfirmedResponse { invoke, answer };
-        let octets = self.spelled(alloc, &response)?;
-        if octets.len() > size as usize {
-            let error = Pdu::ConfirmedError {
-                invoke,
-                modifier: None,
-                error: ServiceError::OTHER,
-            };
-            return self.send(alloc, &error);
+        match reply(alloc, self.part.constants(), asked)? {
+            Ok(answer) => self.answer(alloc, size, invoke, answer),
+            Err(error) => self.refuse(alloc, invoke, error),
         }
-        self.part.reserve(1, 0)?;
-        self.part.push(What::Octets(octets));
-        Ok(())
     }
 
     /// Rejects a confirmed request.

@@ -1,6 +1,7 @@
 //! The part of the clock.
 
 ghost use Rattle.std.specs.Prelude.{◌≡◌, ◌+◌, ◌≤◌};
+ghost use Rattle.mms_types.specs.Moments.{IsDated};
 ghost use Rattle.mms_step.specs.State.{last_moment};
 
 use mms_types::Moment;
@@ -23,11 +24,12 @@ impl Model for Clock {
 }
 
 impl Clock {
-    /// A clock at the beginning of 1 January 1984.
-    pub fn new() -> Clock
-        ensures { result ≡ 0 }
+    /// A clock at a moment.
+    pub fn new(moment: Moment) -> Clock
+        requires { IsDated moment }
+        ensures { result ≡ moment.0 }
     {
-        Clock { moment: Moment(0) }
+        Clock { moment }
     }
 
     /// The moment.

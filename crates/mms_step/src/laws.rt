@@ -4,6 +4,8 @@ ghost use Rattle.std.specs.Prelude.{◌≡◌, ℕ, ◌≤◌, true, [], List, O
 ghost use Rattle.mms_types.specs.declared.event.CellEvent.{CellEvent};
 ghost use Rattle.mms_types.specs.Actors.{IsAmong};
 ghost use Rattle.part_table.specs.Held.{held_at, IsHandOf};
+ghost use Rattle.cell_config.specs.declared.config.Config.{Config};
+ghost use Rattle.cell_config.specs.Said.{IsConfig};
 ghost use Rattle.mms_step.specs.declared.part.Part.{Part};
 ghost use Rattle.mms_step.specs.State.{State, IsSound, start};
 ghost use Rattle.mms_step.specs.Step.{step, replay, MayFollow};
@@ -29,7 +31,7 @@ pub fn a_step_is_of_the_held_parts()
 /// Every state is sound that the device reaches from its start by events that may come: its clients are as many as they were, and its moment is one that six
 /// octets name.
 pub fn each_state_is_sound()
-    ensures { (n : ℕ) (history : List CellEvent) → 1 ≤ n → n ≤ 64 → MayFollow (start n) history → IsSound (replay n history) }
+    ensures { (config : Config) (history : List CellEvent) → IsConfig config → MayFollow (start config) history → IsSound (replay config history) }
 {}
 
 /// Where all parts of a state are held, no event that may come needs more.

@@ -2,17 +2,18 @@
 
 ghost use Rattle.std.specs.Prelude.{◌≡◌, ◌≢◌, ◌+◌, ◌≤◌, [], ◌∷◌, ◌++◌, length, IfOk, OnOk};
 ghost use Rattle.mms_types.specs.Actors.{IsAmong};
+ghost use Rattle.association.specs.Admission.{admission};
 ghost use Rattle.association.specs.Waiting.{is_waiting};
 ghost use Rattle.part_table.specs.Held.{held_at, IsHandOf};
 ghost use Rattle.mms_step.specs.State.{State, IsSound};
 ghost use Rattle.mms_step.specs.Partition.{parts_of, clients_among, row_in, client_place};
-ghost use Rattle.mms_step.specs.Needs.{is_held, footprint, loss, conclusion, cancellation, asks_for, heard_by, lost_by, hearing, losing, further, shown, need};
+ghost use Rattle.mms_step.specs.Needs.{is_held, footprint, loss, conclusion, cancellation, class_places, listing, serving, asks_for, heard_by, lost_by, hearing, losing, further, shown, need};
 
 use crate::client::heard;
 use crate::{Cell, Part, Parts};
 use association::{Association, ClientPart, NotAdmitted};
 use mms_pdu::Refusal;
-use mms_types::{CellEvent, Memory, Pdu};
+use mms_types::{CellEvent, Memory, ObjectClass, ObjectScope, Pdu, Request};
 use part_table::Hand;
 use std::alloc::Global;
 
@@ -105,6 +106,57 @@ fn push_cancel(parts: &mut Parts, clients: u32, part: &ClientPart, invoke: u32)
     }
 }
 
+/// Appends the part with the names of a class, where it has one.
+fn push_class(parts: &mut Parts, clients: u32, class: ObjectClass)
+    requires few { clients ≤ 64 }
+    requires room { length parts.old + 1 ≤ 256 }
+    ensures { parts.new ≡ parts.old ++ class_places clients class }
+{
+    match class {
+        ObjectClass::NamedVariable | ObjectClass::NamedVariableList => parts.push(VARIABLES),
+        ObjectClass::Semaphore => parts.push(semaphores(clients)),
+        ObjectClass::EventCondition | ObjectClass::EventEnrollment => parts.push(CONDITIONS),
+        ObjectClass::Journal => parts.push(JOURNALS),
+        ObjectClass::Domain => parts.push(DOMAINS),
+        ObjectClass::ProgramInvocation => parts.push(PROGRAMS),
+        ObjectClass::ScatteredAccess
+        | ObjectClass::NamedType
+        | ObjectClass::EventAction
+        | ObjectClass::OperatorStation => {}
+    }
+}
+
+/// Appends what a list of names asks for.
+fn push_listing(parts: &mut Parts, clients: u32, scope: &ObjectScope, class: ObjectClass)
+    requires few { clients ≤ 64 }
+    requires room { length parts.old + 2 ≤ 256 }
+    ensures { parts.new ≡ parts.old ++ listing clients scope.now class }
+{
+    match (scope, class) {
+        (ObjectScope::Domain(_), ObjectClass::Domain) => parts.push(DOMAINS),
+        (ObjectScope::Domain(_), _) => {
+            parts.push(DOMAINS);
+            push_class(parts, clients, class);
+        }
+        _ => push_class(parts, clients, class),
+    }
+}
+
+/// Appends what a confirmed request asks for.
+fn push_request(parts: &mut Parts, clients: u32, part: &ClientPart, invoke: u32, asked: &Request)
+    requires few { clients ≤ 64 }
+    requires room { length parts.old + 6 ≤ 256 }
+    requires open { part.now.row.association ≢ Association.Idle }
+    ensures { parts.new ≡ parts.old ++ serving clients (admission invoke part.now.row) asked.now }
+{
+    match (part.admit(invoke), asked) {
+        (Ok(()), Request::GetNameList { class, scope, .. }) => {
+            push_listing(parts, clients, scope, *class);
+        }
+        _ => {}
+    }
+}
+
 /// Appends what a PDU asks for in an association.
 fn push_asked(
     parts: &mut Parts,
@@ -122,6 +174,9 @@ fn push_asked(
         Ok(Pdu::InitiateRequest(_)) => push_loss(parts, clients),
         Ok(Pdu::ConcludeRequest) => push_conclusion(parts, clients, held, part),
         Ok(Pdu::CancelRequest { invoke }) => push_cancel(parts, clients, part, *invoke),
+        Ok(Pdu::ConfirmedRequest { invoke, request }) => {
+            push_request(parts, clients, part, *invoke, request);
+        }
         _ => {}
     }
 }
@@ -208,4 +263,41 @@ pub fn need(alloc: Global, event: &CellEvent, held: &Hand<Cell>) -> Result<Parts
     let mut parts = footprint(event, clients);
     push_further(alloc, &mut parts, clients, event, held)?;
     Ok(parts.missing(held))
+}
+
+#[cfg(test)]
+mod tests {
+    use super::push_listing;
+    use crate::Parts;
+    use mms_types::{Edition, Identifier, ObjectClass, ObjectScope};
+    use std::test::Fail;
+
+    #[test]
+    fn what_a_list_of_names_asks_for(rt: HostRuntime) -> Result<(), Fail> {
+        let table: [(ObjectClass, &[u8], &[u8]); 12] = [
+            (ObjectClass::NamedVariable, &[1], &[2, 1]),
+            (ObjectClass::ScatteredAccess, &[], &[2]),
+            (ObjectClass::NamedVariableList, &[1], &[2, 1]),
+            (ObjectClass::NamedType, &[], &[2]),
+            (ObjectClass::Semaphore, &[70], &[2, 70]),
+            (ObjectClass::EventCondition, &[4], &[2, 4]),
+            (ObjectClass::EventAction, &[], &[2]),
+            (ObjectClass::EventEnrollment, &[4], &[2, 4]),
+            (ObjectClass::Journal, &[5], &[2, 5]),
+            (ObjectClass::Domain, &[2], &[2]),
+            (ObjectClass::ProgramInvocation, &[3], &[2, 3]),
+            (ObjectClass::OperatorStation, &[], &[2]),
+        ];
+        let domain = Identifier::read(rt.alloc(), b"D", Edition::One)?;
+        let in_domain = ObjectScope::Domain(domain);
+        for (class, of_the_device, of_a_domain) in table {
+            let mut parts = Parts::new();
+            push_listing(&mut parts, 64, &ObjectScope::Vmd, class);
+            assert_eq!(rt; parts.as_slice(), of_the_device);
+            let mut parts = Parts::new();
+            push_listing(&mut parts, 64, &in_domain, class);
+            assert_eq!(rt; parts.as_slice(), of_a_domain);
+        }
+        Ok(())
+    }
 }

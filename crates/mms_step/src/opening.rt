@@ -1,25 +1,26 @@
 //! The parts at the start.
 
-ghost use Rattle.std.specs.Prelude.{◌≡◌, ◌≤◌, IfOk, OnOk, map, [], ◌∷◌, ◌++◌};
+ghost use Rattle.std.specs.Prelude.{◌≡◌, IfOk, OnOk, map, [], ◌∷◌, ◌++◌};
 ghost use Rattle.std.specs.Box.{box_value};
-ghost use Rattle.mms_types.specs.Actors.{clients_to};
-ghost use Rattle.mms_step.specs.State.{start, device};
+ghost use Rattle.cell_config.specs.Said.{IsConfig};
+ghost use Rattle.mms_step.specs.State.{start, device_of};
 ghost use Rattle.mms_step.specs.Partition.{parts_of};
 
 use crate::{Client, Clock, Part};
 use association::Constants;
-use mms_types::{Edition, Memory, Octets};
+use cell_config::Config;
+use mms_types::{Edition, Memory};
 use std::alloc::Global;
 
 /// What never changes of the device.
-fn device(alloc: Global) -> Result<Constants, Memory>
-    ensures { IfOk result (λ constants. constants ≡ device) }
+fn device(alloc: Global, config: &Config) -> Result<Constants, Memory>
+    ensures { IfOk result (λ constants. constants ≡ device_of config.now) }
 {
     Ok(Constants {
         edition: Edition::One,
-        vendor: Octets::from_slice(alloc, b"VMD")?,
-        model: Octets::from_slice(alloc, b"CELL")?,
-        revision: Octets::from_slice(alloc, b"1")?,
+        vendor: config.vendor.copy(alloc)?,
+        model: config.model.copy(alloc)?,
+        revision: config.revision.copy(alloc)?,
     })
 }
 
@@ -31,22 +32,22 @@ fn put(alloc: Global, parts: &mut Vec<Box<Part>>, part: Part) -> Result<(), Memo
     Ok(())
 }
 
+/// The parts of a configured device at the start: it is the configured moment, there are as many clients as are configured, no
+/// association is open, nothing waits and nothing is to be sent.
 #[tactic(auto, using(crate::proofs::PartsAfter::start_more))]
-/// The parts of the device at the start: no association is open, nothing waits and nothing is to be sent.
-pub fn start_parts(alloc: Global, clients: u32) -> Result<Vec<Box<Part>>, Memory>
-    requires some { 1 ≤ clients }
-    requires few { clients ≤ 64 }
-    ensures { IfOk result (λ parts. map box_value parts.items ≡ parts_of (start clients)) }
+pub fn start_parts(alloc: Global, config: &Config) -> Result<Vec<Box<Part>>, Memory>
+    requires config { IsConfig config.now }
+    ensures { IfOk result (λ parts. map box_value parts.items ≡ parts_of (start config.now)) }
 {
-    let mut parts = Vec::with_capacity(alloc, clients as usize + 7)?;
-    put(alloc, &mut parts, Part::Clock(Clock::new()))?;
+    let mut parts = Vec::with_capacity(alloc, config.clients as usize + 7)?;
+    put(alloc, &mut parts, Part::Clock(Clock::new(config.start)))?;
     put(alloc, &mut parts, Part::Variables)?;
     put(alloc, &mut parts, Part::Domains)?;
     put(alloc, &mut parts, Part::Programs)?;
     put(alloc, &mut parts, Part::Conditions)?;
     put(alloc, &mut parts, Part::Journals)?;
-    for client in 0..clients {
-        let device = device(alloc)?;
+    for client in 0..config.clients {
+        let device = device(alloc, config)?;
         put(
             alloc,
             &mut parts,

@@ -9,14 +9,14 @@ use Rattle.mms_device.proofs.whole.Whole.new.Goals as goal
 pub invariant_of-result : goal.invariant_of-result
 invariant_of-result c =
     let is = c.in_ok-all_held.ensures in (
-      holds_all_after c.in_ok-all_held.field-0 (start c.args.clients) is,
-      subst IsSound (sym (state_after c.in_ok-all_held.field-0 (start c.args.clients) is)) (start_sound c.args.clients c.requires.some c.requires.few),
+      holds_all_after c.in_ok-all_held.field-0 (start c.args.config.now) is,
+      subst IsSound (sym (state_after c.in_ok-all_held.field-0 (start c.args.config.now) is)) (start_sound c.args.config.now c.requires.config),
     )
 
 pub returns : goal.returns
 returns c =
     let is = c.in_ok-all_held.ensures in
-    ap (λ (s : State). at s) (state_after c.in_ok-all_held.field-0 (start c.args.clients) is)
+    ap (λ (s : State). at s) (state_after c.in_ok-all_held.field-0 (start c.args.config.now) is)
   where
     at : State → Served
     at s = record { state = s; count = 0 }
