@@ -16,7 +16,7 @@ pub const MOST: u64 = 4_294_967_296;
 /// The most octets that are kept of a line.
 pub const KEPT: usize = 196_612;
 
-const CHUNK: usize = 1 << 16;
+const CHUNK: usize = 1 << 15;
 
 /// Why no line was given.
 #[derive(Clone, Copy, Debug, PartialEq, Eq, Drop, Error)]
@@ -32,7 +32,7 @@ pub enum Stop {
     Memory,
 }
 
-/// A reader of the lines of a source. It reads 64 KiB at a time and takes no memory for a line
+/// A reader of the lines of a source. It reads 32 KiB at a time and takes no memory for a line
 /// but in the caller's buffer.
 #[derive(Drop)]
 pub struct Lines {

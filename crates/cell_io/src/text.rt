@@ -11,14 +11,14 @@ use std::alloc::Global;
 use std::marker::Model;
 
 /// How many octets wait before they are written.
-const PIECE: usize = 1 << 16;
+const PIECE: usize = 1 << 14;
 
 /// How much room is asked for at once: more than waits of a report. What isn't written of it takes no
 /// memory, but once a block of this size was released, the C library keeps as much for the blocks to come and
 /// doesn't give back to the system, phase by phase, what a phase took.
 const ROOM: usize = 1 << 22;
 
-/// Text on its way to a sink, to which it goes in pieces of 64 KiB and more. Contracts see the octets that still wait.
+/// Text on its way to a sink, to which it goes in pieces of 16 KiB and more. Contracts see the octets that still wait.
 #[derive(Drop)]
 pub struct Text {
     buffer: Vec<u8>,
