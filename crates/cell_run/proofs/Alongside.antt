@@ -7,6 +7,7 @@ use Rattle.mms_types.specs.Actors.{clients_to, IsAmong}
 use Rattle.mms_types.specs.declared.event.What.{What}
 use Rattle.mms_types.specs.declared.event.CellEvent.{CellEvent}
 use Rattle.mms_types.specs.declared.event.CellEvent.TheVariants.{Heard, Lost, Tick, Ends, Drain}
+use Rattle.cell_config.specs.declared.config.Config.{Config}
 use Rattle.mms_step.specs.State.{State, start, last_moment}
 use Rattle.mms_step.specs.Association.{hear, lose}
 use Rattle.mms_step.specs.Step.{step, replay, said, outbox_of, MayCome, IsInTime}
@@ -143,9 +144,9 @@ phase_count d es n =
 
 -- ---- after a history
 
-pub after-append : (n : ℕ) (h es : List CellEvent) → along (device_after n h) es ≡ device_after n (h ++ es)
-after-append n h [] = ap (device_after n) (sym (append-nil h))
-after-append n h (e ∷ es) = ap (λ (d : Served). along d es) (one n h e) ∙ after-append n (h ++ e ∷ []) es ∙ ap (device_after n) (append_assoc h (e ∷ []) es)
+pub after-append : (config : Config) (h es : List CellEvent) → along (device_after config h) es ≡ device_after config (h ++ es)
+after-append config h [] = ap (device_after config) (sym (append-nil h))
+after-append config h (e ∷ es) = ap (λ (d : Served). along d es) (one config h e) ∙ after-append config (h ++ e ∷ []) es ∙ ap (device_after config) (append_assoc h (e ∷ []) es)
   where
     fold_more : (s : State) (h : List CellEvent) (e : CellEvent) → fold step s (h ++ e ∷ []) ≡ step (fold step s h) e
     fold_more s [] e = refl
@@ -154,22 +155,26 @@ after-append n h (e ∷ es) = ap (λ (d : Served). along d es) (one n h e) ∙ a
     at : State → ℕ → Served
     at s k = record { state = s; count = k }
 
-    one : (n : ℕ) (h : List CellEvent) (e : CellEvent) → served (device_after n h) e ≡ device_after n (h ++ e ∷ [])
-    one n h e = ap (λ (s : State). at s (length h + 1)) (sym (fold_more (start n) h e)) ∙ ap (λ (k : ℕ). at (replay n (h ++ e ∷ [])) k) (sym (length-append h (e ∷ [])))
+    one : (config : Config) (h : List CellEvent) (e : CellEvent) → served (device_after config h) e ≡ device_after config (h ++ e ∷ [])
+    one config h e =
+        ap (λ (s : State). at s (length h + 1)) (sym (fold_more (start config) h e))
+        ∙ ap (λ (k : ℕ). at (replay config (h ++ e ∷ [])) k) (sym (length-append h (e ∷ [])))
 
-pub after_sized : (n : ℕ) (h : List CellEvent) → length (device_after n h).state.clients ≡ n
-after_sized n h = ap (λ (d : Served). length d.state.clients) (sym (after-append n [] h)) ∙ along_sized (device_after n []) h ∙ length-start n
+pub after_sized : (config : Config) (h : List CellEvent) → length (device_after config h).state.clients ≡ config.clients
+after_sized config h =
+    ap (λ (d : Served). length d.state.clients) (sym (after-append config [] h)) ∙ along_sized (device_after config []) h ∙ length-start config
 
-taken_after : (n : ℕ) (h : List CellEvent) (cs : List ℕ) → taken_along (device_after n h) cs ≡ taken (said n) h cs
-taken_after n h [] = refl
-taken_after n h (c ∷ cs) =
-    ap (λ (d : Served). outbox_of (replay n h) c ∷ taken_along d cs) (after-append n h (Drain c ∷ []))
-    ∙ ap (λ (l : List (List What)). said n h c ∷ l) (taken_after n (h ++ Drain c ∷ []) cs)
+taken_after : (config : Config) (h : List CellEvent) (cs : List ℕ) → taken_along (device_after config h) cs ≡ taken (said config) h cs
+taken_after config h [] = refl
+taken_after config h (c ∷ cs) =
+    ap (λ (d : Served). outbox_of (replay config h) c ∷ taken_along d cs) (after-append config h (Drain c ∷ []))
+    ∙ ap (λ (l : List (List What)). said config h c ∷ l) (taken_after config (h ++ Drain c ∷ []) cs)
 
 -- the text of a phase that is served after a history
-pub told_after : (n number : ℕ) (h body : List CellEvent)
-    → phase_told (device_after n h) number body ≡ phase_text number (placed_from (length h + 1) body) (taken (said n) (h ++ body) (clients_to n))
-told_after n number h body =
-    ap (λ (m : ℕ). phase_text number (placed_from (length h + 1) body) (taken_along (along (device_after n h) body) (clients_to m))) (after_sized n h)
-    ∙ ap (λ (d : Served). phase_text number (placed_from (length h + 1) body) (taken_along d (clients_to n))) (after-append n h body)
-    ∙ ap (λ (l : List (List What)). phase_text number (placed_from (length h + 1) body) l) (taken_after n (h ++ body) (clients_to n))
+pub told_after : (config : Config) (number : ℕ) (h body : List CellEvent)
+    → phase_told (device_after config h) number body
+    ≡ phase_text number (placed_from (length h + 1) body) (taken (said config) (h ++ body) (clients_to config.clients))
+told_after config number h body =
+    ap (λ (m : ℕ). phase_text number (placed_from (length h + 1) body) (taken_along (along (device_after config h) body) (clients_to m))) (after_sized config h)
+    ∙ ap (λ (d : Served). phase_text number (placed_from (length h + 1) body) (taken_along d (clients_to config.clients))) (after-append config h body)
+    ∙ ap (λ (l : List (List What)). phase_text number (placed_from (length h + 1) body) l) (taken_after config (h ++ body) (clients_to config.clients))

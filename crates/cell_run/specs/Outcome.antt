@@ -1,9 +1,10 @@
 -- What a run prints, and the status with which it ends (this profile's choice).
-use Rattle.std.specs.Prelude.{◌≡◌, ℕ, List, [], ◌∷◌, ◌++◌, codes, map, Some, None}
+use Rattle.std.specs.Prelude.{◌≡◌, ℕ, List, [], ◌∷◌, ◌++◌, codes, map, Some, None, Ok, Err}
 use Rattle.std.specs.Prelude.{String}
 use Rattle.std.specs.Global.{Global}
 use Rattle.std.specs.String.{string_bytes}
 use Rattle.std.specs.Fmt.{decimal}
+use Rattle.std.specs.Io.KnownBytes.{Appends}
 use Rattle.std.specs.declared.option.Option.{Option}
 use Rattle.mms_types.specs.declared.event.CellEvent.{CellEvent}
 use Rattle.mms_step.specs.Step.{said}
@@ -11,7 +12,8 @@ use Rattle.cell_record.specs.declared.refusal.BadWord.{BadWord}
 use Rattle.cell_record.specs.declared.refusal.BadWord.TheVariants as bad
 use Rattle.cell_record.specs.declared.refusal.RecordError.{RecordError}
 use Rattle.cell_record.specs.declared.refusal.RecordError.TheVariants.{Bad, BadConfig, TooMuch, ReadFault, Memory}
-use Rattle.cell_record.specs.Recording.{Reading, default_clients, reading_of_text}
+use Rattle.cell_config.specs.declared.config.Config.{Config}
+use Rattle.cell_record.specs.Recording.{Reading, Opening, after_opening, opening_of_text, reading_of_text}
 use Rattle.cell_record.specs.Report.{report}
 use Rattle.cell_run.specs.declared.status.Status.{Status}
 use Rattle.cell_run.specs.declared.status.Status.TheVariants as status
@@ -36,7 +38,6 @@ word_text bad.Event = codes "event"
 word_text bad.Hex = codes "hex"
 word_text bad.Client = codes "client"
 word_text bad.Clock = codes "clock"
-word_text bad.Later = codes "later"
 
 -- the line that tells it
 abbrev pub last_line : Option RecordError → List ℕ
@@ -58,16 +59,21 @@ status_for (Some Memory) = status.Memory
 
 -- ---- what is printed
 
--- the report of the history that serves phases in their recorded order, where each client is told what the device has for it along that history
-abbrev pub report_of : List (List CellEvent) → List ℕ
-report_of phases = report (said default_clients) default_clients phases
+-- the report of the history that serves phases in their recorded order, where each client is told what the configured device has for it along that history
+abbrev pub report_of : Config → List (List CellEvent) → List ℕ
+report_of config phases = report (said config) config.clients phases
 
--- of what a text says: the report of the complete phases, and why no more are served
-abbrev pub printed_for : Reading → List ℕ
-printed_for r = report_of r.phases ++ last_line r.refusal
+-- of what is said after the configuration: the report of the complete phases, and why no more are served
+abbrev pub printed_for : Config → Reading → List ℕ
+printed_for config r = report_of config r.phases ++ last_line r.refusal
+
+-- where the lines up to `end` are refused, that alone is told
+abbrev pub printed_by : Opening → List ℕ
+printed_by (Err e) = last_line (Some e)
+printed_by (Ok o) = printed_for o.config (after_opening (Ok o))
 
 abbrev pub printed : List ℕ → List ℕ
-printed text = printed_for (reading_of_text text)
+printed text = printed_by (opening_of_text text)
 
 abbrev pub status_of : List ℕ → Status
 status_of text = status_for (reading_of_text text).refusal
@@ -75,6 +81,11 @@ status_of text = status_for (reading_of_text text).refusal
 -- the first of the phases
 abbrev pub IsFront : List (List CellEvent) → List (List CellEvent) → Type 0
 IsFront done phases = (rest : List (List CellEvent)) × (phases ≡ done ++ rest)
+
+-- the report of the first phases was written, and nothing where the lines up to `end` are refused
+abbrev pub WritesFront : Opening → Option (List ℕ) → Option (List ℕ) → Type 0
+WritesFront (Err e) old new = Appends old new []
+WritesFront (Ok o) old new = (done : List (List CellEvent)) × IsFront done (after_opening (Ok o)).phases × Appends old new (report_of o.config done)
 
 -- the statuses that words and text decide
 abbrev pub IsFinal : Status → Type 0

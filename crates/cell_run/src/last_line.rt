@@ -25,7 +25,6 @@ fn word_text(word: BadWord) -> &'static [u8]
         BadWord::Hex => b"hex",
         BadWord::Client => b"client",
         BadWord::Clock => b"clock",
-        BadWord::Later => b"later",
     }
 }
 

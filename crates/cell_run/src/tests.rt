@@ -10,7 +10,7 @@ const OPEN: &str =
     "1 A8 26 80 03 00 FD E8 81 01 0A 82 01 0A 83 01 05 A4 16 80 01 01 81 03 05 F1 00 82 0C 03 EE 1C 00 00 04 08 00 00 79 EF 18\n";
 
 const OPENED: &str =
-    "> A926800300FDE881010A82010A830105A416800101810305E100820C03A000000000000000000018\n";
+    "> A926800300FDE881010A82010A830105A416800101810305E100820C03E000000000000000000018\n";
 
 /// The line of the history for OPEN, without its place.
 const OPEN_LINE: &str =
@@ -215,26 +215,85 @@ fn a_refused_proposal_is_told_the_first_cause(rt: HostRuntime) -> Result<(), Fai
 }
 
 #[test]
-fn what_is_no_recording_is_told_by_its_first_bad_line(rt: HostRuntime) -> Result<(), Fail> {
-    for (text, told) in [
-        ("", "bad 1 header\n"),
-        ("mms-recording 1\n", "bad 2 config\n"),
+fn what_is_no_recording_is_told_by_its_first_cause(rt: HostRuntime) -> Result<(), Fail> {
+    for (text, wanted, told) in [
+        ("", 2, "bad 1 header\n"),
+        ("mms-recording 1\n", 2, "bad 2 config\n"),
         (
-            "mms-recording 1\nconfig\nclients = 4\nend\n",
-            "bad 3 later\n",
+            "mms-recording 1\nconfig\nclients = 0\n",
+            2,
+            "bad 4 config\n",
         ),
-        ("mms-recording 1\nconfig\nend\n9 8B00\n", "bad 4 client\n"),
-        ("mms-recording 1\nconfig\nend\n1 8B0\n", "bad 4 hex\n"),
-        ("mms-recording 1\nconfig\nend\ntick 0\n", "bad 4 event\n"),
+        (
+            "mms-recording 1\nconfig\nclients\nend\nx",
+            6,
+            "bad config 0\n",
+        ),
+        (
+            "mms-recording 1\nconfig\ncells = 1\nend\n",
+            6,
+            "bad config 1\n",
+        ),
+        (
+            "mms-recording 1\nconfig\nclients = 0\nend\n",
+            6,
+            "bad config 2\n",
+        ),
+        (
+            "mms-recording 1\nconfig\nmodel = ''\nend\n",
+            6,
+            "bad config 3\n",
+        ),
+        (
+            "mms-recording 1\nconfig\nday = 65535\nms = 86399999\nend\ntick 1\n",
+            2,
+            "bad 6 clock\n",
+        ),
+        (
+            "mms-recording 1\nconfig\nend\n9 8B00\n",
+            2,
+            "bad 4 client\n",
+        ),
+        ("mms-recording 1\nconfig\nend\n1 8B0\n", 2, "bad 4 hex\n"),
+        ("mms-recording 1\nconfig\nend\ntick 0\n", 2, "bad 4 event\n"),
         (
             "mms-recording 1\nconfig\nend\n1 8B00\nphase\n1 8B\nloose\n",
+            2,
             "phase 1\n1 1 8B00\nclient 1\n> abort\nbad 7 event\n",
         ),
     ] {
         let (status, sink) = run(&rt, rt.alloc(), &["replay"], text.as_bytes(), 0, 0)?;
-        assert_eq!(rt; status, 2);
+        assert_eq!(rt; status, wanted, "of {text:?}");
         assert_eq!(rt; sink.holds(), told.as_bytes());
     }
+    Ok(())
+}
+
+#[test]
+fn a_configured_device_has_its_own_texts_and_clients(rt: HostRuntime) -> Result<(), Fail> {
+    let text = joined(
+        rt.alloc(),
+        &[
+            "mms-recording 1\nconfig\n# sixty-four clients\nclients = 64\nvendor = \"ACME\"\n",
+            "model = 'PRESS 4'\nrevision = \"2.1\"\nend\n64 8B00\n",
+            OPEN,
+            "1 A005 0201 07 8200\nphase\n2 8B00\n",
+        ],
+    )?;
+    let (status, sink) = run(&rt, rt.alloc(), &["replay"], &text, 0, 0)?;
+    let wanted = joined(
+        rt.alloc(),
+        &[
+            "phase 1\n1 64 8B00\n2",
+            OPEN_LINE,
+            "3 1 A0050201078200\nclient 1\n",
+            OPENED,
+            "> A119020107A214800441434D458107505245535320348203322E31\n",
+            "client 64\n> abort\nphase 2\n68 2 8B00\nclient 2\n> abort\n",
+        ],
+    )?;
+    assert_eq!(rt; status, 0);
+    assert_eq!(rt; sink.holds(), wanted.as_slice());
     Ok(())
 }
 

@@ -6,9 +6,10 @@ ghost use Rattle.cell_io.specs.Faults.{Rose};
 ghost use Rattle.cell_io.specs.Prefix.{AppendsPrefix};
 ghost use Rattle.mms_types.specs.declared.event.CellEvent.{CellEvent};
 ghost use Rattle.cell_record.specs.Grammar.{ReadsRecording};
-ghost use Rattle.cell_record.specs.Recording.{reading_of_text};
+ghost use Rattle.cell_config.specs.declared.config.Config.{Config};
+ghost use Rattle.cell_record.specs.Recording.{opening_of_text};
 ghost use Rattle.cell_run.specs.Codes.{IsFinalCode, IsStatus, code_of};
-ghost use Rattle.cell_run.specs.Outcome.{IsFinal, IsFront, IsReplay, printed, IsUsageOrWant, report_of, status_of, texts, usage_text};
+ghost use Rattle.cell_run.specs.Outcome.{IsFinal, IsReplay, WritesFront, printed, IsUsageOrWant, report_of, status_of, texts, usage_text};
 
 use crate::engine::replay;
 use crate::status::Status;
@@ -48,8 +49,7 @@ fn served<S: Source, K: Sink>(alloc: Global, words: &[String], input: &mut S, ou
 
     // Faults come only where the counts rose.
     ensures read { result ≡ Status.ReadFault → Rose (S.faults input.old) (S.faults input.new) }
-    ensures phases { IsReplay (texts words.now) → result ≡ Status.ReadFault → IfSome (S.left input.old) (λ text. (done : List (List CellEvent))
-        × IsFront done (reading_of_text text).phases × Appends (K.held out.old) (K.held out.new) (report_of done)) }
+    ensures phases { IsReplay (texts words.now) → result ≡ Status.ReadFault → IfSome (S.left input.old) (λ text. WritesFront (opening_of_text text) (K.held out.old) (K.held out.new)) }
     ensures write { result ≡ Status.WriteFault → Rose (K.faults out.old) (K.faults out.new) }
     ensures reads { S.faults input.old ≤ S.faults input.new }
     ensures writes { K.faults out.old ≤ K.faults out.new }
@@ -73,7 +73,7 @@ fn served<S: Source, K: Sink>(alloc: Global, words: &[String], input: &mut S, ou
 /// | 3 | want of memory | a prefix of what was to be written |
 /// | 4 | only where the source's count of faults rose | the complete phases before it |
 /// | 5 | only where the sink's count of faults rose | a prefix of what was to be written |
-/// | 6 | exactly where a rule of the configuration is broken, which none can be yet | `bad config <rule>` |
+/// | 6 | exactly where the configuration breaks a rule | `bad config <rule>`, of the least one that it breaks |
 /// | 7 | exactly where a phase has its 16,385th event or its 67,108,865th octet of PDUs, or the input its 4,294,967,297th octet | the complete phases before it, `too much <line>` |
 ///
 /// What stands first in the input decides, and each yields to 3, 4 and 5 where these came first.
@@ -100,14 +100,13 @@ pub fn run_cell<R: Threads + Wait + Sync, S: Source, K: Sink, G: Gate + Sync>(
     ensures ended { result ≡ 0 → IsAtEnd (S.left input.new) }
 
     // A recording without a fault is served and reported, unless memory runs out.
-    ensures complete { IsReplay (texts words.now) → IfSome (S.left input.old) (λ text. (phases : List (List CellEvent)) → ReadsRecording text phases
+    ensures complete { IsReplay (texts words.now) → IfSome (S.left input.old) (λ text. (config : Config) (phases : List (List CellEvent)) → ReadsRecording text config phases
         → (Rose (S.faults input.old) (S.faults input.new) → ⊥) → (Rose (K.faults out.old) (K.faults out.new) → ⊥)
-        → (result ≡ 3) ⊎ ((result ≡ 0) × Appends (K.held out.old) (K.held out.new) (report_of phases))) }
+        → (result ≡ 3) ⊎ ((result ≡ 0) × Appends (K.held out.old) (K.held out.new) (report_of config phases))) }
 
     // Faults are told only where a count rose.
     ensures read { result ≡ 4 → Rose (S.faults input.old) (S.faults input.new) }
-    ensures complete_phases { IsReplay (texts words.now) → result ≡ 4 → IfSome (S.left input.old) (λ text. (done : List (List CellEvent))
-        × IsFront done (reading_of_text text).phases × Appends (K.held out.old) (K.held out.new) (report_of done)) }
+    ensures complete_phases { IsReplay (texts words.now) → result ≡ 4 → IfSome (S.left input.old) (λ text. WritesFront (opening_of_text text) (K.held out.old) (K.held out.new)) }
     ensures write { result ≡ 5 → Rose (K.faults out.old) (K.faults out.new) }
     ensures counts { (S.faults input.old ≤ S.faults input.new) × (K.faults out.old ≤ K.faults out.new) }
 {

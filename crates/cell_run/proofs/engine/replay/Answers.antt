@@ -1,16 +1,16 @@
 use Rattle.std.proofs.Common.{◌≡◌, ◌+◌, ◌∷◌, ◌++◌, [], ℕ, List, length, None, Some, ap, sym, ◌∙◌, subst, refl, arith, length-append, lit<}
 use Rattle.std.proofs.KnownBytes.{Appends-trans, Appends-nil}
 use Rattle.std.specs.List.{All}
-use Rattle.std.specs.Option.{option_map}
 use Rattle.std.specs.Io.KnownBytes.{Appends, IsAtEnd}
 use Rattle.std.specs.declared.option.Option.{Option}
 use Rattle.cell_io.specs.Prefix.{AppendsPrefix}
 use Rattle.mms_types.specs.declared.event.CellEvent.{CellEvent}
 use Rattle.mms_types.specs.Actors.{clients_to}
+use Rattle.cell_config.specs.declared.config.Config.{Config}
 use Rattle.mms_step.specs.State.{State, start}
 use Rattle.mms_device.specs.Served.{Served, device_after}
 use Rattle.cell_record.specs.EventLine.{IsRecorded}
-use Rattle.cell_record.specs.Recording.{Reading, with_phase, default_clients, reading_of_text}
+use Rattle.cell_record.specs.Recording.{Reading, with_phase}
 use Rattle.cell_record.specs.Progress.{Becomes, rest_of}
 use Rattle.cell_record.specs.Grammar.{phase_ms}
 use Rattle.cell_record.specs.History.{drains, history}
@@ -18,16 +18,18 @@ use Rattle.cell_record.proofs.Readings.{then}
 use Rattle.cell_run.specs.Along.{along, phase_told}
 use Rattle.cell_run.specs.Outcome.{last_line, report_of}
 use Rattle.cell_run.proofs.Alongside.{after_sized, after-append, told_after, phase_now, phase_count}
-use Rattle.cell_run.proofs.Fronts.{with_phases, next_text, partly_written, nothing_read, nothing_more, phase_more, refusal_more, opening_refused, none_written, begun, read_so_far, refusal_written, phases-then, report-snoc, history-snoc}
+use Rattle.cell_run.proofs.Fronts.{with_phases, next_text, partly_written, nothing_more, phase_more, refusal_more, opening_partly, opening_written, none_written, begun, read_so_far, refusal_written, phases-then, report-snoc, history-snoc}
 use Rattle.cell_run.proofs.engine.replay.Goals as goal
+
+pub returns-in-Err-clause-stated : goal.returns-in-Err-clause-stated
+returns-in-Err-clause-stated g c =
+    opening_written c.refuse.result (g.S.Source.left c.args.input.now) c.in-Err.refusal (g.K.Sink.held c.args.out.now) (g.K.Sink.held c.refuse.new.out)
+    c.in-Err.ensures.refused c.refuse.ensures.stated
 
 pub returns-in-Err-clause-partly : goal.returns-in-Err-clause-partly
 returns-in-Err-clause-partly g c =
-    let left = g.S.Source.left c.args.input.now in
-    let out = g.K.Sink.held c.args.out.now in
-    let a = option_map reading_of_text left in
-    partly_written left a [] (last_line (Some c.in-Err.refusal)) out out (g.K.Sink.held c.refuse.new.out) (nothing_read left)
-    (refusal_more default_clients 1 [] a c.in-Err.refusal (opening_refused left c.in-Err.refusal c.in-Err.ensures.refused)) (Appends-nil out) c.refuse.ensures.partly
+    opening_partly (g.S.Source.left c.args.input.now) c.in-Err.refusal (g.K.Sink.held c.args.out.now) (g.K.Sink.held c.refuse.new.out)
+    c.in-Err.ensures.refused c.refuse.ensures.partly
 
 pub returns-in_default-clause-partly : goal.returns-in_default-clause-partly
 returns-in_default-clause-partly g c = none_written (g.S.Source.left c.args.input.now) (g.K.Sink.held c.args.out.now)
@@ -35,15 +37,15 @@ returns-in_default-clause-partly g c = none_written (g.S.Source.left c.args.inpu
 pub loop-turn-init : goal.loop-turn-init
 loop-turn-init g c =
     let new = c.in-Ok.ensures.new in
-    let device = c.in-Ok-new.ensures ∙ ap (λ (n : ℕ). at (start n)) (c.clients.ensures ∙ new.0) in
+    let device = c.in-Ok-new.ensures ∙ ap (λ (x : Config). at (start x)) c.config.ensures in
     record {
       done = ([], refl, device, Appends-nil (g.K.Sink.held c.args.out.now), begun (rest_of c.in-Ok.recording (g.S.Source.left c.open.new.input)));
-      refusal = new.4;
-      clients = new.0;
-      over = λ e. absurd (cc (e, new.3));
-      number = new.2;
+      refusal = new.3;
+      config = refl;
+      over = λ e. absurd (cc (e, new.2));
+      number = new.1;
       few = lit< tt;
-      clock = ap (λ (d : Served). d.state.now) device ∙ sym new.1;
+      clock = ap (λ (d : Served). d.state.now) device ∙ sym new.0;
       count = omega (arith, ap (λ (d : Served). d.count) device);
       reads = omega arith;
       writes = omega arith;
@@ -55,13 +57,15 @@ loop-turn-init g c =
 pub serve_phase-requires-clause-recorded : goal.serve_phase-requires-clause-recorded
 serve_phase-requires-clause-recorded g c =
     let d = c.loop-turn.invariant.done in
-    let sized : length c.loop-turn.device.state.clients ≡ default_clients = ap (λ (x : Served). length x.state.clients) d.2 ∙ after_sized default_clients (history default_clients d.0) in
+    let config = c.in-Ok.recording.config in
+    let sized : length c.loop-turn.device.state.clients ≡ config.clients = ap (λ (x : Served). length x.state.clients) d.2 ∙ after_sized config (history config.clients d.0) in
     let recorded = rw c.in-Ok-Some.field-0-is at c.in-Ok-Some.ensures.recorded in
-    subst (λ (n : ℕ). All (IsRecorded n) c.in-Ok-Some.phase.events) (c.next_phase.ensures.clients ∙ c.loop-turn.invariant.clients ∙ sym sized) recorded
+    subst (λ (n : ℕ). All (IsRecorded n) c.in-Ok-Some.phase.events) (ap (λ (x : Config). x.clients) (c.next_phase.ensures.config ∙ c.loop-turn.invariant.config) ∙ sym sized) recorded
 
 pub returns-in-Err-Fault-clause-partly : goal.returns-in-Err-Fault-clause-partly
 returns-in-Err-Fault-clause-partly g c =
     let d = c.loop-turn.invariant.done in
+    let config = c.in-Ok.recording.config in
     let left = g.S.Source.left c.args.input.now in
     let a = rest_of c.loop-turn.recording (g.S.Source.left c.loop-turn.input) in
     let b = read_so_far left (rest_of c.in-Ok.recording (g.S.Source.left c.open.new.input)) a d.0 c.in-Ok.ensures.begins d.4 in
@@ -69,16 +73,18 @@ returns-in-Err-Fault-clause-partly g c =
     let phase = rw c.in-Ok-Some.field-0-is at c.in-Ok-Some.ensures.phase in
     let number = rw c.in-Ok-Some.field-0-is at c.in-Ok-Some.ensures.number in
     let many : c.in-Ok-Some.phase.number ≡ 1 + length d.0 = omega (arith, number.0, c.loop-turn.invariant.number, d.1) in
-    let text = ap (λ (x : Served). phase_told x c.in-Ok-Some.phase.number es) d.2 ∙ told_after default_clients c.in-Ok-Some.phase.number (history default_clients d.0) es
-    ∙ ap (λ (n : ℕ). next_text default_clients n (history default_clients d.0) es) many in
-    partly_written left a d.0 (next_text default_clients (1 + length d.0) (history default_clients d.0) es)
+    let text = ap (λ (x : Served). phase_told x c.in-Ok-Some.phase.number es) d.2 ∙ told_after config c.in-Ok-Some.phase.number (history config.clients d.0) es
+    ∙ ap (λ (n : ℕ). next_text config n (history config.clients d.0) es) many in
+    partly_written config left a d.0 (next_text config (1 + length d.0) (history config.clients d.0) es)
     (g.K.Sink.held c.args.out.now) (g.K.Sink.held c.loop-turn.out) (g.K.Sink.held c.serve_phase.new.out) b
-    (phase_more default_clients (1 + length d.0) (history default_clients d.0) a _ es phase) d.3
+    (phase_more config (1 + length d.0) (history config.clients d.0) a _ es phase) d.3
     (subst (AppendsPrefix (g.K.Sink.held c.loop-turn.out) (g.K.Sink.held c.serve_phase.new.out)) text c.in-Err-Fault.ensures.part)
+    c.in-Ok.ensures.tells
 
 pub returns-in-Err-Memory-clause-partly : goal.returns-in-Err-Memory-clause-partly
 returns-in-Err-Memory-clause-partly g c =
     let d = c.loop-turn.invariant.done in
+    let config = c.in-Ok.recording.config in
     let left = g.S.Source.left c.args.input.now in
     let a = rest_of c.loop-turn.recording (g.S.Source.left c.loop-turn.input) in
     let b = read_so_far left (rest_of c.in-Ok.recording (g.S.Source.left c.open.new.input)) a d.0 c.in-Ok.ensures.begins d.4 in
@@ -86,12 +92,13 @@ returns-in-Err-Memory-clause-partly g c =
     let phase = rw c.in-Ok-Some.field-0-is at c.in-Ok-Some.ensures.phase in
     let number = rw c.in-Ok-Some.field-0-is at c.in-Ok-Some.ensures.number in
     let many : c.in-Ok-Some.phase.number ≡ 1 + length d.0 = omega (arith, number.0, c.loop-turn.invariant.number, d.1) in
-    let text = ap (λ (x : Served). phase_told x c.in-Ok-Some.phase.number es) d.2 ∙ told_after default_clients c.in-Ok-Some.phase.number (history default_clients d.0) es
-    ∙ ap (λ (n : ℕ). next_text default_clients n (history default_clients d.0) es) many in
-    partly_written left a d.0 (next_text default_clients (1 + length d.0) (history default_clients d.0) es)
+    let text = ap (λ (x : Served). phase_told x c.in-Ok-Some.phase.number es) d.2 ∙ told_after config c.in-Ok-Some.phase.number (history config.clients d.0) es
+    ∙ ap (λ (n : ℕ). next_text config n (history config.clients d.0) es) many in
+    partly_written config left a d.0 (next_text config (1 + length d.0) (history config.clients d.0) es)
     (g.K.Sink.held c.args.out.now) (g.K.Sink.held c.loop-turn.out) (g.K.Sink.held c.serve_phase.new.out) b
-    (phase_more default_clients (1 + length d.0) (history default_clients d.0) a _ es phase) d.3
+    (phase_more config (1 + length d.0) (history config.clients d.0) a _ es phase) d.3
     (subst (AppendsPrefix (g.K.Sink.held c.loop-turn.out) (g.K.Sink.held c.serve_phase.new.out)) text c.in-Err-Memory.ensures.part)
+    c.in-Ok.ensures.tells
 
 pub returns-in-Ok-None-clause-ended : goal.returns-in-Ok-None-clause-ended
 returns-in-Ok-None-clause-ended g c = λ done.
@@ -102,26 +109,31 @@ returns-in-Ok-None-clause-ended g c = λ done.
 pub returns-in-Err-next_phase-clause-stated : goal.returns-in-Err-next_phase-clause-stated
 returns-in-Err-next_phase-clause-stated g c =
     let d = c.loop-turn.invariant.done in
+    let config = c.in-Ok.recording.config in
     let left = g.S.Source.left c.args.input.now in
     let a = rest_of c.loop-turn.recording (g.S.Source.left c.loop-turn.input) in
     let b = read_so_far left (rest_of c.in-Ok.recording (g.S.Source.left c.open.new.input)) a d.0 c.in-Ok.ensures.begins d.4 in
-    refusal_written c.refuse-in-Err-next_phase.result left a d.0 c.in-Err-next_phase.refusal (g.K.Sink.held c.args.out.now) (g.K.Sink.held c.loop-turn.out)
+    refusal_written config c.refuse-in-Err-next_phase.result left a d.0 c.in-Err-next_phase.refusal (g.K.Sink.held c.args.out.now) (g.K.Sink.held c.loop-turn.out)
     (g.K.Sink.held c.refuse-in-Err-next_phase.new.out) b c.in-Err-next_phase.ensures.refused d.3 c.refuse-in-Err-next_phase.ensures.stated
+    c.in-Ok.ensures.tells
 
 pub returns-in-Err-next_phase-clause-partly : goal.returns-in-Err-next_phase-clause-partly
 returns-in-Err-next_phase-clause-partly g c =
     let d = c.loop-turn.invariant.done in
+    let config = c.in-Ok.recording.config in
     let left = g.S.Source.left c.args.input.now in
     let a = rest_of c.loop-turn.recording (g.S.Source.left c.loop-turn.input) in
     let b = read_so_far left (rest_of c.in-Ok.recording (g.S.Source.left c.open.new.input)) a d.0 c.in-Ok.ensures.begins d.4 in
-    partly_written left a d.0 (last_line (Some c.in-Err-next_phase.refusal)) (g.K.Sink.held c.args.out.now) (g.K.Sink.held c.loop-turn.out)
+    partly_written config left a d.0 (last_line (Some c.in-Err-next_phase.refusal)) (g.K.Sink.held c.args.out.now) (g.K.Sink.held c.loop-turn.out)
     (g.K.Sink.held c.refuse-in-Err-next_phase.new.out) b
-    (refusal_more default_clients (1 + length d.0) (history default_clients d.0) a c.in-Err-next_phase.refusal c.in-Err-next_phase.ensures.refused) d.3
+    (refusal_more config (1 + length d.0) (history config.clients d.0) a c.in-Err-next_phase.refusal c.in-Err-next_phase.ensures.refused) d.3
     c.refuse-in-Err-next_phase.ensures.partly
+    c.in-Ok.ensures.tells
 
 pub loop-turn-preserved : goal.loop-turn-preserved
 loop-turn-preserved g c =
     let d = c.loop-turn.invariant.done in
+    let config = c.in-Ok.recording.config in
     let es = c.in-Ok-Some.phase.events in
     let phase = rw c.in-Ok-Some.field-0-is at c.in-Ok-Some.ensures.phase in
     let number = rw c.in-Ok-Some.field-0-is at c.in-Ok-Some.ensures.number in
@@ -129,34 +141,34 @@ loop-turn-preserved g c =
     let moment = rw c.in-Ok-Some.field-0-is at c.in-Ok-Some.ensures.moment in
     let ended = rw c.in-Ok-Some.field-0-is at c.in-Ok-Some.ensures.ended in
     let many : c.in-Ok-Some.phase.number ≡ 1 + length d.0 = omega (arith, number.0, c.loop-turn.invariant.number, d.1) in
-    let text = ap (λ (x : Served). phase_told x c.in-Ok-Some.phase.number es) d.2 ∙ told_after default_clients c.in-Ok-Some.phase.number (history default_clients d.0) es
-    ∙ ap (λ (n : ℕ). next_text default_clients n (history default_clients d.0) es) many in
+    let text = ap (λ (x : Served). phase_told x c.in-Ok-Some.phase.number es) d.2 ∙ told_after config c.in-Ok-Some.phase.number (history config.clients d.0) es
+    ∙ ap (λ (n : ℕ). next_text config n (history config.clients d.0) es) many in
     let one = length-append d.0 (es ∷ []) in
-    let sized : length c.loop-turn.device.state.clients ≡ default_clients = ap (λ (x : Served). length x.state.clients) d.2 ∙ after_sized default_clients (history default_clients d.0) in
-    let served : c.serve_phase.new.device ≡ along c.loop-turn.device (es ++ drains (clients_to default_clients)) =
+    let sized : length c.loop-turn.device.state.clients ≡ config.clients = ap (λ (x : Served). length x.state.clients) d.2 ∙ after_sized config (history config.clients d.0) in
+    let served : c.serve_phase.new.device ≡ along c.loop-turn.device (es ++ drains (clients_to config.clients)) =
     c.in-Ok-serve_phase.ensures.device ∙ ap (λ (n : ℕ). along c.loop-turn.device (es ++ drains (clients_to n))) sized in
-    let device = served ∙ ap (λ (x : Served). along x (es ++ drains (clients_to default_clients))) d.2
-    ∙ after-append default_clients (history default_clients d.0) (es ++ drains (clients_to default_clients))
-    ∙ ap (device_after default_clients) (sym (history-snoc default_clients d.0 es)) in
-    let now = ap (λ (x : Served). x.state.now) served ∙ phase_now c.loop-turn.device es default_clients in
-    let count = ap (λ (x : Served). x.count) served ∙ phase_count c.loop-turn.device es default_clients in
+    let device = served ∙ ap (λ (x : Served). along x (es ++ drains (clients_to config.clients))) d.2
+    ∙ after-append config (history config.clients d.0) (es ++ drains (clients_to config.clients))
+    ∙ ap (device_after config) (sym (history-snoc config.clients d.0 es)) in
+    let now = ap (λ (x : Served). x.state.now) served ∙ phase_now c.loop-turn.device es config.clients in
+    let count = ap (λ (x : Served). x.count) served ∙ phase_count c.loop-turn.device es config.clients in
     record {
       done = (
         d.0 ++ es ∷ [],
         omega (arith, one, d.1),
         device,
-        subst (Appends (g.K.Sink.held c.args.out.now) (g.K.Sink.held c.serve_phase.new.out)) (sym (report-snoc default_clients d.0 es))
-            (Appends-trans _ _ _ (report_of d.0) (next_text default_clients (1 + length d.0) (history default_clients d.0) es) d.3
+        subst (Appends (g.K.Sink.held c.args.out.now) (g.K.Sink.held c.serve_phase.new.out)) (sym (report-snoc config d.0 es))
+            (Appends-trans _ _ _ (report_of config d.0) (next_text config (1 + length d.0) (history config.clients d.0) es) d.3
             (subst (Appends (g.K.Sink.held c.loop-turn.out) (g.K.Sink.held c.serve_phase.new.out)) text c.in-Ok-serve_phase.ensures.whole)),
         then _ _ _ (with_phases d.0) (with_phase es) (with_phases (d.0 ++ es ∷ [])) (phases-then d.0 es) d.4 phase,
       );
       refusal = c.in-Ok-Some.ensures.open;
-      clients = c.next_phase.ensures.clients ∙ c.loop-turn.invariant.clients;
+      config = c.next_phase.ensures.config ∙ c.loop-turn.invariant.config;
       over = ended;
       number = omega (arith, number.1, number.0, c.loop-turn.invariant.number);
       few = omega (arith, number.0, number.2, c.loop-turn.invariant.number);
       clock = now ∙ ap (λ (n : ℕ). n + phase_ms es) c.loop-turn.invariant.clock ∙ sym moment;
-      count = omega (arith, count, c.loop-turn.invariant.count, size);
+      count = omega (arith, count, c.loop-turn.invariant.count, size, c.in-Ok.ensures.config.few_clients);
       reads = omega (arith, c.loop-turn.invariant.reads, c.next_phase.ensures.later);
       writes = omega (arith, c.loop-turn.invariant.writes, c.serve_phase.ensures.later);
     }
