@@ -1,5 +1,5 @@
 -- Hands of which one place changes.
-use Rattle.std.proofs.Common.{is_some, if◌then◌else◌, ◌≡◌, ℕ, zero, suc, ◌+◌, ◌<◌, ◌≤◌, List, [], ◌∷◌, length, set, Option, None, Some, refl, ◌∙◌, ap, arith}
+use Rattle.std.proofs.Common.{is_some, if◌then◌else◌, ◌≡◌, ℕ, zero, suc, ◌+◌, ◌<◌, ◌≤◌, List, [], ◌∷◌, length, set, Option, None, Some, refl, sym, ◌∙◌, ap, arith}
 use Rattle.part_table.specs.Known.{nothing}
 use Rattle.part_table.specs.Held.{held_at, places_held}
 use Rattle.part_table.specs.HeldLaws.{held_set_else}
@@ -75,3 +75,19 @@ pub free_behind : {T : Type 0} (hand new : List (Option T)) (part : ℕ) (x : T)
     → (i : ℕ) → part + 1 ≤ i → held_at new i ≡ None
 free_behind hand new part x free is i le =
     ap (λ l. held_at l i) is ∙ held_set_else hand part i (Some x) (λ e. let a : part + 1 ≤ i = le in omega arith) ∙ free i (omega arith)
+
+-- a hand whose places are all empty
+pub all_free : {T : Type 0} (hand : List (Option T)) (n : ℕ) → length hand ≡ n → ((i : ℕ) → i < n → held_at hand i ≡ None) → hand ≡ nothing n
+all_free [] zero long free = refl
+all_free [] (suc n) long free = absurd (omega (arith, long))
+all_free (h ∷ hand) zero long free = absurd (omega (arith, long))
+all_free (h ∷ hand) (suc n) long free =
+    let first : h ≡ None = free 0 (omega arith) in
+    let rest : hand ≡ nothing n = all_free hand n (omega (arith, long)) (λ i lt. free (suc i) (omega arith)) in
+    ap (λ x. x ∷ hand) first ∙ ap (λ l. None ∷ l) rest
+
+-- a hand is as before, once what was put into an empty place is gone again
+pub put_and_taken : {T : Type 0} (hand : List (Option T)) (i : ℕ) (x : T) → held_at hand i ≡ None → set (set hand i (Some x)) i None ≡ hand
+put_and_taken [] i x free = refl
+put_and_taken (h ∷ hand) zero x free = let first : h ≡ None = free in ap (λ y. y ∷ hand) (sym first)
+put_and_taken (h ∷ hand) (suc i) x free = ap (λ l. h ∷ l) (put_and_taken hand i x free)

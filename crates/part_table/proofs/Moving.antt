@@ -1,19 +1,23 @@
--- What the tests' callers hold, and their passes at the end.
+-- Passes of the tests at the end.
 use Rattle.std.proofs.Common.{take, ◌++◌, ◌≡◌, ℕ, zero, suc, ◌+◌, ◌<◌, List, [], ◌∷◌, length, slice_get, None, Some, refl, sym, ◌∙◌, ap, subst, arith}
 use Rattle.part_table.specs.Amounts.{AreInOrder}
 use Rattle.part_table.specs.Closing.{AreAllIdle}
 use Rattle.part_table.specs.Gathered.{AreAll, HaveGathered}
 use Rattle.part_table.specs.Held.{held_at}
-use Rattle.part_table.specs.Known.{Known, Opened}
+use Rattle.part_table.specs.Known.{Known, Opened, HoldsNothing}
+use Rattle.part_table.proofs.Hands.{nothing_held}
 
 module _ {E : Type 0} where
+  held_nowhere : (p : Known ℕ E) → HoldsNothing p → (part : ℕ) → held_at p.taken part ≡ None
+  held_nowhere p idle part = ap (λ l. held_at l part) idle.0 ∙ nothing_held ℕ (length p.table.opening) part
+
   order_at : (table : Opened ℕ) (from : ℕ) (passes : List (Known ℕ E)) → AreInOrder table from passes → (i : ℕ) (p : Known ℕ E) → slice_get passes i ≡ Some p
       → (p.table ≡ table) × (p.by ≡ from + i) × ((part : ℕ) → held_at p.taken part ≡ None)
   order_at table from [] h i p at = absurd (cc at)
   order_at table from (q ∷ passes) h zero p at =
       let same : q ≡ p = cc at in
       let here : from ≡ from + 0 = omega arith in
-      subst (λ (k : Known ℕ E). (k.table ≡ table) × (k.by ≡ from + 0) × ((part : ℕ) → held_at k.taken part ≡ None)) same (h.0, h.1 ∙ here, h.2)
+      subst (λ (k : Known ℕ E). (k.table ≡ table) × (k.by ≡ from + 0) × ((part : ℕ) → held_at k.taken part ≡ None)) same (h.0, h.1 ∙ here, held_nowhere q h.2)
   order_at table from (q ∷ passes) h (suc i) p at =
       let r = order_at table (from + 1) passes h.3 i p at in
       let n : from + 1 + i ≡ from + suc i = omega arith in

@@ -1,10 +1,11 @@
 -- An example: an object whose parts are numbers, of which an event moves an amount from one to another. Where one of the two is odd, the amount goes to the third part, so that
 -- which parts an event touches depends on their numbers.
-use Rattle.std.specs.Prelude.{◌≡◌, ℕ, ◌+◌, ◌-◌, ◌%◌, ◌^◌, Bool, true, false, not, ◌&&◌, ◌||◌, ◌==◌, nat_le, nat_lt, if◌then◌else◌, Option, None, Some, List, [], ◌∷◌, slice_index, slice_set, refl}
+use Rattle.std.specs.Prelude.{◌≡◌, ◌⊎◌, ℕ, ◌+◌, ◌-◌, ◌%◌, ◌^◌, Bool, true, false, not, ◌&&◌, ◌||◌, ◌==◌, nat_le, nat_lt, if◌then◌else◌, Option, Some, List, [], ◌∷◌, slice_index, slice_set, refl}
 use Rattle.std.proofs.Common.{sym, ap, ◌∙◌}
 use native.Mathlib.Decide.{ℕ_discrete}
 use Rattle.std.proofs.lemmas.Option.{get_or_from_slice_get}
-use Rattle.part_table.specs.Known.{Known, Opened}
+use Rattle.part_table.specs.declared.example.Move.{Move}
+use Rattle.part_table.specs.Known.{Known, Opened, HoldsNothing}
 use Rattle.part_table.specs.Held.{laid_over, held_at, places_held, IsHandOf}
 use Rattle.part_table.specs.HeldLaws.{laid_over-set, held_of_list, places_held-set, held_set_here, held_set_else, held_within}
 use Rattle.part_table.specs.Numbers.{number_at, IsHeld}
@@ -24,8 +25,9 @@ transferred numbers from to amount =
     then slice_set (slice_set numbers from (slice_index numbers from - amount)) to (slice_index numbers to + amount)
     else numbers
 
-abbrev pub moved : List ℕ → ℕ → ℕ → ℕ → List ℕ
-moved numbers from to amount = transferred numbers from (target (slice_index numbers from) (slice_index numbers to) to) amount
+-- the numbers after a move
+abbrev pub moved : Move → List ℕ → List ℕ
+moved move numbers = transferred numbers move.from (target (slice_index numbers move.from) (slice_index numbers move.to) move.to) move.amount
 
 -- the same on the numbers that are held
 abbrev pub transferred_in_hand : List (Option ℕ) → ℕ → ℕ → ℕ → List (Option ℕ)
@@ -34,20 +36,24 @@ transferred_in_hand hand from to amount =
     then slice_set (slice_set hand from (Some (number_at hand from - amount))) to (Some (number_at hand to + amount))
     else hand
 
-abbrev pub target_in_hand : List (Option ℕ) → ℕ → ℕ → ℕ
-target_in_hand hand from to = target (number_at hand from) (number_at hand to) to
+abbrev pub target_in_hand : Move → List (Option ℕ) → ℕ
+target_in_hand move hand = target (number_at hand move.from) (number_at hand move.to) move.to
 
-abbrev pub moved_in_hand : List (Option ℕ) → ℕ → ℕ → ℕ → List (Option ℕ)
-moved_in_hand hand from to amount = transferred_in_hand hand from (target_in_hand hand from to) amount
+abbrev pub moved_in_hand : Move → List (Option ℕ) → List (Option ℕ)
+moved_in_hand move hand = transferred_in_hand hand move.from (target_in_hand move hand) move.amount
 
--- the two parts are held, and where the amount goes
-abbrev pub holds_touched : List (Option ℕ) → ℕ → ℕ → Type 0
-holds_touched hand from to = IsHeld hand from × IsHeld hand to × IsHeld hand (target_in_hand hand from to)
+-- the two parts that a move names are held, and the one to which the amount goes
+abbrev pub holds_touched : Move → List (Option ℕ) → Type 0
+holds_touched move hand = IsHeld hand move.from × IsHeld hand move.to × IsHeld hand (target_in_hand move hand)
+
+-- a part that a move may touch
+abbrev pub MayTouch : Move → ℕ → Type 0
+MayTouch move part = (part ≡ move.from) ⊎ ((part ≡ move.to) ⊎ (part ≡ 2))
 
 -- these are passes of a table, none holding a part, in the order of their numbers from one on
 abbrev pub AreInOrder : {E : Type 0} → Opened ℕ → ℕ → List (Known ℕ E) → Type 0
 AreInOrder table from [] = Unit {0}
-AreInOrder table from (p ∷ passes) = (p.table ≡ table) × (p.by ≡ from) × ((part : ℕ) → held_at p.taken part ≡ None) × AreInOrder table (from + 1) passes
+AreInOrder table from (p ∷ passes) = (p.table ≡ table) × (p.by ≡ from) × HoldsNothing p × AreInOrder table (from + 1) passes
 
 -- ---- the laws
 
@@ -71,8 +77,8 @@ transfer_keeps_places hand from to amount held there =
     by true x y = two_places hand from to x y held there
     by false x y = refl
 
-pub move_keeps_places : (hand : List (Option ℕ)) (from to amount : ℕ) → holds_touched hand from to → places_held (moved_in_hand hand from to amount) ≡ places_held hand
-move_keeps_places hand from to amount touched = transfer_keeps_places hand from (target_in_hand hand from to) amount touched.0 touched.2
+pub move_keeps_places : (move : Move) (hand : List (Option ℕ)) → holds_touched move hand → places_held (moved_in_hand move hand) ≡ places_held hand
+move_keeps_places move hand touched = transfer_keeps_places hand move.from (target_in_hand move hand) move.amount touched.0 touched.2
 
 number_there : (hand : List (Option ℕ)) (numbers : List ℕ) (i : ℕ) → IsHandOf hand numbers → IsHeld hand i → slice_index numbers i ≡ number_at hand i
 number_there hand numbers i of held = get_or_from_slice_get numbers i _ 0 (held_of_list hand numbers i _ of held)
@@ -95,11 +101,11 @@ transfer_is_laid_over hand numbers from to amount a b of same other =
     by true x y = two_laid hand numbers from to x y of
     by false x y = sym of.values
 
-pub move_is_laid_over : (hand : List (Option ℕ)) (numbers : List ℕ) (from to amount : ℕ) → IsHandOf hand numbers → holds_touched hand from to
-    → moved numbers from to amount ≡ laid_over (moved_in_hand hand from to amount) numbers
-move_is_laid_over hand numbers from to amount of touched =
-    let a = number_there hand numbers from of touched.0 in
-    let b = number_there hand numbers to of touched.1 in
-    let goes : target (slice_index numbers from) (slice_index numbers to) to ≡ target_in_hand hand from to = ap (λ n. target n (slice_index numbers to) to) a ∙ ap (λ n. target (number_at hand from) n to) b in
-    ap (λ t. transferred numbers from t amount) goes
-    ∙ transfer_is_laid_over hand numbers from (target_in_hand hand from to) amount _ _ of a (number_there hand numbers (target_in_hand hand from to) of touched.2)
+pub move_is_laid_over : (move : Move) (hand : List (Option ℕ)) (numbers : List ℕ) → IsHandOf hand numbers → holds_touched move hand → moved move numbers ≡ laid_over (moved_in_hand move hand) numbers
+move_is_laid_over move hand numbers of touched =
+    let a = number_there hand numbers move.from of touched.0 in
+    let b = number_there hand numbers move.to of touched.1 in
+    let goes : target (slice_index numbers move.from) (slice_index numbers move.to) move.to ≡ target_in_hand move hand =
+    ap (λ n. target n (slice_index numbers move.to) move.to) a ∙ ap (λ n. target (number_at hand move.from) n move.to) b in
+    ap (λ t. transferred numbers move.from t move.amount) goes
+    ∙ transfer_is_laid_over hand numbers move.from (target_in_hand move hand) move.amount _ _ of a (number_there hand numbers (target_in_hand move hand) of touched.2)

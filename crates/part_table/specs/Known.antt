@@ -41,6 +41,10 @@ module _ {T E : Type 0} where
     hand = nothing (length table.opening);
   }
 
+  -- the pass holds no part
+  abbrev pub HoldsNothing : Known T E → Type 0
+  HoldsNothing pass = (pass.taken ≡ nothing (length pass.table.opening)) × (pass.hand ≡ nothing (length pass.table.opening))
+
   -- the hand holds exactly the parts that were taken, and has a place for each part
   abbrev pub IsInHand : Known T E → Type 0
   IsInHand pass = places_held pass.hand ≡ places_held pass.taken

@@ -3,6 +3,7 @@
 #![tactic(auto)]
 
 mod closing;
+pub mod example;
 mod hand;
 mod laws;
 mod lends;

@@ -1,72 +1,27 @@
 ghost use Rattle.std.specs.Prelude.{◌≡◌, ◌+◌, ◌-◌, ◌<◌, ◌≤◌, ℕ, None, map, length, IfOk};
 ghost use Rattle.std.specs.List.{range_with_len};
 ghost use Rattle.part_table.specs.Held.{held_at};
-ghost use Rattle.part_table.specs.Known.{IsInHand, newcomer, nothing};
+ghost use Rattle.part_table.specs.Known.{HoldsNothing, newcomer};
 
-use crate::{Hand, Held, Object, PartTable, Pass};
+use crate::example::{Amounts, table_of, visit};
+use crate::{Held, PartTable, Pass};
 use std::alloc::Global;
 use std::test::Fail;
 use std::thread::join;
 
-/// Numbers. An event is made by a caller, and moves an amount from one part to another, or to the
-/// third part where one of the two numbers is odd.
-pub(crate) struct Amounts;
-
-impl Object for Amounts {
-    ghost use Rattle.std.specs.Prelude.{◌≡◌};
-    ghost use Rattle.part_table.specs.Amounts.{holds_touched, moved, moved_in_hand, move_is_laid_over, move_keeps_places};
-
-    type Part = u64;
-
-    type Event = (u32, u32, u32, u64);
-
-    ghost step = { λ event numbers. moved numbers event.1 event.2 event.3 };
-
-    ghost suffices = { λ event hand. holds_touched hand event.1 event.2 };
-
-    ghost after = { λ event hand. moved_in_hand hand event.1 event.2 event.3 };
-
-    ghost may_make = { λ caller event. caller ≡ event.0 };
-
-    ghost same_parts = { λ event hand numbers of touched. move_keeps_places hand event.1 event.2 event.3 touched };
-
-    ghost stepped = { λ event hand numbers of touched. move_is_laid_over hand numbers event.1 event.2 event.3 of touched };
-}
-
-/// A table of these numbers, and the passes of its callers.
-pub(crate) fn table_of(
+/// A table of these numbers with a quota of 1,000, and the passes of its callers.
+pub(crate) fn opened_table(
     alloc: Global,
     numbers: &[u64],
     callers: u32,
 ) -> Result<(PartTable<Amounts>, Vec<Pass<Amounts>>), Fail>
     requires few { (1 ≤ length numbers.now) × (length numbers.now ≤ 256) × (1 ≤ callers) × (callers ≤ 65) }
-    ensures { IfOk result (λ made. (length made.0.opening ≡ length numbers.now) × (made.0.callers ≡ callers) × (made.1.items ≡ map (newcomer made.0) (range_with_len 0 callers))) }
+    ensures { IfOk result (λ made. (made.0.opening ≡ numbers.now) × (made.0.callers ≡ callers) × (made.1.items ≡ map (newcomer made.0) (range_with_len 0 callers))) }
 {
-    let mut parts = Vec::with_capacity(alloc, numbers.len())?;
-    for number in numbers {
-        parts.push_reserved(Box::new(alloc, *number)?);
-    }
-    match PartTable::new(alloc, parts, callers, 1_000) {
+    match table_of(alloc, numbers, callers, 1_000) {
         Ok(made) => Ok(made),
         Err(_) => Err(Fail::from("no memory")),
     }
-}
-
-/// Takes a part, reads its number and gives it back; None where another caller holds it.
-#[tactic(auto, using(crate::proofs::Hands::given_back))]
-fn visit(table: &PartTable<Amounts>, pass: &mut Pass<Amounts>, part: u32) -> Option<u64>
-    requires table { pass.old.table ≡ table.now }
-    requires idle { (pass.old.taken ≡ nothing (length table.now.opening)) × (pass.old.hand ≡ nothing (length table.now.opening)) }
-    requires part { part < length table.now.opening }
-    ensures table { pass.new.table ≡ table.now }
-    ensures idle { (pass.new.taken ≡ nothing (length table.now.opening)) × (pass.new.hand ≡ nothing (length table.now.opening)) }
-{
-    if table.try_take(pass, part).is_err() {
-        return None;
-    }
-    let number = pass.hand().get(part).copied();
-    table.give(pass, part);
-    number
 }
 
 /// Visits each part, as often as said, and counts how often another caller held it.
@@ -76,15 +31,15 @@ fn take_turns(
     turns: u32,
 ) -> (Pass<Amounts>, u64)
     requires table { pass.table ≡ table.now }
-    requires idle { (pass.taken ≡ nothing (length table.now.opening)) × (pass.hand ≡ nothing (length table.now.opening)) }
+    requires idle { HoldsNothing pass }
     requires three { length table.now.opening ≡ 3 }
     ensures table { result.0.table ≡ table.now }
-    ensures idle { (result.0.taken ≡ nothing (length table.now.opening)) × (result.0.hand ≡ nothing (length table.now.opening)) }
+    ensures idle { HoldsNothing result.0 }
 {
     let mut held = 0u64;
     for _turn in 0..turns {
         for part in 0..3 {
-            if visit(table, &mut pass, part).is_none() {
+            if visit(table, &mut pass, part).is_err() {
                 held = held.saturating_add(1);
             }
         }
@@ -94,7 +49,7 @@ fn take_turns(
 
 #[test]
 fn two_threads_take_and_give_in_turns(rt: HostRuntime) -> Result<(), Fail> {
-    let (table, mut passes) = table_of(rt.alloc(), &[10, 20, 30], 2)?;
+    let (table, mut passes) = opened_table(rt.alloc(), &[10, 20, 30], 2)?;
     let (Some(second), Some(first)) = (passes.pop(), passes.pop()) else {
         return Err(Fail::from("two passes"));
     };
@@ -105,18 +60,14 @@ fn two_threads_take_and_give_in_turns(rt: HostRuntime) -> Result<(), Fail> {
     );
     assert!(rt; first.1 <= 600 && second.1 <= 600);
     for (part, number) in [(0, 10), (1, 20), (2, 30)] {
-        assert_eq!(rt;
-            visit(&table, &mut first.0, part),
-            Some(number),
-            "at {part}"
-        );
+        assert_eq!(rt; visit(&table, &mut first.0, part), Ok(number), "at {part}");
     }
     Ok(())
 }
 
 #[test]
 fn who_holds_a_part_is_told(rt: HostRuntime) -> Result<(), Fail> {
-    let (table, mut passes) = table_of(rt.alloc(), &[10, 20, 30], 2)?;
+    let (table, mut passes) = opened_table(rt.alloc(), &[10, 20, 30], 2)?;
     let (Some(mut second), Some(mut first)) = (passes.pop(), passes.pop()) else {
         return Err(Fail::from("two passes"));
     };
@@ -169,7 +120,7 @@ fn take_next(table: &PartTable<Amounts>, pass: &mut Pass<Amounts>, part: u32) ->
 
 #[test]
 fn a_table_has_room_for_71_parts_and_65_callers(rt: HostRuntime) -> Result<(), Fail> {
-    let (table, mut passes) = table_of(rt.alloc(), &[7; 71], 65)?;
+    let (table, mut passes) = opened_table(rt.alloc(), &[7; 71], 65)?;
     for turn in 0..64 {
         let mut pass = last_pass(&table, &mut passes, 65 - turn);
         assert_eq!(rt; take_next(&table, &mut pass, 64 - turn), Ok(()));

@@ -1,4 +1,4 @@
-use Rattle.std.proofs.Common.{◌≡◌, length, rules, arith, sym, ◌∙◌, ap, subst}
+use Rattle.std.proofs.Common.{length, arith, sym, ◌∙◌, ap, subst}
 use Rattle.part_table.specs.Closing.{AreAllIdle}
 use Rattle.part_table.specs.Gathered.{AreAll}
 use Rattle.part_table.proofs.Moving.{all_in_order, idle_gathered, take_as_many}

@@ -1,4 +1,4 @@
-use Rattle.std.proofs.Common.{rules, arith, refl, ap, ◌∙◌, sym, slice_set, Some}
+use Rattle.std.proofs.Common.{ap, ◌∙◌, sym, slice_set, Some}
 use Rattle.part_table.proofs.Hands.{free_behind}
 use Rattle.part_table.proofs.table_tests.take_next.Goals as goal
 

@@ -1,0 +1,36 @@
+-- What the example's callers make of a pass.
+use Rattle.std.proofs.Common.{◌≡◌, ◌++◌, ℕ, List, Option, Some, None, set, sym, ◌∙◌, ap}
+use Rattle.part_table.specs.Held.{held_at}
+use Rattle.part_table.specs.History.{StartsWith}
+use Rattle.part_table.specs.Known.{Known, nothing}
+use Rattle.part_table.proofs.Hands.{put_and_taken}
+
+module _ {T E : Type 0} where
+  -- all that was held is given back
+  pub all_given : (old new : Known T E) (parts : ℕ) → new ≡ record old { taken = new.taken; hand = new.hand } → new.hand ≡ new.taken → new.taken ≡ nothing parts
+      → new ≡ record old { taken = nothing parts; hand = nothing parts }
+  all_given old new parts kept same idle =
+      kept ∙ ap {A = List (Option T)} {B = Known T E} (λ t. record old { taken = t; hand = new.hand }) idle
+      ∙ ap {A = List (Option T)} {B = Known T E} (λ h. record old { taken = nothing parts; hand = h }) (same ∙ idle)
+
+  module _ (old taken saw given : Known T E) (part : ℕ) (x : T)
+      (took : taken ≡ record old { taken = set old.taken part (Some x); hand = set old.hand part (Some x) }) (kept : saw ≡ record taken { seen = saw.seen }) where
+    -- a part was taken, and then the history was seen
+    pub seen_with : saw ≡ record old { seen = saw.seen; taken = set old.taken part (Some x); hand = set old.hand part (Some x) }
+    seen_with = kept ∙ ap {A = Known T E} {B = Known T E} (λ p. record p { seen = saw.seen }) took
+
+    -- and the part was given back
+    pub seen_without : given ≡ record saw { taken = set saw.taken part None; hand = set saw.hand part None } → old.hand ≡ old.taken → held_at old.taken part ≡ None → StartsWith saw.seen taken.seen
+        → (given ≡ record old { seen = given.seen }) × StartsWith given.seen old.seen
+    seen_without gave same free starts =
+        let all : given ≡ record old { seen = saw.seen; taken = set (set old.taken part (Some x)) part None; hand = set (set old.hand part (Some x)) part None } =
+        gave ∙ ap {A = Known T E} {B = Known T E} (λ p. record p { taken = set p.taken part None; hand = set p.hand part None }) seen_with in
+        let back = put_and_taken old.taken part x free in
+        let back_hand = put_and_taken old.hand part x (ap (λ l. held_at l part) same ∙ free) in
+        let seen : given.seen ≡ saw.seen = ap (λ (p : Known T E). p.seen) all in (
+          all
+              ∙ ap {A = List (Option T)} {B = Known T E} (λ t. record old { seen = saw.seen; taken = t; hand = set (set old.hand part (Some x)) part None }) back
+              ∙ ap {A = List (Option T)} {B = Known T E} (λ h. record old { seen = saw.seen; hand = h }) back_hand
+              ∙ ap {A = List (ℕ × E)} {B = Known T E} (λ s. record old { seen = s }) (sym seen),
+          (starts.0, seen ∙ starts.1 ∙ ap (λ (p : Known T E). p.seen ++ starts.0) took),
+        )
