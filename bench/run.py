@@ -6,7 +6,7 @@
 Writes recordings of status requests, runs the built program and the floor on each of them in turn, several rounds in
 one run, and prints of the least times: events and megabytes a second, the ratio to the floor, and the peak of memory
 against the recording's size. The first recordings have one client and phases of 16,000 events; the others have that many
-phases of 1,000 events by four clients in turn. Times are user and system time of the process. Nothing here is a test.
+phases of 1,024 events by 64 clients in turn. Times are user and system time of the process. Nothing here is a test.
 """
 
 import argparse
@@ -17,6 +17,7 @@ import tempfile
 
 HERE = os.path.dirname(os.path.abspath(__file__))
 HEAD = b"mms-recording 1\nconfig\nend\n"
+HEAD_OF_64 = b"mms-recording 1\nconfig\nclients = 64\nend\n"
 OPEN = b"%d A826800300FDE881010A82010A830105A416800101810305F100820C03EE1C00000408000079EF18\n"
 STATUS = b"%d A006020101800100\n"
 
@@ -27,14 +28,15 @@ def one_client(events):
     return HEAD + OPEN % 1 + b"phase\n".join(pieces)
 
 
-def four_clients(phases):
-    """A recording of so many phases of 1,000 events, by four clients in turn."""
-    body = b"".join(STATUS % client for client in (1, 2, 3, 4)) * 250
-    return HEAD + b"".join(OPEN % client for client in (1, 2, 3, 4)) + b"phase\n".join([body] * phases)
+def many_clients(phases):
+    """A recording of so many phases of 1,024 events, by 64 clients in turn."""
+    clients = range(1, 65)
+    body = b"".join(STATUS % client for client in clients) * 16
+    return HEAD_OF_64 + b"".join(OPEN % client for client in clients) + b"phase\n".join([body] * phases)
 
 
-def seconds(words, recording):
-    """The processor time of one run."""
+def seconds(words, recording=os.devnull):
+    """The processor time of one run over a recording."""
     with open(recording, "rb") as source:
         pid = os.fork()
         if pid == 0:
@@ -80,7 +82,7 @@ def main():
         subprocess.run(["rustc", "-O", "-o", floor, os.path.join(HERE, "floor.rs")], check=True)
         print(f"{'recording':>22} {'MB':>7} {'seconds':>8} {'floor':>8} {'ratio':>6} {'events/s':>11} {'MB/s':>7} {'peak MB':>8} {'peak/size':>9}")
         cases = [(f"{n:,} events", one_client(int(n))) for n in map(int, asked.events.split(","))]
-        cases += [(f"{n:,} phases", four_clients(n)) for n in map(int, asked.phases.split(","))]
+        cases += [(f"{n:,} phases", many_clients(n)) for n in map(int, asked.phases.split(","))]
         for name, text in cases:
             recording = os.path.join(folder, "recording.mms")
             with open(recording, "wb") as out:
