@@ -6,7 +6,8 @@ use Rattle.mms_step.specs.State.{State}
 use Rattle.mms_step.specs.Partition.{parts_of, nobody}
 use Rattle.mms_step.proofs.tests.without_parts_the_footprint_is_needed.Goals as goal
 
-two : State
+-- a state with two clients
+abbrev two : State
 two = record { now = 0; clients = new_row 1 nobody ∷ new_row 2 nobody ∷ [] }
 
 pub need-requires-clause-of : goal.need-requires-clause-of
