@@ -4,13 +4,14 @@
     bench/run.py [--events N,N,..] [--phases N,N,..] [--rounds N] [--program PATH]
 
 Writes recordings of status requests, runs the built program and the floor on each of them in turn, several rounds in
-one run, and prints of the least times: events and megabytes a second, the ratio to the floor, and the peak of memory
+one run, and prints of the least times: events and megabytes a second, the ratio to the floor, and the median peak of memory
 against the recording's size. The first recordings have one client and phases of 16,000 events; the others have that many
 phases of 1,024 events by 64 clients in turn. Times are user and system time of the process. Nothing here is a test.
 """
 
 import argparse
 import os
+import statistics
 import subprocess
 import sys
 import tempfile
@@ -50,11 +51,16 @@ def seconds(words, recording=os.devnull):
 
 
 def peak(words, recording):
-    """The peak of memory in octets, by GNU time: a process forked from this one would count this one's as its own."""
+    """The peak of memory in octets of one run, by GNU time: a process forked from this one would count this one's as its own."""
     with open(recording, "rb") as source:
         done = subprocess.run(["/usr/bin/time", "-f", "%M"] + words, stdin=source, stdout=subprocess.DEVNULL,
                               stderr=subprocess.PIPE, text=True, check=True)
     return int(done.stderr.split()[-1]) * 1024
+
+
+def usual_peak(words, recording, rounds):
+    """The median of the peaks of several runs: the system counts pages in batches, so that one run's differs by a tenth."""
+    return statistics.median(peak(words, recording) for _ in range(rounds))
 
 
 def measured(name, recording, size, asked, floor):
@@ -63,7 +69,7 @@ def measured(name, recording, size, asked, floor):
     rounds = [(seconds(program, recording), seconds([floor], recording)) for _ in range(asked.rounds)]
     ours = min(time for time, _ in rounds)
     plain = min(time for _, time in rounds)
-    memory = peak(program, recording)
+    memory = usual_peak(program, recording, asked.rounds)
     with open(recording, "rb") as text:
         events = sum(1 for line in text if line[:1].isdigit())
     print(f"{name:>22} {size / 1e6:>7.2f} {ours:>8.3f} {plain:>8.3f} {ours / max(plain, 1e-9):>6.2f} "
