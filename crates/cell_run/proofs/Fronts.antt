@@ -1,27 +1,26 @@
 -- What was written of the first phases, and what is stated of the rest.
 use Rattle.std.proofs.Common.{◌≡◌, ℕ, ◌+◌, List, [], ◌∷◌, ◌++◌, length, refl, sym, ap, ◌∙◌, subst, append_assoc, append-nil, None, Some, IfSome, Ok, Err, arith}
-use Rattle.std.specs.Prelude.{flat_map}
 use Rattle.std.specs.Option.{option_map}
 use Rattle.std.specs.declared.option.Option.{Option}
-use Rattle.std.specs.Io.KnownBytes.{Appends, Consumes, IsAtEnd}
+use Rattle.std.specs.Io.KnownBytes.{Appends}
 use Rattle.std.proofs.KnownBytes.{Appends-trans, Appends-nil}
-use Rattle.cell_io.specs.Held.{IsLaterPart}
 use Rattle.cell_io.specs.Prefix.{AppendsPrefix}
 use Rattle.mms_types.specs.Actors.{clients_to}
-use Rattle.mms_types.specs.declared.event.What.{What}
 use Rattle.mms_types.specs.declared.event.CellEvent.{CellEvent}
 use Rattle.mms_step.specs.Step.{said}
+use Rattle.mms_device.specs.Served.{Served, device_after}
 use Rattle.cell_record.specs.declared.refusal.RecordError.{RecordError}
 use Rattle.cell_record.specs.declared.refusal.RecordError.TheVariants.{Bad, BadConfig, TooMuch, ReadFault, Memory}
 use Rattle.cell_config.specs.declared.config.Config.{Config}
-use Rattle.cell_record.specs.Recording.{Reading, Opening, with_phase, refused, ended, opening_of_text, config_in, config_of_text, after_opening, reading_of_text}
+use Rattle.cell_record.specs.Recording.{Reading, Opening, with_phase, refused, opening_of_text, config_in, config_of_text, after_opening, reading_of_text}
 use Rattle.cell_record.specs.Progress.{Becomes, IsStated}
 use Rattle.cell_record.specs.History.{drains, history}
 use Rattle.cell_record.proofs.Readings.{then}
 use Rattle.cell_record.specs.Report.{placed_from, taken, phase_text, report_from}
+use Rattle.cell_run.specs.Along.{phase_told}
 use Rattle.cell_run.specs.Outcome.{IsFinal, WritesFront, last_line, printed, printed_by, printed_for, report_of, status_of, status_for}
 use Rattle.cell_run.specs.declared.status.Status.{Status}
-use Rattle.cell_run.specs.declared.status.Status.TheVariants as status
+use Rattle.cell_run.proofs.Alongside.{told_after}
 
 -- phases before those of a reading
 abbrev pub with_phases : List (List CellEvent) → Reading → Reading
@@ -113,6 +112,23 @@ phase_more config number before (Some r) (Some s) x p =
       text_from config (number + 1) later s,
       ap (text_from config number before) (sym is) ∙ append_assoc (next_text config number before x) (report_from (said config) config.clients (number + 1) later s.phases) (last_line s.refusal),
     )
+
+-- a phase of which a prefix was written
+pub phase_partly : (config : Config) (left : Option (List ℕ)) (a b : Option Reading) (done : List (List CellEvent)) (x : List CellEvent) (out0 out1 out2 : Option (List ℕ))
+    → Becomes (option_map reading_of_text left) (with_phases done) a → Becomes a (with_phase x) b
+    → Appends out0 out1 (report_of config done) → AppendsPrefix out1 out2 (next_text config (1 + length done) (history config.clients done) x) → IfSome left (Tells config)
+    → IfSome left (λ text. AppendsPrefix out0 out2 (printed text))
+phase_partly config left a b done x out0 out1 out2 read phase p q tells =
+    let number = 1 + length done in
+    let before = history config.clients done in
+    partly_written config left a done (next_text config number before x) out0 out1 out2 read (phase_more config number before a b x phase) p q tells
+
+-- what the device has to tell of a phase
+pub told_next : (config : Config) (device : Served) (done : List (List CellEvent)) (number : ℕ) (x : List CellEvent) → device ≡ device_after config (history config.clients done) → number ≡ 1 + length done
+    → phase_told device number x ≡ next_text config (1 + length done) (history config.clients done) x
+told_next config device done number x along many =
+    ap (λ (d : Served). phase_told d number x) along ∙ told_after config number (history config.clients done) x
+    ∙ ap (λ (n : ℕ). next_text config n (history config.clients done) x) many
 
 line_more : (config : Config) (number : ℕ) (before : List CellEvent) (a : Option Reading) (o : Option RecordError) → IfSome a (λ r. r ≡ record { phases = []; refusal = o })
     → IfSome a (λ r. (more : List ℕ) × (text_from config number before r ≡ last_line o ++ more))

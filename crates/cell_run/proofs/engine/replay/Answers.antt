@@ -1,24 +1,22 @@
-use Rattle.std.proofs.Common.{◌≡◌, ◌+◌, ◌∷◌, ◌++◌, [], ℕ, List, length, None, Some, ap, sym, ◌∙◌, subst, refl, arith, length-append, lit<}
+use Rattle.std.proofs.Common.{◌≡◌, ◌+◌, ◌∷◌, ◌++◌, [], ℕ, length, Some, ap, sym, ◌∙◌, subst, refl, arith, length-append, lit<}
 use Rattle.std.proofs.KnownBytes.{Appends-trans, Appends-nil}
 use Rattle.std.specs.List.{All}
 use Rattle.std.specs.Io.KnownBytes.{Appends, IsAtEnd}
-use Rattle.std.specs.declared.option.Option.{Option}
 use Rattle.cell_io.specs.Prefix.{AppendsPrefix}
-use Rattle.mms_types.specs.declared.event.CellEvent.{CellEvent}
 use Rattle.mms_types.specs.Actors.{clients_to}
 use Rattle.cell_config.specs.declared.config.Config.{Config}
 use Rattle.mms_step.specs.State.{State, start}
 use Rattle.mms_device.specs.Served.{Served, device_after}
 use Rattle.cell_record.specs.EventLine.{IsRecorded}
-use Rattle.cell_record.specs.Recording.{Reading, with_phase}
-use Rattle.cell_record.specs.Progress.{Becomes, rest_of}
+use Rattle.cell_record.specs.Recording.{with_phase}
+use Rattle.cell_record.specs.Progress.{rest_of}
 use Rattle.cell_record.specs.Grammar.{phase_ms}
 use Rattle.cell_record.specs.History.{drains, history}
 use Rattle.cell_record.proofs.Readings.{then}
-use Rattle.cell_run.specs.Along.{along, phase_told}
+use Rattle.cell_run.specs.Along.{along}
 use Rattle.cell_run.specs.Outcome.{last_line, report_of}
-use Rattle.cell_run.proofs.Alongside.{after_sized, after-append, told_after, phase_now, phase_count}
-use Rattle.cell_run.proofs.Fronts.{with_phases, next_text, partly_written, nothing_more, phase_more, refusal_more, opening_partly, opening_written, none_written, begun, read_so_far, refusal_written, phases-then, report-snoc, history-snoc}
+use Rattle.cell_run.proofs.Alongside.{after_sized, after-append, phase_now, phase_count}
+use Rattle.cell_run.proofs.Fronts.{with_phases, next_text, partly_written, phase_partly, told_next, refusal_more, opening_partly, opening_written, none_written, begun, read_so_far, refusal_written, phases-then, report-snoc, history-snoc}
 use Rattle.cell_run.proofs.engine.replay.Goals as goal
 
 pub returns-in-Err-clause-stated : goal.returns-in-Err-clause-stated
@@ -73,12 +71,8 @@ returns-in-Err-Fault-clause-partly g c =
     let phase = rw c.in-Ok-Some.field-0-is at c.in-Ok-Some.ensures.phase in
     let number = rw c.in-Ok-Some.field-0-is at c.in-Ok-Some.ensures.number in
     let many : c.in-Ok-Some.phase.number ≡ 1 + length d.0 = omega (arith, number.0, c.loop-turn.invariant.number, d.1) in
-    let text = ap (λ (x : Served). phase_told x c.in-Ok-Some.phase.number es) d.2 ∙ told_after config c.in-Ok-Some.phase.number (history config.clients d.0) es
-    ∙ ap (λ (n : ℕ). next_text config n (history config.clients d.0) es) many in
-    partly_written config left a d.0 (next_text config (1 + length d.0) (history config.clients d.0) es)
-    (g.K.Sink.held c.args.out.now) (g.K.Sink.held c.loop-turn.out) (g.K.Sink.held c.serve_phase.new.out) b
-    (phase_more config (1 + length d.0) (history config.clients d.0) a _ es phase) d.3
-    (subst (AppendsPrefix (g.K.Sink.held c.loop-turn.out) (g.K.Sink.held c.serve_phase.new.out)) text c.in-Err-Fault.ensures.part)
+    phase_partly config left a _ d.0 es (g.K.Sink.held c.args.out.now) (g.K.Sink.held c.loop-turn.out) (g.K.Sink.held c.serve_phase.new.out) b phase d.3
+    (subst (AppendsPrefix (g.K.Sink.held c.loop-turn.out) (g.K.Sink.held c.serve_phase.new.out)) (told_next config c.loop-turn.device d.0 c.in-Ok-Some.phase.number es d.2 many) c.in-Err-Fault.ensures.part)
     c.in-Ok.ensures.tells
 
 pub returns-in-Err-Memory-clause-partly : goal.returns-in-Err-Memory-clause-partly
@@ -92,12 +86,8 @@ returns-in-Err-Memory-clause-partly g c =
     let phase = rw c.in-Ok-Some.field-0-is at c.in-Ok-Some.ensures.phase in
     let number = rw c.in-Ok-Some.field-0-is at c.in-Ok-Some.ensures.number in
     let many : c.in-Ok-Some.phase.number ≡ 1 + length d.0 = omega (arith, number.0, c.loop-turn.invariant.number, d.1) in
-    let text = ap (λ (x : Served). phase_told x c.in-Ok-Some.phase.number es) d.2 ∙ told_after config c.in-Ok-Some.phase.number (history config.clients d.0) es
-    ∙ ap (λ (n : ℕ). next_text config n (history config.clients d.0) es) many in
-    partly_written config left a d.0 (next_text config (1 + length d.0) (history config.clients d.0) es)
-    (g.K.Sink.held c.args.out.now) (g.K.Sink.held c.loop-turn.out) (g.K.Sink.held c.serve_phase.new.out) b
-    (phase_more config (1 + length d.0) (history config.clients d.0) a _ es phase) d.3
-    (subst (AppendsPrefix (g.K.Sink.held c.loop-turn.out) (g.K.Sink.held c.serve_phase.new.out)) text c.in-Err-Memory.ensures.part)
+    phase_partly config left a _ d.0 es (g.K.Sink.held c.args.out.now) (g.K.Sink.held c.loop-turn.out) (g.K.Sink.held c.serve_phase.new.out) b phase d.3
+    (subst (AppendsPrefix (g.K.Sink.held c.loop-turn.out) (g.K.Sink.held c.serve_phase.new.out)) (told_next config c.loop-turn.device d.0 c.in-Ok-Some.phase.number es d.2 many) c.in-Err-Memory.ensures.part)
     c.in-Ok.ensures.tells
 
 pub returns-in-Ok-None-clause-ended : goal.returns-in-Ok-None-clause-ended
@@ -141,8 +131,7 @@ loop-turn-preserved g c =
     let moment = rw c.in-Ok-Some.field-0-is at c.in-Ok-Some.ensures.moment in
     let ended = rw c.in-Ok-Some.field-0-is at c.in-Ok-Some.ensures.ended in
     let many : c.in-Ok-Some.phase.number ≡ 1 + length d.0 = omega (arith, number.0, c.loop-turn.invariant.number, d.1) in
-    let text = ap (λ (x : Served). phase_told x c.in-Ok-Some.phase.number es) d.2 ∙ told_after config c.in-Ok-Some.phase.number (history config.clients d.0) es
-    ∙ ap (λ (n : ℕ). next_text config n (history config.clients d.0) es) many in
+    let text = told_next config c.loop-turn.device d.0 c.in-Ok-Some.phase.number es d.2 many in
     let one = length-append d.0 (es ∷ []) in
     let sized : length c.loop-turn.device.state.clients ≡ config.clients = ap (λ (x : Served). length x.state.clients) d.2 ∙ after_sized config (history config.clients d.0) in
     let served : c.serve_phase.new.device ≡ along c.loop-turn.device (es ++ drains (clients_to config.clients)) =
