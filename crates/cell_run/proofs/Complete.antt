@@ -1,11 +1,11 @@
 -- A recording that no fault hinders is served and reported.
-use Rattle.std.proofs.Common.{◌≡◌, ◌⊎◌, inl, inr, ℕ, List, [], ◌++◌, ap, subst, refl, ◌∙◌, Some, None, IfSome, append-nil}
+use Rattle.std.proofs.Common.{◌≡◌, ◌⊎◌, inl, inr, ℕ, List, ap, subst, refl, ◌∙◌, Some, None, IfSome, append-nil}
 use Rattle.std.specs.declared.option.Option.{Option}
 use Rattle.std.specs.Io.KnownBytes.{Appends}
 use Rattle.mms_types.specs.declared.event.CellEvent.{CellEvent}
 use Rattle.cell_config.specs.declared.config.Config.{Config}
 use Rattle.cell_record.specs.Grammar.{ReadsRecording}
-use Rattle.cell_record.specs.Recording.{Reading, reading_of_text}
+use Rattle.cell_record.specs.Recording.{Reading}
 use Rattle.cell_record.proofs.Valid.{recording_is_read}
 use Rattle.cell_run.proofs.Fronts.{printed_opened}
 use Rattle.cell_run.specs.declared.status.Status.{Status}

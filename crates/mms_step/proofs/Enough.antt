@@ -1,6 +1,6 @@
 -- Where nothing is needed that is not held, the parts that an event changes are held, and become those of the state after it.
-use Rattle.std.specs.Prelude.{◌≡◌, ℕ, ◌+◌, ◌-◌, ◌≤◌, true, not, Option, None, Some, List, [], ◌∷◌, filter, length, OnOk, OnErr, Result, Ok, Err, refl}
-use Rattle.std.proofs.Common.{ap, sym, ◌∙◌, subst, arith}
+use Rattle.std.specs.Prelude.{◌≡◌, ℕ, ◌≤◌, not, Option, List, [], ◌∷◌, filter, length, OnOk, OnErr, Result, Ok, Err}
+use Rattle.std.proofs.Common.{ap, sym, ◌∙◌, arith}
 use Rattle.mms_types.specs.Actors.{IsAmong}
 use Rattle.mms_types.specs.declared.memory.Memory.{Memory}
 use Rattle.mms_types.specs.declared.event.CellEvent.{CellEvent}

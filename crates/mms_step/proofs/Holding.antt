@@ -1,12 +1,10 @@
 -- What held parts of a state are, before an event and after it.
-use Rattle.std.specs.Prelude.{◌≡◌, ℕ, zero, suc, ◌+◌, ◌-◌, ◌≤◌, ◌<◌, Bool, true, false, Option, None, Some, List, [], ◌∷◌, ◌++◌, is_some, unwrap_or, map, length, slice_get, Contains, refl}
+use Rattle.std.specs.Prelude.{◌≡◌, ℕ, zero, suc, ◌-◌, ◌≤◌, ◌<◌, Bool, true, Option, None, Some, List, [], ◌∷◌, ◌++◌, is_some, map, length, slice_get, refl}
 use Rattle.std.proofs.Common.{ap, ap₂, sym, ◌∙◌, subst, arith}
 use Rattle.std.proofs.lemmas.List.{length-map}
 use Rattle.std.specs.List.{filter_map}
-use Rattle.std.proofs.lemmas.List.Elements.{Contains-append_left, Contains-append_right, Contains-append_cases}
 use Rattle.mms_types.specs.Actors.{IsAmong}
 use Rattle.mms_types.specs.declared.event.CellEvent.{CellEvent}
-use Rattle.mms_types.specs.declared.event.CellEvent.TheVariants.{Heard, Lost, Tick, Ends, Drain}
 use Rattle.association.specs.Client.{ClientRow}
 use Rattle.part_table.specs.Held.{held_at, places_held, laid_over, IsHandOf}
 use Rattle.part_table.specs.HeldLaws.{length-laid_over, laid_over-held, laid_over-free, held_of_list, free_by_places, length-by_places}
@@ -14,9 +12,9 @@ use Rattle.mms_step.specs.declared.part.Part.{Part}
 use Rattle.mms_step.specs.declared.part.Part.TheVariants.{Clock, Client, Semaphores}
 use Rattle.mms_step.specs.State.{State}
 use Rattle.mms_step.specs.Step.{step}
-use Rattle.mms_step.specs.Partition.{parts_of, client_part, client_place, clients_among, clock_in, client_in, row_in, state_in, IsClock, IsClient, settled}
+use Rattle.mms_step.specs.Partition.{parts_of, client_part, client_place, clients_among, clock_in, client_in, row_in, state_in, IsClock, IsClient}
 use Rattle.mms_step.specs.Needs.{need, is_held}
-use Rattle.mms_step.specs.After.{after, parts_after}
+use Rattle.mms_step.specs.After.{after}
 use Rattle.mms_step.specs.AfterLaws.{after_holds_the_same, after_is_laid_over}
 use Rattle.mms_step.proofs.PartsAfter.{parts_step, length-parts, in_front}
 

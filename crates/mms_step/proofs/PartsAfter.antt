@@ -1,6 +1,6 @@
 -- The step on a state is the step on its parts.
 use Rattle.std.specs.Prelude.{◌≡◌, ℕ, zero, suc, ◌+◌, ◌-◌, ◌≤◌, ◌<◌, List, [], ◌∷◌, ◌++◌, map, fold, length, refl}
-use Rattle.std.proofs.Common.{ap, sym, ◌∙◌, subst, arith, length-append, lit≤}
+use Rattle.std.proofs.Common.{ap, sym, ◌∙◌, arith, length-append}
 use Rattle.std.proofs.lemmas.List.{length-map, map-append}
 use Rattle.mms_types.specs.Actors.{clients_to, IsAmong}
 use Rattle.mms_types.specs.declared.event.CellEvent.{CellEvent}
@@ -10,7 +10,7 @@ use Rattle.mms_step.specs.declared.part.Part.{Part}
 use Rattle.mms_step.specs.declared.part.Part.TheVariants.{Clock, Variables, Domains, Programs, Conditions, Journals, Semaphores}
 use Rattle.cell_config.specs.declared.config.Config.{Config}
 use Rattle.cell_config.specs.Said.{IsConfig}
-use Rattle.mms_step.specs.State.{State, start, device_of, first_rows, IsSound, last_moment}
+use Rattle.mms_step.specs.State.{State, start, device_of, first_rows, IsSound}
 use Rattle.mms_step.specs.Association.{hear, lose}
 use Rattle.mms_step.specs.Step.{change, step, with_client, replay, MayCome, MayFollow}
 use Rattle.mms_step.specs.Partition.{parts_of, client_part, client_place}

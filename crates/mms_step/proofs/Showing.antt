@@ -1,5 +1,5 @@
 -- With parts of one state, more held parts show at least as much.
-use Rattle.std.specs.Prelude.{◌≡◌, ℕ, zero, suc, ◌+◌, ◌-◌, Bool, true, false, Option, None, Some, Result, Ok, Err, List, [], ◌∷◌, ◌++◌, is_some, length, slice_get, Contains, refl}
+use Rattle.std.specs.Prelude.{◌≡◌, ℕ, zero, suc, Bool, true, false, Option, None, Some, Result, Ok, Err, List, [], ◌∷◌, ◌++◌, is_some, length, Contains, refl}
 use Rattle.std.proofs.Common.{ap, sym, ◌∙◌, ◌⊎◌, inl, inr, subst, arith, lit<}
 use Rattle.std.proofs.lemmas.List.Elements.{Contains-append_left, Contains-append_right, Contains-append_cases}
 use Rattle.mms_types.specs.declared.event.CellEvent.{CellEvent}
@@ -17,7 +17,7 @@ use Rattle.part_table.specs.HeldLaws.{held_of_list}
 use Rattle.mms_step.specs.declared.part.Part.{Part}
 use Rattle.mms_step.specs.State.{State}
 use Rattle.mms_step.specs.Partition.{parts_of, client_place, clients_among, row_in, domains_place}
-use Rattle.mms_step.specs.Needs.{footprint, further, shown, is_held, loss, conclusion, asks_for, heard_by, hearing, losing}
+use Rattle.mms_step.specs.Needs.{footprint, further, shown, is_held, conclusion, asks_for, heard_by, hearing, losing}
 use Rattle.mms_step.proofs.Holding.{clients_counted}
 
 nothing_in : (place : ℕ) → Contains [] place → ⊥

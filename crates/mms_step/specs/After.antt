@@ -1,5 +1,5 @@
 -- What an event makes of the parts that are held, and of all parts (this profile's choice).
-use Rattle.std.specs.Prelude.{ℕ, ◌+◌, List, Option, Some}
+use Rattle.std.specs.Prelude.{ℕ, ◌+◌, List, Option}
 use Rattle.std.specs.Option.{option_map}
 use Rattle.mms_types.specs.declared.event.CellEvent.{CellEvent}
 use Rattle.mms_types.specs.declared.event.CellEvent.TheVariants.{Heard, Lost, Tick, Ends, Drain}

@@ -1,5 +1,5 @@
 -- Laws of what an event makes of the parts that are held.
-use Rattle.std.specs.Prelude.{◌≡◌, ℕ, zero, suc, ◌+◌, ◌-◌, ◌≤◌, ◌<◌, Bool, true, false, not, Option, None, Some, List, [], ◌∷◌, ◌++◌, is_some, unwrap_or, map, filter, length, slice_get, refl}
+use Rattle.std.specs.Prelude.{◌≡◌, ℕ, zero, suc, ◌+◌, Bool, true, false, not, Option, None, Some, List, [], ◌∷◌, is_some, unwrap_or, filter, length, refl}
 use Rattle.std.specs.Option.{option_map}
 use Rattle.std.proofs.Common.{ap, ap₂, sym, ◌∙◌, arith}
 use Rattle.mms_types.specs.declared.event.CellEvent.{CellEvent}
@@ -10,7 +10,7 @@ use Rattle.mms_step.specs.declared.part.Part.{Part}
 use Rattle.mms_step.specs.Association.{hear, lose}
 use Rattle.mms_step.specs.Step.{change}
 use Rattle.mms_step.specs.Partition.{clock_place, conditions_place, semaphores_place, client_place, clients_among}
-use Rattle.mms_step.specs.Needs.{need, shown, footprint, further, is_held}
+use Rattle.mms_step.specs.Needs.{need, further, is_held}
 use Rattle.mms_step.specs.After.{after, parts_after, on_client, on_clock}
 
 module _ {P : Type 0} where

@@ -1,7 +1,6 @@
 -- What an association makes of what its client sends (ISO 9506-1, environment and general management, VMD support; ISO 9506-2, RejectPDU).
-use Rattle.std.specs.Prelude.{ℕ, Bool, true, false, List, [], ◌∷◌, Option, None, Some, Result, Ok, Err, nat_le, length, if◌then◌else◌}
+use Rattle.std.specs.Prelude.{ℕ, Bool, true, false, List, [], ◌∷◌, None, Some, Result, Ok, Err, nat_le, length, if◌then◌else◌}
 use Rattle.mms_types.specs.declared.memory.Memory.{Memory}
-use Rattle.mms_types.specs.declared.event.What.{What}
 use Rattle.mms_types.specs.declared.event.What.TheVariants.{Octets, Abort}
 use Rattle.mms_types.specs.declared.initiate.InitiateAnswer.{InitiateAnswer}
 use Rattle.mms_types.specs.declared.service_error.ServiceError.{ServiceError}

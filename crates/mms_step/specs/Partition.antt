@@ -1,5 +1,5 @@
 -- The parts that the state is cut into, each a thing that one caller at a time can hold (this profile's choice).
-use Rattle.std.specs.Prelude.{◌≡◌, ℕ, ◌+◌, ◌-◌, List, [], ◌∷◌, ◌++◌, map, length, Option, None, Some}
+use Rattle.std.specs.Prelude.{◌≡◌, ℕ, ◌+◌, ◌-◌, List, [], ◌∷◌, ◌++◌, map, Option, None, Some}
 use Rattle.std.specs.List.{filter_map}
 use Rattle.mms_types.specs.declared.event.What.{What}
 use Rattle.association.specs.Client.{ClientRow, new_row, Client as RoomyRow}

@@ -1,5 +1,5 @@
 -- One event of the device, and what a history of events leads to (ISO 9506-1, the virtual manufacturing device).
-use Rattle.std.specs.Prelude.{ℕ, zero, suc, ◌+◌, ◌-◌, ◌≤◌, ◌<◌, ◌^◌, List, [], ◌∷◌, fold, length, slice_get, Option, None, Some}
+use Rattle.std.specs.Prelude.{ℕ, zero, suc, ◌+◌, ◌-◌, ◌≤◌, List, [], ◌∷◌, fold, length, slice_get, Option, None, Some}
 use Rattle.mms_types.specs.Actors.{IsAmong}
 use Rattle.mms_types.specs.declared.event.What.{What}
 use Rattle.mms_types.specs.declared.event.CellEvent.{CellEvent}

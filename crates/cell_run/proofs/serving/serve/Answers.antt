@@ -1,6 +1,5 @@
-use Rattle.std.proofs.Common.{◌≡◌, ◌+◌, ◌++◌, List, ℕ, length, ap, sym, ◌∙◌, arith}
+use Rattle.std.proofs.Common.{ℕ, length, ap, sym, ◌∙◌, arith}
 use Rattle.mms_types.specs.Actors.{clients_to}
-use Rattle.mms_types.specs.declared.event.CellEvent.{CellEvent}
 use Rattle.mms_device.specs.Served.{Served}
 use Rattle.cell_record.specs.History.{drains}
 use Rattle.cell_run.specs.Along.{along, taken_along}

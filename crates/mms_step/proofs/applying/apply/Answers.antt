@@ -1,13 +1,12 @@
-use Rattle.std.proofs.Common.{◌≡◌, List, Option, length, ◌∷◌, [], ℕ, ap, sym, ◌∙◌, subst, ◌+◌}
+use Rattle.std.proofs.Common.{◌≡◌, List, length, ◌∷◌, [], ℕ, ap, ◌∙◌, subst}
 use Rattle.std.specs.Option.{option_map}
 use Rattle.std.proofs.lemmas.Result.{on_ok_weaker}
 use Rattle.mms_types.specs.Actors.{IsAmong}
 use Rattle.mms_types.specs.declared.event.CellEvent.{CellEvent}
 use Rattle.mms_types.specs.declared.event.CellEvent.TheVariants.{Heard, Lost, Tick, Drain}
-use Rattle.mms_step.specs.declared.part.Part.{Part}
 use Rattle.mms_step.specs.Association.{hear}
 use Rattle.mms_step.specs.Step.{change}
-use Rattle.mms_step.specs.Partition.{client_place, conditions_place, semaphores_place, clients_among, IsClient}
+use Rattle.mms_step.specs.Partition.{client_place, conditions_place, semaphores_place, clients_among}
 use Rattle.mms_step.specs.Needs.{need, further}
 use Rattle.mms_step.specs.After.{on_client}
 use Rattle.mms_step.proofs.Enough.{client_is_held, clock_is_held, step_then, places_then, places_either}

@@ -1,7 +1,6 @@
-use Rattle.std.proofs.Common.{◌+◌, ap, ◌∙◌, Some, sym}
+use Rattle.std.proofs.Common.{◌+◌}
 use Rattle.std.proofs.lemmas.Result.{on_ok_weaker, on_err_weaker}
 use Rattle.mms_step.specs.Association.{hear}
-use Rattle.mms_step.specs.declared.part.Part.TheVariants.{Client}
 use Rattle.mms_step.proofs.Changed.{client_changed, client_kept}
 use Rattle.mms_step.proofs.applying.hear_from.Goals as goal
 

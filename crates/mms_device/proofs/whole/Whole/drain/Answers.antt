@@ -1,8 +1,7 @@
-use Rattle.std.proofs.Common.{◌≡◌, ap, sym, subst, ℕ, ◌+◌, ◌≤◌, ◌∙◌, length}
+use Rattle.std.proofs.Common.{ap, sym, subst, ◌+◌, ◌≤◌, ◌∙◌, length}
 use Rattle.mms_types.specs.declared.event.CellEvent.TheVariants.{Drain}
 use Rattle.mms_step.specs.State.{State}
-use Rattle.mms_step.specs.Step.{MayCome, outbox_of}
-use Rattle.mms_step.specs.Partition.{state_in}
+use Rattle.mms_step.specs.Step.{outbox_of}
 use Rattle.mms_device.specs.Served.{Served, served}
 use Rattle.mms_device.proofs.AllHeld.{client_of_all, drains}
 use Rattle.mms_device.proofs.whole.Whole.drain.Goals as goal

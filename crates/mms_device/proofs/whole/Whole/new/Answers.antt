@@ -1,6 +1,5 @@
-use Rattle.std.proofs.Common.{◌≡◌, ap, sym, subst, ℕ}
+use Rattle.std.proofs.Common.{ap, sym, subst}
 use Rattle.mms_step.specs.State.{State, start, IsSound}
-use Rattle.mms_step.specs.Partition.{state_in}
 use Rattle.mms_step.proofs.PartsAfter.{start_sound}
 use Rattle.mms_device.specs.Served.{Served}
 use Rattle.mms_device.proofs.AllHeld.{state_after, holds_all_after}
