@@ -1,5 +1,7 @@
 //! What octets are cut into.
 
+ghost use Rattle.std.specs.Prelude.{◌≡◌, true, false};
+
 /// Which forms of the length an element may have (ITU-T X.690, 8.1.3).
 #[derive(Clone, Copy, Debug, PartialEq, Eq)]
 pub enum Lengths {
@@ -14,6 +16,32 @@ pub struct Tag {
     pub class: u8,
     pub constructed: bool,
     pub number: u32,
+}
+
+impl Tag {
+    /// The tag of context class and of that number over contents that are no elements.
+    #[inline]
+    pub fn primitive(number: u32) -> Tag
+        ensures { result ≡ record { class = 2; constructed = false; number = number } }
+    {
+        Tag {
+            class: 2,
+            constructed: false,
+            number,
+        }
+    }
+
+    /// The tag of context class and of that number over contents that are elements.
+    #[inline]
+    pub fn constructed(number: u32) -> Tag
+        ensures { result ≡ record { class = 2; constructed = true; number = number } }
+    {
+        Tag {
+            class: 2,
+            constructed: true,
+            number,
+        }
+    }
 }
 
 /// One element: its tag and its contents.

@@ -18,11 +18,7 @@ impl<'a> Cursor<'a> {
         ensures exact { Gives (λ b. (value.truth b, self.new.octets)) result (required_at self.old.lengths (form.context number form.boolean) self.old.octets) }
         ensures kept { self.new.lengths ≡ self.old.lengths }
     {
-        let element = self.required(Tag {
-            class: 2,
-            constructed: false,
-            number,
-        })?;
+        let element = self.required(Tag::primitive(number))?;
         boolean(element.contents)
     }
 
@@ -32,11 +28,7 @@ impl<'a> Cursor<'a> {
         ensures exact { Gives (λ o. (value.optionally value.truth o, self.new.octets)) result (optional_at self.old.lengths (form.context number form.boolean) self.old.octets) }
         ensures kept { self.new.lengths ≡ self.old.lengths }
     {
-        match self.optional(Tag {
-            class: 2,
-            constructed: false,
-            number,
-        })? {
+        match self.optional(Tag::primitive(number))? {
             None => Ok(None),
             Some(element) => Ok(Some(boolean(element.contents)?)),
         }
@@ -60,11 +52,7 @@ impl<'a> Cursor<'a> {
         ensures exact { Gives (λ _. (value.nothing, self.new.octets)) result (required_at self.old.lengths (form.context number form.null) self.old.octets) }
         ensures kept { self.new.lengths ≡ self.old.lengths }
     {
-        let element = self.required(Tag {
-            class: 2,
-            constructed: false,
-            number,
-        })?;
+        let element = self.required(Tag::primitive(number))?;
         null(element.contents)
     }
 
@@ -74,11 +62,7 @@ impl<'a> Cursor<'a> {
         ensures exact { Gives (λ b. (value.bits b.unused (cleared b.unused b.octets.now), self.new.octets)) result (required_at self.old.lengths (form.context number form.bit_string) self.old.octets) }
         ensures kept { self.new.lengths ≡ self.old.lengths }
     {
-        let element = self.required(Tag {
-            class: 2,
-            constructed: false,
-            number,
-        })?;
+        let element = self.required(Tag::primitive(number))?;
         bit_string(element.contents)
     }
 
@@ -88,11 +72,7 @@ impl<'a> Cursor<'a> {
         ensures exact { Gives (λ s. (value.text s.now, self.new.octets)) result (required_at self.old.lengths (form.context number (form.octet_string form.any_octets)) self.old.octets) }
         ensures kept { self.new.lengths ≡ self.old.lengths }
     {
-        let element = self.required(Tag {
-            class: 2,
-            constructed: false,
-            number,
-        })?;
+        let element = self.required(Tag::primitive(number))?;
         Ok(element.contents)
     }
 
@@ -102,11 +82,7 @@ impl<'a> Cursor<'a> {
         ensures exact { Gives (λ o. (value.optionally (λ s. value.text s.now) o, self.new.octets)) result (optional_at self.old.lengths (form.context number (form.octet_string form.any_octets)) self.old.octets) }
         ensures kept { self.new.lengths ≡ self.old.lengths }
     {
-        match self.optional(Tag {
-            class: 2,
-            constructed: false,
-            number,
-        })? {
+        match self.optional(Tag::primitive(number))? {
             None => Ok(None),
             Some(element) => Ok(Some(element.contents)),
         }
@@ -118,11 +94,7 @@ impl<'a> Cursor<'a> {
         ensures exact { Gives (λ s. (value.text s.now, self.new.octets)) result (required_at self.old.lengths (form.context number form.visible_string) self.old.octets) }
         ensures kept { self.new.lengths ≡ self.old.lengths }
     {
-        let element = self.required(Tag {
-            class: 2,
-            constructed: false,
-            number,
-        })?;
+        let element = self.required(Tag::primitive(number))?;
         visible(element.contents)
     }
 
@@ -132,11 +104,7 @@ impl<'a> Cursor<'a> {
         ensures exact { Gives (λ o. (value.optionally (λ s. value.text s.now) o, self.new.octets)) result (optional_at self.old.lengths (form.context number form.visible_string) self.old.octets) }
         ensures kept { self.new.lengths ≡ self.old.lengths }
     {
-        match self.optional(Tag {
-            class: 2,
-            constructed: false,
-            number,
-        })? {
+        match self.optional(Tag::primitive(number))? {
             None => Ok(None),
             Some(element) => Ok(Some(visible(element.contents)?)),
         }

@@ -20,11 +20,7 @@ impl<'a> Cursor<'a> {
         ensures low { IfOk result (λ n. low ≤ℤ n) }
         ensures high { IfOk result (λ n. n ≤ℤ high) }
     {
-        let element = self.required(Tag {
-            class: 2,
-            constructed: false,
-            number,
-        })?;
+        let element = self.required(Tag::primitive(number))?;
         integer(element.contents, low, high)
     }
 
@@ -41,11 +37,7 @@ impl<'a> Cursor<'a> {
         ensures low { IfOk result (λ o. IfSome o (λ n. low ≤ℤ n)) }
         ensures high { IfOk result (λ o. IfSome o (λ n. n ≤ℤ high)) }
     {
-        match self.optional(Tag {
-            class: 2,
-            constructed: false,
-            number,
-        })? {
+        match self.optional(Tag::primitive(number))? {
             None => Ok(None),
             Some(element) => Ok(Some(integer(element.contents, low, high)?)),
         }

@@ -15,14 +15,7 @@ pub fn put_integer(out: &mut Writer, number: u32, n: i64) -> Result<(), Memory>
     ensures ok { OnOk result (out.new ≡ out.old ++ member_octets (form.context number form.int64) (value.number n)) }
     ensures err { OnErr result (out.new ≡ out.old) }
 {
-    out.integer(
-        Tag {
-            class: 2,
-            constructed: false,
-            number,
-        },
-        n,
-    )
+    out.integer(Tag::primitive(number), n)
 }
 
 /// A number under the universal tag of INTEGER.
@@ -137,14 +130,7 @@ pub fn put_boolean(out: &mut Writer, number: u32, b: bool) -> Result<(), Memory>
     ensures err { OnErr result (out.new ≡ out.old) }
 {
     let octet = if b { 255 } else { 0 };
-    out.element(
-        Tag {
-            class: 2,
-            constructed: false,
-            number,
-        },
-        &[octet],
-    )
+    out.element(Tag::primitive(number), &[octet])
 }
 
 /// A truth value, if there is one.
@@ -183,14 +169,7 @@ pub fn put_null(out: &mut Writer, number: u32) -> Result<(), Memory>
     ensures ok { OnOk result (out.new ≡ out.old ++ member_octets (form.context number form.null) value.nothing) }
     ensures err { OnErr result (out.new ≡ out.old) }
 {
-    out.element(
-        Tag {
-            class: 2,
-            constructed: false,
-            number,
-        },
-        &[],
-    )
+    out.element(Tag::primitive(number), &[])
 }
 
 /// Octets, as an OCTET STRING or another string.
@@ -199,14 +178,7 @@ pub fn put_octets(out: &mut Writer, number: u32, octets: &[u8]) -> Result<(), Me
     ensures ok { OnOk result (out.new ≡ out.old ++ member_octets (form.context number (form.octet_string form.any_octets)) (value.text octets.now)) }
     ensures err { OnErr result (out.new ≡ out.old) }
 {
-    out.element(
-        Tag {
-            class: 2,
-            constructed: false,
-            number,
-        },
-        octets,
-    )
+    out.element(Tag::primitive(number), octets)
 }
 
 /// Octets, if there are any to write.
@@ -244,11 +216,7 @@ pub fn put_bit_string(out: &mut Writer, number: u32, bits: Bits<'_>) -> Result<(
 {
     let since = out.len();
     let written = put_bits(out, bits);
-    let tag = Tag {
-        class: 2,
-        constructed: false,
-        number,
-    };
+    let tag = Tag::primitive(number);
     enclose(out, since, written, tag)
 }
 
@@ -303,10 +271,6 @@ pub fn enclose_context(
     ensures written { OnOk result (written ≡ Ok tt) }
     ensures err { OnErr result (out.new ≡ take since out.old) }
 {
-    let tag = Tag {
-        class: 2,
-        constructed: true,
-        number,
-    };
+    let tag = Tag::constructed(number);
     enclose(out, since, written, tag)
 }

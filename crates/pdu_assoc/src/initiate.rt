@@ -23,17 +23,9 @@ fn detail(contents: &[u8], edition: Edition) -> Result<InitiateDetail, Unread>
 {
     let mut parts = cursor(edition, contents);
     let version = parts.required_i16(0)?;
-    let parameters = parts.required(Tag {
-        class: 2,
-        constructed: false,
-        number: 1,
-    })?;
+    let parameters = parts.required(Tag::primitive(1))?;
     let parameters = named_bits::<2>(parameters.contents, 11)?;
-    let services = parts.required(Tag {
-        class: 2,
-        constructed: false,
-        number: 2,
-    })?;
+    let services = parts.required(Tag::primitive(2))?;
     let services = named_bits::<11>(services.contents, 85)?;
     parts.end()?;
     Ok(InitiateDetail {
@@ -53,11 +45,7 @@ pub(crate) fn required_detail(
     ensures exact { Gives (λ d. (detail_value d, parts.new.octets)) result (required_at (lengths_of edition) (context 4 detail_form) parts.old.octets) }
     ensures kept { parts.new.lengths ≡ parts.old.lengths }
 {
-    let element = parts.required(Tag {
-        class: 2,
-        constructed: true,
-        number: 4,
-    })?;
+    let element = parts.required(Tag::constructed(4))?;
     detail(element.contents, edition)
 }
 

@@ -73,11 +73,7 @@ fn required_class(parts: &mut Cursor<'_>, edition: Edition) -> Result<ObjectClas
     ensures exact { Gives (λ class. (class_value class, parts.new.octets)) result (required_at (lengths_of edition) (context 0 (choice classes)) parts.old.octets) }
     ensures kept { parts.new.lengths ≡ parts.old.lengths }
 {
-    let element = parts.required(Tag {
-        class: 2,
-        constructed: true,
-        number: 0,
-    })?;
+    let element = parts.required(Tag::constructed(0))?;
     class(element.contents, edition)
 }
 
@@ -121,11 +117,7 @@ fn required_scope(
     ensures exact { Gives (λ scope. (scope_value scope, parts.new.octets)) result (required_at (lengths_of edition) (context 1 (choice (scopes edition))) parts.old.octets) }
     ensures kept { parts.new.lengths ≡ parts.old.lengths }
 {
-    let element = parts.required(Tag {
-        class: 2,
-        constructed: true,
-        number: 1,
-    })?;
+    let element = parts.required(Tag::constructed(1))?;
     scope(alloc, element.contents, edition)
 }
 

@@ -77,11 +77,7 @@ fn required_class(parts: &mut Cursor<'_>, edition: Edition) -> Result<(u8, u8), 
     ensures exact { Gives (λ x. (class_value x.0 x.1, parts.new.octets)) result (required_at (lengths_of edition) (context 0 (choice error_classes)) parts.old.octets) }
     ensures kept { parts.new.lengths ≡ parts.old.lengths }
 {
-    let element = parts.required(Tag {
-        class: 2,
-        constructed: true,
-        number: 0,
-    })?;
+    let element = parts.required(Tag::constructed(0))?;
     class_of(element.contents, edition)
 }
 
@@ -92,11 +88,7 @@ fn optional_state(parts: &mut Cursor<'_>, edition: Edition) -> Result<Option<Sta
     ensures exact { Gives (λ o. (optionally state_value o, parts.new.octets)) result (optional_at (lengths_of edition) (context 3 (choice state_kinds)) parts.old.octets) }
     ensures kept { parts.new.lengths ≡ parts.old.lengths }
 {
-    match parts.optional(Tag {
-        class: 2,
-        constructed: true,
-        number: 3,
-    })? {
+    match parts.optional(Tag::constructed(3))? {
         None => Ok(None),
         Some(element) => Ok(Some(state_of(element.contents, edition)?)),
     }
@@ -134,11 +126,7 @@ pub(crate) fn required_error(
     ensures exact { Gives (λ e. (service_error_value e, parts.new.octets)) result (required_at (lengths_of edition) (context number service_error_form) parts.old.octets) }
     ensures kept { parts.new.lengths ≡ parts.old.lengths }
 {
-    let element = parts.required(Tag {
-        class: 2,
-        constructed: true,
-        number,
-    })?;
+    let element = parts.required(Tag::constructed(number))?;
     service_error(element.contents, edition)
 }
 

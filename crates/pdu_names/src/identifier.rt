@@ -49,11 +49,7 @@ pub fn required_identifier(
     ensures exact { Gives (λ i. (identifier_value i, parts.new.octets)) result (required_at parts.old.lengths (context number (identifier_form edition)) parts.old.octets) }
     ensures kept { parts.new.lengths ≡ parts.old.lengths }
 {
-    let element = parts.required(Tag {
-        class: 2,
-        constructed: false,
-        number,
-    })?;
+    let element = parts.required(Tag::primitive(number))?;
     identifier(alloc, element.contents, edition)
 }
 
@@ -87,11 +83,7 @@ pub fn optional_identifier(
     ensures exact { Gives (λ o. (optionally identifier_value o, parts.new.octets)) result (optional_at parts.old.lengths (context number (identifier_form edition)) parts.old.octets) }
     ensures kept { parts.new.lengths ≡ parts.old.lengths }
 {
-    match parts.optional(Tag {
-        class: 2,
-        constructed: false,
-        number,
-    })? {
+    match parts.optional(Tag::primitive(number))? {
         None => Ok(None),
         Some(element) => Ok(Some(identifier(alloc, element.contents, edition)?)),
     }

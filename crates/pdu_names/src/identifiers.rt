@@ -70,11 +70,7 @@ pub fn required_identifiers(
     ensures exact { Gives (λ names. (identifiers_value names, parts.new.octets)) result (required_at (lengths_of edition) (context number (identifiers_form edition)) parts.old.octets) }
     ensures kept { parts.new.lengths ≡ parts.old.lengths }
 {
-    let element = parts.required(Tag {
-        class: 2,
-        constructed: true,
-        number,
-    })?;
+    let element = parts.required(Tag::constructed(number))?;
     identifiers(alloc, element.contents, edition)
 }
 

@@ -84,11 +84,7 @@ pub fn required_name(
     ensures exact { Gives (λ n. (name_value n, parts.new.octets)) result (required_at (lengths_of edition) (context number (name_form edition)) parts.old.octets) }
     ensures kept { parts.new.lengths ≡ parts.old.lengths }
 {
-    let element = parts.required(Tag {
-        class: 2,
-        constructed: true,
-        number,
-    })?;
+    let element = parts.required(Tag::constructed(number))?;
     name(alloc, element.contents, edition)
 }
 
@@ -104,11 +100,7 @@ pub fn optional_name(
     ensures exact { Gives (λ o. (optionally name_value o, parts.new.octets)) result (optional_at (lengths_of edition) (context number (name_form edition)) parts.old.octets) }
     ensures kept { parts.new.lengths ≡ parts.old.lengths }
 {
-    match parts.optional(Tag {
-        class: 2,
-        constructed: true,
-        number,
-    })? {
+    match parts.optional(Tag::constructed(number))? {
         None => Ok(None),
         Some(element) => Ok(Some(name(alloc, element.contents, edition)?)),
     }
