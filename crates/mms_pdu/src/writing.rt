@@ -5,11 +5,14 @@ ghost use Rattle.ber_core.specs.Spelling.{element_octets};
 ghost use Rattle.ber_forms.specs.Form.{context};
 ghost use Rattle.ber_forms.specs.Spelling.{alternative_octets, member_octets, appended, Begins};
 ghost use Rattle.mms_types.specs.Spelling.{widest};
+ghost use Rattle.pdu_assoc.specs.Cancel.{cancel_form, cancel_value};
+ghost use Rattle.pdu_assoc.specs.Conclude.{conclude_form, conclude_value};
+ghost use Rattle.pdu_assoc.specs.ServiceErrors.{service_error_form, service_error_value};
 ghost use Rattle.mms_pdu.specs.Pdus.{requests, request_value, answers, answer_value, with_invoke_value, request_form, response_form, pdu_octets};
 
 use ber_core::{Tag, Writer};
 use ber_forms::put_universal_integer;
-use mms_types::{Answer, Memory, Pdu, Request};
+use mms_types::{Answer, Memory, Pdu, Request, ServiceError};
 use pdu_assoc::{
     CancelError, ConfirmedError, StatusAnswer, write_cancel, write_cancel_error, write_conclude,
     write_confirmed_error, write_identify, write_identify_texts, write_initiate,
@@ -143,6 +146,42 @@ fn put_response(out: &mut Writer, invoke: u32, answer: &Answer) -> Result<(), Me
     under(out, since, written, true, 1)
 }
 
+/// The invokeID of the request that is to be cancelled, as the PDU of that tag.
+#[tactic(auto, using(ber_forms::proofs::Joined::writing))]
+fn put_cancel(out: &mut Writer, number: u32, invoke: u32) -> Result<(), Memory>
+    requires { number < 16384 }
+    ensures ok { OnOk result (out.new ≡ out.old ++ member_octets (context number cancel_form) (cancel_value invoke)) }
+    ensures err { OnErr result (out.new ≡ out.old) }
+{
+    let since = out.len();
+    let written = write_cancel(out, &invoke);
+    under(out, since, written, false, number)
+}
+
+/// A ServiceError, as the PDU of that tag.
+#[tactic(auto, using(ber_forms::proofs::Joined::writing))]
+fn put_error(out: &mut Writer, number: u32, error: &ServiceError) -> Result<(), Memory>
+    requires { number < 16384 }
+    ensures ok { OnOk result (out.new ≡ out.old ++ member_octets (context number service_error_form) (service_error_value error.now)) }
+    ensures err { OnErr result (out.new ≡ out.old) }
+{
+    let since = out.len();
+    let written = write_service_error(out, error);
+    under(out, since, written, true, number)
+}
+
+/// A PDU of that tag with nothing in it.
+#[tactic(auto, using(ber_forms::proofs::Joined::writing))]
+fn put_conclude(out: &mut Writer, number: u32) -> Result<(), Memory>
+    requires { number < 16384 }
+    ensures ok { OnOk result (out.new ≡ out.old ++ member_octets (context number conclude_form) conclude_value) }
+    ensures err { OnErr result (out.new ≡ out.old) }
+{
+    let since = out.len();
+    let written = write_conclude(out);
+    under(out, since, written, false, number)
+}
+
 /// Appends the one spelling of the PDU, one element (ISO 9506-2, MMSpdu). What was only heard is never sent, and nothing is appended. Where memory is
 /// wanting, nothing is changed.
 #[tactic(auto, using(ber_forms::proofs::Joined::writing))]
@@ -171,14 +210,8 @@ pub fn put_pdu(out: &mut Writer, pdu: &Pdu) -> Result<(), Memory>
             let written = write_reject(out, reject);
             under(out, since, written, true, 4)
         }
-        Pdu::CancelRequest { invoke } => {
-            let written = write_cancel(out, invoke);
-            under(out, since, written, false, 5)
-        }
-        Pdu::CancelResponse { invoke } => {
-            let written = write_cancel(out, invoke);
-            under(out, since, written, false, 6)
-        }
+        Pdu::CancelRequest { invoke } => put_cancel(out, 5, *invoke),
+        Pdu::CancelResponse { invoke } => put_cancel(out, 6, *invoke),
         Pdu::CancelError { invoke, error } => {
             let refused = CancelError {
                 invoke: *invoke,
@@ -195,22 +228,10 @@ pub fn put_pdu(out: &mut Writer, pdu: &Pdu) -> Result<(), Memory>
             let written = write_initiate_answer(out, negotiated);
             under(out, since, written, true, 9)
         }
-        Pdu::InitiateError(error) => {
-            let written = write_service_error(out, error);
-            under(out, since, written, true, 10)
-        }
-        Pdu::ConcludeRequest => {
-            let written = write_conclude(out);
-            under(out, since, written, false, 11)
-        }
-        Pdu::ConcludeResponse => {
-            let written = write_conclude(out);
-            under(out, since, written, false, 12)
-        }
-        Pdu::ConcludeError(error) => {
-            let written = write_service_error(out, error);
-            under(out, since, written, true, 13)
-        }
+        Pdu::InitiateError(error) => put_error(out, 10, error),
+        Pdu::ConcludeRequest => put_conclude(out, 11),
+        Pdu::ConcludeResponse => put_conclude(out, 12),
+        Pdu::ConcludeError(error) => put_error(out, 13, error),
         Pdu::HeardError { .. } | Pdu::HeardReject { .. } | Pdu::HeardOther => Ok(()),
     }
 }
