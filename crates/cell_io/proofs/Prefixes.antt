@@ -7,6 +7,11 @@ use Rattle.std.specs.Io.KnownBytes.{Appends, Keeps, append_known}
 use Rattle.std.specs.declared.option.Option.{Option}
 use Rattle.cell_io.specs.Prefix.{AppendsPrefix, AppendsBefore}
 
+-- what holds, holds on any error
+pub on_err : {X Y P : Type 0} (r : Result X Y) → P → OnErr r P
+on_err (Ok x) p = tt
+on_err (Err y) p = p
+
 -- ---- a text that goes straight to the sink
 
 -- a write took n octets more

@@ -3,6 +3,7 @@ ghost use Rattle.std.specs.Io.KnownBytes.{Consumes, IsAtEnd, Keeps};
 ghost use Rattle.cell_io.specs.Faults.{Rose, HasCause};
 ghost use Rattle.cell_io.specs.Lines.{first_line, after_line, has_feed, kept_of};
 ghost use Rattle.cell_io.specs.Held.{Held, ahead, IsLaterPart};
+ghost use Rattle.cell_io.specs.declared.lines.Stop.TheVariants as stop;
 
 use crate::first_part::first_part;
 use crate::{Failed, Memory, Source};
@@ -30,6 +31,22 @@ pub enum Stop {
     /// Want of memory for the line.
     #[error("out of memory")]
     Memory,
+}
+
+impl From<Failed> for Stop {
+    ghost from_gives = { λ _ e. e ≡ stop.Fault };
+
+    fn from(_failed: Failed) -> Stop {
+        Stop::Fault
+    }
+}
+
+impl From<Memory> for Stop {
+    ghost from_gives = { λ _ e. e ≡ stop.Memory };
+
+    fn from(_lost: Memory) -> Stop {
+        Stop::Memory
+    }
 }
 
 /// A reader of the lines of a source. It reads 32 KiB at a time and takes no memory for a line
@@ -120,15 +137,11 @@ impl Lines {
         line.clear();
         let before = self.given();
         for _turn in 0..MOST + 2 {
-            match self.give_part(line) {
-                Ok(true) => return Ok(true),
-                Ok(false) => {}
-                Err(stop) => return Err(stop),
+            if self.give_part(line)? {
+                return Ok(true);
             }
-            match self.fill(input) {
-                Ok(true) => {}
-                Ok(false) => return Ok(self.given() > before),
-                Err(_) => return Err(Stop::Fault),
+            if !self.fill(input)? {
+                return Ok(self.given() > before);
             }
         }
         unreachable!()
@@ -154,10 +167,7 @@ impl Lines {
         if part.size as u64 > MOST - self.given {
             return Err(Stop::TooMuch);
         }
-        match keep(line, &held[..part.size]) {
-            Ok(()) => {}
-            Err(Memory) => return Err(Stop::Memory),
-        }
+        keep(line, &held[..part.size])?;
         self.given += part.size as u64;
         self.start += part.size;
         Ok(part.ended)

@@ -14,10 +14,7 @@ pub fn write_all<K: Sink>(out: &mut K, bytes: &[u8]) -> Result<(), Failed>
 {
     let mut done = 0;
     while done < bytes.len() {
-        match out.write(&bytes[done..]) {
-            Ok(count) => done += count,
-            Err(failed) => return Err(failed),
-        }
+        done += out.write(&bytes[done..])?;
     }
     Ok(())
 }

@@ -1,4 +1,5 @@
 use Rattle.std.proofs.Common.{arith, ap, length, ◌∙◌}
+use Rattle.std.proofs.lemmas.Result.{err_from_is_err_and}
 use Rattle.std.proofs.lemmas.Bool.Decides.{nat_tests}
 use Rattle.cell_io.proofs.Kept.{kept_length}
 use Rattle.cell_io.proofs.Texts.{first_all}
@@ -8,86 +9,94 @@ use Rattle.cell_io.proofs.lines.Lines.next.Goals as goal
 pub give_part-requires : goal.give_part-requires
 give_part-requires g c = kept_length 196612 _ _ c.loop-turn.invariant.passed.kept
 
-pub returns-in-Ok-true-clause-line : goal.returns-in-Ok-true-clause-line
-returns-in-Ok-true-clause-line g c =
-    line_ended _ _ _ _ _ _ _ c.loop-turn.invariant.passed (c.in-Ok-true.ensures.ended ∙ c.in-Ok-true.field-0-test) c.in-Ok-true.ensures.line
+pub returns-then-branch-clause-line : goal.returns-then-branch-clause-line
+returns-then-branch-clause-line g c =
+    line_ended _ _ _ _ _ _ _ c.loop-turn.invariant.passed (c.in_ok-give_part.ensures.ended ∙ c.if-branch.true) c.in_ok-give_part.ensures.line
 
-pub returns-in-Ok-true-clause-rest : goal.returns-in-Ok-true-clause-rest
-returns-in-Ok-true-clause-rest g c =
-    rest_ended _ _ _ _ _ _ _ c.loop-turn.invariant.passed (c.in-Ok-true.ensures.ended ∙ c.in-Ok-true.field-0-test) c.in-Ok-true.ensures.rest
+pub returns-then-branch-clause-rest : goal.returns-then-branch-clause-rest
+returns-then-branch-clause-rest g c =
+    rest_ended _ _ _ _ _ _ _ c.loop-turn.invariant.passed (c.in_ok-give_part.ensures.ended ∙ c.if-branch.true) c.in_ok-give_part.ensures.rest
 
-pub returns-in-Ok-true-clause-size : goal.returns-in-Ok-true-clause-size
-returns-in-Ok-true-clause-size g c =
-    size_ended _ _ _ _ _ _ _ c.loop-turn.invariant.passed (c.in-Ok-true.ensures.ended ∙ c.in-Ok-true.field-0-test) c.in-Ok-true.ensures.size
+pub returns-then-branch-clause-size : goal.returns-then-branch-clause-size
+returns-then-branch-clause-size g c =
+    size_ended _ _ _ _ _ _ _ c.loop-turn.invariant.passed (c.in_ok-give_part.ensures.ended ∙ c.if-branch.true) c.in_ok-give_part.ensures.size
 
-pub returns-in-Ok-true-clause-there : goal.returns-in-Ok-true-clause-there
-returns-in-Ok-true-clause-there g c =
-    λ _. text_there _ _ _ _ _ _ c.loop-turn.invariant.passed (c.in-Ok-true.ensures.ended ∙ c.in-Ok-true.field-0-test)
+pub returns-then-branch-clause-there : goal.returns-then-branch-clause-there
+returns-then-branch-clause-there g c =
+    λ _. text_there _ _ _ _ _ _ c.loop-turn.invariant.passed (c.in_ok-give_part.ensures.ended ∙ c.if-branch.true)
 
-pub returns-in-Ok-true-clause-grows : goal.returns-in-Ok-true-clause-grows
-returns-in-Ok-true-clause-grows g c =
-    λ _. given_some c.loop-turn.self.octets _ _ _ c.loop-turn.invariant.order (c.in-Ok-true.ensures.ended ∙ c.in-Ok-true.field-0-test) c.in-Ok-true.ensures.size
+pub returns-then-branch-clause-grows : goal.returns-then-branch-clause-grows
+returns-then-branch-clause-grows g c =
+    λ _. given_some c.loop-turn.self.octets _ _ _ c.loop-turn.invariant.order (c.in_ok-give_part.ensures.ended ∙ c.if-branch.true) c.in_ok-give_part.ensures.size
 
-pub returns-in-Err-clause-too_much : goal.returns-in-Err-clause-too_much
-returns-in-Err-clause-too_much g c = λ e. past _ _ _ _ _ _ _ c.loop-turn.invariant.passed (c.in-Err.ensures.too_much e)
+pub returns-in_err-give_part-clause-too_much : goal.returns-in_err-give_part-clause-too_much
+returns-in_err-give_part-clause-too_much g c =
+    let r = err_from_is_err_and c.from_residual.result c.from_residual.ensures.1 in
+    rw (r.1, r.2) (λ e. past _ _ _ _ _ _ _ c.loop-turn.invariant.passed (c.in_err-give_part.ensures.too_much e))
 
-pub returns-in-Ok-false-fill-clause-line : goal.returns-in-Ok-false-fill-clause-line
-returns-in-Ok-false-fill-clause-line g c =
-    let none = c.in-Ok-false-fill.ensures.none c.in-Ok-false-fill.field-0-test in
+pub returns-then-not-branch-clause-line : goal.returns-then-not-branch-clause-line
+returns-then-not-branch-clause-line g c =
+    let none = c.in_ok-fill.ensures.none c.if-not-branch.true in
     line_open _ _ _ _ _
-    (goes_on _ _ _ _ _ _ _ _ _ c.loop-turn.invariant.passed (c.in-Ok-false.ensures.ended ∙ c.in-Ok-false.field-0-test) c.in-Ok-false.ensures.line c.in-Ok-false.ensures.size c.in-Ok-false-fill.ensures.moved)
+    (goes_on _ _ _ _ _ _ _ _ _ c.loop-turn.invariant.passed (c.in_ok-give_part.ensures.ended ∙ c.if-branch.false) c.in_ok-give_part.ensures.line c.in_ok-give_part.ensures.size c.in_ok-fill.ensures.moved)
     (held_end _ _ none.0 none.1)
 
-pub returns-in-Ok-false-fill-clause-rest : goal.returns-in-Ok-false-fill-clause-rest
-returns-in-Ok-false-fill-clause-rest g c =
-    let none = c.in-Ok-false-fill.ensures.none c.in-Ok-false-fill.field-0-test in
+pub returns-then-not-branch-clause-rest : goal.returns-then-not-branch-clause-rest
+returns-then-not-branch-clause-rest g c =
+    let none = c.in_ok-fill.ensures.none c.if-not-branch.true in
     rest_open _ _ _ _ _
-    (goes_on _ _ _ _ _ _ _ _ _ c.loop-turn.invariant.passed (c.in-Ok-false.ensures.ended ∙ c.in-Ok-false.field-0-test) c.in-Ok-false.ensures.line c.in-Ok-false.ensures.size c.in-Ok-false-fill.ensures.moved)
+    (goes_on _ _ _ _ _ _ _ _ _ c.loop-turn.invariant.passed (c.in_ok-give_part.ensures.ended ∙ c.if-branch.false) c.in_ok-give_part.ensures.line c.in_ok-give_part.ensures.size c.in_ok-fill.ensures.moved)
     (held_end _ _ none.0 none.1)
 
-pub returns-in-Ok-false-fill-clause-size : goal.returns-in-Ok-false-fill-clause-size
-returns-in-Ok-false-fill-clause-size g c =
-    let none = c.in-Ok-false-fill.ensures.none c.in-Ok-false-fill.field-0-test in
+pub returns-then-not-branch-clause-size : goal.returns-then-not-branch-clause-size
+returns-then-not-branch-clause-size g c =
+    let none = c.in_ok-fill.ensures.none c.if-not-branch.true in
     size_open _ _ _ _ _
-    (goes_on _ _ _ _ _ _ _ _ _ c.loop-turn.invariant.passed (c.in-Ok-false.ensures.ended ∙ c.in-Ok-false.field-0-test) c.in-Ok-false.ensures.line (c.fill.ensures.given ∙ c.in-Ok-false.ensures.size) c.in-Ok-false-fill.ensures.moved)
+    (goes_on _ _ _ _ _ _ _ _ _ c.loop-turn.invariant.passed (c.in_ok-give_part.ensures.ended ∙ c.if-branch.false) c.in_ok-give_part.ensures.line (c.fill.ensures.given ∙ c.in_ok-give_part.ensures.size) c.in_ok-fill.ensures.moved)
     (held_end _ _ none.0 none.1)
 
-pub returns-in-Ok-false-fill-clause-there : goal.returns-in-Ok-false-fill-clause-there
-returns-in-Ok-false-fill-clause-there g c =
+pub returns-then-not-branch-clause-there : goal.returns-then-not-branch-clause-there
+returns-then-not-branch-clause-there g c =
     λ e. text_some _ _ _ _ _
-    (goes_on _ _ _ _ _ _ _ _ _ c.loop-turn.invariant.passed (c.in-Ok-false.ensures.ended ∙ c.in-Ok-false.field-0-test) c.in-Ok-false.ensures.line (c.fill.ensures.given ∙ c.in-Ok-false.ensures.size) c.in-Ok-false-fill.ensures.moved)
+    (goes_on _ _ _ _ _ _ _ _ _ c.loop-turn.invariant.passed (c.in_ok-give_part.ensures.ended ∙ c.if-branch.false) c.in_ok-give_part.ensures.line (c.fill.ensures.given ∙ c.in_ok-give_part.ensures.size) c.in_ok-fill.ensures.moved)
     (grind (arith, nat_tests, e, c.loop-turn.invariant.before, c.given.ensures.given))
 
-pub returns-in-Ok-false-fill-clause-none : goal.returns-in-Ok-false-fill-clause-none
-returns-in-Ok-false-fill-clause-none g c =
-    λ e. let none = c.in-Ok-false-fill.ensures.none c.in-Ok-false-fill.field-0-test in
+pub returns-then-not-branch-clause-none : goal.returns-then-not-branch-clause-none
+returns-then-not-branch-clause-none g c =
+    λ e. let none = c.in_ok-fill.ensures.none c.if-not-branch.true in
     text_none _ _ _ _ _
-    (goes_on _ _ _ _ _ _ _ _ _ c.loop-turn.invariant.passed (c.in-Ok-false.ensures.ended ∙ c.in-Ok-false.field-0-test) c.in-Ok-false.ensures.line (c.fill.ensures.given ∙ c.in-Ok-false.ensures.size) c.in-Ok-false-fill.ensures.moved)
+    (goes_on _ _ _ _ _ _ _ _ _ c.loop-turn.invariant.passed (c.in_ok-give_part.ensures.ended ∙ c.if-branch.false) c.in_ok-give_part.ensures.line (c.fill.ensures.given ∙ c.in_ok-give_part.ensures.size) c.in_ok-fill.ensures.moved)
     (held_end _ _ none.0 none.1)
     (λ more. grind (arith, nat_tests, e, more, c.loop-turn.invariant.before, c.given.ensures.given))
 
-pub returns-in-Err-fill-clause-before_end : goal.returns-in-Err-fill-clause-before_end
-returns-in-Err-fill-clause-before_end g c =
-    λ _. let p = goes_on _ _ _ _ _ _ _ _ _ c.loop-turn.invariant.passed (c.in-Ok-false.ensures.ended ∙ c.in-Ok-false.field-0-test) c.in-Ok-false.ensures.line c.in-Ok-false.ensures.size c.in-Err-fill.ensures.kept in
-    (p.octets, p.consumed, p.no_feed)
+pub returns-in_err-give_part-clause-fault : goal.returns-in_err-give_part-clause-fault
+returns-in_err-give_part-clause-fault g c =
+    let r = err_from_is_err_and c.from_residual.result c.from_residual.ensures.1 in
+    rw (r.1, r.2) (λ e. absurd (c.in_err-give_part.ensures.cause e))
+
+pub returns-in_err-fill-clause-before_end : goal.returns-in_err-fill-clause-before_end
+returns-in_err-fill-clause-before_end g c =
+    let r = err_from_is_err_and c.from_residual-in_err-fill.result c.from_residual-in_err-fill.ensures.1 in
+    let p = goes_on _ _ _ _ _ _ _ _ _ c.loop-turn.invariant.passed (c.in_ok-give_part.ensures.ended ∙ c.if-branch.false) c.in_ok-give_part.ensures.line c.in_ok-give_part.ensures.size c.in_err-fill.ensures.kept in
+    rw (r.1, r.2) (λ _. (p.octets, p.consumed, p.no_feed))
 
 pub loop-turn-preserved : goal.loop-turn-preserved
 loop-turn-preserved g c =
     let i = c.loop-turn.invariant in
-    let no_feed = c.in-Ok-false.ensures.ended ∙ c.in-Ok-false.field-0-test in
-    let some = c.in-Ok-true-fill.ensures.some c.in-Ok-true-fill.field-0-test in
+    let no_feed = c.in_ok-give_part.ensures.ended ∙ c.if-branch.false in
+    let some = c.in_ok-fill.ensures.some c.if-not-branch.false in
     record {
-      passed = goes_on _ _ _ _ _ _ _ _ _ i.passed no_feed c.in-Ok-false.ensures.line (c.fill.ensures.given ∙ c.in-Ok-false.ensures.size) c.in-Ok-true-fill.ensures.moved;
+      passed = goes_on _ _ _ _ _ _ _ _ _ i.passed no_feed c.in_ok-give_part.ensures.line (c.fill.ensures.given ∙ c.in_ok-give_part.ensures.size) c.in_ok-fill.ensures.moved;
       before = i.before;
-      turns = omega (arith, some, i.turns, c.fill.ensures.given, c.in-Ok-false.ensures.size, ap length (first_all c.loop-turn.self.octets no_feed));
+      turns = omega (arith, some, i.turns, c.fill.ensures.given, c.in_ok-give_part.ensures.size, ap length (first_all c.loop-turn.self.octets no_feed));
       order = omega (arith, i.order, c.give_part.ensures.order, c.fill.ensures.given);
       most = omega (arith, c.give_part.ensures.most, c.fill.ensures.given);
-      left = later_held _ _ _ _ i.left c.in-Ok-true-fill.ensures.moved;
+      left = later_held _ _ _ _ i.left c.in_ok-fill.ensures.moved;
       faults = omega (arith, i.faults, c.fill.ensures.cause.later);
     }
 
-pub returns-in-Ok-true-clause-kept : goal.returns-in-Ok-true-clause-kept
-returns-in-Ok-true-clause-kept g c = kept_length 196612 _ _ c.in-Ok-true.ensures.line
+pub returns-then-branch-clause-kept : goal.returns-then-branch-clause-kept
+returns-then-branch-clause-kept g c = kept_length 196612 _ _ c.in_ok-give_part.ensures.line
 
-pub returns-in-Ok-false-fill-clause-kept : goal.returns-in-Ok-false-fill-clause-kept
-returns-in-Ok-false-fill-clause-kept g c = kept_length 196612 _ _ c.in-Ok-false.ensures.line
+pub returns-then-not-branch-clause-kept : goal.returns-then-not-branch-clause-kept
+returns-then-not-branch-clause-kept g c = kept_length 196612 _ _ c.in_ok-give_part.ensures.line
