@@ -112,10 +112,8 @@ fn by_client(
     ensures may { IfOk result (MayHappen clients) }
 {
     let parted = first_word(line);
-    match pairs(alloc, parted.argument, buffer) {
-        Ok(octets) => heard(clients, number(parted.word), octets),
-        Err(_) => Err(LineError::Memory),
-    }
+    let octets = pairs(alloc, parted.argument, buffer)?;
+    heard(clients, number(parted.word), octets)
 }
 
 /// What a line says that has no blanks at its ends.

@@ -42,14 +42,11 @@ impl NumberedLines {
         ensures lines { IfOk result (λ s. s.lines ≡ 0) }
         ensures memory { IfErr result (λ e. e ≡ RecordError.Memory) }
     {
-        match Lines::new(alloc) {
-            Ok(lines) => Ok(NumberedLines {
-                lines,
-                count: 0,
-                line: Vec::new(alloc),
-            }),
-            Err(_) => Err(RecordError::Memory),
-        }
+        Ok(NumberedLines {
+            lines: Lines::new(alloc)?,
+            count: 0,
+            line: Vec::new(alloc),
+        })
     }
 
     /// How many lines were given.

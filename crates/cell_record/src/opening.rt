@@ -38,10 +38,8 @@ fn expect<S: Source>(
 {
     let number = lines.count() + 1;
     let _given = lines.given();
-    match lines.next(input) {
-        Ok(true) => {}
-        Ok(false) => return Err(RecordError::Bad { line: number, word }),
-        Err(refusal) => return Err(refusal),
+    if !lines.next(input)? {
+        return Err(RecordError::Bad { line: number, word });
     }
     if lines.is(want) {
         Ok(())
@@ -83,14 +81,9 @@ fn add_line(text: &mut Vec<u8>, line: &[u8]) -> Result<(), RecordError>
     ensures text { OnOk result (text.new.items ≡ text.old.items ++ in_text line.now) }
     ensures memory { IfErr result (λ e. e ≡ RecordError.Memory) }
 {
-    match text.extend_from_slice(content(line)) {
-        Ok(()) => {}
-        Err(_) => return Err(RecordError::Memory),
-    }
-    match text.push(b'\n') {
-        Ok(()) => Ok(()),
-        Err(_) => Err(RecordError::Memory),
-    }
+    text.extend_from_slice(content(line))?;
+    text.push(b'\n')?;
+    Ok(())
 }
 
 /// Reads the next line of the configuration, behind those that have this text: true where it is
@@ -115,15 +108,11 @@ fn read_setup_line<S: Source>(
 {
     let number = lines.count() + 1;
     let before = lines.given();
-    match lines.next(input) {
-        Ok(true) => {}
-        Ok(false) => {
-            return Err(RecordError::Bad {
-                line: number,
-                word: BadWord::Config,
-            });
-        }
-        Err(refusal) => return Err(refusal),
+    if !lines.next(input)? {
+        return Err(RecordError::Bad {
+            line: number,
+            word: BadWord::Config,
+        });
     }
     if lines.is(b"end") {
         return Ok(true);
@@ -134,10 +123,8 @@ fn read_setup_line<S: Source>(
         None => {}
         Some(word) => return Err(RecordError::Bad { line: number, word }),
     }
-    match add_line(text, lines.line()) {
-        Ok(()) => Ok(false),
-        Err(refusal) => Err(refusal),
-    }
+    add_line(text, lines.line())?;
+    Ok(false)
 }
 
 /// Reads the configuration's lines and the line `end`, and gives the configuration's text.
@@ -156,10 +143,8 @@ fn read_setup<S: Source>(
     let mut text = Vec::new(alloc);
     let _given = lines.given();
     for _turn in 0..MOST + 1 {
-        match read_setup_line(lines, input, &mut text) {
-            Ok(true) => return Ok(text),
-            Ok(false) => {}
-            Err(refusal) => return Err(refusal),
+        if read_setup_line(lines, input, &mut text)? {
+            return Ok(text);
         }
     }
     unreachable!()
@@ -193,20 +178,8 @@ pub fn read_opening<S: Source>(
     ensures left { IsPart (S.left input.old) (S.left input.new) }
     ensures later { S.faults input.old ≤ S.faults input.new }
 {
-    match expect(lines, input, b"mms-recording 1", BadWord::Header) {
-        Ok(()) => {}
-        Err(refusal) => return Err(refusal),
-    }
-    match expect(lines, input, b"config", BadWord::Config) {
-        Ok(()) => {}
-        Err(refusal) => return Err(refusal),
-    }
-    let text = match read_setup(alloc, lines, input) {
-        Ok(text) => text,
-        Err(refusal) => return Err(refusal),
-    };
-    match read_text(alloc, &text) {
-        Ok(config) => Ok(config),
-        Err(refusal) => Err(refusal),
-    }
+    expect(lines, input, b"mms-recording 1", BadWord::Header)?;
+    expect(lines, input, b"config", BadWord::Config)?;
+    let text = read_setup(alloc, lines, input)?;
+    read_text(alloc, &text)
 }

@@ -53,10 +53,8 @@ fn next_said<S: Source>(
 {
     let number = lines.count() + 1;
     let _given = lines.given();
-    match lines.next(input) {
-        Ok(true) => {}
-        Ok(false) => return Ok(None),
-        Err(refusal) => return Err(refusal),
+    if !lines.next(input)? {
+        return Ok(None);
     }
     match said(alloc, clients, lines.content(), buffer) {
         Ok(said) => match counts.count(number, &said) {
@@ -96,20 +94,16 @@ pub fn read_phase<S: Source>(
     let mut events = Events::new(alloc);
     let _given = lines.given();
     for _turn in 0..MOST + 1 {
-        match next_said(alloc, lines, clients, counts, buffer, input) {
-            Ok(Some(Said::Nothing)) => continue,
-            Ok(Some(Said::Phase)) => {
+        match next_said(alloc, lines, clients, counts, buffer, input)? {
+            Some(Said::Nothing) => continue,
+            Some(Said::Phase) => {
                 return Ok(Piece {
                     events,
                     last: false,
                 });
             }
-            Ok(Some(Said::Happens(event))) => match events.push(event) {
-                Ok(()) => continue,
-                Err(_) => return Err(RecordError::Memory),
-            },
-            Ok(None) => return Ok(Piece { events, last: true }),
-            Err(refusal) => return Err(refusal),
+            Some(Said::Happens(event)) => events.push(event)?,
+            None => return Ok(Piece { events, last: true }),
         }
     }
     unreachable!()

@@ -89,14 +89,8 @@ impl Recording {
         ensures left { IsLaterPart (S.left input.old) (S.left input.new) }
         ensures later { S.faults input.old ≤ S.faults input.new }
     {
-        let mut lines = match NumberedLines::new(alloc) {
-            Ok(lines) => lines,
-            Err(refusal) => return Err(refusal),
-        };
-        let config = match read_opening(alloc, &mut lines, input) {
-            Ok(config) => config,
-            Err(refusal) => return Err(refusal),
-        };
+        let mut lines = NumberedLines::new(alloc)?;
+        let config = read_opening(alloc, &mut lines, input)?;
         let moment = config.start.0;
         Ok(Recording {
             lines,
@@ -191,21 +185,17 @@ impl Recording {
     {
         let mut counts = Counts::fresh(self.moment);
         let _given = self.lines.given();
-        match read_phase(
+        let piece = read_phase(
             alloc,
             &mut self.lines,
             self.config.clients,
             &mut counts,
             &mut self.buffer,
             input,
-        ) {
-            Ok(piece) => {
-                self.moment = counts.moment;
-                self.number += 1;
-                self.over = piece.last;
-                Ok(piece.events)
-            }
-            Err(refusal) => Err(refusal),
-        }
+        )?;
+        self.moment = counts.moment;
+        self.number += 1;
+        self.over = piece.last;
+        Ok(piece.events)
     }
 }

@@ -1,3 +1,7 @@
+ghost use Rattle.std.specs.Prelude.{◌≡◌};
+ghost use Rattle.cell_record.specs.declared.refusal.RecordError.TheVariants.{Memory as OutOfMemory};
+
+use std::alloc::{AllocError, AllocFailed};
 use thiserror::Error;
 
 /// Which rule of the recording's text a line breaks. Where a line breaks several, the first of
@@ -48,4 +52,36 @@ pub enum RecordError {
     /// Want of memory.
     #[error("out of memory")]
     Memory,
+}
+
+impl From<cell_io::Memory> for RecordError {
+    ghost from_gives = { λ _ e. e ≡ OutOfMemory };
+
+    fn from(_lost: cell_io::Memory) -> RecordError {
+        RecordError::Memory
+    }
+}
+
+impl From<mms_types::Memory> for RecordError {
+    ghost from_gives = { λ _ e. e ≡ OutOfMemory };
+
+    fn from(_lost: mms_types::Memory) -> RecordError {
+        RecordError::Memory
+    }
+}
+
+impl From<AllocError> for RecordError {
+    ghost from_gives = { λ _ e. e ≡ OutOfMemory };
+
+    fn from(_lost: AllocError) -> RecordError {
+        RecordError::Memory
+    }
+}
+
+impl<T: Drop> From<AllocFailed<T>> for RecordError {
+    ghost from_gives = { λ _ e. e ≡ OutOfMemory };
+
+    fn from(_lost: AllocFailed<T>) -> RecordError {
+        RecordError::Memory
+    }
 }

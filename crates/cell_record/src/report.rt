@@ -106,14 +106,8 @@ fn write_served<K: Sink>(
 {
     for index in 0..served.len() {
         let (place, event) = served.at(index);
-        match put_placed(text, place, event) {
-            Ok(()) => {}
-            Err(_) => return Err(WriteError::Memory),
-        }
-        match text.pass(out) {
-            Ok(()) => {}
-            Err(_) => return Err(WriteError::Fault),
-        }
+        put_placed(text, place, event)?;
+        text.pass(out)?;
     }
     Ok(())
 }
@@ -127,14 +121,8 @@ fn write_outputs<K: Sink>(text: &mut Text, out: &mut K, outputs: &[What]) -> Res
     ensures later { K.faults out.old ≤ K.faults out.new }
 {
     for output in outputs {
-        match put_output(text, output) {
-            Ok(()) => {}
-            Err(_) => return Err(WriteError::Memory),
-        }
-        match text.pass(out) {
-            Ok(()) => {}
-            Err(_) => return Err(WriteError::Fault),
-        }
+        put_output(text, output)?;
+        text.pass(out)?;
     }
     Ok(())
 }
@@ -154,10 +142,7 @@ fn write_section<K: Sink>(
     if outputs.is_empty() {
         return Ok(());
     }
-    match put_client(text, client) {
-        Ok(()) => {}
-        Err(_) => return Err(WriteError::Memory),
-    }
+    put_client(text, client)?;
     write_outputs(text, out, outputs)
 }
 
@@ -174,10 +159,7 @@ fn write_sections<K: Sink>(
 {
     let clients = outputs.len();
     for place in 0..clients {
-        match write_section(text, out, place as u64 + 1, outputs.at(place)) {
-            Ok(()) => {}
-            Err(failed) => return Err(failed),
-        }
+        write_section(text, out, place as u64 + 1, outputs.at(place))?;
     }
     Ok(())
 }
@@ -189,18 +171,9 @@ fn write_text<K: Sink>(text: &mut Text, out: &mut K, phase: &Told) -> Result<(),
     ensures cause { IfErr result (λ e. e ≡ WriteError.Fault → Rose (K.faults out.old) (K.faults out.new)) }
     ensures later { K.faults out.old ≤ K.faults out.new }
 {
-    match put_phase(text, phase.number) {
-        Ok(()) => {}
-        Err(_) => return Err(WriteError::Memory),
-    }
-    match write_served(text, out, &phase.served) {
-        Ok(()) => {}
-        Err(stopped) => return Err(stopped),
-    }
-    match write_sections(text, out, &phase.outputs) {
-        Ok(()) => Ok(()),
-        Err(stopped) => Err(stopped),
-    }
+    put_phase(text, phase.number)?;
+    write_served(text, out, &phase.served)?;
+    write_sections(text, out, &phase.outputs)
 }
 
 /// Writes the text of a phase in the report: the line `phase <number>`, the events with their
@@ -212,16 +185,8 @@ pub fn write_phase<K: Sink>(alloc: Global, out: &mut K, phase: &Told) -> Result<
     ensures cause { IfErr result (λ e. e ≡ WriteError.Fault → Rose (K.faults out.old) (K.faults out.new)) }
     ensures later { K.faults out.old ≤ K.faults out.new }
 {
-    let mut text = match Text::new(alloc) {
-        Ok(text) => text,
-        Err(_) => return Err(WriteError::Memory),
-    };
-    match write_text(&mut text, out, phase) {
-        Ok(()) => {}
-        Err(stopped) => return Err(stopped),
-    }
-    match text.flush(out) {
-        Ok(()) => Ok(()),
-        Err(_) => Err(WriteError::Fault),
-    }
+    let mut text = Text::new(alloc)?;
+    write_text(&mut text, out, phase)?;
+    text.flush(out)?;
+    Ok(())
 }

@@ -1,5 +1,8 @@
+ghost use Rattle.std.specs.Prelude.{◌≡◌};
+ghost use Rattle.cell_record.specs.declared.said.LineError.TheVariants.{Memory as OutOfMemory};
+
 use crate::BadWord;
-use mms_types::CellEvent;
+use mms_types::{CellEvent, Memory};
 
 /// What a line says.
 #[derive(Drop)]
@@ -19,4 +22,12 @@ pub enum LineError {
     Bad(BadWord),
     /// Want of memory.
     Memory,
+}
+
+impl From<Memory> for LineError {
+    ghost from_gives = { λ _ e. e ≡ OutOfMemory };
+
+    fn from(_lost: Memory) -> LineError {
+        LineError::Memory
+    }
 }

@@ -89,8 +89,5 @@ pub fn serve_phase<K: Sink>(
     let Ok(told) = serve(alloc, device, phase) else {
         return Err(WriteError::Memory);
     };
-    match write_phase(alloc, out, &told) {
-        Ok(()) => Ok(()),
-        Err(failed) => Err(failed),
-    }
+    write_phase(alloc, out, &told)
 }

@@ -1,4 +1,5 @@
 use Rattle.std.proofs.Common.{◌≡◌, ◌+◌, ◌-◌, ◌++◌, true, false, ℕ, List, sym, ◌∙◌, ap, Err, codes, arith, length, Some, None}
+use Rattle.std.proofs.lemmas.Result.{err_from_is_err_and}
 use Rattle.cell_io.specs.Held.{ahead}
 use Rattle.cell_record.specs.EventLine.{same}
 use Rattle.cell_record.specs.Words.{content}
@@ -8,19 +9,21 @@ use Rattle.cell_record.specs.declared.refusal.RecordError.TheVariants.{Bad, TooM
 use Rattle.cell_record.proofs.Steps.{there, is, much, at_end, not_end, bad_setup, much_setup}
 use Rattle.cell_record.proofs.opening.read_setup_line.Goals as goal
 
-pub returns-in-Err-clause-refused : goal.returns-in-Err-clause-refused
-returns-in-Err-clause-refused g c = λ s.
-    let m = c.in-Err.ensures.too_much s in
+pub returns-in_err-next-clause-refused : goal.returns-in_err-next-clause-refused
+returns-in_err-next-clause-refused g c =
+    let r = err_from_is_err_and c.from_residual.result c.from_residual.ensures.1 in
+    rw (r.1, r.2) (λ s.
+    let m = c.in_err-next.ensures.too_much s in
     let p = place_at c.args.lines.now in
     rw m.0 (much (setup c.args.text.now.items) (Err (TooMuch (p.lines + 1))) (ahead c.args.lines.now.held (g.S.Source.left c.args.input.now)) p (omega (arith, c.given-before.ensures.given, c.given-before.ensures.most)) m.1
-    (λ l rest f. much_setup c.args.text.now.items p l rest f))
+    (λ l rest f. much_setup c.args.text.now.items p l rest f)))
 
 pub returns-then-is-clause-end : goal.returns-then-is-clause-end
 returns-then-is-clause-end g c = λ _.
     let p = place_at c.args.lines.now in
     let e : same (content c.next.new.self.line) (codes "end") ≡ true = sym c.if-is.ensures in
-    rw (c.in-Ok-true.ensures.count c.in-Ok-true.field-0-test) (there (setup c.args.text.now.items) (configured c.args.text.now.items) (λ r. r) (ahead c.args.lines.now.held (g.S.Source.left c.args.input.now))
-    (ahead c.next.new.self.held (g.S.Source.left c.next.new.input)) c.next.new.self.line p c.next.new.self.held.given c.next.ensures.most (c.in-Ok-true.ensures.gives c.in-Ok-true.field-0-test)
+    rw (c.in_ok-next.ensures.count c.if-not-branch.false) (there (setup c.args.text.now.items) (configured c.args.text.now.items) (λ r. r) (ahead c.args.lines.now.held (g.S.Source.left c.args.input.now))
+    (ahead c.next.new.self.held (g.S.Source.left c.next.new.input)) c.next.new.self.line p c.next.new.self.held.given c.next.ensures.most (c.in_ok-next.ensures.gives c.if-not-branch.false)
     (λ l rest k n f. at_end c.args.text.now.items p c.next.new.self.line l rest e k f))
 
 pub returns-in-Some-clause-refused : goal.returns-in-Some-clause-refused
@@ -34,11 +37,11 @@ returns-in-Some-clause-refused g c = λ _.
     let size : c.size_in_text.result ≡ size_by whole line = c.size_in_text.ensures.size ∙ ap (size_by whole) c.line.ensures in
     let word : Some c.in-Some.word ≡ setup_word (length text + size_by whole line) line = c.in-Some.ensures ∙ ap (λ (n : ℕ). setup_word (n + c.size_in_text.result) c.line-2.result.now) len ∙ ap (λ (n : ℕ). setup_word (length text + n) c.line-2.result.now) size ∙ ap (setup_word (length text + size_by whole line)) c.line-2.ensures in
     rw c.count-number.ensures.count (is (setup text) (Err (Bad (p.lines + 1) c.in-Some.word)) (ahead c.args.lines.now.held (g.S.Source.left c.args.input.now))
-    (ahead c.next.new.self.held (g.S.Source.left c.next.new.input)) line p c.next.new.self.held.given c.next.ensures.most (c.in-Ok-true.ensures.gives c.in-Ok-true.field-0-test)
+    (ahead c.next.new.self.held (g.S.Source.left c.next.new.input)) line p c.next.new.self.held.given c.next.ensures.most (c.in_ok-next.ensures.gives c.if-not-branch.false)
     (λ l rest k n f. bad_setup text whole p c.next.new.self.held.given line l rest c.in-Some.word e word (omega (arith, c.given.ensures.given, c.given-before.ensures.given)) k n f))
 
-pub returns-in-Ok-clause-more : goal.returns-in-Ok-clause-more
-returns-in-Ok-clause-more g c = λ _.
+pub returns-clause-more : goal.returns-clause-more
+returns-clause-more g c = λ _.
     let p = place_at c.args.lines.now in
     let text = c.args.text.now.items in
     let line = c.next.new.self.line in
@@ -47,7 +50,7 @@ returns-in-Ok-clause-more g c = λ _.
     let len : c.len.result ≡ length text = omega (arith, c.len.ensures, c.args.text.now.ok) in
     let size : c.size_in_text.result ≡ size_by whole line = c.size_in_text.ensures.size ∙ ap (size_by whole) c.line.ensures in
     let none : None ≡ setup_word (length text + size_by whole line) line = c.in-None.ensures ∙ ap (λ (n : ℕ). setup_word (n + c.size_in_text.result) c.line-2.result.now) len ∙ ap (λ (n : ℕ). setup_word (length text + n) c.line-2.result.now) size ∙ ap (setup_word (length text + size_by whole line)) c.line-2.ensures in
-    let added : c.add_line.new.text.items ≡ text ++ in_text line = c.in-Ok.ensures.text ∙ ap (λ (x : List ℕ). text ++ in_text x) c.line-3.ensures in
-    rw (c.in-Ok-true.ensures.count c.in-Ok-true.field-0-test, added) (there (setup text) (setup (text ++ in_text line)) (λ r. r) (ahead c.args.lines.now.held (g.S.Source.left c.args.input.now))
-    (ahead c.next.new.self.held (g.S.Source.left c.next.new.input)) line p c.next.new.self.held.given c.next.ensures.most (c.in-Ok-true.ensures.gives c.in-Ok-true.field-0-test)
+    let added : c.add_line.new.text.items ≡ text ++ in_text line = c.in_ok-add_line.ensures.text ∙ ap (λ (x : List ℕ). text ++ in_text x) c.line-3.ensures in
+    rw (c.in_ok-next.ensures.count c.if-not-branch.false, added) (there (setup text) (setup (text ++ in_text line)) (λ r. r) (ahead c.args.lines.now.held (g.S.Source.left c.args.input.now))
+    (ahead c.next.new.self.held (g.S.Source.left c.next.new.input)) line p c.next.new.self.held.given c.next.ensures.most (c.in_ok-next.ensures.gives c.if-not-branch.false)
     (λ l rest k n f. not_end text whole p c.next.new.self.held.given line l rest e none (omega (arith, c.given.ensures.given, c.given-before.ensures.given)) k n f))
