@@ -1,0 +1,87 @@
+//! One row: what is run, and what must come of it.
+
+use anyhow::{Result, bail};
+use std::alloc::Global;
+
+/// A run of the command, and the status and the report that it must have.
+#[derive(Drop)]
+pub struct Row {
+    /// The file that it stands in, and the line on which it begins, from 1.
+    pub file: String,
+    pub line: usize,
+    /// The words of the command.
+    pub words: Vec<String>,
+    /// The reads and the writes that fail, by their numbers from 1.
+    pub failing_reads: Vec<u64>,
+    pub failing_writes: Vec<u64>,
+    /// How many octets the sink has room for.
+    pub room: usize,
+    /// What the source gives.
+    pub recording: Vec<u8>,
+    /// The status that is wanted, and what must be written.
+    pub status: u8,
+    pub report: Vec<u8>,
+}
+
+/// The room of a sink of which nothing is said.
+const ROOM: usize = 1_048_576;
+
+impl Row {
+    /// A row on a line of a file, without words, which ends with status 0.
+    fn new(alloc: Global, file: String, line: usize) -> Row {
+        Row {
+            file,
+            line,
+            words: Vec::new(alloc),
+            failing_reads: Vec::new(alloc),
+            failing_writes: Vec::new(alloc),
+            room: ROOM,
+            recording: Vec::new(alloc),
+            status: 0,
+            report: Vec::new(alloc),
+        }
+    }
+
+    /// A recording that is replayed to its end, and its report.
+    pub fn example(
+        alloc: Global,
+        file: String,
+        recording: Vec<u8>,
+        report: Vec<u8>,
+    ) -> Result<Row> {
+        let mut row = Row::new(alloc, file, 1);
+        row.words.push(String::from_str(alloc, "replay")?)?;
+        row.recording = recording;
+        row.report = report;
+        Ok(row)
+    }
+
+    /// A row of a line `= <words> | read <k> fails | write <k> fails | room <n>`, given without its `= `.
+    pub fn headed(alloc: Global, file: &str, line: usize, head: &str) -> Result<Row> {
+        let mut row = Row::new(alloc, String::from_str(alloc, file)?, line);
+        let mut parts = head.split('|');
+        for word in parts.next().unwrap_or("").split_whitespace() {
+            row.words.push(String::from_str(alloc, word)?)?;
+        }
+        for part in parts {
+            row.limit(part.trim())?;
+        }
+        Ok(row)
+    }
+
+    /// Takes in which call fails, or the room.
+    fn limit(&mut self, part: &str) -> Result<()> {
+        let Some((kind, number)) = part.strip_suffix(" fails").unwrap_or(part).split_once(' ')
+        else {
+            bail!("no limit is {part:?}");
+        };
+        let number = number.parse::<u32>()?;
+        match kind {
+            "read" => self.failing_reads.push(u64::from(number))?,
+            "write" => self.failing_writes.push(u64::from(number))?,
+            "room" => self.room = number as usize,
+            _ => bail!("no limit is {part:?}"),
+        }
+        Ok(())
+    }
+}
