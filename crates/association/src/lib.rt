@@ -5,8 +5,6 @@
 mod client_part;
 mod constants;
 mod negotiation;
-#[cfg(test)]
-mod tests;
 mod waiting;
 
 pub use client_part::{ClientPart, NotAdmitted};

@@ -17,6 +17,3 @@ pub use laws::{
 pub use leaf::{bits, boolean, integer};
 pub use reader::{Reader, first_element};
 pub use writer::Writer;
-
-#[cfg(test)]
-mod tests;

@@ -29,6 +29,3 @@ pub use put::{
     put_optional_u16, put_optional_u32, put_universal_integer, settle,
 };
 pub use unread::Unread;
-
-#[cfg(test)]
-mod tests;

@@ -5,8 +5,6 @@ mod config;
 mod numbers;
 mod read;
 mod table;
-#[cfg(test)]
-mod tests;
 mod texts;
 
 pub use config::{BadConfig, Config};

@@ -10,8 +10,6 @@ mod in_memory;
 mod laws;
 mod lines;
 mod outside;
-#[cfg(test)]
-mod tests;
 mod text;
 mod want;
 mod whole_write;

@@ -12,8 +12,6 @@ mod recording;
 mod refusal;
 mod report;
 mod said;
-#[cfg(test)]
-mod tests;
 mod told;
 mod words;
 

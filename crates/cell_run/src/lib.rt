@@ -5,8 +5,6 @@ mod engine;
 mod last_line;
 mod serving;
 mod status;
-#[cfg(test)]
-mod tests;
 mod top;
 mod words;
 

@@ -4,6 +4,3 @@
 mod whole;
 
 pub use whole::{Drained, Whole};
-
-#[cfg(test)]
-mod tests;

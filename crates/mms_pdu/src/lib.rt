@@ -14,6 +14,3 @@ pub use mms_types::{Edition, Memory, Pdu};
 pub use reading::{Read, read_pdu};
 pub use refusal::{Refusal, reject_for};
 pub use writing::{put_pdu, write_pdu};
-
-#[cfg(test)]
-mod tests;

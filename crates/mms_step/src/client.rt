@@ -12,8 +12,6 @@ ghost use Rattle.mms_step.specs.Partition.{settled};
 
 use association::{Association, ClientPart, Constants, Negotiated, NotAdmitted, outcome_of};
 use mms_pdu::{Refusal, Writer, put_pdu, read_pdu, reject_for};
-#[cfg(test)]
-use mms_types::Key;
 use mms_types::{
     Answer, Edition, Identifiers, Initiate, Memory, ObjectScope, Octets, Pdu, Reject, RejectReason,
     Request, ServiceError, What,
@@ -96,21 +94,6 @@ impl Client {
             part: ClientPart::new(alloc, client, device),
             out: Writer::new(alloc),
         }
-    }
-
-    /// The part of a client whose request of that invokeID waits, for tests.
-    #[cfg(test)]
-    pub(crate) fn waiting(
-        alloc: Global,
-        client: u32,
-        device: Constants,
-        invoke: u32,
-        key: Key,
-    ) -> Result<Client, Memory> {
-        let mut waiting = Client::new(alloc, client, device);
-        waiting.part.reserve(0, 1)?;
-        waiting.part.wait(invoke, key, 1);
-        Ok(waiting)
     }
 
     /// The association, and what is to be sent.

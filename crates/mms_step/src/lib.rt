@@ -21,6 +21,3 @@ pub use needs::{footprint, need};
 pub use opening::start_parts;
 pub use part::Part;
 pub use places::Parts;
-
-#[cfg(test)]
-mod tests;

@@ -103,27 +103,3 @@ impl PartialEq for Identifiers {
 impl Eq for Identifiers {
     ghost laws = { Prim.search (comparing, rules) };
 }
-
-#[cfg(test)]
-mod tests {
-    use super::Identifiers;
-    use crate::{Edition, Identifier};
-    use std::test::Fail;
-
-    #[test]
-    fn identifiers_are_kept_in_order(rt: HostRuntime) -> Result<(), Fail> {
-        let alloc = rt.alloc();
-        let mut names = Identifiers::new(alloc);
-        assert!(rt; names.is_empty());
-        names.push(Identifier::read(alloc, b"T", Edition::One)?)?;
-        names.push(Identifier::read(alloc, b"A", Edition::One)?)?;
-        let copied = names.copy(alloc)?;
-        assert_eq!(rt; copied.len(), 2);
-        assert!(rt; copied.as_slice() == names.as_slice());
-        for (place, want) in [Some("T"), Some("A"), None].iter().enumerate() {
-            let name = copied.at(place).map(|name| name.octets());
-            assert!(rt; name == want.map(|text| text.as_bytes()), "at {place}");
-        }
-        Ok(())
-    }
-}

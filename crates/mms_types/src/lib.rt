@@ -14,8 +14,6 @@ mod object_name;
 mod octets;
 mod pdu;
 mod service_error;
-#[cfg(test)]
-mod tests;
 
 pub use event::{CellEvent, Events, Output, What};
 pub use identifier::{BadName, Edition, Identifier, Unnamed};

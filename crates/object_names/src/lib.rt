@@ -5,8 +5,6 @@
 mod lends;
 mod listing;
 mod table;
-#[cfg(test)]
-mod tests;
 
 pub use listing::{Names, names_stand_in_order};
 pub use table::{Named, Unplaced};

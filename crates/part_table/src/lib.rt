@@ -9,17 +9,11 @@ mod laws;
 mod lends;
 mod meeting;
 mod memory;
-#[cfg(test)]
-mod move_tests;
 mod object;
 mod pass;
 mod plays;
 mod steps;
 mod table;
-#[cfg(test)]
-mod table_tests;
-#[cfg(test)]
-mod tests;
 mod view;
 
 pub use closing::Unclosed;

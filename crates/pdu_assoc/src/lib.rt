@@ -44,6 +44,3 @@ pub use service_error::{read_service_error, write_service_error};
 pub use status::{
     StatusAnswer, read_status, read_status_answer, write_status, write_status_answer,
 };
-
-#[cfg(test)]
-mod tests;

@@ -21,6 +21,3 @@ pub use name::{
     write_name,
 };
 pub use written::{enclosed, kept, told};
-
-#[cfg(test)]
-mod tests;

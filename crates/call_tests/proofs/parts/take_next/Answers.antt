@@ -1,6 +1,6 @@
 use Rattle.std.proofs.Common.{ap, ◌∙◌, sym, slice_set, Some}
 use Rattle.part_table.proofs.Hands.{free_behind}
-use Rattle.part_table.proofs.table_tests.take_next.Goals as goal
+use Rattle.call_tests.proofs.parts.take_next.Goals as goal
 
 pub returns-in-Ok : goal.returns-in-Ok
 returns-in-Ok c =

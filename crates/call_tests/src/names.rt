@@ -1,5 +1,7 @@
-use crate::{Named, Names};
-use mms_types::{Edition, Identifier, Key, Octets, Scope, Unnamed};
+//! A table of named objects, which no service has yet.
+
+use mms_types::{Edition, Identifier, Key, Scope, Unnamed};
+use object_names::{Named, Names};
 use std::alloc::Global;
 use std::test::Fail;
 
@@ -82,15 +84,6 @@ fn numbers(alloc: Global) -> Result<Named<usize>, Fail> {
     Ok(table)
 }
 
-fn texts(alloc: Global) -> Result<Named<Octets>, Fail> {
-    let mut table = Named::new(alloc);
-    for (word, text) in ROWS {
-        let row = key(alloc, word, text)?;
-        put(&mut table, row, Octets::from_slice(alloc, text.as_bytes())?);
-    }
-    Ok(table)
-}
-
 #[test]
 fn names_of_a_scope_in_order_of_octets(rt: HostRuntime) -> Result<(), Fail> {
     let alloc = rt.alloc();
@@ -118,22 +111,6 @@ fn names_of_a_scope_in_order_of_octets(rt: HostRuntime) -> Result<(), Fail> {
     Ok(())
 }
 
-#[test]
-fn names_of_a_table_of_other_values(rt: HostRuntime) -> Result<(), Fail> {
-    let alloc = rt.alloc();
-    let mut table = texts(alloc)?;
-    let rob = key(alloc, "", "Rob")?;
-    let Some(removed) = table.remove(&rob) else {
-        return Err(Fail::from("the row is missing"));
-    };
-    assert!(rt; removed.as_slice() == "Rob".as_bytes());
-    let told = told(alloc, &table, "", "", 4)?;
-    assert_eq!(rt; told.as_str(), "A Robot Robot_2 _ +");
-    assert!(rt; put(&mut table, rob, removed));
-    assert_eq!(rt; table.len(), 10);
-    Ok(())
-}
-
 /// The values of the rows, in their order.
 fn values(alloc: Global, table: &Named<usize>) -> Result<Vec<usize>, Fail> {
     let mut values = Vec::new(alloc);
@@ -153,32 +130,23 @@ fn are(values: &[usize], want: &[usize]) -> bool {
 }
 
 #[test]
-fn rows_keep_their_order(rt: HostRuntime) -> Result<(), Fail> {
+fn rows_keep_their_order_and_are_written_in_place(rt: HostRuntime) -> Result<(), Fail> {
     let alloc = rt.alloc();
     let mut table = numbers(alloc)?;
-    assert!(rt; are(&values(alloc, &table)?, &[0, 1, 2, 3, 4, 5, 6, 7, 8, 9]));
     let removed = key(alloc, "D", "Rob")?;
+    let rob = key(alloc, "", "Rob")?;
     assert_eq!(rt; table.remove(&removed), Some(1));
     assert_eq!(rt; table.remove(&removed), None);
     assert!(rt; table.get(&removed).is_none());
-    assert!(rt; table.get_mut(&removed).is_none());
-    assert!(rt; are(&values(alloc, &table)?, &[0, 2, 3, 4, 5, 6, 7, 8, 9]));
-    Ok(())
-}
-
-#[test]
-fn values_are_written_in_their_rows(rt: HostRuntime) -> Result<(), Fail> {
-    let alloc = rt.alloc();
-    let mut table = numbers(alloc)?;
-    let rob = key(alloc, "", "Rob")?;
     if let Some(value) = table.get_mut(&rob) {
         *value = 22;
     }
-    if let Some(value) = table.at_mut(9) {
+    if let Some(value) = table.at_mut(8) {
         *value = 99;
     }
-    assert!(rt; table.at_mut(10).is_none());
+    assert!(rt; table.at_mut(9).is_none());
     assert!(rt; !put(&mut table, rob, 7));
-    assert!(rt; are(&values(alloc, &table)?, &[0, 1, 22, 3, 4, 5, 6, 7, 8, 99]));
+    let values = values(alloc, &table)?;
+    assert!(rt; are(&values, &[0, 22, 3, 4, 5, 6, 7, 8, 99]));
     Ok(())
 }

@@ -1,16 +1,19 @@
+//! A table of parts that several threads share.
+
 ghost use Rattle.std.specs.Prelude.{◌≡◌, ◌+◌, ◌-◌, ◌<◌, ◌≤◌, ℕ, None, map, length, IfOk};
 ghost use Rattle.std.specs.List.{range_with_len};
+ghost use Rattle.part_table.specs.Amounts.{AreInOrder};
 ghost use Rattle.part_table.specs.Held.{held_at};
 ghost use Rattle.part_table.specs.Known.{HoldsNothing, newcomer};
 
-use crate::example::{Amounts, table_of, visit};
-use crate::{Held, PartTable, Pass};
+use part_table::example::{Amounts, serve, table_of};
+use part_table::{Held, PartTable, Pass};
 use std::alloc::Global;
 use std::test::Fail;
-use std::thread::join;
+use std::thread::{Threads, join};
 
 /// A table of these numbers with a quota of 1,000, and the passes of its callers.
-pub(crate) fn opened_table(
+fn opened_table(
     alloc: Global,
     numbers: &[u64],
     callers: u32,
@@ -22,47 +25,6 @@ pub(crate) fn opened_table(
         Ok(made) => Ok(made),
         Err(_) => Err(Fail::from("no memory")),
     }
-}
-
-/// Visits each part, as often as said, and counts how often another caller held it.
-fn take_turns(
-    table: &PartTable<Amounts>,
-    mut pass: Pass<Amounts>,
-    turns: u32,
-) -> (Pass<Amounts>, u64)
-    requires table { pass.table ≡ table.now }
-    requires idle { HoldsNothing pass }
-    requires three { length table.now.opening ≡ 3 }
-    ensures table { result.0.table ≡ table.now }
-    ensures idle { HoldsNothing result.0 }
-{
-    let mut held = 0u64;
-    for _turn in 0..turns {
-        for part in 0..3 {
-            if visit(table, &mut pass, part).is_err() {
-                held = held.saturating_add(1);
-            }
-        }
-    }
-    (pass, held)
-}
-
-#[test]
-fn two_threads_take_and_give_in_turns(rt: HostRuntime) -> Result<(), Fail> {
-    let (table, mut passes) = opened_table(rt.alloc(), &[10, 20, 30], 2)?;
-    let (Some(second), Some(first)) = (passes.pop(), passes.pop()) else {
-        return Err(Fail::from("two passes"));
-    };
-    let (mut first, second) = join(
-        &rt,
-        || take_turns(&table, first, 200),
-        || take_turns(&table, second, 200),
-    );
-    assert!(rt; first.1 <= 600 && second.1 <= 600);
-    for (part, number) in [(0, 10), (1, 20), (2, 30)] {
-        assert_eq!(rt; visit(&table, &mut first.0, part), Ok(number), "at {part}");
-    }
-    Ok(())
 }
 
 #[test]
@@ -134,5 +96,71 @@ fn a_table_has_room_for_71_parts_and_65_callers(rt: HostRuntime) -> Result<(), F
         };
         assert_eq!(rt; take_next(&table, &mut first, part), want, "at {part}");
     }
+    Ok(())
+}
+
+/// The numbers of the parts, added up.
+fn total(parts: &[Box<u64>]) -> u64 {
+    let mut sum = 0u64;
+    for part in parts {
+        sum = sum.saturating_add(**part);
+    }
+    sum
+}
+
+/// Two callers of five parts make 500 events each, in two threads.
+fn serve_both<R: Threads + Sync>(
+    rt: &R,
+    table: &PartTable<Amounts>,
+    first: Pass<Amounts>,
+    second: Pass<Amounts>,
+    by: u32,
+) -> ((Pass<Amounts>, u32), (Pass<Amounts>, u32))
+    requires table { (first.table ≡ table.now) × (second.table ≡ table.now) × (length table.now.opening ≡ 5) }
+    requires idle { HoldsNothing first × HoldsNothing second }
+    requires by { (by ≡ first.by) × (by + 1 ≡ second.by) × (by < 64) }
+    ensures table { (result.0.0.table ≡ table.now) × (result.1.0.table ≡ table.now) }
+    ensures by { (result.0.0.by ≡ by) × (result.1.0.by ≡ by + 1) }
+    ensures idle { HoldsNothing result.0.0 × HoldsNothing result.1.0 }
+{
+    join(
+        rt,
+        || serve(table, first, by, 5, 500),
+        || serve(table, second, by + 1, 5, 500),
+    )
+}
+
+/// Gathers all passes, closes the table, and answers how many events were made and the total.
+fn finish(
+    alloc: Global,
+    table: PartTable<Amounts>,
+    mut passes: Vec<Pass<Amounts>>,
+) -> Option<(u64, u64)>
+    requires all { (length passes.items ≡ table.callers) × AreInOrder table 0 passes.items }
+{
+    let places = table.gather(passes.as_mut_slice());
+    let parts = table.close(alloc, passes).ok()?;
+    Some((places, total(parts.as_slice())))
+}
+
+#[test]
+fn four_threads_share_five_parts(rt: HostRuntime) -> Result<(), Fail> {
+    let (table, mut passes) = opened_table(rt.alloc(), &[100, 201, 302, 0, 4], 4)?;
+    let (Some(d), Some(c), Some(b), Some(a)) = (
+        passes.pop(),
+        passes.pop(),
+        passes.pop(),
+        passes.pop(),
+    ) else {
+        return Err(Fail::from("four passes"));
+    };
+    let ((a, b), (c, d)) = join(
+        &rt,
+        || serve_both(&rt, &table, a, b, 0),
+        || serve_both(&rt, &table, c, d, 2),
+    );
+    assert_eq!(rt; (a.1, b.1, c.1, d.1), (500, 500, 500, 500));
+    let passes = vec![in rt.alloc(); a.0, b.0, c.0, d.0]?;
+    assert_eq!(rt; finish(rt.alloc(), table, passes), Some((2_000, 607)));
     Ok(())
 }

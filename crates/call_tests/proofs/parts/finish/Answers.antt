@@ -2,7 +2,7 @@ use Rattle.std.proofs.Common.{length, arith, sym, ◌∙◌, ap, subst}
 use Rattle.part_table.specs.Closing.{AreAllIdle}
 use Rattle.part_table.specs.Gathered.{AreAll}
 use Rattle.part_table.proofs.Moving.{all_in_order, idle_gathered, take_as_many}
-use Rattle.part_table.proofs.move_tests.finish.Goals as goal
+use Rattle.call_tests.proofs.parts.finish.Goals as goal
 
 pub gather-places-requires-clause-all : goal.gather-places-requires-clause-all
 gather-places-requires-clause-all c κs = subst (AreAll c.args.table) (sym c.as_mut_slice.ensures.value) (all_in_order c.args.table c.args.passes.items c.requires.all.0 c.requires.all.1)

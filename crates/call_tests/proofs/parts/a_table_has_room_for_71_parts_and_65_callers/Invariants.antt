@@ -3,7 +3,7 @@ use Rattle.std.specs.List.{range_with_len}
 use Rattle.part_table.specs.Held.{held_at}
 use Rattle.part_table.specs.Tables.{opened}
 use Rattle.part_table.specs.Known.{newcomer}
-use Rattle.part_table.proofs.table_tests.a_table_has_room_for_71_parts_and_65_callers.Given as goal
+use Rattle.call_tests.proofs.parts.a_table_has_room_for_71_parts_and_65_callers.Given as goal
 
 abbrev pub invariant-loop-turn : goal.invariant-loop-turn
 invariant-loop-turn g l =

@@ -1,7 +1,7 @@
 use Rattle.std.proofs.Common.{◌≡◌, ◌-◌, ◌<◌, ◌≤◌, Some, vec_len, length, rules, arith, sym, ◌∙◌, ap}
 use Rattle.part_table.specs.Known.{newcomer}
 use Rattle.part_table.proofs.Rows.{row_length, row_at, row_front}
-use Rattle.part_table.proofs.table_tests.last_pass.Goals as goal
+use Rattle.call_tests.proofs.parts.last_pass.Goals as goal
 
 pub unreachable-requires : goal.unreachable-requires
 unreachable-requires c =
