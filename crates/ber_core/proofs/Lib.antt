@@ -7,3 +7,4 @@ pub mod Leaves
 pub mod Shortest
 pub mod Short
 pub mod Lifted
+mod Worked
