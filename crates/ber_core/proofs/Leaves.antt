@@ -13,24 +13,8 @@ use Rattle.ber_core.proofs.Elements.{IsBytes, IsBytes-rest, chosen, ok_is}
 
 -- ---- numbers
 
-pub integer_takes : (c : List ℕ) (n : ℤ) → integer_at c ≡ Ok n → IsInteger c n
-unfolding integer_at
-integer_takes [] n e = absurd cc
-integer_takes (a ∷ rest) n e =
-    elim (chosen (ltb 8 (length (a ∷ rest))) (Err BadContents) (Ok (signed_of (a ∷ rest))) (Ok n) e) [
-      | inl w ↦ absurd (cc w.1)
-      | inr w ↦ (ltb-false _ _ w.0, cc w.1)
-    ]
-
-pub integer_again : (c : List ℕ) (n : ℤ) → IsInteger c n → integer_at c ≡ Ok n
-unfolding integer_at
-integer_again [] n h = absurd h
-integer_again (a ∷ rest) n h =
-    let few : ltb 8 (length (a ∷ rest)) ≡ false = le-ltb _ _ h.0 in
-    rw few (ap (λ (m : ℤ). Ok m) (sym h.1))
-
 -- octets and their complements, from these numbers on
-complement_sum : (octets : List ℕ) (m n : ℕ) → IsBytes octets → fold (λ k b. 256 * k + b) m octets + (fold (λ k b. 256 * k + b) n (complements octets) + 1) ≡ (m + n + 1) * 256 ^ length octets
+pub complement_sum : (octets : List ℕ) (m n : ℕ) → IsBytes octets → fold (λ k b. 256 * k + b) m octets + (fold (λ k b. 256 * k + b) n (complements octets) + 1) ≡ (m + n + 1) * 256 ^ length octets
 complement_sum [] m n fits = omega arith
 complement_sum (b ∷ octets) m n fits =
     let small : b < 256 = fits 0 in
@@ -47,13 +31,39 @@ complement_sum (b ∷ octets) m n fits =
     regroup : (j k : ℕ) → j * 256 * 256 ^ k ≡ j * 256 ^ suc k
     regroup j k = turned j (256 ^ k) ∙ ap (λ (p : ℕ). j * p) (sym (ap (λ (i : ℕ). 256 ^ i) (next k) ∙ pow_more 256 k))
 
-pub signed_is : (c : List ℕ) (n : ℤ) → IsBytes c → IsInteger c n → IsTwosComplement c n
-signed_is [] n fits h = absurd h
-signed_is (a ∷ rest) n fits h = subst (IsTwosComplement (a ∷ rest)) (sym h.1) (by_sign (ltb a 128) refl)
+-- the number of the complements, as code computes it
+pub complement_number : (octets : List ℕ) → IsBytes octets → number_of (complements octets) ≡ 256 ^ length octets - number_of octets - 1
+complement_number octets fits = omega (arith, complement_sum octets 0 0 fits)
+
+signed_is : (a : ℕ) (rest : List ℕ) → IsBytes (a ∷ rest) → IsTwosComplement (a ∷ rest) (signed_of (a ∷ rest))
+signed_is a rest fits = by_sign (ltb a 128) refl
   where
-    by_sign : (b : Bool) → ltb a 128 ≡ b → IsTwosComplement (a ∷ rest) (cond b (pos (number_of (a ∷ rest))) (negsuc (number_of (complements (a ∷ rest)))))
+    by_sign : (b : Bool) → ltb a 128 ≡ b → IsTwosComplement (a ∷ rest) (cond b (pos (number_of (a ∷ rest))) (negsuc (256 ^ length (a ∷ rest) - number_of (a ∷ rest) - 1)))
     by_sign true e = (ltb-true _ _ e, refl)
-    by_sign false e = (ltb-false _ _ e, complement_sum (a ∷ rest) 0 0 fits ∙ omega arith)
+    by_sign false e = (ltb-false _ _ e, omega (arith, complement_sum (a ∷ rest) 0 0 fits))
+
+signed_only : (a : ℕ) (rest : List ℕ) (n : ℤ) → IsTwosComplement (a ∷ rest) n → n ≡ signed_of (a ∷ rest)
+signed_only a rest (pos n) h = let low : ltb a 128 ≡ true = lt-ltb _ _ h.0 in rw low (ap pos (sym h.1))
+signed_only a rest (negsuc n) h =
+    let high : ltb a 128 ≡ false = le-ltb _ _ h.0 in
+    let is : n ≡ 256 ^ length (a ∷ rest) - number_of (a ∷ rest) - 1 = omega (arith, h.1) in
+    rw high (ap negsuc is)
+
+pub integer_takes : (c : List ℕ) (n : ℤ) → IsBytes c → integer_at c ≡ Ok n → IsInteger c n
+unfolding integer_at
+integer_takes [] n fits e = absurd cc
+integer_takes (a ∷ rest) n fits e =
+    elim (chosen (ltb 8 (length (a ∷ rest))) (Err BadContents) (Ok (signed_of (a ∷ rest))) (Ok n) e) [
+      | inl w ↦ absurd (cc w.1)
+      | inr w ↦ (ltb-false _ _ w.0, subst (λ (m : ℤ). IsTwosComplement (a ∷ rest) m) (cc w.1) (signed_is a rest fits))
+    ]
+
+pub integer_again : (c : List ℕ) (n : ℤ) → IsInteger c n → integer_at c ≡ Ok n
+unfolding integer_at
+integer_again [] n h = absurd h
+integer_again (a ∷ rest) n h =
+    let few : ltb 8 (length (a ∷ rest)) ≡ false = le-ltb _ _ h.0 in
+    rw few (ap (λ (m : ℤ). Ok m) (sym (signed_only a rest n h.1)))
 
 pub integer_bad : (c : List ℕ) → IsErrOf (integer_at c) BadContents ↔ ((c ≡ []) ⊎ (8 < length c))
 unfolding integer_at
@@ -79,13 +89,9 @@ only_bad (a ∷ rest) e h =
       | inr w ↦ absurd (cc w.1)
     ]
 
-pub integer_found : (c : List ℕ) (r : Result ℤ BerError) → r ≡ integer_at c → IfOk r (IsInteger c)
-integer_found c (Ok n) e = integer_takes c n (sym e)
-integer_found c (Err d) e = tt
-
-pub integer_signed : (c : List ℕ) (r : Result ℤ BerError) → IsBytes c → r ≡ integer_at c → IfOk r (IsTwosComplement c)
-integer_signed c (Ok n) fits e = signed_is c n fits (integer_takes c n (sym e))
-integer_signed c (Err d) fits e = tt
+pub integer_found : (c : List ℕ) (r : Result ℤ BerError) → IsBytes c → r ≡ integer_at c → IfOk r (IsInteger c)
+integer_found c (Ok n) fits e = integer_takes c n fits (sym e)
+integer_found c (Err d) fits e = tt
 
 pub integer_no_other : (c : List ℕ) (r : Result ℤ BerError) → r ≡ integer_at c → IfErr r (λ e. e ≡ BadContents)
 integer_no_other c (Ok n) e = tt
@@ -186,4 +192,4 @@ bits_no_other c (Err e) h = (bits_refused c e h).0
 
 pub one_number : (c : List ℕ) (m n : ℤ) → IsInteger c m → IsInteger c n → m ≡ n
 one_number [] m n first second = absurd first
-one_number (a ∷ rest) m n first second = first.1 ∙ sym second.1
+one_number (a ∷ rest) m n first second = signed_only a rest m first.1 ∙ sym (signed_only a rest n second.1)

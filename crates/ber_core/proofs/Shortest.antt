@@ -1,7 +1,7 @@
 -- No element, and no number, is spelled shorter.
-use Rattle.std.proofs.Common.{◌≡◌, ℕ, zero, suc, ◌+◌, ◌*◌, ◌-◌, ◌/◌, ◌%◌, ◌^◌, ◌<◌, ◌≤◌, ℤ, pos, negsuc, Bool, true, false, cond, ltb, List, [], ◌∷◌, ◌++◌, length, refl, sym, ap, subst, ◌∙◌, arith}
+use Rattle.std.proofs.Common.{◌≡◌, ℕ, zero, suc, ◌+◌, ◌*◌, ◌-◌, ◌/◌, ◌%◌, ◌^◌, ◌<◌, ◌≤◌, ℤ, pos, negsuc, Bool, true, false, cond, ltb, List, [], ◌∷◌, ◌++◌, length, sym, ap, subst, ◌∙◌, arith}
 use Rattle.std.specs.List.{fold}
-use Rattle.std.proofs.lemmas.Bool.{ltb-true, ltb-false, lt-ltb, le-ltb}
+use Rattle.std.proofs.lemmas.Bool.{lt-ltb, le-ltb}
 use Rattle.std.proofs.lemmas.List.{length-append}
 use Rattle.std.proofs.lemmas.Grind.{pow_more}
 use Rattle.std.proofs.Math.Nat.{mul-le-mul_right}
@@ -13,6 +13,7 @@ use Rattle.ber_core.specs.Element.{IsIdentifier, Announces, IsDefiniteElement, I
 use Rattle.ber_core.specs.Leaf.{complements, IsInteger}
 use Rattle.ber_core.specs.Spelling.{identifier_octets, digits, length_octets, integer_octets, element_octets}
 use Rattle.ber_core.proofs.Elements.{IsBytes, IsBytes-rest}
+use Rattle.ber_core.proofs.Leaves.{complement_sum}
 use Rattle.ber_core.proofs.Written.{length-complements}
 
 -- octets that follow a number n spell less than the next number in front of as many octets
@@ -76,17 +77,15 @@ IsBytes-complements (b ∷ octets) (suc i) = IsBytes-complements octets i
 
 pub integer_shortest : (octets : List ℕ) (n : ℤ) → IsBytes octets → IsInteger octets n → length (integer_octets n) ≤ length octets
 integer_shortest [] n fits h = absurd h
-integer_shortest (a ∷ rest) n fits h = subst (λ (m : ℤ). length (integer_octets m) ≤ length (a ∷ rest)) (sym h.1) (by_sign (ltb a 128) refl)
-  where
-    few : length rest < 8
-    few = omega (arith, h.0)
-
-    by_sign : (b : Bool) → ltb a 128 ≡ b → length (integer_octets (cond b (pos (number_of (a ∷ rest))) (negsuc (number_of (complements (a ∷ rest)))))) ≤ length (a ∷ rest)
-    by_sign true e = digits_shortest 128 a rest (IsBytes-rest a rest fits) (ltb-true _ _ e) few
-    by_sign false e =
-        let high : 128 ≤ a = ltb-false _ _ e in
-        let long : length (complements rest) ≡ length rest = length-complements rest in
-        omega (arith, length-complements (digits 128 8 (number_of (complements (a ∷ rest)))), digits_shortest 128 (255 - a) (complements rest) (IsBytes-complements rest) (omega arith) (omega arith))
+integer_shortest (a ∷ rest) (pos n) fits h =
+    subst (λ (m : ℕ). length (digits 128 8 m) ≤ length (a ∷ rest)) h.1.1 (digits_shortest 128 a rest (IsBytes-rest a rest fits) h.1.0 (omega (arith, h.0)))
+integer_shortest (a ∷ rest) (negsuc n) fits h =
+    let few : length rest < 8 = omega (arith, h.0) in
+    let high : 128 ≤ a = h.1.0 in
+    let is : number_of (complements (a ∷ rest)) ≡ n = omega (arith, h.1.1, complement_sum (a ∷ rest) 0 0 fits) in
+    let long : length (complements rest) ≡ length rest = length-complements rest in
+    subst (λ (m : ℕ). length (complements (digits 128 8 m)) ≤ length (a ∷ rest)) is
+    (omega (arith, length-complements (digits 128 8 (number_of (complements (a ∷ rest)))), digits_shortest 128 (255 - a) (complements rest) (IsBytes-complements rest) (omega arith) (omega arith)))
 
 -- ---- elements
 

@@ -2,7 +2,7 @@
 use Rattle.std.proofs.Common.{◌≡◌, ℕ, zero, suc, ◌+◌, ◌*◌, ◌-◌, ◌/◌, ◌%◌, ◌^◌, ◌<◌, ◌≤◌, ℤ, pos, negsuc, inl, inr, Bool, true, false, cond, ltb, List, [], ◌∷◌, ◌++◌, length, get_or, refl, sym, ap, subst, ◌∙◌, append_assoc, arith, lit≤}
 use Rattle.std.specs.Prelude.{FitsSigned}
 use Rattle.std.specs.Int.{w64}
-use Rattle.std.proofs.lemmas.Bool.{ltb-true, ltb-false, lt-ltb, le-ltb, cases_lt}
+use Rattle.std.proofs.lemmas.Bool.{ltb-true, ltb-false, lt-ltb, cases_lt}
 use Rattle.std.proofs.lemmas.List.{length-append, get_or_append_left, get_or-append_right}
 use Rattle.std.proofs.lemmas.Grind.{fold-append, pow_more}
 use Rattle.ber_core.specs.declared.element.Tag.{Tag}
@@ -12,6 +12,7 @@ use Rattle.ber_core.specs.Element.{head_of, IsIdentifier, Announces, IsDefiniteE
 use Rattle.ber_core.specs.Leaf.{complements, IsInteger}
 use Rattle.ber_core.specs.Spelling.{identifier_octets, digits, length_octets, integer_octets, element_octets}
 use Rattle.ber_core.proofs.Elements.{IsBytes}
+use Rattle.ber_core.proofs.Leaves.{complement_sum}
 
 -- digits that spell a number
 pub record AreDigits (bound most : ℕ) (ds : List ℕ) (n : ℕ) : Type 0 where
@@ -65,18 +66,10 @@ digits_are bound (suc k) n few lt = by_test (λ less. digits_are bound k (n / 25
 
 -- ---- numbers
 
-complements_back : (ds : List ℕ) → IsBytes ds → complements (complements ds) ≡ ds
-complements_back [] fits = refl
-complements_back (b ∷ ds) fits =
-    let small : b < 256 = fits 0 in
-    let same : 255 - (255 - b) ≡ b = omega arith in
-    ap (λ (x : ℕ). x ∷ complements (complements ds)) same ∙ ap (λ (xs : List ℕ). b ∷ xs) (complements_back ds (λ i. fits (suc i)))
-
 positive_spelled : (ds : List ℕ) (n : ℕ) → AreDigits 128 8 ds n → IsInteger ds (pos n)
 positive_spelled [] n d = absurd (omega (arith, d.some))
 positive_spelled (a ∷ ds) n d =
-    let low : ltb a 128 ≡ true = lt-ltb _ _ d.head in
-    (d.few, rw low (ap pos (sym d.value)))
+    (d.few, (d.head, d.value))
 
 map_length : (ds : List ℕ) → length (complements ds) ≡ length ds
 map_length [] = refl
@@ -86,8 +79,8 @@ negative_spelled : (ds : List ℕ) (n : ℕ) → AreDigits 128 8 ds n → IsInte
 negative_spelled [] n d = absurd (omega (arith, d.some))
 negative_spelled (a ∷ ds) n d =
     let lt : a < 128 = d.head in
-    let high : ltb (255 - a) 128 ≡ false = le-ltb _ _ (omega arith) in
-    (subst (λ (m : ℕ). suc m ≤ 8) (sym (map_length ds)) d.few, rw high (ap negsuc (sym (ap number_of (complements_back (a ∷ ds) d.fits) ∙ d.value))))
+    let same : 256 ^ length (complements (a ∷ ds)) ≡ 256 ^ length (a ∷ ds) = ap (λ (k : ℕ). 256 ^ k) (map_length (a ∷ ds)) in
+    (subst (λ (m : ℕ). suc m ≤ 8) (sym (map_length ds)) d.few, (omega arith, omega (arith, same, d.value, complement_sum (a ∷ ds) 0 0 d.fits)))
 
 abbrev pub FitsLong : ℤ → Type 0
 FitsLong (pos n) = n < 2 ^ 63

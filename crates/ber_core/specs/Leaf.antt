@@ -8,11 +8,12 @@ use Rattle.ber_core.specs.Element.{number_of}
 abbrev pub complements : List ℕ → List ℕ
 complements octets = map (λ b. 255 - b) octets
 
--- octets in two's complement: from 80 on in front, the complement's number is one less than the absolute
--- value (ITU-T X.690, 8.3.3)
+-- octets in two's complement: the number that they spell, less 256 to the power of their count from 80 on in front
+-- (ITU-T X.690, 8.3.3)
 abbrev pub signed_of : List ℕ → ℤ
 signed_of [] = pos 0
-signed_of (a ∷ rest) = if nat_lt a 128 then pos (number_of (a ∷ rest)) else negsuc (number_of (complements (a ∷ rest)))
+signed_of (a ∷ rest) =
+    if nat_lt a 128 then pos (number_of (a ∷ rest)) else negsuc (256 ^ length (a ∷ rest) - number_of (a ∷ rest) - 1)
 
 -- one to eight octets, also more than needed (ITU-T X.690, 8.3; no more than eight: this profile's choice)
 unfoldable pub integer_at : List ℕ → Result ℤ BerError
@@ -36,10 +37,10 @@ abbrev pub IsTwosComplement : List ℕ → ℤ → Type 0
 IsTwosComplement octets (pos n) = (slice_index octets 0 < 128) × (number_of octets ≡ n)
 IsTwosComplement octets (negsuc n) = (128 ≤ slice_index octets 0) × (number_of octets + (n + 1) ≡ 256 ^ length octets)
 
--- contents of a number (ITU-T X.690, 8.3)
+-- contents of a number, in one to eight octets (ITU-T X.690, 8.3; no more than eight: this profile's choice)
 abbrev pub IsInteger : List ℕ → ℤ → Type 0
 IsInteger [] n = ⊥
-IsInteger (a ∷ rest) n = (length (a ∷ rest) ≤ 8) × (n ≡ signed_of (a ∷ rest))
+IsInteger (a ∷ rest) n = (length (a ∷ rest) ≤ 8) × IsTwosComplement (a ∷ rest) n
 
 -- contents of a truth value (ITU-T X.690, 8.2)
 abbrev pub IsBoolean : List ℕ → Bool → Type 0

@@ -1,22 +1,28 @@
 //! Why octets could not be read, and want of memory.
 
 use std::alloc::{AllocError, AllocFailed};
+use thiserror::Error;
 
 /// What is wrong with octets that are read.
-#[derive(Clone, Copy, Debug, PartialEq, Eq)]
+#[derive(Clone, Copy, Debug, PartialEq, Eq, Error)]
 pub enum BerError {
     /// The octets end before the element does.
+    #[error("the octets end before the element does")]
     Short = 1,
     /// The number of a tag is spelled too long.
+    #[error("the number of a tag is spelled too long")]
     BadTag = 2,
     /// The length is indefinite, or has too many octets.
+    #[error("the length is indefinite, or has too many octets")]
     BadLength = 3,
     /// The contents spell no value of the type.
+    #[error("the contents spell no value of the type")]
     BadContents = 4,
 }
 
 /// Want of memory.
-#[derive(Clone, Copy, Debug, PartialEq, Eq)]
+#[derive(Clone, Copy, Debug, PartialEq, Eq, Error)]
+#[error("out of memory")]
 pub struct Memory;
 
 impl From<AllocError> for Memory {

@@ -1,7 +1,7 @@
 //! Numbers, truth values and bit strings.
 
 ghost use Rattle.std.specs.Prelude.{◌≡◌, ◌≢◌, ◌<◌, ◌⊎◌, ◌↔◌, ℕ, ℤ, Bool, List, [], length, Ok, Err, MatchResult, IfOk, IfErr, IsOkAnd, IsErrOf};
-ghost use Rattle.ber_core.specs.Leaf.{integer_at, boolean_at, bits_at, IsInteger, IsTwosComplement, IsBoolean, IsBits, IsNoBits};
+ghost use Rattle.ber_core.specs.Leaf.{integer_at, boolean_at, bits_at, IsInteger, IsBoolean, IsBits, IsNoBits};
 
 use crate::element::Bits;
 use crate::fault::BerError;
@@ -73,7 +73,6 @@ fn cut_bits<'a>(contents: &'a [u8]) -> Result<Bits<'a>, BerError>
 /// more than are needed. BadContents where there are none or more than eight.
 pub fn integer(contents: &[u8]) -> Result<i64, BerError>
     ensures found { IfOk result (IsInteger contents.now) }
-    ensures complement { IfOk result (IsTwosComplement contents.now) }
     ensures only { (n : ℤ) → IsInteger contents.now n → result ≡ Ok n }
     ensures bad { IsErrOf result BerError.BadContents ↔ ((contents.now ≡ []) ⊎ (8 < length contents.now)) }
     ensures no_other { IfErr result (λ e. e ≡ BerError.BadContents) }
@@ -82,7 +81,7 @@ pub fn integer(contents: &[u8]) -> Result<i64, BerError>
     signed(contents)
 }
 
-#[tactic(auto, unfolding(crate::specs::Leaf::integer_at))]
+#[tactic(auto, unfolding(crate::specs::Leaf::integer_at), using(crate::proofs::Leaves::complement_number))]
 fn signed(contents: &[u8]) -> Result<i64, BerError>
     ensures { result ≡ integer_at contents.now }
 {

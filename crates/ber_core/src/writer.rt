@@ -200,6 +200,15 @@ impl Writer {
         append_integer(&mut self.bytes, tag, n)
     }
 
+    /// Appends a number as contents, in the shortest two's complement (ITU-T X.690, 8.3). Where memory is
+    /// wanting, nothing is appended.
+    pub fn number(&mut self, n: i64) -> Result<(), Memory>
+        ensures ok { OnOk result (self.new ≡ self.old ++ integer_octets n) }
+        ensures err { OnErr result (self.new ≡ self.old) }
+    {
+        append_number(&mut self.bytes, n)
+    }
+
     /// Makes the octets from this place on the contents of one element (ITU-T X.690, 8.1.2 to 8.1.4),
     /// so that elements within elements are written without a buffer of their own. The class is at
     /// most 3 and the number at most 16,383. Where memory is wanting, nothing is changed.
@@ -320,6 +329,20 @@ fn append_any_integer(bytes: &mut Vec<u8>, tag: Tag, n: i64) -> Result<(), Memor
     bytes.reserve(HEADER)?;
     push_identifier(bytes, tag);
     push_integer(bytes, n);
+    Ok(())
+}
+
+/// Appends the octets of a number.
+fn append_number(bytes: &mut Vec<u8>, n: i64) -> Result<(), Memory>
+    ensures ok { OnOk result (bytes.new.items ≡ bytes.old.items ++ integer_octets n) }
+    ensures err { OnErr result (bytes.new.items ≡ bytes.old.items) }
+{
+    bytes.reserve(HEADER)?;
+    if n >= 0 {
+        push_digits(bytes, 128, 8, n as u64);
+    } else {
+        push_complements(bytes, 8, (-1 - n) as u64);
+    }
     Ok(())
 }
 

@@ -1,12 +1,9 @@
 use Rattle.std.proofs.Common.{◌∙◌, arith}
-use Rattle.ber_core.proofs.Leaves.{integer_found, integer_signed, integer_again, integer_bad, integer_no_other}
+use Rattle.ber_core.proofs.Leaves.{integer_found, integer_again, integer_bad, integer_no_other}
 use Rattle.ber_core.proofs.leaf.integer.Goals as goal
 
 pub returns-clause-found : goal.returns-clause-found
-returns-clause-found c = integer_found c.args.contents.now c.signed.result c.signed.ensures
-
-pub returns-clause-complement : goal.returns-clause-complement
-returns-clause-complement c = integer_signed c.args.contents.now c.signed.result (λ i. omega (arith, c.type_inv.contents i)) c.signed.ensures
+returns-clause-found c = integer_found c.args.contents.now c.signed.result (λ i. omega (arith, c.type_inv.contents i)) c.signed.ensures
 
 pub returns-clause-only : goal.returns-clause-only
 returns-clause-only c = λ n is. c.signed.ensures ∙ integer_again c.args.contents.now n is
