@@ -42,6 +42,18 @@ impl Tag {
             number,
         }
     }
+
+    /// The tag of universal class and of that number over contents that are no elements.
+    #[inline]
+    pub fn universal(number: u32) -> Tag
+        ensures { result ≡ record { class = 0; constructed = false; number = number } }
+    {
+        Tag {
+            class: 0,
+            constructed: false,
+            number,
+        }
+    }
 }
 
 /// One element: its tag and its contents.

@@ -11,6 +11,7 @@ use Rattle.ber_core.specs.Element.{IsElement, IsCut}
 use Rattle.ber_core.specs.Leaf.{integer_at, boolean_at, bits_at, IsInteger, IsBoolean, IsBits}
 use Rattle.ber_core.specs.Reading.{element_at}
 use Rattle.ber_core.proofs.Elements.{element_again, element_long}
+use Rattle.ber_core.proofs.Leaves.{integer_again}
 use Rattle.ber_forms.specs.Fault.{Fault}
 use Rattle.ber_forms.specs.Fault as fault
 use Rattle.ber_forms.specs.Value.{Value, Slot, Slots, nothing, truth, number, bits, text, chosen, parts, missing, given, done, slot, all_of}
@@ -23,18 +24,11 @@ use Rattle.ber_forms.proofs.Loop.{step, nothing_left}
 pub then_ok : {A B : Type 0} (r : Result A Fault) (f : A → Result B Fault) (x : A) (y : B) → r ≡ Ok x → f x ≡ Ok y → (r >>= f) ≡ Ok y
 then_ok r f x y first second = ap (λ (s : Result _ Fault). s >>= f) first ∙ second
 
-number_complete : (c : List ℕ) (n : ℤ) → IsInteger c n → integer_at c ≡ Ok n
-unfolding integer_at
-number_complete [] n h = absurd h
-number_complete (a ∷ rest) n h =
-    let few : ltb 8 (length (a ∷ rest)) ≡ false = le-ltb _ _ h.0 in
-    rw few (ap (λ (m : ℤ). Ok m) (sym h.1))
-
 pub integer_complete : (low high : ℤ) (c : List ℕ) (n : ℤ) → IsInteger c n → low ≤ℤ n → n ≤ℤ high → integer_in low high c ≡ Ok n
 unfolding integer_in
 integer_complete low high c n h l u =
     let within : int_le low n && int_le n high ≡ true = grind arith in
-    rw (number_complete c n h, within) refl
+    rw (integer_again c n h, within) refl
 
 boolean_complete : (c : List ℕ) (b : Bool) → IsBoolean c b → boolean_at c ≡ Ok b
 boolean_complete [] b h = absurd h
@@ -212,15 +206,15 @@ module _ (lengths : Lengths) where
         then_ok (optional_at lengths m c) (λ x. components lengths cs x.1 >>= λ ws. Ok (slot x.0 ws)) (given v, cut.1) (slot (given v) vs)
         (given_complete m c cut.0 cut.1 p v cut.2 cut.3 are.0 are.1)
         (then_ok (components lengths cs cut.1) (λ ws. Ok (slot (given v) ws)) vs (slot (given v) vs) (components_complete cs ps cut.1 vs cut.4 are.2) refl)
-    components_complete (defaulted m d cs) [] c done cut are = absurd are
-    components_complete (defaulted m d cs) [] c (slot missing vs) cut are = absurd are
-    components_complete (defaulted m d cs) [] c (slot (given v) vs) cut are =
+    components_complete (defaulted w m d cs) [] c done cut are = absurd are
+    components_complete (defaulted w m d cs) [] c (slot missing vs) cut are = absurd are
+    components_complete (defaulted w m d cs) [] c (slot (given v) vs) cut are =
         then_ok (defaulting d (optional_at lengths m c)) (λ x. components lengths cs x.1 >>= λ ws. Ok (slot x.0 ws)) (given d, c) (slot (given v) vs) (default_ok d (optional_at lengths m c) (missing, c) (optional_missing_end m c cut))
         (then_ok (components lengths cs c) (λ ws. Ok (slot (given d) ws)) vs (slot (given v) vs) (components_complete cs [] c vs cut are.1) (ap (λ (w : Value). Ok (slot (given w) vs)) (sym are.0)))
-    components_complete (defaulted m d cs) (p ∷ ps) c done cut are = absurd are
-    components_complete (defaulted m d cs) (p ∷ ps) c (slot missing vs) cut are = absurd are
-    components_complete (defaulted m d cs) (p ∷ ps) c (slot (given v) vs) cut are =
-        defaulted_by (begins m p.tag) (IsMember lengths m p v × AreComponents lengths cs ps vs) ((v ≡ d) × AreComponents lengths cs (p ∷ ps) vs) (components lengths (defaulted m d cs) c ≡ Ok (slot (given v) vs)) are
+    components_complete (defaulted w m d cs) (p ∷ ps) c done cut are = absurd are
+    components_complete (defaulted w m d cs) (p ∷ ps) c (slot missing vs) cut are = absurd are
+    components_complete (defaulted w m d cs) (p ∷ ps) c (slot (given v) vs) cut are =
+        defaulted_by (begins m p.tag) (IsMember lengths m p v × AreComponents lengths cs ps vs) ((v ≡ d) × AreComponents lengths cs (p ∷ ps) vs) (components lengths (defaulted w m d cs) c ≡ Ok (slot (given v) vs)) are
         (λ t h. then_ok (defaulting d (optional_at lengths m c)) (λ x. components lengths cs x.1 >>= λ ws. Ok (slot x.0 ws)) (given v, cut.1) (slot (given v) vs)
         (default_ok d (optional_at lengths m c) (given v, cut.1) (given_complete m c cut.0 cut.1 p v cut.2 cut.3 t h.0))
         (then_ok (components lengths cs cut.1) (λ ws. Ok (slot (given v) ws)) vs (slot (given v) vs) (components_complete cs ps cut.1 vs cut.4 h.1) refl))

@@ -262,7 +262,7 @@ module _ (lengths : Lengths) where
                 | inr k ↦ fine_not (slot h.0.0 k.0) k.2
               ]
         ]
-    components_deep (defaulted m d cs) c fits e =
+    components_deep (defaulted w m d cs) c fits e =
         elim (bound_deep (defaulting d (optional_at lengths m c)) (λ x. components lengths cs x.1 >>= λ ws. fine (slot x.0 ws)) e) [
           | inl h ↦ let g = optional_ends m c fits (defaulting_deep d (optional_at lengths m c) h) in inl (g.0, g.1, begins_with c g.0 g.1 g.2, g.3, inl g.4)
           | inr h ↦

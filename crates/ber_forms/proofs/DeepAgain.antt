@@ -54,8 +54,8 @@ module _ (lengths : Lengths) where
   part_begins (required m cs) c h = (h.0, h.1, h.2)
   part_begins (optional m cs) c (inl h) = (h.0, h.1, h.2)
   part_begins (optional m cs) c (inr h) = part_begins cs c h.1
-  part_begins (defaulted m d cs) c (inl h) = (h.0, h.1, h.2)
-  part_begins (defaulted m d cs) c (inr h) = part_begins cs c h.1
+  part_begins (defaulted w m d cs) c (inl h) = (h.0, h.1, h.2)
+  part_begins (defaulted w m d cs) c (inr h) = part_begins cs c h.1
   part_begins (skipped m cs) c (inl h) = (h.0, h.1, h.2)
   part_begins (skipped m cs) c (inr h) = part_begins cs c h.1
 
@@ -133,12 +133,12 @@ module _ (lengths : Lengths) where
     components_end (optional m cs) c (inr h) =
         after_ok (optional_at lengths m c) (λ x. components lengths cs x.1 >>= λ ws. Ok (slot x.0 ws)) (missing, c) deep (not_here m cs c h.0 h.1)
         (then_deep (components lengths cs c) (λ ws. Ok (slot missing ws)) (components_end cs c h.1))
-    components_end (defaulted m d cs) c (inl (p, rest, b, t, inl h)) =
+    components_end (defaulted w m d cs) c (inl (p, rest, b, t, inl h)) =
         then_deep (defaulting d (optional_at lengths m c)) (λ x. components lengths cs x.1 >>= λ ws. Ok (slot x.0 ws)) (default_ends d (optional_at lengths m c) (optional_end m c p rest b t h))
-    components_end (defaulted m d cs) c (inl (p, rest, b, t, inr h)) =
+    components_end (defaulted w m d cs) c (inl (p, rest, b, t, inr h)) =
         after_ok (defaulting d (optional_at lengths m c)) (λ x. components lengths cs x.1 >>= λ ws. Ok (slot x.0 ws)) (given h.0, rest) deep (default_ok d (optional_at lengths m c) (given h.0, rest) (given_complete lengths m c b.0 rest p h.0 b.1 b.2 t h.1))
         (then_deep (components lengths cs rest) (λ ws. Ok (slot (given h.0) ws)) (components_end cs rest h.2))
-    components_end (defaulted m d cs) c (inr h) =
+    components_end (defaulted w m d cs) c (inr h) =
         after_ok (defaulting d (optional_at lengths m c)) (λ x. components lengths cs x.1 >>= λ ws. Ok (slot x.0 ws)) (given d, c) deep (default_ok d (optional_at lengths m c) (missing, c) (not_here m cs c h.0 h.1))
         (then_deep (components lengths cs c) (λ ws. Ok (slot (given d) ws)) (components_end cs c h.1))
     components_end (skipped m cs) c (inl (p, rest, b, t, inl h)) = then_deep (optional_at lengths m c) (λ x. components lengths cs x.1) (optional_end m c p rest b t h)

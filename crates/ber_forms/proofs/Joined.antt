@@ -7,7 +7,7 @@ use Rattle.ber_core.specs.declared.element.Tag.{Tag}
 use Rattle.ber_core.specs.Spelling.{element_octets}
 use Rattle.ber_forms.specs.Value.{Value, Slots, done, slot, parts, all_of}
 use Rattle.ber_forms.specs.Form.{Form, Components, sequence, no_more, any_more, required, optional, defaulted, skipped}
-use Rattle.ber_forms.specs.Spelling.{slot_octets, unless_default, each_octets, spelling, member_octets, component_octets, appended, Begins}
+use Rattle.ber_forms.specs.Spelling.{slot_octets, default_octets, each_octets, spelling, member_octets, component_octets, appended, Begins}
 
 -- ---- what stood before
 
@@ -47,8 +47,8 @@ joined (required m cs) done before = sym (append-nil before)
 joined (required m cs) (slot s vs) before = onto (slot_octets (member_octets m) s) before (λ b. component_octets cs vs b) (λ b. joined cs vs b)
 joined (optional m cs) done before = sym (append-nil before)
 joined (optional m cs) (slot s vs) before = onto (slot_octets (member_octets m) s) before (λ b. component_octets cs vs b) (λ b. joined cs vs b)
-joined (defaulted m d cs) done before = sym (append-nil before)
-joined (defaulted m d cs) (slot s vs) before = onto (unless_default (member_octets m) d s) before (λ b. component_octets cs vs b) (λ b. joined cs vs b)
+joined (defaulted w m d cs) done before = sym (append-nil before)
+joined (defaulted w m d cs) (slot s vs) before = onto (default_octets w (member_octets m) d s) before (λ b. component_octets cs vs b) (λ b. joined cs vs b)
 joined (skipped m cs) vs before = joined cs vs before
 
 pub appended_is : (f : Form) (v : Value) (before : List ℕ) → appended f v before ≡ before ++ spelling f v

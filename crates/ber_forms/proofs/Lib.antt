@@ -7,5 +7,6 @@ pub mod Deep
 pub mod DeepAgain
 pub mod Answered
 pub mod Again
+pub mod Numbered
 pub mod NamedBits
 pub mod Told

@@ -13,10 +13,11 @@ use Rattle.ber_core.specs.Element.{IsElement, IsCut}
 use Rattle.ber_core.specs.Leaf.{signed_of, integer_at, boolean_at, bits_at, IsInteger, IsBoolean, IsBits}
 use Rattle.ber_core.specs.Reading.{element_at}
 use Rattle.ber_core.proofs.Elements.{IsBytes, chosen as which, element_takes, one_element, element_long}
+use Rattle.ber_core.proofs.Leaves.{integer_takes}
 use Rattle.ber_forms.specs.Fault.{Fault}
 use Rattle.ber_forms.specs.Fault as fault
 use Rattle.ber_forms.specs.Value.{Value, Slot, Slots, nothing, truth, number, bits, text, chosen, parts, missing, given, done, slot, all_of}
-use Rattle.ber_forms.specs.Form.{Form, Member, Alternatives, Components, null, boolean, integer, bit_string, named_bits, octet_string, sequence, choice, list_of, such_that, opaque, elements, too_deep, tagged, one_of, no_other, or, no_more, any_more, required, optional, defaulted, skipped}
+use Rattle.ber_forms.specs.Form.{Form, Member, Alternatives, Components, AtDefault, null, boolean, integer, bit_string, named_bits, octet_string, sequence, choice, list_of, such_that, opaque, elements, too_deep, tagged, one_of, no_other, or, no_more, any_more, required, optional, defaulted, skipped}
 use Rattle.ber_forms.specs.Reading.{◌>>=◌, well, is_constructed, is_tag, next_at, part_at, must, required_part, if_tag, optional_part, integer_in, at_end, read_slot, or_else, required_by, chosen_by, optional_by, defaulting, members_by, elements_at, counted, bits_in, reading, alternatives, required_at, optional_at, components}
 use Rattle.ber_forms.specs.Bits.{cleared, first_bits, unused_for}
 use Rattle.ber_forms.specs.InForm.{begins, AreMembers, InForm, IsMember, IsAlternative, AreComponents}
@@ -67,21 +68,19 @@ unfolding at_end
 end_is [] u e = refl
 end_is (a ∷ rest) u e = absurd cc
 
-number_sound : (c : List ℕ) (n : ℤ) → integer_at c ≡ Ok n → IsInteger c n
-unfolding integer_at
-number_sound [] n e = absurd cc
-number_sound (a ∷ rest) n e =
-    elim (which (ltb 8 (length (a ∷ rest))) (Err BadContents) (Ok (signed_of (a ∷ rest))) (Ok n) e) [
-      | inl w ↦ absurd (cc w.1)
-      | inr w ↦ (ltb-false _ _ w.0, cc w.1)
-    ]
-
-pub integer_sound : (low high : ℤ) (c : List ℕ) (n : ℤ) → integer_in low high c ≡ Ok n → IsInteger c n × (low ≤ℤ n) × (n ≤ℤ high)
+pub integer_within : (low high : ℤ) (c : List ℕ) (n : ℤ) → integer_in low high c ≡ Ok n → (low ≤ℤ n) × (n ≤ℤ high)
 unfolding integer_in
-integer_sound low high c n e =
+integer_within low high c n e =
     let x = bound (well (integer_at c)) (λ n. cond (int_le low n && int_le n high) (fine n) (wrong fault.malformed)) n e in
     let g = guard (int_le low x.0 && int_le x.0 high) fault.malformed x.0 n x.2 in
-    subst (λ (m : ℤ). IsInteger c m × (low ≤ℤ m) × (m ≤ℤ high)) g.1 (number_sound c x.0 (well_ok (integer_at c) x.0 x.1), grind arith, grind arith)
+    subst (λ (m : ℤ). (low ≤ℤ m) × (m ≤ℤ high)) g.1 (grind arith, grind arith)
+
+pub integer_sound : (low high : ℤ) (c : List ℕ) (n : ℤ) → IsBytes c → integer_in low high c ≡ Ok n → IsInteger c n × (low ≤ℤ n) × (n ≤ℤ high)
+unfolding integer_in
+integer_sound low high c n fits e =
+    let x = bound (well (integer_at c)) (λ n. cond (int_le low n && int_le n high) (fine n) (wrong fault.malformed)) n e in
+    let g = guard (int_le low x.0 && int_le x.0 high) fault.malformed x.0 n x.2 in
+    subst (λ (m : ℤ). IsInteger c m × (low ≤ℤ m) × (m ≤ℤ high)) g.1 (integer_takes c x.0 fits (well_ok (integer_at c) x.0 x.1), grind arith, grind arith)
 
 boolean_sound : (c : List ℕ) (b : Bool) → boolean_at c ≡ Ok b → IsBoolean c b
 boolean_sound [] b e = absurd cc
@@ -261,13 +260,13 @@ module _ (lengths : Lengths) where
       by_parts [] cut are = ([], cut, are)
       by_parts (p ∷ ps) cut are = (p ∷ ps, cut, (stays_false m octets cut.0 cut.1 p cut.2 cut.3 found.1, are))
 
-  defaulted_join : (m : Member) (d : Value) (cs : Components) (octets : List ℕ) (s : Slot) (rest : List ℕ) (ws : Slots) → OptionalSound m octets (s, rest) → CutAs cs rest ws → CutAs (defaulted m d cs) octets (slot (or_else d s) ws)
-  defaulted_join m d cs octets (given v) rest ws found others =
+  defaulted_join : (w : AtDefault) (m : Member) (d : Value) (cs : Components) (octets : List ℕ) (s : Slot) (rest : List ℕ) (ws : Slots) → OptionalSound m octets (s, rest) → CutAs cs rest ws → CutAs (defaulted w m d cs) octets (slot (or_else d s) ws)
+  defaulted_join w m d cs octets (given v) rest ws found others =
       (found.0 ∷ others.0, (found.1.first, rest, found.1.is, found.1.parts, others.1), at_true _ _ (begins m found.0.tag) found.2 (found.3, others.2))
-  defaulted_join m d cs octets missing rest ws found others =
+  defaulted_join w m d cs octets missing rest ws found others =
       by_parts others.0 (subst (λ (o : List ℕ). IsCut lengths o others.0) found.0 others.1) others.2
     where
-      by_parts : (ps : List Part) → IsCut lengths octets ps → AreComponents lengths cs ps ws → CutAs (defaulted m d cs) octets (slot (given d) ws)
+      by_parts : (ps : List Part) → IsCut lengths octets ps → AreComponents lengths cs ps ws → CutAs (defaulted w m d cs) octets (slot (given d) ws)
       by_parts [] cut are = ([], cut, (refl, are))
       by_parts (p ∷ ps) cut are = (p ∷ ps, cut, at_false _ _ (begins m p.tag) (stays_false m octets cut.0 cut.1 p cut.2 cut.3 found.1) (refl, are))
 
@@ -325,7 +324,7 @@ module _ (lengths : Lengths) where
         (x.0, boolean_sound c x.0 (well_ok (boolean_at c) x.0 x.1), sym (fine_is (truth x.0) v x.2))
     reading_sound (integer low high) c v fits e =
         let x = bound (integer_in low high c) (λ n. fine (number n)) v e in
-        let n = integer_sound low high c x.0 x.1 in
+        let n = integer_sound low high c x.0 fits x.1 in
         (x.0, n.0, n.1, n.2, sym (fine_is (number x.0) v x.2))
     reading_sound bit_string c v fits e =
         let x = bound (bits_in c) (λ b. fine (bits b.0 (cleared b.0 b.1))) v e in
@@ -398,13 +397,13 @@ module _ (lengths : Lengths) where
         let o = optional_sound m c x.0 fits x.1 in
         let k = components_sound cs x.0.1 y.0 (optional_fits m c x.0 fits o) y.1 in
         subst (λ (ws : Slots). CutAs (optional m cs) c ws) (fine_is (slot x.0.0 y.0) vs y.2) (optional_join m cs c x.0.0 x.0.1 y.0 o k)
-    components_sound (defaulted m d cs) c vs fits e =
+    components_sound (defaulted w m d cs) c vs fits e =
         let x = bound (defaulting d (optional_at lengths m c)) (λ x. components lengths cs x.1 >>= λ ws. fine (slot x.0 ws)) vs e in
         let y = bound (components lengths cs x.0.1) (λ ws. fine (slot x.0.0 ws)) vs x.2 in
         let z = defaulting_is d (optional_at lengths m c) x.0 x.1 in
         let o = optional_sound m c z.0 fits z.1 in
         let k = components_sound cs z.0.1 y.0 (optional_fits m c z.0 fits o) (ap (λ (q : Slot × List ℕ). components lengths cs q.1) z.2 ∙ y.1) in
-        subst (λ (ws : Slots). CutAs (defaulted m d cs) c ws) (ap (λ (q : Slot × List ℕ). slot q.0 y.0) z.2 ∙ fine_is (slot x.0.0 y.0) vs y.2) (defaulted_join m d cs c z.0.0 z.0.1 y.0 o k)
+        subst (λ (ws : Slots). CutAs (defaulted w m d cs) c ws) (ap (λ (q : Slot × List ℕ). slot q.0 y.0) z.2 ∙ fine_is (slot x.0.0 y.0) vs y.2) (defaulted_join w m d cs c z.0.0 z.0.1 y.0 o k)
     components_sound (skipped m cs) c vs fits e =
         let x = bound (optional_at lengths m c) (λ x. components lengths cs x.1) vs e in
         let o = optional_sound m c x.0 fits x.1 in

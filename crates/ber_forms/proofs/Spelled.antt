@@ -14,13 +14,14 @@ use Rattle.ber_core.specs.Leaf.{IsBoolean, IsBits}
 use Rattle.ber_core.specs.Spelling.{element_octets}
 use Rattle.ber_core.proofs.Spelled.{FitsLong, integer_spelled, element_spelled, contents_shorter}
 use Rattle.ber_forms.specs.Value.{Value, Slots, nothing, truth, number, bits, text, chosen, parts, missing, given, done, slot, all_of}
-use Rattle.ber_forms.specs.Form.{Form, Member, Alternatives, Components, null, boolean, integer, bit_string, named_bits, octet_string, sequence, choice, list_of, such_that, opaque, elements, tagged, one_of, no_other, or, no_more, any_more, required, optional, defaulted, skipped}
+use Rattle.ber_forms.specs.ByNumber.{has_number}
+use Rattle.ber_forms.specs.Form.{Form, Member, Alternatives, Components, AtDefault, left_out, written, null, boolean, integer, bit_string, named_bits, octet_string, sequence, choice, list_of, such_that, opaque, elements, tagged, one_of, no_other, or, no_more, any_more, required, optional, defaulted, skipped}
 use Rattle.ber_forms.specs.Reading.{is_constructed, same_form, is_tag, has_tag}
 use Rattle.ber_forms.specs.InForm.{begins, AreMembers, InForm, IsMember, IsAlternative, AreComponents}
 use Rattle.ber_forms.specs.Spelling.{tag_of, same_bool, is_default, truth_octet, each_octets, spelling, member_octets, alternative_octets, component_octets}
 use Rattle.ber_forms.specs.Bits.{cleared, octets_for, unused_for, first_bits}
 use Rattle.ber_forms.proofs.Joined.{joined}
-use Rattle.ber_forms.specs.Fits.{alternative_tags, tags_of, first_tags, apart, is_sound, sound_member, sound_alternatives, sound_components, Every, AreUnused, Fits, FitsMember, FitsOne, FitsAll}
+use Rattle.ber_forms.specs.Fits.{alternative_tags, tags_of, first_tags, apart, is_sound, sound_member, sound_alternatives, sound_components, can_be_default, Every, AreUnused, Fits, FitsMember, FitsOne, FitsAll}
 
 both : (a b : Bool) → a && b ≡ true → (a ≡ true) × (b ≡ true)
 both true b e = (refl, e)
@@ -190,25 +191,25 @@ module _ (lengths : Lengths) where
       by_list [] cut are starts = record { list = []; cut = cut; are = are; starts = tt }
       by_list (p ∷ ps) cut are starts = record { list = p ∷ ps; cut = cut; are = if_false _ _ (begins m p.tag) (apart_from m p.tag (first_tags cs) told starts) are; starts = in_right p.tag (tags_of m) (first_tags cs) starts }
 
-  with_defaulted : (m : Member) (d : Value) (cs : Components) (v : Value) (vs : Slots) (o : List ℕ) → SpelledMember m (member_octets m v) v → SpelledAll cs o vs → SpelledAll (defaulted m d cs) (member_octets m v ++ o) (slot (given v) vs)
-  with_defaulted m d cs v vs o first others = record {
+  with_defaulted : (w : AtDefault) (m : Member) (d : Value) (cs : Components) (v : Value) (vs : Slots) (o : List ℕ) → SpelledMember m (member_octets m v) v → SpelledAll cs o vs → SpelledAll (defaulted w m d cs) (member_octets m v ++ o) (slot (given v) vs)
+  with_defaulted w m d cs v vs o first others = record {
     list = first.part ∷ others.list;
     cut = (member_octets m v, o, first.is, refl, others.cut);
     are = if_true _ _ (begins m first.part.tag) (begins_own m first.part.tag first.tag) (first.holds, others.are);
     starts = in_left first.part.tag (tags_of m) (first_tags cs) first.tag;
   }
 
-  without_defaulted : (m : Member) (d : Value) (cs : Components) (v : Value) (vs : Slots) (o : List ℕ) → v ≡ d → apart m (first_tags cs) ≡ true → SpelledAll cs o vs → SpelledAll (defaulted m d cs) o (slot (given v) vs)
-  without_defaulted m d cs v vs o is told others = by_list others.list others.cut others.are others.starts
+  without_defaulted : (w : AtDefault) (m : Member) (d : Value) (cs : Components) (v : Value) (vs : Slots) (o : List ℕ) → v ≡ d → apart m (first_tags cs) ≡ true → SpelledAll cs o vs → SpelledAll (defaulted w m d cs) o (slot (given v) vs)
+  without_defaulted w m d cs v vs o is told others = by_list others.list others.cut others.are others.starts
     where
-      by_list : (ps : List Part) → IsCut lengths o ps → AreComponents lengths cs ps vs → StartsIn ps (first_tags cs) → SpelledAll (defaulted m d cs) o (slot (given v) vs)
+      by_list : (ps : List Part) → IsCut lengths o ps → AreComponents lengths cs ps vs → StartsIn ps (first_tags cs) → SpelledAll (defaulted w m d cs) o (slot (given v) vs)
       by_list [] cut are starts = record { list = []; cut = cut; are = (is, are); starts = tt }
       by_list (p ∷ ps) cut are starts = record { list = p ∷ ps; cut = cut; are = if_false _ _ (begins m p.tag) (apart_from m p.tag (first_tags cs) told starts) (is, are); starts = in_right p.tag (tags_of m) (first_tags cs) starts }
 
-  defaulted_either : (m : Member) (d : Value) (cs : Components) (v : Value) (vs : Slots) (o : List ℕ) (b : Bool) → is_default v d ≡ b → apart m (first_tags cs) ≡ true
-      → (b ≡ false → SpelledMember m (member_octets m v) v) → SpelledAll cs o vs → SpelledAll (defaulted m d cs) (cond b [] (member_octets m v) ++ o) (slot (given v) vs)
-  defaulted_either m d cs v vs o true e told first others = without_defaulted m d cs v vs o (default_is v d e) told others
-  defaulted_either m d cs v vs o false e told first others = with_defaulted m d cs v vs o (first refl) others
+  defaulted_either : (w : AtDefault) (m : Member) (d : Value) (cs : Components) (v : Value) (vs : Slots) (o : List ℕ) (b : Bool) → is_default v d ≡ b → apart m (first_tags cs) ≡ true
+      → (b ≡ false → SpelledMember m (member_octets m v) v) → SpelledAll cs o vs → SpelledAll (defaulted w m d cs) (cond b [] (member_octets m v) ++ o) (slot (given v) vs)
+  defaulted_either w m d cs v vs o true e told first others = without_defaulted w m d cs v vs o (default_is v d e) told others
+  defaulted_either w m d cs v vs o false e told first others = with_defaulted w m d cs v vs o (first refl) others
 
   -- the alternative of that number, or a later one
   here : (n : ℕ) (f : Form) (others : Alternatives) (k : ℕ) (v : Value) → k ≡ n → n < 16384 → length (spelling f v) < 2 ^ 64 → InForm lengths f (spelling f v) v → SpelledOne (or n f others) (element_octets (tag_of 2 n f) (spelling f v)) (chosen k v)
@@ -270,7 +271,7 @@ module _ (lengths : Lengths) where
 
     one_spelled : (others : Alternatives) (v : Value) → sound_alternatives others ≡ true → FitsOne others v → length (alternative_octets others v) < 2 ^ 64 → SpelledOne others (alternative_octets others v) v
     one_spelled (or n f others) (chosen k v) told fits room =
-        let t = both (ltb n 16384 && is_sound f) (sound_alternatives others) told in
+        let t = both (ltb n 16384 && is_sound f) (sound_alternatives others) (both (ltb n 16384 && is_sound f && sound_alternatives others) (not (has_number others n)) told).0 in
         let u = both (ltb n 16384) (is_sound f) t.0 in
         one_either n f others k v (eqb k n) refl (ltb-true _ _ u.0) (λ h r. form_spelled f v u.1 h r) (λ h r. one_spelled others (chosen k v) t.1 h r) fits room
     one_spelled others v told fits room = absurd fits
@@ -313,13 +314,20 @@ module _ (lengths : Lengths) where
         let len = ap length j ∙ length-append (member_octets m v) (component_octets cs vs []) in
         subst (λ (o : List ℕ). SpelledAll (optional m cs) o (slot (given v) vs)) (sym j)
         (with_optional m cs v vs (component_octets cs vs []) (member_spelled m v u.0 fits.0 (omega (arith, room, len))) (components_spelled cs vs t.1 fits.1 (omega (arith, room, len))))
-    components_spelled (defaulted m d cs) (slot (given v) vs) told fits room =
-        let t = both (sound_member m && apart m (first_tags cs)) (sound_components cs) told in
+    components_spelled (defaulted left_out m d cs) (slot (given v) vs) told fits room =
+        let t = both (sound_member m && apart m (first_tags cs)) (sound_components cs) (both (sound_member m && apart m (first_tags cs) && sound_components cs) (can_be_default left_out d) told).0 in
         let u = both (sound_member m) (apart m (first_tags cs)) t.0 in
         let o = cond (is_default v d) [] (member_octets m v) in
         let j = joined cs vs o in
         let len = ap length j ∙ length-append o (component_octets cs vs []) in
-        subst (λ (x : List ℕ). SpelledAll (defaulted m d cs) x (slot (given v) vs)) (sym j)
-        (defaulted_either m d cs v vs (component_octets cs vs []) (is_default v d) refl u.1
+        subst (λ (x : List ℕ). SpelledAll (defaulted left_out m d cs) x (slot (given v) vs)) (sym j)
+        (defaulted_either left_out m d cs v vs (component_octets cs vs []) (is_default v d) refl u.1
         (λ e. member_spelled m v u.0 fits.0 (omega (arith, room, len, ap (λ (b : Bool). length (cond b [] (member_octets m v))) e))) (components_spelled cs vs t.1 fits.1 (omega (arith, room, len))))
+    components_spelled (defaulted written m d cs) (slot (given v) vs) told fits room =
+        let t = both (sound_member m && apart m (first_tags cs)) (sound_components cs) (both (sound_member m && apart m (first_tags cs) && sound_components cs) true told).0 in
+        let u = both (sound_member m) (apart m (first_tags cs)) t.0 in
+        let j = joined cs vs (member_octets m v) in
+        let len = ap length j ∙ length-append (member_octets m v) (component_octets cs vs []) in
+        subst (λ (o : List ℕ). SpelledAll (defaulted written m d cs) o (slot (given v) vs)) (sym j)
+        (with_defaulted written m d cs v vs (component_octets cs vs []) (member_spelled m v u.0 fits.0 (omega (arith, room, len))) (components_spelled cs vs t.1 fits.1 (omega (arith, room, len))))
     components_spelled cs vs told fits room = absurd fits

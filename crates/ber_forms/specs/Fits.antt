@@ -1,11 +1,12 @@
 -- Which forms can be told apart, and which values have a spelling.
-use Rattle.std.specs.Prelude.{◌≡◌, ℕ, ◌≤◌, pos, negsuc, ◌≤ℤ◌, int_le, Bool, true, not, ◌&&◌, IsTrue, MatchBool, List, [], ◌∷◌, ◌++◌, length, nat_lt, ◌==◌}
+use Rattle.std.specs.Prelude.{◌≡◌, ℕ, ◌≤◌, pos, negsuc, ◌≤ℤ◌, int_le, Bool, true, false, not, ◌&&◌, IsTrue, MatchBool, List, [], ◌∷◌, ◌++◌, length, nat_lt, ◌==◌}
 use Rattle.ber_core.specs.declared.element.Tag.{Tag}
 use Rattle.ber_forms.specs.Value.{Value, Slot, Slots, nothing, truth, number, bits, text, chosen, parts, missing, given, done, slot, all_of}
-use Rattle.ber_forms.specs.Form.{Form, Member, Alternatives, Components, null, boolean, integer, bit_string, named_bits, octet_string, sequence, choice, list_of, such_that, opaque, elements, tagged, one_of, no_other, or, no_more, any_more, required, optional, defaulted, skipped}
+use Rattle.ber_forms.specs.Form.{Form, Member, Alternatives, Components, AtDefault, left_out, written, null, boolean, integer, bit_string, named_bits, octet_string, sequence, choice, list_of, such_that, opaque, elements, tagged, one_of, no_other, or, no_more, any_more, required, optional, defaulted, skipped}
 use Rattle.ber_forms.specs.Bits.{cleared, octets_for, unused_for}
 use Rattle.ber_forms.specs.Spelling.{tag_of}
 use Rattle.ber_forms.specs.InForm.{begins}
+use Rattle.ber_forms.specs.ByNumber.{has_number}
 
 abbrev pub alternative_tags : Alternatives → List Tag
 alternative_tags no_other = []
@@ -21,14 +22,21 @@ first_tags no_more = []
 first_tags any_more = []
 first_tags (required m cs) = tags_of m
 first_tags (optional m cs) = tags_of m ++ first_tags cs
-first_tags (defaulted m d cs) = tags_of m ++ first_tags cs
+first_tags (defaulted w m d cs) = tags_of m ++ first_tags cs
 first_tags (skipped m cs) = tags_of m ++ first_tags cs
 
 abbrev pub apart : Member → List Tag → Bool
 apart m [] = true
 apart m (t ∷ ts) = not (begins m t) && apart m ts
 
--- numbers fit 64 bits, tags fit two octets, and what may be missing is told from what follows it
+-- the default can be told from other values: it is a number or a truth value, or the component is always written
+abbrev pub can_be_default : AtDefault → Value → Bool
+can_be_default written d = true
+can_be_default left_out (number n) = true
+can_be_default left_out (truth b) = true
+can_be_default left_out d = false
+
+-- numbers fit 64 bits, tags fit two octets, no alternative has another's number, and what may be missing is told from what follows it
 abbrev mutual
   pub is_sound : Form → Bool
   is_sound (integer low high) = int_le (negsuc 9223372036854775807) low && int_le high (pos 9223372036854775807)
@@ -44,14 +52,14 @@ abbrev mutual
 
   pub sound_alternatives : Alternatives → Bool
   sound_alternatives no_other = true
-  sound_alternatives (or n f others) = nat_lt n 16384 && is_sound f && sound_alternatives others
+  sound_alternatives (or n f others) = nat_lt n 16384 && is_sound f && sound_alternatives others && not (has_number others n)
 
   pub sound_components : Components → Bool
   sound_components no_more = true
   sound_components any_more = true
   sound_components (required m cs) = sound_member m && sound_components cs
   sound_components (optional m cs) = sound_member m && apart m (first_tags cs) && sound_components cs
-  sound_components (defaulted m d cs) = sound_member m && apart m (first_tags cs) && sound_components cs
+  sound_components (defaulted w m d cs) = sound_member m && apart m (first_tags cs) && sound_components cs && can_be_default w d
   sound_components (skipped m cs) = sound_member m && apart m (first_tags cs) && sound_components cs
 
 abbrev pub Every : (Value → Type 0) → List Value → Type 0
@@ -96,6 +104,6 @@ abbrev mutual
   FitsAll any_more done = Unit {0}
   FitsAll (required m cs) (slot (given v) vs) = FitsMember m v × FitsAll cs vs
   FitsAll (optional m cs) (slot s vs) = IfGiven (FitsMember m) s × FitsAll cs vs
-  FitsAll (defaulted m d cs) (slot (given v) vs) = FitsMember m v × FitsAll cs vs
+  FitsAll (defaulted w m d cs) (slot (given v) vs) = FitsMember m v × FitsAll cs vs
   FitsAll (skipped m cs) vs = FitsAll cs vs
   FitsAll cs vs = ⊥

@@ -3,6 +3,12 @@ use Rattle.std.specs.Prelude.{ℕ, ℤ, pos, negsuc, Bool, true, ◌&&◌, List,
 use Rattle.std.specs.List.{list_all}
 use Rattle.ber_forms.specs.Value.{Value}
 
+-- what is written of a component that is equal to its default: nothing (ITU-T X.690, 11.5), or the component all the same
+-- (this profile's choice, where a form says so)
+pub data AtDefault : Type 0 where
+  left_out : AtDefault
+  written : AtDefault
+
 mutual
   -- a form of contents (ITU-T X.680, clauses 18, 19, 22 to 29)
   pub data Form : Type 0 where
@@ -47,7 +53,7 @@ mutual
     required : Member → Components → Components
     optional : Member → Components → Components
     -- with the value that its absence means
-    defaulted : Member → Value → Components → Components
+    defaulted : AtDefault → Member → Value → Components → Components
     -- one that may be missing, and isn't kept
     skipped : Member → Components → Components
 

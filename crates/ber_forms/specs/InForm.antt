@@ -58,8 +58,8 @@ module _ (lengths : Lengths) where
     AreComponents (optional m cs) [] (slot missing vs) = AreComponents cs [] vs
     AreComponents (optional m cs) (p ∷ ps) (slot missing vs) = (begins m p.tag ≡ false) × AreComponents cs (p ∷ ps) vs
     AreComponents (optional m cs) (p ∷ ps) (slot (given v) vs) = (begins m p.tag ≡ true) × IsMember m p v × AreComponents cs ps vs
-    AreComponents (defaulted m d cs) [] (slot (given v) vs) = (v ≡ d) × AreComponents cs [] vs
-    AreComponents (defaulted m d cs) (p ∷ ps) (slot (given v) vs) = MatchBool (begins m p.tag) (IsMember m p v × AreComponents cs ps vs) ((v ≡ d) × AreComponents cs (p ∷ ps) vs)
+    AreComponents (defaulted w m d cs) [] (slot (given v) vs) = (v ≡ d) × AreComponents cs [] vs
+    AreComponents (defaulted w m d cs) (p ∷ ps) (slot (given v) vs) = MatchBool (begins m p.tag) (IsMember m p v × AreComponents cs ps vs) ((v ≡ d) × AreComponents cs (p ∷ ps) vs)
     AreComponents (skipped m cs) [] vs = AreComponents cs [] vs
     AreComponents (skipped m cs) (p ∷ ps) vs = MatchBool (begins m p.tag) ((v : Value) × IsMember m p v × AreComponents cs ps vs) (AreComponents cs (p ∷ ps) vs)
     AreComponents cs ps vs = ⊥

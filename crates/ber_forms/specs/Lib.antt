@@ -3,6 +3,7 @@ pub mod Bits
 pub mod Form
 pub mod Fault
 pub mod Reading
+pub mod ByNumber
 pub mod Ahead
 pub mod Spelling
 pub mod InForm

@@ -195,7 +195,7 @@ module _ (lengths : Lengths) where
     components any_more octets = elements_at octets >>= λ _. Ok done
     components (required m cs) octets = required_at m octets >>= λ x. components cs x.1 >>= λ vs. Ok (slot (given x.0) vs)
     components (optional m cs) octets = optional_at m octets >>= λ x. components cs x.1 >>= λ vs. Ok (slot x.0 vs)
-    components (defaulted m d cs) octets = defaulting d (optional_at m octets) >>= λ x. components cs x.1 >>= λ vs. Ok (slot x.0 vs)
+    components (defaulted w m d cs) octets = defaulting d (optional_at m octets) >>= λ x. components cs x.1 >>= λ vs. Ok (slot x.0 vs)
     components (skipped m cs) octets = optional_at m octets >>= λ x. components cs x.1
 
   -- the first element where it has the member's tag, else the value, and what is left

@@ -1,5 +1,5 @@
 -- What a reader of a form answers.
-use Rattle.std.specs.Prelude.{◌≡◌, ℕ, ◌⊎◌, List, Result, Ok, Err, IfOk}
+use Rattle.std.specs.Prelude.{◌≡◌, ◌≢◌, ℕ, ◌⊎◌, List, Result, Ok, Err, IfOk, IfErr}
 use Rattle.ber_core.specs.declared.element.Lengths.{Lengths}
 use Rattle.ber_forms.specs.declared.unread.Unread.{Unread}
 use Rattle.ber_forms.specs.declared.unread.Unread.TheVariants.{Malformed, TooDeep, Memory}
@@ -20,6 +20,10 @@ FailsBy e result = (result ≡ Err e) ⊎ (result ≡ Err Memory)
 abbrev pub SeenAs : {X : Type 0} → (X → Value) → Value → Result X Unread → Type 0
 SeenAs view v (Ok x) = view x ≡ v
 SeenAs view v (Err e) = e ≡ Memory
+
+-- the answer is not want of memory
+abbrev pub NeedsNoMemory : {X : Type 0} → Result X Unread → Type 0
+NeedsNoMemory result = IfErr result (λ e. e ≢ Memory)
 
 -- Unless memory runs out, the answer is the value that the contents say exactly where they are of the form, TooDeep
 -- exactly where they are too deep, and Malformed exactly where they are neither.

@@ -4,7 +4,7 @@ use Rattle.std.specs.Ordering.{int_eq}
 use Rattle.ber_core.specs.declared.element.Tag.{Tag}
 use Rattle.ber_core.specs.Spelling.{integer_octets, element_octets}
 use Rattle.ber_forms.specs.Value.{Value, Slot, Slots, truth, number, bits, text, chosen, parts, missing, given, done, slot}
-use Rattle.ber_forms.specs.Form.{Form, Member, Alternatives, Components, null, boolean, integer, bit_string, named_bits, octet_string, sequence, choice, list_of, such_that, opaque, tagged, one_of, no_other, or, required, optional, defaulted, skipped}
+use Rattle.ber_forms.specs.Form.{Form, Member, Alternatives, Components, AtDefault, left_out, written, null, boolean, integer, bit_string, named_bits, octet_string, sequence, choice, list_of, such_that, opaque, tagged, one_of, no_other, or, required, optional, defaulted, skipped}
 use Rattle.ber_forms.specs.Reading.{is_constructed}
 
 -- the tag of an element of the form
@@ -35,6 +35,10 @@ slot_octets spell (given v) = spell v
 abbrev pub unless_default : (Value → List ℕ) → Value → Slot → List ℕ
 unless_default spell d missing = []
 unless_default spell d (given v) = if is_default v d then [] else spell v
+
+abbrev pub default_octets : AtDefault → (Value → List ℕ) → Value → Slot → List ℕ
+default_octets left_out spell d s = unless_default spell d s
+default_octets written spell d s = slot_octets spell s
 
 abbrev pub each_octets : (Value → List ℕ) → Slots → List ℕ
 each_octets spell done = []
@@ -69,7 +73,7 @@ abbrev mutual
   pub component_octets : Components → Slots → List ℕ → List ℕ
   component_octets (required m cs) (slot s more) before = component_octets cs more (before ++ slot_octets (member_octets m) s)
   component_octets (optional m cs) (slot s more) before = component_octets cs more (before ++ slot_octets (member_octets m) s)
-  component_octets (defaulted m d cs) (slot s more) before = component_octets cs more (before ++ unless_default (member_octets m) d s)
+  component_octets (defaulted w m d cs) (slot s more) before = component_octets cs more (before ++ default_octets w (member_octets m) d s)
   component_octets (skipped m cs) vs before = component_octets cs vs before
   component_octets cs vs before = before
 
@@ -77,7 +81,7 @@ abbrev mutual
 abbrev pub optional_octets : Member → Slot → List ℕ
 optional_octets m s = slot_octets (member_octets m) s
 
--- a component with a default
+-- a component with a default that is left out
 abbrev pub defaulted_octets : Member → Value → Slot → List ℕ
 defaulted_octets m d s = unless_default (member_octets m) d s
 

@@ -48,5 +48,5 @@ module _ (lengths : Lengths) where
     IsPartTooDeep any_more c = ⊥
     IsPartTooDeep (required m cs) c = (p : Part) × (rest : List ℕ) × BeginsWith c p rest × (IsMemberTooDeep m p ⊎ ((v : Value) × IsMember lengths m p v × IsPartTooDeep cs rest))
     IsPartTooDeep (optional m cs) c = HereOrLater m (IsMemberTooDeep m) (IsPartTooDeep cs) c
-    IsPartTooDeep (defaulted m d cs) c = HereOrLater m (IsMemberTooDeep m) (IsPartTooDeep cs) c
+    IsPartTooDeep (defaulted w m d cs) c = HereOrLater m (IsMemberTooDeep m) (IsPartTooDeep cs) c
     IsPartTooDeep (skipped m cs) c = HereOrLater m (IsMemberTooDeep m) (IsPartTooDeep cs) c

@@ -3,6 +3,7 @@
 ghost use Rattle.std.specs.Prelude.{◌≡◌, ◌≤◌, ◌+◌, ◌++◌, ◌-◌, ◌*◌, ◌/◌, ◌^◌, ℕ, length, take, replicate, Ok, Err, IfOk};
 ghost use Rattle.ber_forms.specs.Bits.{cleared, octets_for, unused_for, first_bits};
 ghost use Rattle.ber_forms.specs.Reading.{Gives, bits_in, named_bits_value};
+ghost use Rattle.ber_forms.specs.Reads.{NeedsNoMemory};
 ghost use Rattle.ber_forms.specs.Value as value;
 
 use crate::unread::Unread;
@@ -42,6 +43,7 @@ fn clear(octets: &mut [u8], unused: u8)
 fn sent(contents: &[u8]) -> Result<Bits<'_>, Unread>
     ensures exact { Gives (λ b. (b.unused, b.octets.now)) result (bits_in contents.now) }
     ensures few { IfOk result (λ b. b.unused ≤ 7) }
+    ensures no_memory { NeedsNoMemory result }
 {
     let Ok(found) = ber_core::bits(contents) else {
         return Err(Unread::Malformed);
@@ -81,7 +83,8 @@ fn first_octets<const N: usize>(bits: Bits<'_>) -> [u8; N]
 #[tactic(auto, unfolding(crate::specs::Bits::first_bits))]
 pub fn named_bits<const N: usize>(contents: &[u8], n: u32) -> Result<[u8; N], Unread>
     requires { N ≡ octets_for n }
-    ensures { Gives (λ octets. value.bits (unused_for n) octets) result (named_bits_value n contents.now) }
+    ensures exact { Gives (λ octets. value.bits (unused_for n) octets) result (named_bits_value n contents.now) }
+    ensures no_memory { NeedsNoMemory result }
 {
     let mut found = first_octets::<N>(sent(contents)?);
     clear(&mut found, (8 * N - n as usize) as u8);

@@ -1,8 +1,9 @@
 //! Components that are truth values, NULL, bit strings and octets, each under a context tag.
 
-ghost use Rattle.std.specs.Prelude.{◌≡◌, ℕ, Ok, Err, Some, None};
+ghost use Rattle.std.specs.Prelude.{◌≡◌, ◌≤◌, ℕ, Ok, Err, Some, None, IfOk};
 ghost use Rattle.ber_forms.specs.Bits.{cleared};
 ghost use Rattle.ber_forms.specs.Reading.{Gives, required_at, optional_at, defaulted_at};
+ghost use Rattle.ber_forms.specs.Reads.{NeedsNoMemory};
 ghost use Rattle.ber_forms.specs.Form as form;
 ghost use Rattle.ber_forms.specs.Value as value;
 
@@ -17,6 +18,7 @@ impl<'a> Cursor<'a> {
     pub fn required_boolean(&mut self, number: u32) -> Result<bool, Unread>
         ensures exact { Gives (λ b. (value.truth b, self.new.octets)) result (required_at self.old.lengths (form.context number form.boolean) self.old.octets) }
         ensures kept { self.new.lengths ≡ self.old.lengths }
+        ensures no_memory { NeedsNoMemory result }
     {
         let element = self.required(Tag::primitive(number))?;
         boolean(element.contents)
@@ -27,6 +29,7 @@ impl<'a> Cursor<'a> {
     pub fn optional_boolean(&mut self, number: u32) -> Result<Option<bool>, Unread>
         ensures exact { Gives (λ o. (value.optionally value.truth o, self.new.octets)) result (optional_at self.old.lengths (form.context number form.boolean) self.old.octets) }
         ensures kept { self.new.lengths ≡ self.old.lengths }
+        ensures no_memory { NeedsNoMemory result }
     {
         match self.optional(Tag::primitive(number))? {
             None => Ok(None),
@@ -39,6 +42,7 @@ impl<'a> Cursor<'a> {
     pub fn defaulted_boolean(&mut self, number: u32, default: bool) -> Result<bool, Unread>
         ensures exact { Gives (λ b. (value.given (value.truth b), self.new.octets)) result (defaulted_at self.old.lengths (form.context number form.boolean) (value.truth default) self.old.octets) }
         ensures kept { self.new.lengths ≡ self.old.lengths }
+        ensures no_memory { NeedsNoMemory result }
     {
         match self.optional_boolean(number)? {
             None => Ok(default),
@@ -51,6 +55,7 @@ impl<'a> Cursor<'a> {
     pub fn required_null(&mut self, number: u32) -> Result<(), Unread>
         ensures exact { Gives (λ _. (value.nothing, self.new.octets)) result (required_at self.old.lengths (form.context number form.null) self.old.octets) }
         ensures kept { self.new.lengths ≡ self.old.lengths }
+        ensures no_memory { NeedsNoMemory result }
     {
         let element = self.required(Tag::primitive(number))?;
         null(element.contents)
@@ -59,8 +64,10 @@ impl<'a> Cursor<'a> {
     /// A bit string under the context tag `number`, as it was sent: its value has the unused bits 0.
     #[tactic(auto, unfolding(crate::specs::Reading::required_by))]
     pub fn required_bit_string(&mut self, number: u32) -> Result<Bits<'a>, Unread>
+        ensures few { IfOk result (λ b. b.unused ≤ 7) }
         ensures exact { Gives (λ b. (value.bits b.unused (cleared b.unused b.octets.now), self.new.octets)) result (required_at self.old.lengths (form.context number form.bit_string) self.old.octets) }
         ensures kept { self.new.lengths ≡ self.old.lengths }
+        ensures no_memory { NeedsNoMemory result }
     {
         let element = self.required(Tag::primitive(number))?;
         bit_string(element.contents)
@@ -71,6 +78,7 @@ impl<'a> Cursor<'a> {
     pub fn required_octets(&mut self, number: u32) -> Result<&'a [u8], Unread>
         ensures exact { Gives (λ s. (value.text s.now, self.new.octets)) result (required_at self.old.lengths (form.context number (form.octet_string form.any_octets)) self.old.octets) }
         ensures kept { self.new.lengths ≡ self.old.lengths }
+        ensures no_memory { NeedsNoMemory result }
     {
         let element = self.required(Tag::primitive(number))?;
         Ok(element.contents)
@@ -81,6 +89,7 @@ impl<'a> Cursor<'a> {
     pub fn optional_octets(&mut self, number: u32) -> Result<Option<&'a [u8]>, Unread>
         ensures exact { Gives (λ o. (value.optionally (λ s. value.text s.now) o, self.new.octets)) result (optional_at self.old.lengths (form.context number (form.octet_string form.any_octets)) self.old.octets) }
         ensures kept { self.new.lengths ≡ self.old.lengths }
+        ensures no_memory { NeedsNoMemory result }
     {
         match self.optional(Tag::primitive(number))? {
             None => Ok(None),
@@ -93,6 +102,7 @@ impl<'a> Cursor<'a> {
     pub fn required_visible(&mut self, number: u32) -> Result<&'a [u8], Unread>
         ensures exact { Gives (λ s. (value.text s.now, self.new.octets)) result (required_at self.old.lengths (form.context number form.visible_string) self.old.octets) }
         ensures kept { self.new.lengths ≡ self.old.lengths }
+        ensures no_memory { NeedsNoMemory result }
     {
         let element = self.required(Tag::primitive(number))?;
         visible(element.contents)
@@ -103,6 +113,7 @@ impl<'a> Cursor<'a> {
     pub fn optional_visible(&mut self, number: u32) -> Result<Option<&'a [u8]>, Unread>
         ensures exact { Gives (λ o. (value.optionally (λ s. value.text s.now) o, self.new.octets)) result (optional_at self.old.lengths (form.context number form.visible_string) self.old.octets) }
         ensures kept { self.new.lengths ≡ self.old.lengths }
+        ensures no_memory { NeedsNoMemory result }
     {
         match self.optional(Tag::primitive(number))? {
             None => Ok(None),

@@ -4,6 +4,7 @@ ghost use Rattle.std.specs.Prelude.{◌≡◌, ◌↔◌, ℕ, List, [], Ok, Err
 ghost use Rattle.ber_core.specs.Part.{part};
 ghost use Rattle.ber_forms.specs.Ahead.{ahead};
 ghost use Rattle.ber_forms.specs.Reading.{Gives, is_tag, next_at, part_at, at_end, optional_part, required_part, elements_at};
+ghost use Rattle.ber_forms.specs.Reads.{NeedsNoMemory};
 
 use crate::unread::Unread;
 use ber_core::{Element, Lengths, Tag, first_element};
@@ -25,16 +26,17 @@ impl<'a> Model for Cursor<'a> {
     ghost view = { λ c. ahead c.lengths c.rest.now };
 }
 
-/// The tag has this class (0 to 3), this constructed bit and this number.
-pub fn has_tag(tag: Tag, class: u8, constructed: bool, number: u32) -> bool
-    ensures { result ≡ is_tag class constructed number tag }
+/// The tag is the one that is wanted.
+pub fn has_tag(tag: Tag, want: Tag) -> bool
+    ensures { result ≡ is_tag want.class want.constructed want.number tag }
 {
-    tag.class == class && tag.constructed == constructed && tag.number == number
+    tag.class == want.class && tag.constructed == want.constructed && tag.number == want.number
 }
 
 /// The next element, or None at the end.
 #[tactic(auto, unfolding(crate::specs::Reading::next_at))]
 fn next(lengths: Lengths, octets: &[u8]) -> Result<Option<(Element<'_>, &[u8])>, Unread>
+    ensures no_memory { NeedsNoMemory result }
     ensures exact { Gives (λ o. option_map (λ x. (part x.0, x.1.now)) o) result (next_at lengths octets.now) }
     ensures shorter { IfOk result (λ o. IfSome o (λ x. length x.1.now < length octets.now)) }
 {
@@ -77,6 +79,7 @@ impl<'a> Cursor<'a> {
     pub fn part(&mut self) -> Result<Element<'a>, Unread>
         ensures exact { Gives (λ p. (part p, self.new.octets)) result (part_at self.old.lengths self.old.octets) }
         ensures kept { self.new.lengths ≡ self.old.lengths }
+        ensures no_memory { NeedsNoMemory result }
         ensures shorter { OnOk result (length self.new.octets < length self.old.octets) }
     {
         match next(self.lengths, self.rest)? {
@@ -94,11 +97,12 @@ impl<'a> Cursor<'a> {
     pub fn optional(&mut self, want: Tag) -> Result<Option<Element<'a>>, Unread>
         ensures exact { Gives (λ o. (option_map part o, self.new.octets)) result (optional_part self.old.lengths (is_tag want.class want.constructed want.number) self.old.octets) }
         ensures kept { self.new.lengths ≡ self.old.lengths }
+        ensures no_memory { NeedsNoMemory result }
     {
         match next(self.lengths, self.rest)? {
             None => Ok(None),
             Some((element, rest)) => {
-                if has_tag(element.tag, want.class, want.constructed, want.number) {
+                if has_tag(element.tag, want) {
                     self.rest = rest;
                     Ok(Some(element))
                 } else {
@@ -113,10 +117,11 @@ impl<'a> Cursor<'a> {
     pub fn required(&mut self, want: Tag) -> Result<Element<'a>, Unread>
         ensures exact { Gives (λ p. (part p, self.new.octets)) result (required_part self.old.lengths (is_tag want.class want.constructed want.number) self.old.octets) }
         ensures kept { self.new.lengths ≡ self.old.lengths }
+        ensures no_memory { NeedsNoMemory result }
         ensures shorter { OnOk result (length self.new.octets < length self.old.octets) }
     {
         let element = self.part()?;
-        if has_tag(element.tag, want.class, want.constructed, want.number) {
+        if has_tag(element.tag, want) {
             Ok(element)
         } else {
             Err(Unread::Malformed)
@@ -126,7 +131,8 @@ impl<'a> Cursor<'a> {
     /// Nothing is left. Malformed where something is.
     #[tactic(auto, unfolding(crate::specs::Reading::at_end))]
     pub fn end(&self) -> Result<(), Unread>
-        ensures { Gives (λ _. tt) result (at_end self.now.octets) }
+        ensures exact { Gives (λ _. tt) result (at_end self.now.octets) }
+        ensures no_memory { NeedsNoMemory result }
     {
         if self.rest.is_empty() {
             Ok(())
@@ -137,7 +143,8 @@ impl<'a> Cursor<'a> {
 
     /// What is left is elements, which are not looked into and none of which is kept. Malformed where it isn't.
     pub fn elements(&self) -> Result<(), Unread>
-        ensures { Gives (λ _. tt) result (elements_at self.now.lengths self.now.octets) }
+        ensures exact { Gives (λ _. tt) result (elements_at self.now.lengths self.now.octets) }
+        ensures no_memory { NeedsNoMemory result }
     {
         elements(self.lengths, self.rest)
     }
@@ -145,7 +152,8 @@ impl<'a> Cursor<'a> {
 
 /// The contents are elements, which are not looked into. Malformed where they aren't.
 pub fn elements(lengths: Lengths, contents: &[u8]) -> Result<(), Unread>
-    ensures { Gives (λ _. tt) result (elements_at lengths contents.now) }
+    ensures exact { Gives (λ _. tt) result (elements_at lengths contents.now) }
+    ensures no_memory { NeedsNoMemory result }
 {
     let mut parts = Cursor::new(lengths, contents);
     while !parts.is_empty() {

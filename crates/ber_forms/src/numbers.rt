@@ -2,10 +2,11 @@
 
 ghost use Rattle.std.specs.Prelude.{◌≡◌, ℕ, Ok, Err, Some, None, IfOk, IfSome, ◌≤ℤ◌, pos};
 ghost use Rattle.ber_forms.specs.Reading.{Gives, required_at, optional_at, defaulted_at};
+ghost use Rattle.ber_forms.specs.Reads.{NeedsNoMemory};
 ghost use Rattle.ber_forms.specs.Form as form;
 ghost use Rattle.ber_forms.specs.Value as value;
 
-use crate::contents::integer;
+use crate::contents::{integer, unsigned8_in, unsigned16_in};
 use crate::cursor::Cursor;
 use crate::unread::Unread;
 use ber_core::Tag;
@@ -17,6 +18,7 @@ impl<'a> Cursor<'a> {
     pub fn required_integer(&mut self, number: u32, low: i64, high: i64) -> Result<i64, Unread>
         ensures exact { Gives (λ n. (value.number n, self.new.octets)) result (required_at self.old.lengths (form.context number (form.integer low high)) self.old.octets) }
         ensures kept { self.new.lengths ≡ self.old.lengths }
+        ensures no_memory { NeedsNoMemory result }
         ensures low { IfOk result (λ n. low ≤ℤ n) }
         ensures high { IfOk result (λ n. n ≤ℤ high) }
     {
@@ -34,6 +36,7 @@ impl<'a> Cursor<'a> {
     ) -> Result<Option<i64>, Unread>
         ensures exact { Gives (λ o. (value.optionally value.number o, self.new.octets)) result (optional_at self.old.lengths (form.context number (form.integer low high)) self.old.octets) }
         ensures kept { self.new.lengths ≡ self.old.lengths }
+        ensures no_memory { NeedsNoMemory result }
         ensures low { IfOk result (λ o. IfSome o (λ n. low ≤ℤ n)) }
         ensures high { IfOk result (λ o. IfSome o (λ n. n ≤ℤ high)) }
     {
@@ -56,6 +59,7 @@ impl<'a> Cursor<'a> {
         requires high { default ≤ℤ high }
         ensures exact { Gives (λ n. (value.given (value.number n), self.new.octets)) result (defaulted_at self.old.lengths (form.context number (form.integer low high)) (value.number default) self.old.octets) }
         ensures kept { self.new.lengths ≡ self.old.lengths }
+        ensures no_memory { NeedsNoMemory result }
         ensures low { IfOk result (λ n. low ≤ℤ n) }
         ensures high { IfOk result (λ n. n ≤ℤ high) }
     {
@@ -69,6 +73,7 @@ impl<'a> Cursor<'a> {
     pub fn required_i8(&mut self, number: u32) -> Result<i8, Unread>
         ensures exact { Gives (λ n. (value.number n, self.new.octets)) result (required_at self.old.lengths (form.context number form.int8) self.old.octets) }
         ensures kept { self.new.lengths ≡ self.old.lengths }
+        ensures no_memory { NeedsNoMemory result }
     {
         Ok(self.required_integer(number, -128, 127)? as i8)
     }
@@ -77,6 +82,7 @@ impl<'a> Cursor<'a> {
     pub fn required_i16(&mut self, number: u32) -> Result<i16, Unread>
         ensures exact { Gives (λ n. (value.number n, self.new.octets)) result (required_at self.old.lengths (form.context number form.int16) self.old.octets) }
         ensures kept { self.new.lengths ≡ self.old.lengths }
+        ensures no_memory { NeedsNoMemory result }
     {
         Ok(self.required_integer(number, -32768, 32767)? as i16)
     }
@@ -85,6 +91,7 @@ impl<'a> Cursor<'a> {
     pub fn required_i32(&mut self, number: u32) -> Result<i32, Unread>
         ensures exact { Gives (λ n. (value.number n, self.new.octets)) result (required_at self.old.lengths (form.context number form.int32) self.old.octets) }
         ensures kept { self.new.lengths ≡ self.old.lengths }
+        ensures no_memory { NeedsNoMemory result }
     {
         Ok(self.required_integer(number, -2147483648, 2147483647)? as i32)
     }
@@ -93,14 +100,57 @@ impl<'a> Cursor<'a> {
     pub fn required_u8(&mut self, number: u32) -> Result<u8, Unread>
         ensures exact { Gives (λ n. (value.number (pos n), self.new.octets)) result (required_at self.old.lengths (form.context number form.unsigned8) self.old.octets) }
         ensures kept { self.new.lengths ≡ self.old.lengths }
+        ensures no_memory { NeedsNoMemory result }
     {
         Ok(self.required_integer(number, 0, 255)? as u8)
+    }
+
+    /// A number of 8 bits without a sign, from `low` to `high`, under the context tag `number`.
+    #[tactic(auto, unfolding(crate::specs::Reading::required_by))]
+    pub fn required_u8_in(&mut self, number: u32, low: u8, high: u8) -> Result<u8, Unread>
+        ensures exact { Gives (λ n. (value.number (pos n), self.new.octets)) result (required_at self.old.lengths (form.context number (form.integer (pos low) (pos high))) self.old.octets) }
+        ensures kept { self.new.lengths ≡ self.old.lengths }
+        ensures no_memory { NeedsNoMemory result }
+    {
+        let element = self.required(Tag::primitive(number))?;
+        unsigned8_in(element.contents, low, high)
+    }
+
+    /// The same, and `default` where it is missing.
+    #[tactic(auto, unfolding(crate::specs::Reading::optional_by, crate::specs::Reading::defaulting))]
+    pub fn defaulted_u8_in(
+        &mut self,
+        number: u32,
+        low: u8,
+        high: u8,
+        default: u8,
+    ) -> Result<u8, Unread>
+        ensures exact { Gives (λ n. (value.given (value.number (pos n)), self.new.octets)) result (defaulted_at self.old.lengths (form.context number (form.integer (pos low) (pos high))) (value.number (pos default)) self.old.octets) }
+        ensures kept { self.new.lengths ≡ self.old.lengths }
+        ensures no_memory { NeedsNoMemory result }
+    {
+        match self.optional(Tag::primitive(number))? {
+            None => Ok(default),
+            Some(element) => unsigned8_in(element.contents, low, high),
+        }
+    }
+
+    /// A number of 16 bits without a sign, from `low` to `high`, under the context tag `number`.
+    #[tactic(auto, unfolding(crate::specs::Reading::required_by))]
+    pub fn required_u16_in(&mut self, number: u32, low: u16, high: u16) -> Result<u16, Unread>
+        ensures exact { Gives (λ n. (value.number (pos n), self.new.octets)) result (required_at self.old.lengths (form.context number (form.integer (pos low) (pos high))) self.old.octets) }
+        ensures kept { self.new.lengths ≡ self.old.lengths }
+        ensures no_memory { NeedsNoMemory result }
+    {
+        let element = self.required(Tag::primitive(number))?;
+        unsigned16_in(element.contents, low, high)
     }
 
     /// A number of 16 bits without a sign under the context tag `number`.
     pub fn required_u16(&mut self, number: u32) -> Result<u16, Unread>
         ensures exact { Gives (λ n. (value.number (pos n), self.new.octets)) result (required_at self.old.lengths (form.context number form.unsigned16) self.old.octets) }
         ensures kept { self.new.lengths ≡ self.old.lengths }
+        ensures no_memory { NeedsNoMemory result }
     {
         Ok(self.required_integer(number, 0, 65535)? as u16)
     }
@@ -109,6 +159,7 @@ impl<'a> Cursor<'a> {
     pub fn required_u32(&mut self, number: u32) -> Result<u32, Unread>
         ensures exact { Gives (λ n. (value.number (pos n), self.new.octets)) result (required_at self.old.lengths (form.context number form.unsigned32) self.old.octets) }
         ensures kept { self.new.lengths ≡ self.old.lengths }
+        ensures no_memory { NeedsNoMemory result }
     {
         Ok(self.required_integer(number, 0, 4294967295)? as u32)
     }
@@ -117,6 +168,7 @@ impl<'a> Cursor<'a> {
     pub fn optional_i8(&mut self, number: u32) -> Result<Option<i8>, Unread>
         ensures exact { Gives (λ o. (value.optionally value.number o, self.new.octets)) result (optional_at self.old.lengths (form.context number form.int8) self.old.octets) }
         ensures kept { self.new.lengths ≡ self.old.lengths }
+        ensures no_memory { NeedsNoMemory result }
     {
         match self.optional_integer(number, -128, 127)? {
             None => Ok(None),
@@ -128,6 +180,7 @@ impl<'a> Cursor<'a> {
     pub fn optional_i16(&mut self, number: u32) -> Result<Option<i16>, Unread>
         ensures exact { Gives (λ o. (value.optionally value.number o, self.new.octets)) result (optional_at self.old.lengths (form.context number form.int16) self.old.octets) }
         ensures kept { self.new.lengths ≡ self.old.lengths }
+        ensures no_memory { NeedsNoMemory result }
     {
         match self.optional_integer(number, -32768, 32767)? {
             None => Ok(None),
@@ -139,6 +192,7 @@ impl<'a> Cursor<'a> {
     pub fn optional_i32(&mut self, number: u32) -> Result<Option<i32>, Unread>
         ensures exact { Gives (λ o. (value.optionally value.number o, self.new.octets)) result (optional_at self.old.lengths (form.context number form.int32) self.old.octets) }
         ensures kept { self.new.lengths ≡ self.old.lengths }
+        ensures no_memory { NeedsNoMemory result }
     {
         match self.optional_integer(number, -2147483648, 2147483647)? {
             None => Ok(None),
@@ -150,6 +204,7 @@ impl<'a> Cursor<'a> {
     pub fn optional_u8(&mut self, number: u32) -> Result<Option<u8>, Unread>
         ensures exact { Gives (λ o. (value.optionally (λ n. value.number (pos n)) o, self.new.octets)) result (optional_at self.old.lengths (form.context number form.unsigned8) self.old.octets) }
         ensures kept { self.new.lengths ≡ self.old.lengths }
+        ensures no_memory { NeedsNoMemory result }
     {
         match self.optional_integer(number, 0, 255)? {
             None => Ok(None),
@@ -161,6 +216,7 @@ impl<'a> Cursor<'a> {
     pub fn optional_u16(&mut self, number: u32) -> Result<Option<u16>, Unread>
         ensures exact { Gives (λ o. (value.optionally (λ n. value.number (pos n)) o, self.new.octets)) result (optional_at self.old.lengths (form.context number form.unsigned16) self.old.octets) }
         ensures kept { self.new.lengths ≡ self.old.lengths }
+        ensures no_memory { NeedsNoMemory result }
     {
         match self.optional_integer(number, 0, 65535)? {
             None => Ok(None),
@@ -172,6 +228,7 @@ impl<'a> Cursor<'a> {
     pub fn optional_u32(&mut self, number: u32) -> Result<Option<u32>, Unread>
         ensures exact { Gives (λ o. (value.optionally (λ n. value.number (pos n)) o, self.new.octets)) result (optional_at self.old.lengths (form.context number form.unsigned32) self.old.octets) }
         ensures kept { self.new.lengths ≡ self.old.lengths }
+        ensures no_memory { NeedsNoMemory result }
     {
         match self.optional_integer(number, 0, 4294967295)? {
             None => Ok(None),

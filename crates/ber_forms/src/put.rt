@@ -257,20 +257,3 @@ pub fn enclose(
     };
     settle(out, since, written)
 }
-
-/// The same under a context tag with the constructed bit, as the element of a sequence, a list or a choice has it.
-pub fn enclose_context(
-    out: &mut Writer,
-    since: usize,
-    written: Result<(), Memory>,
-    number: u32,
-) -> Result<(), Memory>
-    requires since { since ≤ length out.old }
-    requires number { number < 16384 }
-    ensures ok { OnOk result (out.new ≡ take since out.old ++ element_octets (tag_of 2 number form.elements) (drop since out.old)) }
-    ensures written { OnOk result (written ≡ Ok tt) }
-    ensures err { OnErr result (out.new ≡ take since out.old) }
-{
-    let tag = Tag::constructed(number);
-    enclose(out, since, written, tag)
-}

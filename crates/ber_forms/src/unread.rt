@@ -4,15 +4,19 @@ ghost use Rattle.std.specs.Prelude.{◌≡◌};
 ghost use Rattle.ber_forms.specs.declared.unread.Unread.TheVariants.{Memory};
 
 use std::alloc::{AllocError, AllocFailed};
+use thiserror::Error;
 
 /// Why contents could not be read.
-#[derive(Clone, Copy, Debug, PartialEq, Eq)]
+#[derive(Clone, Copy, Debug, PartialEq, Eq, Error)]
 pub enum Unread {
     /// They are not of the form.
+    #[error("the contents are not of the form")]
     Malformed,
     /// A part of them nests too deep, and all before it is of its form.
+    #[error("a part of the contents nests too deep")]
     TooDeep,
     /// Memory ran out.
+    #[error("out of memory")]
     Memory,
 }
 
