@@ -5,3 +5,4 @@ pub mod KeyLaws
 pub mod OptionBits
 pub mod Moments
 pub mod Classes
+pub mod Errors

@@ -58,12 +58,6 @@ pub struct ServiceOptions {
 }
 
 impl ServiceOptions {
-    pub const STATUS: u8 = 0;
-
-    pub const GET_NAME_LIST: u8 = 1;
-
-    pub const IDENTIFY: u8 = 2;
-
     pub const UNSOLICITED_STATUS: u8 = 78;
 
     pub const INFORMATION_REPORT: u8 = 79;

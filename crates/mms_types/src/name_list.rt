@@ -1,7 +1,7 @@
 ghost use Rattle.std.specs.Prelude.{◌≡◌, ◌<◌};
 ghost use Rattle.mms_types.specs.Classes.{class_number};
 
-use crate::Identifier;
+use crate::{Identifier, Identifiers};
 
 /// A class of objects that have names (ISO 9506-2, ObjectClass).
 #[derive(Clone, Copy, Debug, PartialEq, Eq)]
@@ -59,4 +59,24 @@ pub enum ObjectScope {
     Domain(Identifier),
     /// The names of the association on which they are asked for.
     Association,
+}
+
+/// Which names are asked for (ISO 9506-2, GetNameList-Request).
+#[derive(Debug, PartialEq, Eq, Drop)]
+pub struct GetNameList {
+    /// The class of the objects.
+    pub class: ObjectClass,
+    /// Where their names belong.
+    pub scope: ObjectScope,
+    /// The name after which the list begins, where it isn't to begin with the first.
+    pub after: Option<Identifier>,
+}
+
+/// The names (ISO 9506-2, GetNameList-Response).
+#[derive(Debug, PartialEq, Eq, Drop)]
+pub struct GetNameListAnswer {
+    /// The names, in order of octets.
+    pub names: Identifiers,
+    /// Whether more names come after these.
+    pub more: bool,
 }

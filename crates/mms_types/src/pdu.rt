@@ -1,45 +1,28 @@
 use crate::{
-    Identifier, Identifiers, Initiate, InitiateAnswer, ObjectClass, ObjectScope, Octets,
-    ServiceError,
+    CancelError, ConfirmedError, GetNameList, GetNameListAnswer, IdentifyAnswer, Initiate,
+    InitiateAnswer, ServiceError, Status, StatusAnswer,
 };
 
-/// What a client asks of the server (ISO 9506-2, ConfirmedServiceRequest).
+/// What a client asks of the server (ISO 9506-2, ConfirmedServiceRequest): a variant for each service, with its argument.
 #[derive(Debug, PartialEq, Eq, Drop)]
 pub enum Request {
-    /// The state of the device; `derivation` asks for the extended one.
-    Status {
-        derivation: bool,
-    },
-    /// The names of the objects of a class in a scope, in order of octets: those that come after a name, where one is given, and
-    /// otherwise from the first.
-    GetNameList {
-        class: ObjectClass,
-        scope: ObjectScope,
-        after: Option<Identifier>,
-    },
+    /// The state of the device.
+    Status(Status),
+    /// The names of the objects of a class in a scope.
+    GetNameList(GetNameList),
     /// Who made the device, which one it is and its revision.
     Identify,
 }
 
-/// What the server answers to a request (ISO 9506-2, ConfirmedServiceResponse).
+/// What the server answers to a request (ISO 9506-2, ConfirmedServiceResponse): a variant for each service, with what it answers.
 #[derive(Debug, PartialEq, Eq, Drop)]
 pub enum Answer {
-    /// The logical and the physical state of the device, by their numbers.
-    Status {
-        logical: u8,
-        physical: u8,
-    },
+    /// The state of the device.
+    Status(StatusAnswer),
     /// The names, and whether more come after them.
-    GetNameList {
-        names: Identifiers,
-        more: bool,
-    },
+    GetNameList(GetNameListAnswer),
     /// The texts that identify the device.
-    Identify {
-        vendor: Octets,
-        model: Octets,
-        revision: Octets,
-    },
+    Identify(IdentifyAnswer),
 }
 
 /// Why a PDU is rejected (ISO 9506-2, RejectPDU): the reasons that the server gives.
@@ -76,45 +59,23 @@ pub struct Reject {
 #[derive(Debug, PartialEq, Eq, Drop)]
 pub enum Pdu {
     /// A confirmed-Request, without modifiers.
-    ConfirmedRequest {
-        invoke: u32,
-        request: Request,
-    },
+    ConfirmedRequest { invoke: u32, request: Request },
     /// A confirmed-Response.
-    ConfirmedResponse {
-        invoke: u32,
-        answer: Answer,
-    },
-    /// A confirmed-Error that the server sends. `modifier` is the place of the modifier that is
-    /// refused, where one is.
-    ConfirmedError {
-        invoke: u32,
-        modifier: Option<u32>,
-        error: ServiceError,
-    },
+    ConfirmedResponse { invoke: u32, answer: Answer },
+    /// A confirmed-Error that the server sends.
+    ConfirmedError(ConfirmedError),
     /// A confirmed-Error that a client sent: the invokeID alone is read.
-    HeardError {
-        invoke: u32,
-    },
+    HeardError { invoke: u32 },
     /// A reject that the server sends.
     Reject(Reject),
     /// A reject that a client sent: the invokeID alone is read, where there is one.
-    HeardReject {
-        invoke: Option<u32>,
-    },
+    HeardReject { invoke: Option<u32> },
     /// A cancel-Request.
-    CancelRequest {
-        invoke: u32,
-    },
+    CancelRequest { invoke: u32 },
     /// A cancel-Response that the server sends.
-    CancelResponse {
-        invoke: u32,
-    },
+    CancelResponse { invoke: u32 },
     /// A cancel-Error that the server sends.
-    CancelError {
-        invoke: u32,
-        error: ServiceError,
-    },
+    CancelError(CancelError),
     /// An unconfirmed PDU, a cancel-Response or a cancel-Error that a client sent: nothing is read.
     HeardOther,
     /// An initiate-Request.
