@@ -6,7 +6,7 @@ ghost use Rattle.ber_forms.specs.Reads.{NeedsNoMemory};
 ghost use Rattle.ber_forms.specs.Form as form;
 ghost use Rattle.ber_forms.specs.Value as value;
 
-use crate::contents::{integer, unsigned8_in, unsigned16_in};
+use crate::contents::{integer, unsigned8_in, unsigned16_in, unsigned32};
 use crate::cursor::Cursor;
 use crate::unread::Unread;
 use ber_core::Tag;
@@ -162,6 +162,17 @@ impl<'a> Cursor<'a> {
         ensures no_memory { NeedsNoMemory result }
     {
         Ok(self.required_integer(number, 0, 4294967295)? as u32)
+    }
+
+    /// A number of 32 bits without a sign under the universal tag of INTEGER.
+    #[tactic(auto, unfolding(crate::specs::Reading::required_by))]
+    pub fn required_universal_u32(&mut self) -> Result<u32, Unread>
+        ensures exact { Gives (λ n. (value.number (pos n), self.new.octets)) result (required_at self.old.lengths (form.universal 2 form.unsigned32) self.old.octets) }
+        ensures kept { self.new.lengths ≡ self.old.lengths }
+        ensures no_memory { NeedsNoMemory result }
+    {
+        let element = self.required(Tag::universal(2))?;
+        unsigned32(element.contents)
     }
 
     /// A number of 8 bits with a sign under the context tag `number`, if it is there.

@@ -7,7 +7,7 @@ use Rattle.ber_forms.specs.Form.{Form, tagged}
 use Rattle.ber_forms.specs.Fits.{Fits, is_sound, sound_member}
 use Rattle.ber_forms.proofs.Spelled.{form_spelled}
 use Rattle.ber_forms.proofs.Again.{spelled_says, one_spelling, no_other_member}
-use Rattle.pdu_names.specs.Said.{if_given, each_given}
+pub use Rattle.pdu_names.specs.Again.{if_given_again, each_given_again}
 use Rattle.pdu_names.specs.Spells.{Spells}
 
 member_sound : (class n : ℕ) (f : Form) → class < 4 → n < 16384 → IsTrue (is_sound f) → IsTrue (sound_member (tagged class n f))
@@ -28,13 +28,3 @@ lawful f view InRange sound fits back again = record {
   where
     told : (x y : _) → view x ≡ view y → x ≡ y
     told x y e = sym (again x) ∙ ap back e ∙ again y
-
--- a component that may be missing, turned round
-pub if_given_again : {X : Type 0} (view : X → Value) (back : Value → X) → ((x : X) → back (view x) ≡ x) → (o : Option X) → if_given back (optionally view o) ≡ o
-if_given_again view back again None = refl
-if_given_again {X} view back again (Some x) = ap (λ (y : X). Some y) (again x)
-
--- the members of a list, turned round
-pub each_given_again : {X : Type 0} (view : X → Value) (back : Value → X) → ((x : X) → back (view x) ≡ x) → (xs : List X) → each_given back (all_of (map view xs)) ≡ xs
-each_given_again view back again [] = refl
-each_given_again {X} view back again (x ∷ xs) = ap₂ (λ (y : X) (ys : List X). y ∷ ys) (again x) (each_given_again view back again xs)

@@ -1,3 +1,2 @@
 pub mod Lawful
-pub mod NameLaws
-pub mod Appended
+pub mod KindLaws

@@ -1,5 +1,8 @@
 pub mod Editions
-pub mod Names
-pub mod Ranges
 pub mod Said
+pub mod Again
+pub mod Alike
 pub mod Spells
+pub mod Kinds
+pub mod Gives
+pub mod Names

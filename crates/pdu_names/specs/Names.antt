@@ -1,55 +1,59 @@
 -- Identifier and ObjectName (ISO 9506-2).
-use Rattle.std.specs.Prelude.{ℕ, List, map}
-use Rattle.ber_forms.specs.Value.{Value, text, chosen, parts, given, done, slot, all_of}
-use Rattle.ber_forms.specs.Form.{Form, Member, Alternatives, octet_string, sequence, choice, list_of, any_number, no_more, required, universal, or, no_other}
-use Rattle.mms_types.specs.Spelling.{is_identifier, IsIdentifier}
+use Rattle.std.specs.Prelude.{◌≡◌, ℕ, true, List, []}
+use Rattle.std.proofs.Common.{refl}
+use Rattle.ber_forms.specs.Value.{Value, text, chosen}
+use Rattle.ber_forms.specs.Form as asn
+use Rattle.ber_forms.specs.Fits.{sound_alternatives}
 use Rattle.mms_types.specs.declared.identifier.Edition.{Edition}
 use Rattle.mms_types.specs.declared.object_name.ObjectName.{ObjectName}
 use Rattle.mms_types.specs.declared.object_name.ObjectName.TheVariants.{Vmd, Domain, Association}
+use Rattle.mms_types.specs.Spelling.{widest, is_identifier}
+use Rattle.pdu_names.specs.Said.{text_of}
+use Rattle.pdu_names.specs.Alike.{texts_alike}
+use Rattle.pdu_names.specs.Kinds.{Kind, Item, Choice, Arms, universal, list_of, sequence, required, no_more, or, no_other, alternatives, made_of}
 
 -- a VisibleString that is an identifier of the edition
-abbrev pub identifier_form : Edition → Form
-identifier_form edition = octet_string (is_identifier edition)
-
-abbrev pub identifier_value : List ℕ → Value
-identifier_value octets = text octets
+abbrev pub identifier : Kind (List ℕ)
+identifier = record {
+  form = λ e. asn.octet_string (is_identifier e);
+  value = text;
+  said = text_of;
+  again = λ o. refl;
+  alike = λ e. texts_alike (is_identifier e) (is_identifier widest);
+}
 
 -- the universal tag of VisibleString (ITU-T X.680, 8.4)
-abbrev pub identifier_member : Edition → Member
-identifier_member edition = universal 26 (identifier_form edition)
+abbrev pub own_identifier : Item (List ℕ)
+own_identifier = universal 26 identifier
 
 -- identifiers one after the other
-abbrev pub identifiers_form : Edition → Form
-identifiers_form edition = list_of any_number (identifier_member edition)
-
-abbrev pub identifiers_value : List (List ℕ) → Value
-identifiers_value names = parts (all_of (map identifier_value names))
+abbrev pub identifiers : Kind (List (List ℕ))
+identifiers = list_of asn.any_number own_identifier
 
 -- a domain, and an item in it
-abbrev pub in_domain_form : Edition → Form
-in_domain_form edition = sequence (
-    required (identifier_member edition) (
-    required (identifier_member edition) no_more))
-
-abbrev pub in_domain_value : List ℕ → List ℕ → Value
-in_domain_value domain item = parts (
-    slot (given (identifier_value domain)) (
-    slot (given (identifier_value item)) done))
+abbrev pub in_domain : Kind (List ℕ × List ℕ)
+in_domain = sequence (
+    required own_identifier (λ d. d.0) (
+    required own_identifier (λ d. d.1) no_more))
+    (λ domain item. (domain, item)) (λ d. refl)
 
 -- vmd-specific 0, domain-specific 1, aa-specific 2
-abbrev pub names : Edition → Alternatives
-names edition = or 0 (identifier_form edition) (or 1 (in_domain_form edition) (or 2 (identifier_form edition) no_other))
+abbrev name_arms : Arms ObjectName
+name_arms = or 0 identifier Vmd (or 1 in_domain (λ d. Domain d.0 d.1) (or 2 identifier Association (no_other (Vmd []))))
 
-abbrev pub name_form : Edition → Form
-name_form edition = choice (names edition)
+abbrev name_value : ObjectName → Value
+name_value (Vmd item) = chosen 0 (identifier.value item)
+name_value (Domain domain item) = chosen 1 (in_domain.value (domain, item))
+name_value (Association item) = chosen 2 (identifier.value item)
 
-abbrev pub name_value : ObjectName → Value
-name_value (Vmd item) = chosen 0 (identifier_value item)
-name_value (Domain domain item) = chosen 1 (in_domain_value domain item)
-name_value (Association item) = chosen 2 (identifier_value item)
+pub name_again : (x : ObjectName) → made_of name_arms (name_value x) ≡ x
+name_again (Vmd item) = refl
+name_again (Domain domain item) = refl
+name_again (Association item) = refl
 
--- the name is of the edition
-abbrev pub IsObjectName : Edition → ObjectName → Type 0
-IsObjectName edition (Vmd item) = IsIdentifier edition item
-IsObjectName edition (Domain domain item) = IsIdentifier edition domain × IsIdentifier edition item
-IsObjectName edition (Association item) = IsIdentifier edition item
+unfoldable pub names : Choice ObjectName
+names = alternatives name_arms name_value name_again
+
+pub names_sound : (e : Edition) → sound_alternatives (names.alternatives e) ≡ true
+unfolding names
+names_sound e = refl

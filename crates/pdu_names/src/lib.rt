@@ -1,23 +1,22 @@
-//! Names in octets, both ways (ISO 9506-2, Identifier and ObjectName), and what the crates of forms share: which
-//! lengths an edition reads, and how want of memory is told.
+//! Forms of contents as types, with all that is said of every form, and the forms that the crates of PDUs share: leaves, identifiers and names
+//! of objects (ISO 9506-2, Identifier and ObjectName).
 #![tactic(auto)]
 
 mod edition;
+mod formed;
 mod identifier;
-mod identifiers;
 mod laws;
+mod leaves;
 mod name;
-mod written;
+mod own;
+mod parts;
+mod whole;
 
 pub use edition::{cursor, lengths};
-pub use identifier::{
-    optional_identifier, put_identifier, put_optional_identifier, put_universal_identifier,
-    read_identifier, required_identifier, universal_identifier, write_identifier,
-};
-pub use identifiers::{put_identifiers, required_identifiers};
-pub use laws::spells_each_name;
-pub use name::{
-    name_of, optional_name, put_name, put_name_chosen, put_optional_name, read_name, required_name,
-    write_name,
-};
-pub use written::{enclosed, kept, told};
+pub use formed::Formed;
+pub use laws::spells_each;
+pub use leaves::{Boolean, Null, OctetString, Signed32, Unsigned32, VisibleString};
+pub use name::Name;
+pub use own::{Chosen, OneOf, Own, put_each, read_as, read_each};
+pub use parts::{optional, put_optional, required};
+pub use whole::{as_memory, read_form, write_form};
