@@ -1,4 +1,1 @@
 pub mod Numbered
-pub mod InRange
-pub mod Back
-pub mod NameLists

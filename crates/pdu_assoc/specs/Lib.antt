@@ -2,9 +2,5 @@ pub mod Initiate
 pub mod ServiceErrors
 pub mod Status
 pub mod Reject
-pub mod Conclude
-pub mod Identify
-pub mod Cancel
-pub mod ConfirmedError
 pub mod Heard
 pub mod NameList

@@ -1,104 +1,72 @@
 -- GetNameList (ISO 9506-2, VMD support): its request and its answer.
-use Rattle.std.specs.Prelude.{ℕ, pos, List, Bool, false, ◌==◌, if◌then◌else◌, Option, None, IfSome}
-use Rattle.std.specs.List.{All}
-use Rattle.ber_forms.specs.Value.{Value, nothing, truth, number, chosen, parts, optionally, given, done, slot}
-use Rattle.ber_forms.specs.Form.{Form, Alternatives, null, boolean, integer, sequence, choice, no_more, required, optional, context, or, no_other}
-use Rattle.mms_types.specs.declared.identifier.Edition.{Edition}
+use Rattle.std.specs.Prelude.{◌≡◌, ℕ, [], ◌∷◌, get_or, refl}
+use Rattle.ber_forms.specs.Value.{Value, nothing, chosen}
 use Rattle.mms_types.specs.declared.name_list.ObjectClass.{ObjectClass}
+use Rattle.mms_types.specs.declared.name_list.ObjectClass.TheVariants.{NamedVariable, ScatteredAccess, NamedVariableList, NamedType, Semaphore, EventCondition, EventAction, EventEnrollment, Journal, ProgramInvocation, OperatorStation}
 use Rattle.mms_types.specs.declared.name_list.ObjectClass.TheVariants as class
 use Rattle.mms_types.specs.declared.name_list.ObjectScope.{ObjectScope}
 use Rattle.mms_types.specs.declared.name_list.ObjectScope.TheVariants.{Vmd, Domain, Association}
+use Rattle.mms_types.specs.declared.name_list.GetNameList.{GetNameList}
+use Rattle.mms_types.specs.declared.name_list.GetNameListAnswer.{GetNameListAnswer}
 use Rattle.mms_types.specs.Classes.{class_number}
-use Rattle.mms_types.specs.Spelling.{IsIdentifier}
-use Rattle.pdu_names.specs.Names.{identifier_form, identifier_value, identifiers_form, identifiers_value}
-use Rattle.pdu_names.specs.Said.{truth_of, natural_of, text_of, if_given, members_of}
-use Rattle.pdu_assoc.specs.declared.name_list.GetNameList.{GetNameList}
-use Rattle.pdu_assoc.specs.declared.name_list.GetNameListAnswer.{GetNameListAnswer}
+use Rattle.pdu_names.specs.Kinds.{Kind, Choice, Arms, null, boolean, enumerated, context, choice, sequence, required, optional, no_more, or, no_other, alternatives, made_of}
+use Rattle.pdu_names.specs.Names.{identifier, identifiers}
 
--- objectClass: basicObjectClass, from named variables 0 to operator stations 11
-abbrev pub classes : Alternatives
-classes = or 0 (integer (pos 0) (pos 11)) no_other
+-- basicObjectClass: from named variables 0 to operator stations 11
+abbrev class_numbered : ℕ → ObjectClass
+class_numbered n =
+    get_or (NamedVariable ∷ ScatteredAccess ∷ NamedVariableList ∷ NamedType ∷ Semaphore ∷ EventCondition ∷ EventAction ∷ EventEnrollment
+    ∷ Journal ∷ class.Domain ∷ ProgramInvocation ∷ []) n OperatorStation
 
-abbrev pub class_value : ObjectClass → Value
-class_value class = chosen 0 (number (pos (class_number class)))
+pub class_again : (c : ObjectClass) → class_numbered (class_number c) ≡ c
+class_again NamedVariable = refl
+class_again ScatteredAccess = refl
+class_again NamedVariableList = refl
+class_again NamedType = refl
+class_again Semaphore = refl
+class_again EventCondition = refl
+class_again EventAction = refl
+class_again EventEnrollment = refl
+class_again Journal = refl
+class_again class.Domain = refl
+class_again ProgramInvocation = refl
+class_again OperatorStation = refl
+
+abbrev pub object_class : Kind ObjectClass
+object_class = enumerated 11 class_number class_numbered class_again
+
+-- objectClass: basicObjectClass 0
+abbrev pub classes : Choice ObjectClass
+classes = alternatives (or 0 object_class (λ c. c) (no_other NamedVariable)) (λ c. chosen 0 (object_class.value c)) class_again
 
 -- objectScope: vmdSpecific 0, domainSpecific 1 with the domain's name, aaSpecific 2
-abbrev pub scopes : Edition → Alternatives
-scopes edition = or 0 null (or 1 (identifier_form edition) (or 2 null no_other))
+abbrev scope_arms : Arms ObjectScope
+scope_arms = or 0 null (λ _. Vmd) (or 1 identifier Domain (or 2 null (λ _. Association) (no_other Vmd)))
 
-abbrev pub scope_value : ObjectScope → Value
+abbrev scope_value : ObjectScope → Value
 scope_value Vmd = chosen 0 nothing
-scope_value (Domain domain) = chosen 1 (identifier_value domain)
+scope_value (Domain domain) = chosen 1 (identifier.value domain)
 scope_value Association = chosen 2 nothing
 
--- objectClass, objectScope, and continueAfter
-abbrev pub name_list_form : Edition → Form
-name_list_form edition = sequence (
-    required (context 0 (choice classes)) (
-    required (context 1 (choice (scopes edition))) (
-    optional (context 2 (identifier_form edition)) no_more)))
+pub scope_again : (s : ObjectScope) → made_of scope_arms (scope_value s) ≡ s
+scope_again Vmd = refl
+scope_again (Domain domain) = refl
+scope_again Association = refl
 
-abbrev pub asked_value : ObjectClass → ObjectScope → Option (List ℕ) → Value
-asked_value class scope after = parts (
-    slot (given (class_value class)) (
-    slot (given (scope_value scope)) (
-    slot (optionally identifier_value after) done)))
+abbrev pub scopes : Choice ObjectScope
+scopes = alternatives scope_arms scope_value scope_again
 
-abbrev pub name_list_value : GetNameList → Value
-name_list_value asked = asked_value asked.class asked.scope asked.after
+-- GetNameList-Request: objectClass, objectScope, and continueAfter
+abbrev pub name_list : Kind GetNameList
+name_list = sequence (
+    required (context 0 (choice classes)) (λ x. x.class) (
+    required (context 1 (choice scopes)) (λ x. x.scope) (
+    optional (context 2 identifier) (λ x. x.after) no_more)))
+    (λ class scope after. record { class = class; scope = scope; after = after }) (λ x. refl)
 
--- listOfIdentifier and moreFollows, which is always written (this profile's choice)
-abbrev pub name_list_answer_form : Edition → Form
-name_list_answer_form edition = sequence (
-    required (context 0 (identifiers_form edition)) (
-    required (context 1 boolean) no_more))
-
-abbrev pub listed_value : List (List ℕ) → Bool → Value
-listed_value names more = parts (
-    slot (given (identifiers_value names)) (
-    slot (given (truth more)) done))
-
-abbrev pub name_list_answer_value : GetNameListAnswer → Value
-name_list_answer_value told = listed_value told.names told.more
-
--- ---- the values of the forms
-
--- the domain's name is one of the edition
-abbrev pub IsScope : Edition → ObjectScope → Type 0
-IsScope edition Vmd = Unit {0}
-IsScope edition (Domain domain) = IsIdentifier edition domain
-IsScope edition Association = Unit {0}
-
-abbrev pub IsNameList : Edition → GetNameList → Type 0
-IsNameList edition asked = IsScope edition asked.scope × IfSome asked.after (IsIdentifier edition)
-
-abbrev pub IsNameListAnswer : Edition → GetNameListAnswer → Type 0
-IsNameListAnswer edition told = All (IsIdentifier edition) told.names
-
--- ---- what a value says, and nothing in particular where it is of another form
-
-abbrev pub class_numbered : ℕ → ObjectClass
-class_numbered n =
-    if n == 0 then class.NamedVariable else if n == 1 then class.ScatteredAccess else if n == 2 then class.NamedVariableList
-    else if n == 3 then class.NamedType else if n == 4 then class.Semaphore else if n == 5 then class.EventCondition
-    else if n == 6 then class.EventAction else if n == 7 then class.EventEnrollment else if n == 8 then class.Journal
-    else if n == 9 then class.Domain else if n == 10 then class.ProgramInvocation else class.OperatorStation
-
-abbrev pub class_said : Value → ObjectClass
-class_said (chosen k v) = class_numbered (natural_of v)
-class_said v = class.NamedVariable
-
-abbrev pub scope_said : Value → ObjectScope
-scope_said (chosen k v) = if k == 0 then Vmd else if k == 1 then Domain (text_of v) else Association
-scope_said v = Vmd
-
--- what is asked
-abbrev pub name_list_of : Value → GetNameList
-name_list_of (parts (slot (given class) (slot (given scope) (slot after done)))) =
-    record { class = class_said class; scope = scope_said scope; after = if_given text_of after }
-name_list_of v = record { class = class_said v; scope = scope_said v; after = None }
-
--- what is answered
-abbrev pub name_list_answer_of : Value → GetNameListAnswer
-name_list_answer_of (parts (slot (given names) (slot (given more) done))) = record { names = members_of text_of names; more = truth_of more }
-name_list_answer_of v = record { names = members_of text_of v; more = false }
+-- GetNameList-Response: listOfIdentifier and moreFollows, which is always written (this profile's choice)
+abbrev pub name_list_answer : Kind GetNameListAnswer
+name_list_answer = sequence (
+    required (context 0 identifiers) (λ x. x.names) (
+    required (context 1 boolean) (λ x. x.more) no_more))
+    (λ names more. record { names = names; more = more }) (λ x. refl)

@@ -1,27 +1,25 @@
--- Status (ISO 9506-2, VMD support): its request and its answer.
-use Rattle.std.specs.Prelude.{Bool, pos, ◌≡◌}
-use Rattle.ber_forms.specs.Value.{Value, number, truth, parts, given, done, slot}
-use Rattle.ber_forms.specs.Form.{Form, boolean, integer, sequence, no_more, required, context}
-use Rattle.pdu_assoc.specs.declared.status.StatusAnswer.{StatusAnswer}
+-- Status and Identify (ISO 9506-2, VMD support): their requests and their answers.
+use Rattle.std.specs.Prelude.{refl}
+use Rattle.mms_types.specs.declared.status.Status.{Status}
+use Rattle.mms_types.specs.declared.status.StatusAnswer.{StatusAnswer}
+use Rattle.mms_types.specs.declared.status.IdentifyAnswer.{IdentifyAnswer}
+use Rattle.pdu_names.specs.Kinds.{Kind, boolean, natural, visible_string, of_one, context, sequence, required, no_more}
 
--- extendedDerivation
-abbrev pub status_form : Form
-status_form = boolean
+-- Status-Request: extendedDerivation
+abbrev pub status : Kind Status
+status = of_one boolean (λ s. s.derivation) (λ b. record { derivation = b }) (λ s. refl)
 
-abbrev pub status_value : Bool → Value
-status_value derivation = truth derivation
+-- Status-Response: vmdLogicalStatus state-changes-allowed 0 and vmdPhysicalStatus operational 0 (this profile's choice: no others)
+abbrev pub status_answer : Kind StatusAnswer
+status_answer = sequence (
+    required (context 0 (natural 0 0)) (λ a. a.logical) (
+    required (context 1 (natural 0 0)) (λ a. a.physical) no_more))
+    (λ logical physical. record { logical = logical; physical = physical }) (λ a. refl)
 
--- vmdLogicalStatus state-changes-allowed 0 and vmdPhysicalStatus operational 0 (this profile's choice: no others)
-abbrev pub status_answer_form : Form
-status_answer_form = sequence (
-    required (context 0 (integer (pos 0) (pos 0))) (
-    required (context 1 (integer (pos 0) (pos 0))) no_more))
-
-abbrev pub status_answer_value : StatusAnswer → Value
-status_answer_value a = parts (
-    slot (given (number (pos a.logical))) (
-    slot (given (number (pos a.physical))) done))
-
--- the answers of the form
-abbrev pub IsStatusAnswer : StatusAnswer → Type 0
-IsStatusAnswer a = (a.logical ≡ 0) × (a.physical ≡ 0)
+-- Identify-Response: vendorName, modelName and revision
+abbrev pub identify_answer : Kind IdentifyAnswer
+identify_answer = sequence (
+    required (context 0 visible_string) (λ a. a.vendor) (
+    required (context 1 visible_string) (λ a. a.model) (
+    required (context 2 visible_string) (λ a. a.revision) no_more)))
+    (λ vendor model revision. record { vendor = vendor; model = model; revision = revision }) (λ a. refl)

@@ -1,77 +1,107 @@
-//! Status: its request and its answer.
+//! Status and Identify: their requests and their answers.
+#![tactic(auto, unfolding(ber_forms::specs::Spelling::appended), using(ber_forms::proofs::Joined::writing))]
 
-ghost use Rattle.std.specs.Prelude.{◌≡◌, ◌++◌, Ok, Err, OnOk, OnErr};
-ghost use Rattle.ber_forms.specs.Reading.{Gives, reading};
-ghost use Rattle.ber_forms.specs.Reads.{Reads};
-ghost use Rattle.ber_forms.specs.Spelling.{spelling, appended, Begins};
-ghost use Rattle.pdu_names.specs.Editions.{lengths_of};
-ghost use Rattle.pdu_assoc.specs.Status.{status_form, status_value, status_answer_form, status_answer_value};
+ghost use Rattle.std.specs.Prelude.{refl, true, false};
+ghost use Rattle.pdu_assoc.specs.Status.{status, status_answer, identify_answer};
 
 use ber_core::{Memory as Full, Writer};
-use ber_forms::{Unread, boolean, put_integer};
-use mms_types::{Edition, Memory};
-use pdu_names::{cursor, kept, told};
+use ber_forms::{Unread, boolean, put_boolean, put_integer};
+use mms_types::{Edition, IdentifyAnswer, Status, StatusAnswer};
+use pdu_names::{Boolean, Formed, VisibleString, cursor, required};
+use std::alloc::Global;
 
-/// The state of the device (ISO 9506-2, Status-Response).
-#[derive(Clone, Copy, Debug, PartialEq, Eq)]
-pub struct StatusAnswer {
-    /// vmdLogicalStatus, by its number: 0, state-changes-allowed, is the one of the form.
-    pub logical: u8,
-    /// vmdPhysicalStatus, by its number: 0, operational, is the one of the form.
-    pub physical: u8,
+/// The form of a Status request.
+pub struct StatusRequest;
+
+impl Formed for StatusRequest {
+    type Item = Status;
+
+    ghost kind = { status };
+
+    ghost needs_no_memory = { true };
+
+    fn is_constructed() -> bool {
+        false
+    }
+
+    fn read(_alloc: Global, contents: &[u8], _edition: Edition) -> Result<Status, Unread> {
+        let derivation = boolean(contents)?;
+        Ok(Status { derivation })
+    }
+
+    fn put(out: &mut Writer, x: &Status) -> Result<(), Full> {
+        Boolean::put(out, &x.derivation)
+    }
+
+    fn put_part(out: &mut Writer, number: u32, x: &Status) -> Result<(), Full> {
+        put_boolean(out, number, x.derivation)
+    }
+
+    ghost sound = { λ _. refl };
 }
 
-/// Whether the contents of a Status request ask for the extended derivation. Malformed exactly where they are not of its form.
-pub fn read_status(contents: &[u8], _edition: Edition) -> Result<bool, Unread>
-    ensures exact { Gives status_value result (reading (lengths_of _edition) status_form contents.now) }
-    ensures reads { Reads (lengths_of _edition) status_form status_value contents.now result }
-{
-    boolean(contents)
+/// The form of a Status answer.
+pub struct StatusResponse;
+
+impl Formed for StatusResponse {
+    type Item = StatusAnswer;
+
+    ghost kind = { status_answer };
+
+    ghost needs_no_memory = { true };
+
+    fn is_constructed() -> bool {
+        true
+    }
+
+    fn read(_alloc: Global, contents: &[u8], edition: Edition) -> Result<StatusAnswer, Unread> {
+        let mut parts = cursor(edition, contents);
+        let logical = parts.required_u8_in(0, 0, 0)?;
+        let physical = parts.required_u8_in(1, 0, 0)?;
+        parts.end()?;
+        Ok(StatusAnswer { logical, physical })
+    }
+
+    fn put(out: &mut Writer, x: &StatusAnswer) -> Result<(), Full> {
+        put_integer(out, 0, i64::from(x.logical))?;
+        put_integer(out, 1, i64::from(x.physical))
+    }
+
+    ghost sound = { λ _. refl };
 }
 
-/// Appends the one spelling of the argument of a Status request.
-pub fn write_status(out: &mut Writer, derivation: &bool) -> Result<(), Memory>
-    ensures ok { OnOk result (out.new ≡ out.old ++ spelling status_form (status_value derivation.now)) }
-    ensures err { OnErr result (out.new ≡ out.old) }
-{
-    let octet = if *derivation { 255 } else { 0 };
-    told(out.raw(&[octet]))
-}
+/// The form of an Identify answer. The texts are copied.
+pub struct IdentifyResponse;
 
-fn answer(contents: &[u8], edition: Edition) -> Result<StatusAnswer, Unread>
-    ensures { Gives status_answer_value result (reading (lengths_of edition) status_answer_form contents.now) }
-{
-    let mut parts = cursor(edition, contents);
-    let logical = parts.required_integer(0, 0, 0)? as u8;
-    let physical = parts.required_integer(1, 0, 0)? as u8;
-    parts.end()?;
-    Ok(StatusAnswer { logical, physical })
-}
+impl Formed for IdentifyResponse {
+    type Item = IdentifyAnswer;
 
-/// The state that the contents of a Status answer say. Malformed exactly where they are not of its form.
-pub fn read_status_answer(contents: &[u8], edition: Edition) -> Result<StatusAnswer, Unread>
-    ensures exact { Gives status_answer_value result (reading (lengths_of edition) status_answer_form contents.now) }
-    ensures reads { Reads (lengths_of edition) status_answer_form status_answer_value contents.now result }
-{
-    answer(contents, edition)
-}
+    ghost kind = { identify_answer };
 
-#[tactic(auto, unfolding(ber_forms::specs::Spelling::appended), using(ber_forms::proofs::Joined::writing))]
-fn put(out: &mut Writer, answer: &StatusAnswer) -> Result<(), Full>
-    ensures ok { OnOk result (out.new ≡ appended status_answer_form (status_answer_value answer.now) out.old) }
-    ensures begins { Begins out.old out.new }
-{
-    put_integer(out, 0, i64::from(answer.logical))?;
-    put_integer(out, 1, i64::from(answer.physical))
-}
+    ghost needs_no_memory = { false };
 
-/// Appends the one spelling of the state, as the contents of a Status answer.
-#[tactic(auto, using(ber_forms::proofs::Joined::writing))]
-pub fn write_status_answer(out: &mut Writer, answer: &StatusAnswer) -> Result<(), Memory>
-    ensures ok { OnOk result (out.new ≡ out.old ++ spelling status_answer_form (status_answer_value answer.now)) }
-    ensures err { OnErr result (out.new ≡ out.old) }
-{
-    let since = out.len();
-    let written = put(out, answer);
-    kept(out, since, written)
+    fn is_constructed() -> bool {
+        true
+    }
+
+    fn read(alloc: Global, contents: &[u8], edition: Edition) -> Result<IdentifyAnswer, Unread> {
+        let mut parts = cursor(edition, contents);
+        let vendor = required::<VisibleString>(alloc, &mut parts, edition, 0)?;
+        let model = required::<VisibleString>(alloc, &mut parts, edition, 1)?;
+        let revision = required::<VisibleString>(alloc, &mut parts, edition, 2)?;
+        parts.end()?;
+        Ok(IdentifyAnswer {
+            vendor,
+            model,
+            revision,
+        })
+    }
+
+    fn put(out: &mut Writer, x: &IdentifyAnswer) -> Result<(), Full> {
+        VisibleString::put_part(out, 0, &x.vendor)?;
+        VisibleString::put_part(out, 1, &x.model)?;
+        VisibleString::put_part(out, 2, &x.revision)
+    }
+
+    ghost sound = { λ _. refl };
 }

@@ -57,6 +57,8 @@ impl Own for Identifier {
 
     ghost item = { own_identifier };
 
+    ghost needs_no_memory = { false };
+
     #[tactic(auto, unfolding(ber_forms::specs::Reading::required_by))]
     fn take(alloc: Global, parts: &mut Cursor<'_>, edition: Edition) -> Result<Identifier, Unread> {
         let element = parts.required(Tag::universal(26))?;

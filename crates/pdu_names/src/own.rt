@@ -31,12 +31,16 @@ pub trait Own {
     /// The element's form in each edition, and what an item says in it.
     ghost item: { Item Self.Item };
 
+    /// Reading needs no memory.
+    ghost needs_no_memory: { Bool };
+
     /// The next element. Malformed or TooDeep exactly where the form's reading is, and Memory where memory runs out.
     fn take(alloc: Global, parts: &mut Cursor<'_>, edition: Edition) -> Result<Self::Item, Unread>
         requires { parts.old.lengths ≡ lengths_of edition }
         ensures exact { GivesNext item edition parts.old parts.new result }
         ensures kept { parts.new.lengths ≡ parts.old.lengths }
-        ensures shorter { OnOk result (length parts.new.octets < length parts.old.octets) };
+        ensures shorter { OnOk result (length parts.new.octets < length parts.old.octets) }
+        ensures no_memory { IsTrue needs_no_memory → NeedsNoMemory result };
 
     /// Appends the element, or nothing where memory runs out.
     fn put_own(out: &mut Writer, x: &Self::Item) -> Result<(), Full>
@@ -108,6 +112,8 @@ impl<C: Chosen> Own for OneOf<C> {
     type Item = C::Item;
 
     ghost item = { one_of C.arms };
+
+    ghost needs_no_memory = { C.needs_no_memory };
 
     #[tactic(auto, unfolding(ber_forms::specs::Reading::chosen_by))]
     fn take(alloc: Global, parts: &mut Cursor<'_>, edition: Edition) -> Result<Self::Item, Unread> {
