@@ -2,29 +2,23 @@
 use Rattle.std.proofs.Common.{◌≡◌, ℕ, pos, ◌<◌, ◌^◌, Bool, true, false, List, ◌++◌, length, Result, Ok, refl, sym, ap, subst, ◌∙◌, arith}
 use Rattle.std.specs.Prelude.{IsTrue, ◌==◌, ◌||◌}
 use Rattle.ber_core.specs.declared.element.Lengths.{Lengths}
-use Rattle.ber_core.specs.Spelling.{element_octets}
-use Rattle.ber_forms.specs.Value.{Value, number, chosen}
-use Rattle.ber_forms.specs.Form.{choice, one_of, universal, unsigned32}
+use Rattle.ber_forms.specs.Value.{Value, chosen}
+use Rattle.ber_forms.specs.Form.{choice, one_of}
 use Rattle.ber_forms.specs.InForm.{InForm}
-use Rattle.ber_forms.specs.Spelling.{tag_of, spelling, member_octets}
+use Rattle.ber_forms.specs.Spelling.{spelling, alternative_octets}
 use Rattle.ber_forms.specs.Fits.{is_sound, FitsOne}
-use Rattle.ber_forms.proofs.Told.{natural_fits}
 use Rattle.ber_forms.proofs.Spelled.{form_spelled}
 use Rattle.ber_forms.proofs.Again.{no_other_member}
 use Rattle.mms_types.specs.declared.identifier.Edition.{Edition}
-use Rattle.mms_types.specs.declared.pdu.Request.{Request}
-use Rattle.mms_types.specs.declared.pdu.Request.TheVariants as request
 use Rattle.mms_types.specs.declared.pdu.Pdu.{Pdu}
 use Rattle.mms_types.specs.declared.pdu.Pdu.TheVariants as pdu
 use Rattle.mms_types.specs.Spelling.{widest}
-use Rattle.pdu_assoc.specs.NameList.{name_list_form}
-use Rattle.pdu_assoc.proofs.InRange.{initiate_fits}
-use Rattle.pdu_assoc.proofs.NameLists.{asked_fits, asked_alike}
 use Rattle.mms_pdu.specs.declared.refusal.Refusal.{Refusal}
-use Rattle.mms_pdu.specs.Pdus.{requests, request_value, request_form, pdu_value, pdu_octets}
+use Rattle.mms_pdu.specs.Services.{requests_sound, answers_sound}
+use Rattle.mms_pdu.specs.Pdus.{whole_arms, pdu_value, pdu_octets}
 use Rattle.mms_pdu.specs.Hearing.{whole_pdus, heard}
 use Rattle.mms_pdu.specs.Heard.{pdu_of}
-use Rattle.mms_pdu.specs.Asking.{IsRequest, IsAsking}
+use Rattle.mms_pdu.specs.Asking.{IsAsking}
 use Rattle.mms_pdu.proofs.HeardAgain.{pdu_again}
 use Rattle.mms_pdu.proofs.Whole.{heard_again}
 
@@ -35,7 +29,7 @@ asks (chosen n v) = (n == 0) || (n == 5) || (n == 8) || (n == 11)
 asks v = false
 
 asked_back : (p : Pdu) → asks (pdu_value p) ≡ true → pdu_of (pdu_value p) ≡ p
-asked_back (pdu.ConfirmedRequest invoke asked) e = pdu_again (pdu.ConfirmedRequest invoke asked) tt
+asked_back (pdu.ConfirmedRequest invoke request) e = pdu_again (pdu.ConfirmedRequest invoke request) tt
 asked_back (pdu.CancelRequest invoke) e = refl
 asked_back (pdu.InitiateRequest proposal) e = pdu_again (pdu.InitiateRequest proposal) tt
 asked_back pdu.ConcludeRequest e = refl
@@ -46,7 +40,7 @@ same_told v w r e f = cc (e, f)
 
 module _ (edition : Edition) where
   asking_asks : (p : Pdu) → IsAsking edition p → asks (pdu_value p) ≡ true
-  asking_asks (pdu.ConfirmedRequest invoke asked) h = refl
+  asking_asks (pdu.ConfirmedRequest invoke request) h = refl
   asking_asks (pdu.CancelRequest invoke) h = refl
   asking_asks (pdu.InitiateRequest proposal) h = refl
   asking_asks pdu.ConcludeRequest h = refl
@@ -59,31 +53,25 @@ module _ (edition : Edition) where
 
   -- ---- what is asked fits, and is spelled
 
-  request_fits : (r : Request) → IsRequest edition r → FitsOne (requests edition) (request_value r)
-  request_fits (request.Status derivation) h = tt
-  request_fits (request.GetNameList class scope after) h = asked_fits edition (record { class = class; scope = scope; after = after }) h
-  request_fits request.Identify h = tt
-
   asking_fits : (p : Pdu) → IsAsking edition p → FitsOne (whole_pdus edition) (pdu_value p)
-  asking_fits (pdu.ConfirmedRequest invoke asked) h = (natural_fits 4294967295 invoke (omega (arith, h.0)), (request_fits asked h.1, tt))
-  asking_fits (pdu.CancelRequest invoke) h = natural_fits 4294967295 invoke (omega (arith, h))
-  asking_fits (pdu.InitiateRequest proposal) h = initiate_fits proposal h
+  asking_fits (pdu.ConfirmedRequest invoke request) h = h
+  asking_fits (pdu.CancelRequest invoke) h = h
+  asking_fits (pdu.InitiateRequest proposal) h = h
   asking_fits pdu.ConcludeRequest h = tt
   asking_fits p h = absurd h
 
+  sent_so : (p : Pdu) → IsAsking edition p → alternative_octets (whole_pdus widest) (pdu_value p) ≡ pdu_octets p
+  sent_so (pdu.ConfirmedRequest invoke request) h = refl
+  sent_so (pdu.CancelRequest invoke) h = refl
+  sent_so (pdu.InitiateRequest proposal) h = refl
+  sent_so pdu.ConcludeRequest h = refl
+  sent_so p h = absurd h
+
   asking_spelled : (p : Pdu) → IsAsking edition p → spelling (choice (whole_pdus edition)) (pdu_value p) ≡ pdu_octets p
-  asking_spelled (pdu.ConfirmedRequest invoke (request.Status derivation)) h = refl
-  asking_spelled (pdu.ConfirmedRequest invoke (request.GetNameList class scope after)) h =
-      ap (λ (o : List ℕ). element_octets (tag_of 2 0 (request_form widest)) (member_octets (universal 2 unsigned32) (number (pos invoke)) ++ element_octets (tag_of 2 1 (name_list_form widest)) o))
-      (asked_alike edition (record { class = class; scope = scope; after = after }))
-  asking_spelled (pdu.ConfirmedRequest invoke request.Identify) h = refl
-  asking_spelled (pdu.CancelRequest invoke) h = refl
-  asking_spelled (pdu.InitiateRequest proposal) h = refl
-  asking_spelled pdu.ConcludeRequest h = refl
-  asking_spelled p h = absurd h
+  asking_spelled p h = whole_arms.alike edition (pdu_value p) ∙ sent_so p h
 
   whole_sound : IsTrue (is_sound (choice (whole_pdus edition)))
-  whole_sound = refl
+  whole_sound = rw (requests_sound edition, answers_sound edition) refl
 
   -- ---- the laws
 

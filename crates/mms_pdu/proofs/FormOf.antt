@@ -8,18 +8,21 @@ use Rattle.ber_core.proofs.Elements.{IsBytes}
 use Rattle.ber_forms.specs.Fault.{Fault}
 use Rattle.ber_forms.specs.Fault as fault
 use Rattle.ber_forms.specs.Value.{Value, nothing, number, chosen, parts, optionally, given, done, slot}
-use Rattle.ber_forms.specs.Form.{Alternatives, choice, universal, unsigned32}
+use Rattle.ber_forms.specs.Form.{Form, Alternatives, choice, universal, unsigned32}
 use Rattle.ber_forms.specs.Reading.{◌>>=◌, is_tag, has_tag, next_at, part_at, if_tag, optional_part, at_end, chosen_by, reading, alternatives, required_at}
 use Rattle.ber_forms.specs.InForm.{InForm}
 use Rattle.ber_forms.proofs.Sound.{fine_is, bound, reading_sound}
 use Rattle.pdu_names.specs.Said.{natural_of}
-use Rattle.pdu_assoc.specs.Heard.{heard_reject_form, answering_form, answered}
+use Rattle.pdu_assoc.specs.Heard.{heard_error, heard_reject_form, answered}
 use Rattle.mms_pdu.specs.declared.refusal.Refusal.{Refusal}
 use Rattle.mms_pdu.specs.declared.refusal.Refusal.TheVariants as refusal
 use Rattle.mms_types.specs.declared.identifier.Edition.{Edition}
-use Rattle.mms_pdu.specs.Pdus.{requests, request_form, with_invoke_value}
-use Rattle.mms_pdu.specs.Hearing.{Asked, asking, has_service, is_pdu, kept_pdus, whole_pdus, noted_pdus, valid, and_then, argued, sole_part, service_of, asked_at, request_told, reject_told, part_told, heard}
-use Rattle.mms_pdu.proofs.Whole.{invoke_is}
+use Rattle.ber_forms.specs.ByNumber.{form_at, read_as}
+use Rattle.ber_forms.proofs.Numbered.{sound_distinct, by_number}
+use Rattle.mms_pdu.specs.Services.{requests, requests_sound}
+use Rattle.mms_pdu.specs.Pdus.{asked, heard_reject}
+use Rattle.mms_pdu.specs.Hearing.{Asked, asking, is_pdu, kept_pdus, whole_pdus, noted_pdus, valid, and_then, argued, served, sole_part, service_of, asked_at, request_told, reject_told, part_told, heard}
+use Rattle.mms_pdu.proofs.Whole.{with_service, invoke_is}
 
 -- ---- steps
 
@@ -44,10 +47,14 @@ service_is p s e = by_class (eqb p.tag.class 2) e
     by_class true f = fine_is p s f
     by_class false f = absurd cc
 
-argued_is : (invoke : ℕ) (r : Result Value Fault) (v : Value) → argued invoke r ≡ Ok v → (w : Value) × (r ≡ Ok w) × (chosen 0 (with_invoke_value invoke w) ≡ v)
-argued_is invoke (Ok w) v e = (w, refl, told_is (chosen 0 (with_invoke_value invoke w)) v e)
+argued_is : (invoke : ℕ) (r : Result Value Fault) (v : Value) → argued invoke r ≡ Ok v → r ≡ Ok v
+argued_is invoke (Ok w) v e = cc
 argued_is invoke (Err fault.malformed) v e = absurd cc
 argued_is invoke (Err fault.too_deep) v e = absurd cc
+
+served_is : (lengths : Lengths) (invoke : ℕ) (p : Part) (o : Option Form) (v : Value) → served lengths invoke p o ≡ Ok v → read_as lengths p o ≡ Ok v
+served_is lengths invoke p None v e = absurd cc
+served_is lengths invoke p (Some f) v e = argued_is invoke (read_as lengths p (Some f)) v e
 
 -- nothing is taken where no modifiers are found
 not_taken : (test : Tag → Bool) (octets : List ℕ) (o : Option (Part × List ℕ)) → is_some (if_tag test octets o).0 ≡ false → (if_tag test octets o).1 ≡ octets
@@ -111,43 +118,52 @@ module _ (lengths : Lengths) where
             subst (λ (o : List ℕ). Alone o a.service) (untouched test i.0.1 m.0 m.1 none) (alone m.0.1 a.service (p.1 ∙ ap (λ (q : Part). Ok q) same));
       }
 
-  reject_is : (c : List ℕ) (n : ℕ) (w : Value) → reject_told lengths c ≡ Ok (chosen n w) → n ≡ 4
-  unfolding reject_told
-  reject_is c n w e =
-      let s = stepped (valid (reading lengths heard_reject_form c)) (λ _. Ok (chosen 4 (parts (slot (optionally (λ k. number (pos k)) (answered (reading lengths answering_form c))) done)))) (chosen n w) e in
-      cc (s.2)
-
 -- what of this depends on the edition
 module _ (lengths : Lengths) (edition : Edition) where
-  request_read : (c : List ℕ) (x : Value × List ℕ) (rest : List ℕ) (w : Value) → required_at lengths (universal 2 unsigned32) c ≡ Ok x → chosen_by lengths (alternatives lengths (requests edition)) x.1 ≡ Ok (w, rest) → at_end rest ≡ Ok tt
-      → reading lengths (request_form edition) c ≡ Ok (parts (slot (given x.0) (slot (given w) done)))
+  reject_is : (c : List ℕ) (n : ℕ) (w : Value) → reject_told lengths edition c ≡ Ok (chosen n w) → n ≡ 4
+  unfolding reject_told
+  reject_is c n w e =
+      let s = stepped (valid (reading lengths heard_reject_form c)) (λ _. Ok (chosen 4 (heard_reject.value (answered (reading lengths (heard_error.form edition) c))))) (chosen n w) e in
+      cc (s.2)
+
+  request_read : (c : List ℕ) (x : Value × List ℕ) (rest : List ℕ) (w : Value) → required_at lengths (universal 2 unsigned32) c ≡ Ok x → chosen_by lengths (alternatives lengths (requests.alternatives edition)) x.1 ≡ Ok (w, rest) → at_end rest ≡ Ok tt
+      → reading lengths (asked.form edition) c ≡ Ok (parts (slot (given x.0) (slot (given w) done)))
   request_read c x rest w e f ends = rw (e, f, ends) refl
 
   pub record Granted (a : Asked) (v : Value) : Type 0 where
     pub plain : a.modified ≡ false
     pub argument : Value
-    pub read_so : alternatives lengths (requests edition) a.service ≡ Ok argument
-    pub is : chosen 0 (with_invoke_value a.invoke argument) ≡ v
+    pub read_so : alternatives lengths (requests.alternatives edition) a.service ≡ Ok argument
+    pub is : chosen 0 (with_service a.invoke argument) ≡ v
 
   granted : (a : Asked) (v : Value) → request_told lengths edition a ≡ Ok v → Granted a v
   unfolding request_told
-  granted a v e = by_modified a.modified (has_service (requests edition) a.service.tag.number) refl e
+  granted a v e = by_modified a.modified refl e
     where
-      by_modified : (b k : Bool) → a.modified ≡ b → cond b (Err (refusal.Modifier a.invoke)) (cond k (argued a.invoke (alternatives lengths (requests edition) a.service)) (Err (refusal.Service a.invoke))) ≡ Ok v → Granted a v
-      by_modified true k m f = absurd cc
-      by_modified false false m f = absurd cc
-      by_modified false true m f =
-          let w = argued_is a.invoke (alternatives lengths (requests edition) a.service) v f in
-          record { plain = m; argument = w.0; read_so = w.1; is = w.2 }
+      others : Alternatives
+      others = requests.alternatives edition
 
-  request_of : (c : List ℕ) (v : Value) → and_then (valid (asked_at lengths c)) (request_told lengths edition) ≡ Ok v → (reading lengths (request_form edition) c >>= λ w. Ok (chosen 0 w)) ≡ Ok v
+      by_modified : (b : Bool) → a.modified ≡ b
+          → cond b (Err (refusal.Modifier a.invoke)) (and_then (served lengths a.invoke a.service (form_at a.service.tag.number others)) (λ v. Ok (chosen 0 (with_service a.invoke v)))) ≡ Ok v → Granted a v
+      by_modified true m f = absurd cc
+      by_modified false m f =
+          let s = stepped (served lengths a.invoke a.service (form_at a.service.tag.number others)) (λ v. Ok (chosen 0 (with_service a.invoke v))) v f in
+          let is = by_number lengths a.service others (sound_distinct others (requests_sound edition)) in
+          record {
+            plain = m;
+            argument = s.0;
+            read_so = is ∙ served_is lengths a.invoke a.service (form_at a.service.tag.number others) s.0 s.1;
+            is = told_is (chosen 0 (with_service a.invoke s.0)) v s.2;
+          }
+
+  request_of : (c : List ℕ) (v : Value) → and_then (valid (asked_at lengths c)) (request_told lengths edition) ≡ Ok v → (reading lengths (asked.form edition) c >>= λ w. Ok (chosen 0 w)) ≡ Ok v
   request_of c v e =
       let s = stepped (valid (asked_at lengths c)) (request_told lengths edition) v e in
       let a = parted lengths c s.0 (valid_is (asked_at lengths c) s.0 s.1) in
       let g = granted s.0 v s.2 in
       let service = a.service g.plain in
-      let read = request_read c a.invoke service.rest g.argument a.invoked (chosen_so lengths (requests edition) a.invoke.1 s.0.service service.rest g.argument service.first g.read_so) service.ends in
-      let is : parts (slot (given a.invoke.0) (slot (given g.argument) done)) ≡ with_invoke_value s.0.invoke g.argument =
+      let read = request_read c a.invoke service.rest g.argument a.invoked (chosen_so lengths (requests.alternatives edition) a.invoke.1 s.0.service service.rest g.argument service.first g.read_so) service.ends in
+      let is : parts (slot (given a.invoke.0) (slot (given g.argument) done)) ≡ with_service s.0.invoke g.argument =
       ap (λ (n : Value). parts (slot (given n) (slot (given g.argument) done))) (invoke_is lengths c a.invoke a.invoked ∙ ap (λ (n : ℕ). number (pos n)) a.number_is) in
       ap (λ (r : Result Value Fault). r >>= λ w. Ok (chosen 0 w)) read ∙ ap (λ (w : Value). Ok (chosen 0 w)) is ∙ ap (λ (w : Value). Ok w) g.is
 
@@ -158,11 +174,11 @@ module _ (lengths : Lengths) (edition : Edition) where
   part_of p n w ne e = by_tags (is_pdu p.tag) (is_tag 2 true 0 p.tag) (is_tag 2 true 4 p.tag) (has_tag noted_pdus p.tag) e
     where
       by_tags : (a b d f : Bool)
-          → cond a (cond b (and_then (valid (asked_at lengths p.contents)) (request_told lengths edition)) (cond d (reject_told lengths p.contents) (cond f (Ok nothing) (valid (alternatives lengths (kept_pdus edition) p))))) (Err refusal.UnknownType) ≡ Ok (chosen n w)
-          → cond b (reading lengths (request_form edition) p.contents >>= λ w. Ok (chosen 0 w)) (alternatives lengths (kept_pdus edition) p) ≡ Ok (chosen n w)
+          → cond a (cond b (and_then (valid (asked_at lengths p.contents)) (request_told lengths edition)) (cond d (reject_told lengths edition p.contents) (cond f (Ok nothing) (valid (alternatives lengths (kept_pdus edition) p))))) (Err refusal.UnknownType) ≡ Ok (chosen n w)
+          → cond b (reading lengths (asked.form edition) p.contents >>= λ w. Ok (chosen 0 w)) (alternatives lengths (kept_pdus edition) p) ≡ Ok (chosen n w)
       by_tags false b d f e = absurd cc
       by_tags true true d f e = request_of p.contents (chosen n w) e
-      by_tags true false true f e = absurd (ne (reject_is lengths p.contents n w e))
+      by_tags true false true f e = absurd (ne (reject_is p.contents n w e))
       by_tags true false false true e = absurd cc
       by_tags true false false false e = valid_is (alternatives lengths (kept_pdus edition) p) (chosen n w) e
 

@@ -2,37 +2,29 @@
 use Rattle.std.proofs.Common.{◌≡◌, ℕ, ℤ, pos, negsuc, ◌≤ℤ◌, Bool, true, false, cond, eqb, List, Option, Some, None, Result, Ok, refl, sym, ap, subst, ◌∙◌, arith}
 use Rattle.std.specs.Prelude.{nat_le}
 use Rattle.std.proofs.lemmas.Bool.{eqb-true, eq-eqb}
+use Rattle.ber_forms.specs.ByNumber.{has_number, form_at, read_as}
+use Rattle.ber_forms.proofs.Numbered.{tag_class, other_number, sound_distinct, by_number}
 use Rattle.ber_core.specs.declared.element.Tag.{Tag}
 use Rattle.ber_core.specs.declared.element.Lengths.{Lengths}
 use Rattle.ber_core.specs.Part.{Part}
 use Rattle.ber_forms.specs.Fault.{Fault}
 use Rattle.ber_forms.specs.Value.{Value, Slots, number, chosen, parts, given, done, slot}
-use Rattle.ber_forms.specs.Form.{Alternatives, Components, choice, no_other, or, one_of, required, no_more, universal, unsigned32}
+use Rattle.ber_forms.specs.Form.{Form, Alternatives, Components, choice, no_other, or, one_of, required, no_more, universal, unsigned32}
 use Rattle.ber_forms.specs.Reading.{◌>>=◌, integer_in, is_tag, is_constructed, next_at, part_at, must, required_part, optional_part, at_end, required_by, chosen_by, reading, alternatives, required_at, components}
 use Rattle.ber_forms.specs.InForm.{InForm}
-use Rattle.ber_forms.proofs.Sound.{fine_is, bound, integer_sound}
+use Rattle.ber_forms.proofs.Sound.{fine_is, bound, integer_within}
 use Rattle.ber_forms.proofs.Complete.{reading_complete}
 use Rattle.pdu_names.specs.Said.{natural_of}
 use Rattle.mms_types.specs.declared.identifier.Edition.{Edition}
-use Rattle.mms_pdu.specs.Pdus.{requests, request_form, with_invoke_value}
-use Rattle.mms_pdu.specs.Hearing.{Asked, asking, has_service, is_pdu, kept_pdus, whole_pdus, valid, and_then, sole_part, asked_at, request_told, part_told, heard}
+use Rattle.mms_pdu.specs.Services.{requests, requests_sound}
+use Rattle.mms_pdu.specs.Pdus.{asked}
+use Rattle.mms_pdu.specs.Hearing.{Asked, asking, is_pdu, kept_pdus, whole_pdus, valid, and_then, argued, served, sole_part, asked_at, request_told, part_told, heard}
+
+-- a confirmed-Request as it is read
+abbrev pub with_service : ℕ → Value → Value
+with_service invoke service = parts (slot (given (number (pos invoke))) (slot (given service) done))
 
 -- ---- tags
-
-tag_class : (b : Bool) (n : ℕ) (t : Tag) → is_tag 2 b n t ≡ true → (t.class ≡ 2) × (t.number ≡ n)
-tag_class b n t e = by_class (eqb t.class 2) (eqb t.number n) refl refl
-  where
-    by_class : (x y : Bool) → eqb t.class 2 ≡ x → eqb t.number n ≡ y → (t.class ≡ 2) × (t.number ≡ n)
-    by_class true true f g = (eqb-true t.class 2 f, eqb-true t.number n g)
-    by_class false y f g = absurd (grind (arith, e, f))
-    by_class true false f g = absurd (grind (arith, e, f, g))
-
-other_number : (b : Bool) (n : ℕ) (t : Tag) → (t.number ≡ n → ⊥) → is_tag 2 b n t ≡ false
-other_number b n t ne = by_tag (is_tag 2 b n t) refl
-  where
-    by_tag : (x : Bool) → is_tag 2 b n t ≡ x → is_tag 2 b n t ≡ false
-    by_tag true e = absurd (ne (tag_class b n t e).1)
-    by_tag false e = e
 
 -- the number of a kept PDU is that of a PDU, and none of reject and of what is noted
 abbrev IsKeptNumber : ℕ → Type 0
@@ -45,7 +37,7 @@ this_or_later {P} n k later e here there = by_number (eqb n k) refl
     by_number true f = here (eqb-true n k f)
     by_number false f = there (sym (ap (λ (b : Bool). cond b true later) f) ∙ e)
 
-kept_number : (edition : Edition) (n : ℕ) → has_service (kept_pdus edition) n ≡ true → IsKeptNumber n
+kept_number : (edition : Edition) (n : ℕ) → has_number (kept_pdus edition) n ≡ true → IsKeptNumber n
 kept_number edition n e =
     this_or_later n 1 _ e (at 1 (refl, λ f. omega (arith, f), λ f. omega (arith, f), λ f. omega (arith, f), λ f. omega (arith, f)))
     (λ e. this_or_later n 2 _ e (at 2 (refl, λ f. omega (arith, f), λ f. omega (arith, f), λ f. omega (arith, f), λ f. omega (arith, f)))
@@ -58,16 +50,16 @@ kept_number edition n e =
 
 -- an alternative's tag is a context tag of one of the numbers
 module _ (lengths : Lengths) where
-  pub alternative_tag : (others : Alternatives) (p : Part) (v : Value) → alternatives lengths others p ≡ Ok v → (p.tag.class ≡ 2) × (has_service others p.tag.number ≡ true)
+  pub alternative_tag : (others : Alternatives) (p : Part) (v : Value) → alternatives lengths others p ≡ Ok v → (p.tag.class ≡ 2) × (has_number others p.tag.number ≡ true)
   alternative_tag no_other p v e = absurd cc
   alternative_tag (or n f others) p v e = by_tag (is_tag 2 (is_constructed f) n p.tag) refl (alternative_tag others p v)
     where
-      by_number : (k : Bool) → has_service others p.tag.number ≡ true → cond k true (has_service others p.tag.number) ≡ true
+      by_number : (k : Bool) → has_number others p.tag.number ≡ true → cond k true (has_number others p.tag.number) ≡ true
       by_number true h = refl
       by_number false h = h
 
-      by_tag : (b : Bool) → is_tag 2 (is_constructed f) n p.tag ≡ b → (alternatives lengths others p ≡ Ok v → (p.tag.class ≡ 2) × (has_service others p.tag.number ≡ true))
-          → (p.tag.class ≡ 2) × (has_service (or n f others) p.tag.number ≡ true)
+      by_tag : (b : Bool) → is_tag 2 (is_constructed f) n p.tag ≡ b → (alternatives lengths others p ≡ Ok v → (p.tag.class ≡ 2) × (has_number others p.tag.number ≡ true))
+          → (p.tag.class ≡ 2) × (has_number (or n f others) p.tag.number ≡ true)
       by_tag true t later =
           let is = tag_class (is_constructed f) n p.tag t in
           (is.0, rw (eq-eqb p.tag.number n is.1) refl)
@@ -103,6 +95,10 @@ module _ (lengths : Lengths) where
 
   -- ---- a confirmed-Request
 
+  served_ok : (n : ℕ) (p : Part) (o : Option Form) (v : Value) → read_as lengths p o ≡ Ok v → served lengths n p o ≡ Ok v
+  served_ok n p None v e = absurd cc
+  served_ok n p (Some f) v e = ap (argued n) e
+
   next_of : (c : List ℕ) (x : Part × List ℕ) → part_at lengths c ≡ Ok x → next_at lengths c ≡ Ok (Some x)
   unfolding part_at
   next_of c x e =
@@ -128,7 +124,7 @@ module _ (lengths : Lengths) where
       let b = bound (required_part lengths test c) (λ y. reading lengths unsigned32 y.0.contents >>= λ w. Ok (w, y.1)) x e in
       let d = bound (reading lengths unsigned32 b.0.0.contents) (λ w. Ok (w, b.0.1)) x b.2 in
       let f = bound (integer_in (pos 0) (pos 4294967295) b.0.0.contents) (λ n. Ok (number n)) d.0 d.1 in
-      let low = (integer_sound (pos 0) (pos 4294967295) b.0.0.contents f.0 f.1).1 in
+      let low = (integer_within (pos 0) (pos 4294967295) b.0.0.contents f.0 f.1).0 in
       let is : number f.0 ≡ x.0 = fine_is (number f.0) d.0 f.2 ∙ ap (λ (y : Value × List ℕ). y.0) (fine_is (d.0, b.0.1) x d.2) in
       subst (λ (v : Value). v ≡ number (pos (natural_of v))) is (natural f.0 low)
 
@@ -139,29 +135,32 @@ module _ (lengths : Lengths) where
 
 -- what of this depends on the edition
 module _ (lengths : Lengths) (edition : Edition) where
-  argued_again : (n : ℕ) (p : Part) (v : Value) → has_service (requests edition) p.tag.number ≡ true → alternatives lengths (requests edition) p ≡ Ok v → request_told lengths edition (asking n false p) ≡ Ok (chosen 0 (with_invoke_value n v))
+  argued_again : (n : ℕ) (p : Part) (v : Value) → alternatives lengths (requests.alternatives edition) p ≡ Ok v → request_told lengths edition (asking n false p) ≡ Ok (chosen 0 (with_service n v))
   unfolding request_told
-  argued_again n p v k e = rw (k, e) refl
+  argued_again n p v e =
+      let others = requests.alternatives edition in
+      let is = by_number lengths p others (sound_distinct others (requests_sound edition)) in
+      rw (served_ok lengths n p (form_at p.tag.number others) v (sym is ∙ e)) refl
 
-  request_again : (c : List ℕ) (w : Value) → reading lengths (request_form edition) c ≡ Ok w → and_then (valid (asked_at lengths c)) (request_told lengths edition) ≡ Ok (chosen 0 w)
+  request_again : (c : List ℕ) (w : Value) → reading lengths (asked.form edition) c ≡ Ok w → and_then (valid (asked_at lengths c)) (request_told lengths edition) ≡ Ok (chosen 0 w)
   request_again c w e =
-      let tail : Components = required (one_of (requests edition)) no_more in
+      let tail : Components = required (one_of (requests.alternatives edition)) no_more in
       let a = bound (components lengths (required (universal 2 unsigned32) tail) c) (λ vs. Ok (parts vs)) w e in
       let b = bound (required_at lengths (universal 2 unsigned32) c) (λ x. components lengths tail x.1 >>= λ vs. Ok (slot (given x.0) vs)) a.0 a.1 in
       let d = bound (components lengths tail b.0.1) (λ vs. Ok (slot (given b.0.0) vs)) a.0 b.2 in
-      let f = bound (chosen_by lengths (alternatives lengths (requests edition)) b.0.1) (λ y. (at_end y.1 >>= λ _. Ok done) >>= λ vs. Ok (slot (given y.0) vs)) d.0 d.1 in
+      let f = bound (chosen_by lengths (alternatives lengths (requests.alternatives edition)) b.0.1) (λ y. (at_end y.1 >>= λ _. Ok done) >>= λ vs. Ok (slot (given y.0) vs)) d.0 d.1 in
       let g = bound (at_end f.0.1 >>= λ _. Ok done) (λ vs. Ok (slot (given f.0.0) vs)) d.0 f.2 in
       let h = bound (at_end f.0.1) (λ _. Ok done) g.0 g.1 in
-      let s = sole_again lengths (alternatives lengths (requests edition)) b.0.1 f.0 h.0 f.1 h.1 in
-      let t = alternative_tag lengths (requests edition) s.part f.0.0 s.read_so in
+      let s = sole_again lengths (alternatives lengths (requests.alternatives edition)) b.0.1 f.0 h.0 f.1 h.1 in
+      let t = alternative_tag lengths (requests.alternatives edition) s.part f.0.0 s.read_so in
       let ends : done ≡ g.0 = fine_is done g.0 h.2 in
       let service : slot (given f.0.0) done ≡ d.0 = ap (λ (vs : Slots). slot (given f.0.0) vs) ends ∙ fine_is (slot (given f.0.0) g.0) d.0 g.2 in
       let whole : parts (slot (given b.0.0) (slot (given f.0.0) done)) ≡ w =
       ap (λ (vs : Slots). parts (slot (given b.0.0) vs)) service ∙ ap parts (fine_is (slot (given b.0.0) d.0) a.0 d.2) ∙ fine_is (parts a.0) w a.2 in
-      let told : with_invoke_value (natural_of b.0.0) f.0.0 ≡ w =
+      let told : with_service (natural_of b.0.0) f.0.0 ≡ w =
       ap (λ (v : Value). parts (slot (given v) (slot (given f.0.0) done))) (sym (invoke_is lengths c b.0 b.1)) ∙ whole in
       ap (λ (r : Result Asked Fault). and_then (valid r) (request_told lengths edition)) (asked_again lengths c b.0 s.part f.0.1 b.1 s.first s.sole t.0)
-      ∙ argued_again (natural_of b.0.0) s.part f.0.0 t.1 s.read_so
+      ∙ argued_again (natural_of b.0.0) s.part f.0.0 s.read_so
       ∙ ap (λ (v : Value). Ok (chosen 0 v)) told
 
   -- ---- a PDU
@@ -173,12 +172,12 @@ module _ (lengths : Lengths) (edition : Edition) where
       by_tag : (b : Bool) → is_tag 2 true 0 p.tag ≡ b → part_told lengths edition p ≡ Ok v
       by_tag true t =
           let is = tag_class true 0 p.tag t in
-          let own = sym (ap (λ (b : Bool). cond b (reading lengths (request_form edition) p.contents >>= λ w. Ok (chosen 0 w)) (alternatives lengths (kept_pdus edition) p)) t) ∙ e in
-          let b = bound (reading lengths (request_form edition) p.contents) (λ w. Ok (chosen 0 w)) v own in
+          let own = sym (ap (λ (b : Bool). cond b (reading lengths (asked.form edition) p.contents >>= λ w. Ok (chosen 0 w)) (alternatives lengths (kept_pdus edition) p)) t) ∙ e in
+          let b = bound (reading lengths (asked.form edition) p.contents) (λ w. Ok (chosen 0 w)) v own in
           let pdu : is_pdu p.tag ≡ true = rw (eq-eqb p.tag.class 2 is.0, is.1) refl in
           rw (pdu, t) (request_again p.contents b.0 b.1 ∙ ap (λ (w : Value). Ok w) (fine_is (chosen 0 b.0) v b.2))
       by_tag false t =
-          let own = sym (ap (λ (b : Bool). cond b (reading lengths (request_form edition) p.contents >>= λ w. Ok (chosen 0 w)) (alternatives lengths (kept_pdus edition) p)) t) ∙ e in
+          let own = sym (ap (λ (b : Bool). cond b (reading lengths (asked.form edition) p.contents >>= λ w. Ok (chosen 0 w)) (alternatives lengths (kept_pdus edition) p)) t) ∙ e in
           let is = alternative_tag lengths (kept_pdus edition) p v own in
           let k = kept_number edition p.tag.number is.1 in
           let pdu : is_pdu p.tag ≡ true = rw (eq-eqb p.tag.class 2 is.0, k.0) refl in

@@ -1,22 +1,15 @@
 -- The PDUs by which a client asks: what they say is kept whole.
 use Rattle.mms_types.specs.declared.identifier.Edition.{Edition}
-use Rattle.mms_types.specs.declared.pdu.Request.{Request}
-use Rattle.mms_types.specs.declared.pdu.Request.TheVariants as request
 use Rattle.mms_types.specs.declared.pdu.Pdu.{Pdu}
 use Rattle.mms_types.specs.declared.pdu.Pdu.TheVariants as pdu
-use Rattle.pdu_names.specs.Ranges.{IsUnsigned32}
-use Rattle.pdu_assoc.specs.Initiate.{IsProposal}
-use Rattle.pdu_assoc.specs.NameList.{IsNameList}
+use Rattle.pdu_names.specs.Kinds.{IsOf, unsigned32}
+use Rattle.pdu_assoc.specs.Initiate.{initiate}
+use Rattle.mms_pdu.specs.Pdus.{asked}
 
--- a request with names of the edition
-abbrev pub IsRequest : Edition → Request → Type 0
-IsRequest edition (request.GetNameList class scope after) = IsNameList edition (record { class = class; scope = scope; after = after })
-IsRequest edition r = Unit {0}
-
--- confirmed-Request without modifiers, cancel-Request, initiate-Request and conclude-Request, with numbers in their ranges
+-- confirmed-Request without modifiers, cancel-Request, initiate-Request and conclude-Request, of their forms in the edition
 abbrev pub IsAsking : Edition → Pdu → Type 0
-IsAsking edition (pdu.ConfirmedRequest invoke asked) = IsUnsigned32 invoke × IsRequest edition asked
-IsAsking edition (pdu.CancelRequest invoke) = IsUnsigned32 invoke
-IsAsking edition (pdu.InitiateRequest proposal) = IsProposal proposal
+IsAsking edition (pdu.ConfirmedRequest invoke request) = IsOf asked edition (invoke, request)
+IsAsking edition (pdu.CancelRequest invoke) = IsOf unsigned32 edition invoke
+IsAsking edition (pdu.InitiateRequest proposal) = IsOf initiate edition proposal
 IsAsking edition pdu.ConcludeRequest = Unit {0}
 IsAsking edition p = ⊥

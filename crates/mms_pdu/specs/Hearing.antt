@@ -1,6 +1,5 @@
--- What octets are that a client sends: a PDU, or the first refusal that applies (ISO 9506-2, RejectPDU; the order is this profile's choice).
-use Rattle.std.specs.Prelude.{◌≡◌, ℕ, pos, Bool, true, false, ◌==◌, ◌&&◌, nat_le, List, Result, Ok, Err, if◌then◌else◌}
-use Rattle.std.specs.Prelude.{is_some}
+-- What octets are that a client sends: a PDU, or a refusal, as they are read from left to right (ISO 9506-2, RejectPDU).
+use Rattle.std.specs.Prelude.{◌≡◌, ℕ, pos, Bool, true, ◌==◌, ◌&&◌, nat_le, is_some, List, Option, Some, None, Result, Ok, Err, if◌then◌else◌}
 use Rattle.ber_core.specs.declared.element.Tag.{Tag}
 use Rattle.ber_core.specs.declared.element.Lengths.{Lengths}
 use Rattle.ber_core.specs.Part.{Part}
@@ -8,20 +7,18 @@ use Rattle.ber_forms.specs.declared.unread.Unread.{Unread}
 use Rattle.ber_forms.specs.declared.unread.Unread.TheVariants as unread
 use Rattle.ber_forms.specs.Fault.{Fault}
 use Rattle.ber_forms.specs.Fault as fault
-use Rattle.ber_forms.specs.Value.{Value, nothing, number, chosen, parts, optionally, done, slot}
-use Rattle.ber_forms.specs.Form.{Alternatives, unsigned32, universal, or, no_other}
-use Rattle.ber_forms.specs.Reading.{is_tag, has_tag, at_end, part_at, optional_part, required_at, reading, alternatives}
-use Rattle.ber_forms.specs.Reading.{◌>>=◌}
+use Rattle.ber_forms.specs.Value.{Value, nothing, number, chosen, parts, given, done, slot}
+use Rattle.ber_forms.specs.Form.{Form, Alternatives, unsigned32, universal, or, no_other}
+use Rattle.ber_forms.specs.ByNumber.{form_at, read_as}
+use Rattle.ber_forms.specs.Reading.{◌>>=◌, is_tag, has_tag, at_end, part_at, optional_part, required_at, reading, alternatives}
 use Rattle.mms_types.specs.declared.identifier.Edition.{Edition}
 use Rattle.mms_types.specs.declared.pdu.Pdu.{Pdu}
 use Rattle.pdu_names.specs.Said.{natural_of}
-use Rattle.pdu_assoc.specs.Cancel.{cancel_form}
-use Rattle.pdu_assoc.specs.Conclude.{conclude_form}
-use Rattle.pdu_assoc.specs.Heard.{unconfirmed_form, heard_cancel_form, heard_cancel_error_form, heard_error_form, heard_reject_form, answering_form, answered}
-use Rattle.pdu_assoc.specs.Initiate.{initiate_form}
+use Rattle.pdu_assoc.specs.Heard.{unconfirmed_form, heard_cancel_form, heard_cancel_error_form, heard_error, heard_reject_form, answered}
 use Rattle.mms_pdu.specs.declared.refusal.Refusal.{Refusal}
 use Rattle.mms_pdu.specs.declared.refusal.Refusal.TheVariants as refusal
-use Rattle.mms_pdu.specs.Pdus.{requests, request_form, response_form, with_invoke_value}
+use Rattle.mms_pdu.specs.Services.{requests}
+use Rattle.mms_pdu.specs.Pdus.{heard_reject, kept_arms, whole_arms}
 
 -- a confirmed-Request: its invokeID, whether it has a list of modifiers, and the service that it asks for
 pub record Asked : Type 0 where
@@ -32,30 +29,29 @@ pub record Asked : Type 0 where
 abbrev pub asking : ℕ → Bool → Part → Asked
 asking invoke modified service = record { invoke = invoke; modified = modified; service = service }
 
--- the service of that number is among them
-abbrev pub has_service : Alternatives → ℕ → Bool
-has_service no_other k = false
-has_service (or n f others) k = if k == n then true else has_service others k
-
 -- a service: an element of context class, whatever its number
 abbrev pub service_of : Part → Result Part Fault
 service_of p = if p.tag.class == 2 then Ok p else Err fault.malformed
 
--- the tag is one of a PDU's
+-- the tag is one of a PDU's: context 0 to 13
 abbrev pub is_pdu : Tag → Bool
 is_pdu t = (t.class == 2) && nat_le t.number 13
 
 -- the PDUs that a client may send and that are kept, but for confirmed-Request and reject
 abbrev pub kept_pdus : Edition → Alternatives
-kept_pdus edition = or 1 (response_form edition) (or 2 heard_error_form (or 5 cancel_form (or 8 initiate_form (or 11 conclude_form no_other))))
+kept_pdus edition = kept_arms.alternatives edition
 
 -- and with a confirmed-Request without modifiers
 abbrev pub whole_pdus : Edition → Alternatives
-whole_pdus edition = or 0 (request_form edition) (kept_pdus edition)
+whole_pdus edition = whole_arms.alternatives edition
 
--- unconfirmed, cancel-Response and cancel-Error: whatever their contents, nothing is kept
+-- unconfirmed, cancel-Response and cancel-Error, whatever their contents, and further PDUs
+abbrev pub noted_and : Alternatives → Alternatives
+noted_and others = or 3 unconfirmed_form (or 6 heard_cancel_form (or 7 heard_cancel_error_form others))
+
+-- those of which nothing is kept
 abbrev pub noted_pdus : Alternatives
-noted_pdus = or 3 unconfirmed_form (or 6 heard_cancel_form (or 7 heard_cancel_error_form no_other))
+noted_pdus = noted_and no_other
 
 -- whatever is wrong, the PDU is invalid
 abbrev pub valid : {A : Type 0} → Result A Fault → Result A Refusal
@@ -73,14 +69,23 @@ abbrev pub and_then : {A B : Type 0} → Result A Refusal → (A → Result B Re
 and_then (Ok x) f = f x
 and_then (Err e) f = Err e
 
--- a request with its argument, whose data may nest too deep
+-- an argument, whose data may nest too deep
 abbrev pub argued : ℕ → Result Value Fault → Result Value Refusal
-argued invoke (Ok v) = Ok (chosen 0 (with_invoke_value invoke v))
+argued invoke (Ok v) = Ok v
 argued invoke (Err fault.too_deep) = Err (refusal.Recursion invoke)
 argued invoke (Err fault.malformed) = Err (refusal.Argument invoke)
 
+-- a confirmed-Request with its service
+abbrev pub asked_value : ℕ → Value → Value
+asked_value invoke service = chosen 0 (parts (slot (given (number (pos invoke))) (slot (given service) done)))
+
 -- Each of these takes which forms of lengths are read first.
 module _ (lengths : Lengths) where
+  -- the service by the form under its number, which is not offered where there is none
+  abbrev pub served : ℕ → Part → Option Form → Result Value Refusal
+  served invoke p None = Err (refusal.Service invoke)
+  served invoke p (Some f) = argued invoke (read_as lengths p (Some f))
+
   -- one element, and nothing after it
   unfoldable pub sole_part : List ℕ → Result Part Fault
   sole_part octets = part_at lengths octets >>= λ x. at_end x.1 >>= λ _. Ok x.0
@@ -94,27 +99,27 @@ module _ (lengths : Lengths) where
       service_of p >>= λ s.
       Ok (asking (natural_of i.0) (is_some m.0) s)
 
+-- Each of these takes the edition as well.
+module _ (lengths : Lengths) (edition : Edition) where
   -- a reject: elements, of which the first may say the invokeID
   unfoldable pub reject_told : List ℕ → Result Value Refusal
   reject_told octets =
       and_then (valid (reading lengths heard_reject_form octets)) (λ _.
-      Ok (chosen 4 (parts (slot (optionally (λ n. number (pos n)) (answered (reading lengths answering_form octets))) done))))
+      Ok (chosen 4 (heard_reject.value (answered (reading lengths (heard_error.form edition) octets)))))
 
--- Each of these takes the edition as well.
-module _ (lengths : Lengths) (edition : Edition) where
   -- a list of modifiers is refused, then a service that is not offered, and then its argument
   unfoldable pub request_told : Asked → Result Value Refusal
   request_told asked =
       if asked.modified then Err (refusal.Modifier asked.invoke)
-      else if has_service (requests edition) asked.service.tag.number then argued asked.invoke (alternatives lengths (requests edition) asked.service)
-      else Err (refusal.Service asked.invoke)
+      else and_then (served lengths asked.invoke asked.service (form_at asked.service.tag.number (requests.alternatives edition)))
+      (λ v. Ok (asked_value asked.invoke v))
 
   -- an element of no PDU's tag is refused, then one that is not of its PDU's form, also one that only the server sends
   unfoldable pub part_told : Part → Result Value Refusal
   part_told p =
       if is_pdu p.tag then
       (if is_tag 2 true 0 p.tag then and_then (valid (asked_at lengths p.contents)) request_told
-      else if is_tag 2 true 4 p.tag then reject_told lengths p.contents
+      else if is_tag 2 true 4 p.tag then reject_told p.contents
       else if has_tag noted_pdus p.tag then Ok nothing
       else valid (alternatives lengths (kept_pdus edition) p))
       else Err refusal.UnknownType

@@ -1,5 +1,7 @@
+pub mod Services
 pub mod Pdus
 pub mod Hearing
+pub mod Refused
 pub mod Rejects
 pub mod Asking
 pub mod Heard

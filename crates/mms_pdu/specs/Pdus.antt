@@ -1,92 +1,89 @@
 -- MMSpdu (ISO 9506-2): each PDU with its form, and what it says.
-use Rattle.std.specs.Prelude.{ℕ, pos, List, []}
-use Rattle.ber_forms.specs.Value.{Value, nothing, number, chosen, parts, optionally, given, done, slot}
-use Rattle.ber_forms.specs.Form.{Form, Alternatives, unsigned32, sequence, no_more, required, universal, one_of, or, no_other}
+use Rattle.std.specs.Prelude.{ℕ, List, [], Option, refl}
+use Rattle.ber_forms.specs.Value.{Value, nothing, chosen}
+use Rattle.ber_forms.specs.Form as asn
+use Rattle.ber_forms.specs.Form.{Alternatives}
 use Rattle.ber_forms.specs.Spelling.{alternative_octets}
 use Rattle.mms_types.specs.declared.identifier.Edition.{Edition}
 use Rattle.mms_types.specs.declared.pdu.Request.{Request}
-use Rattle.mms_types.specs.declared.pdu.Request.TheVariants as request
 use Rattle.mms_types.specs.declared.pdu.Answer.{Answer}
-use Rattle.mms_types.specs.declared.pdu.Answer.TheVariants as answer
 use Rattle.mms_types.specs.declared.pdu.Pdu.{Pdu}
 use Rattle.mms_types.specs.declared.pdu.Pdu.TheVariants as pdu
 use Rattle.mms_types.specs.Spelling.{widest}
-use Rattle.pdu_assoc.specs.Cancel.{cancel_form, cancel_value, cancel_error_form, cancel_error_value}
-use Rattle.pdu_assoc.specs.Conclude.{conclude_form, conclude_value}
-use Rattle.pdu_assoc.specs.ConfirmedError.{confirmed_error_form, confirmed_error_value}
-use Rattle.pdu_assoc.specs.Heard.{heard_error_value}
-use Rattle.pdu_assoc.specs.Identify.{identify_form, identify_value, identify_answer_form, texts_value}
-use Rattle.pdu_assoc.specs.Initiate.{initiate_form, initiate_value, initiate_answer_form, initiate_answer_value}
-use Rattle.pdu_assoc.specs.NameList.{name_list_form, asked_value, name_list_answer_form, listed_value}
-use Rattle.pdu_assoc.specs.Reject.{reject_form, reject_value}
-use Rattle.pdu_assoc.specs.ServiceErrors.{service_error_form, service_error_value}
-use Rattle.pdu_assoc.specs.Status.{status_form, status_value, status_answer_form, status_answer_value}
+use Rattle.pdu_names.specs.Kinds.{Kind, Arms, null, unsigned32, context, universal, one_of, sequence, required, optional, no_more, or, no_other}
+use Rattle.pdu_assoc.specs.Heard.{heard_error}
+use Rattle.pdu_assoc.specs.Initiate.{initiate, initiate_answer}
+use Rattle.pdu_assoc.specs.Reject.{reject}
+use Rattle.pdu_assoc.specs.ServiceErrors.{service_error, confirmed_error, cancel_error}
+use Rattle.mms_pdu.specs.Services.{requests, answers}
 
--- ---- services
+-- confirmed-Request without modifiers: an invokeID, and then a service
+abbrev pub asked : Kind (ℕ × Request)
+asked = sequence (
+    required (universal 2 unsigned32) (λ x. x.0) (
+    required (one_of requests) (λ x. x.1) no_more))
+    (λ invoke request. (invoke, request)) (λ x. refl)
 
--- ConfirmedServiceRequest: the services that are offered, each by its number with the form of its argument. VMD support: Status 0, GetNameList 1,
--- Identify 2.
-abbrev pub requests : Edition → Alternatives
-requests edition = or 0 status_form (or 1 (name_list_form edition) (or 2 identify_form no_other))
+-- confirmed-Response
+abbrev pub responded : Kind (ℕ × Answer)
+responded = sequence (
+    required (universal 2 unsigned32) (λ x. x.0) (
+    required (one_of answers) (λ x. x.1) no_more))
+    (λ invoke answer. (invoke, answer)) (λ x. refl)
 
-abbrev pub request_value : Request → Value
-request_value (request.Status derivation) = chosen 0 (status_value derivation)
-request_value (request.GetNameList class scope after) = chosen 1 (asked_value class scope after)
-request_value request.Identify = chosen 2 identify_value
+-- what is kept of a reject that a client sent: the invokeID, where it says one
+abbrev pub heard_reject : Kind (Option ℕ)
+heard_reject = sequence (optional (context 0 unsigned32) (λ o. o) no_more) (λ o. o) (λ o. refl)
 
--- ConfirmedServiceResponse: the same, with their answers
-abbrev pub answers : Edition → Alternatives
-answers edition = or 0 status_answer_form (or 1 (name_list_answer_form edition) (or 2 identify_answer_form no_other))
+-- the PDUs that a client may send and that are kept, but for confirmed-Request and reject
+abbrev pub kept_arms : Arms Pdu
+kept_arms =
+    or 1 responded (λ x. pdu.ConfirmedResponse x.0 x.1) (
+    or 2 heard_error pdu.HeardError (
+    or 5 unsigned32 pdu.CancelRequest (
+    or 8 initiate pdu.InitiateRequest (
+    or 11 null (λ _. pdu.ConcludeRequest) (
+    no_other pdu.HeardOther)))))
 
-abbrev pub answer_value : Answer → Value
-answer_value (answer.Status logical physical) = chosen 0 (status_answer_value (record { logical = logical; physical = physical }))
-answer_value (answer.GetNameList names more) = chosen 1 (listed_value names more)
-answer_value (answer.Identify vendor model revision) = chosen 2 (texts_value vendor model revision)
-
--- ---- PDUs
-
--- an invokeID, and then a service
-abbrev pub with_invoke : Alternatives → Form
-with_invoke services = sequence (
-    required (universal 2 unsigned32) (
-    required (one_of services) no_more))
-
-abbrev pub with_invoke_value : ℕ → Value → Value
-with_invoke_value invoke service = parts (
-    slot (given (number (pos invoke))) (
-    slot (given service) done))
-
--- a confirmed-Request without modifiers
-abbrev pub request_form : Edition → Form
-request_form edition = with_invoke (requests edition)
-
-abbrev pub response_form : Edition → Form
-response_form edition = with_invoke (answers edition)
+-- and with a confirmed-Request without modifiers
+abbrev pub whole_arms : Arms Pdu
+whole_arms = or 0 asked (λ x. pdu.ConfirmedRequest x.0 x.1) kept_arms
 
 -- the PDUs as they are sent, but for unconfirmed ones, with the names of any edition
 abbrev pub pdus : Alternatives
 pdus =
-    or 0 (request_form widest) (or 1 (response_form widest) (or 2 confirmed_error_form (or 4 reject_form (or 5 cancel_form (or 6 cancel_form (or 7 cancel_error_form
-    (or 8 initiate_form (or 9 initiate_answer_form (or 10 service_error_form (or 11 conclude_form (or 12 conclude_form (or 13 service_error_form no_other))))))))))))
+    asn.or 0 (asked.form widest) (
+    asn.or 1 (responded.form widest) (
+    asn.or 2 (confirmed_error.form widest) (
+    asn.or 4 (reject.form widest) (
+    asn.or 5 (unsigned32.form widest) (
+    asn.or 6 (unsigned32.form widest) (
+    asn.or 7 (cancel_error.form widest) (
+    asn.or 8 (initiate.form widest) (
+    asn.or 9 (initiate_answer.form widest) (
+    asn.or 10 (service_error.form widest) (
+    asn.or 11 (null.form widest) (
+    asn.or 12 (null.form widest) (
+    asn.or 13 (service_error.form widest) asn.no_other))))))))))))
 
 -- what a PDU says: of those that were only heard, what is kept of them
 abbrev pub pdu_value : Pdu → Value
-pdu_value (pdu.ConfirmedRequest invoke asked) = chosen 0 (with_invoke_value invoke (request_value asked))
-pdu_value (pdu.ConfirmedResponse invoke told) = chosen 1 (with_invoke_value invoke (answer_value told))
-pdu_value (pdu.ConfirmedError invoke modifier error) = chosen 2 (confirmed_error_value (record { invoke = invoke; modifier = modifier; error = error }))
-pdu_value (pdu.HeardError invoke) = chosen 2 (heard_error_value invoke)
-pdu_value (pdu.Reject reject) = chosen 4 (reject_value reject)
-pdu_value (pdu.HeardReject invoke) = chosen 4 (parts (slot (optionally (λ n. number (pos n)) invoke) done))
-pdu_value (pdu.CancelRequest invoke) = chosen 5 (cancel_value invoke)
-pdu_value (pdu.CancelResponse invoke) = chosen 6 (cancel_value invoke)
-pdu_value (pdu.CancelError invoke error) = chosen 7 (cancel_error_value (record { invoke = invoke; error = error }))
+pdu_value (pdu.ConfirmedRequest invoke request) = chosen 0 (asked.value (invoke, request))
+pdu_value (pdu.ConfirmedResponse invoke answer) = chosen 1 (responded.value (invoke, answer))
+pdu_value (pdu.ConfirmedError error) = chosen 2 (confirmed_error.value error)
+pdu_value (pdu.HeardError invoke) = chosen 2 (heard_error.value invoke)
+pdu_value (pdu.Reject x) = chosen 4 (reject.value x)
+pdu_value (pdu.HeardReject invoke) = chosen 4 (heard_reject.value invoke)
+pdu_value (pdu.CancelRequest invoke) = chosen 5 (unsigned32.value invoke)
+pdu_value (pdu.CancelResponse invoke) = chosen 6 (unsigned32.value invoke)
+pdu_value (pdu.CancelError error) = chosen 7 (cancel_error.value error)
 pdu_value pdu.HeardOther = nothing
-pdu_value (pdu.InitiateRequest proposal) = chosen 8 (initiate_value proposal)
-pdu_value (pdu.InitiateResponse negotiated) = chosen 9 (initiate_answer_value negotiated)
-pdu_value (pdu.InitiateError error) = chosen 10 (service_error_value error)
-pdu_value pdu.ConcludeRequest = chosen 11 conclude_value
-pdu_value pdu.ConcludeResponse = chosen 12 conclude_value
-pdu_value (pdu.ConcludeError error) = chosen 13 (service_error_value error)
+pdu_value (pdu.InitiateRequest proposal) = chosen 8 (initiate.value proposal)
+pdu_value (pdu.InitiateResponse negotiated) = chosen 9 (initiate_answer.value negotiated)
+pdu_value (pdu.InitiateError error) = chosen 10 (service_error.value error)
+pdu_value pdu.ConcludeRequest = chosen 11 (null.value tt)
+pdu_value pdu.ConcludeResponse = chosen 12 (null.value tt)
+pdu_value (pdu.ConcludeError error) = chosen 13 (service_error.value error)
 
 -- The one spelling of a PDU: one element. What was only heard is never sent, and has none.
 abbrev pub pdu_octets : Pdu → List ℕ

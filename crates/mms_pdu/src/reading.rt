@@ -14,8 +14,8 @@ use crate::response::response;
 use ber_core::{Element, Tag};
 use ber_forms::{Unread, has_tag};
 use mms_types::{Edition, Pdu};
-use pdu_assoc::{read_cancel, read_conclude, read_heard_error, read_heard_reject, read_initiate};
-use pdu_names::cursor;
+use pdu_assoc::{HeardErrors, InitiateRequest, read_heard_reject};
+use pdu_names::{Formed, Null, Unsigned32, cursor};
 use std::alloc::Global;
 
 /// A PDU that a client sent.
@@ -32,19 +32,19 @@ fn kept_pdu(alloc: Global, element: Element<'_>, edition: Edition) -> Result<Pdu
     ensures client { IfOk result IsHeard }
 {
     let Element { tag, contents } = element;
-    if has_tag(tag, 2, true, 1) {
+    if has_tag(tag, Tag::constructed(1)) {
         let (invoke, answer) = response(alloc, contents, edition)?;
         Ok(Pdu::ConfirmedResponse { invoke, answer })
-    } else if has_tag(tag, 2, true, 2) {
-        let invoke = read_heard_error(contents, edition)?;
+    } else if has_tag(tag, Tag::constructed(2)) {
+        let invoke = HeardErrors::read(alloc, contents, edition)?;
         Ok(Pdu::HeardError { invoke })
-    } else if has_tag(tag, 2, false, 5) {
-        let invoke = read_cancel(contents, edition)?;
+    } else if has_tag(tag, Tag::primitive(5)) {
+        let invoke = Unsigned32::read(alloc, contents, edition)?;
         Ok(Pdu::CancelRequest { invoke })
-    } else if has_tag(tag, 2, true, 8) {
-        Ok(Pdu::InitiateRequest(read_initiate(contents, edition)?))
-    } else if has_tag(tag, 2, false, 11) {
-        read_conclude(contents, edition)?;
+    } else if has_tag(tag, Tag::constructed(8)) {
+        Ok(Pdu::InitiateRequest(InitiateRequest::read(alloc, contents, edition)?))
+    } else if has_tag(tag, Tag::primitive(11)) {
+        Null::read(alloc, contents, edition)?;
         Ok(Pdu::ConcludeRequest)
     } else {
         Err(Unread::Malformed)
@@ -55,7 +55,9 @@ fn kept_pdu(alloc: Global, element: Element<'_>, edition: Edition) -> Result<Pdu
 fn is_noted(tag: Tag) -> bool
     ensures { result ≡ has_tag noted_pdus tag }
 {
-    has_tag(tag, 2, true, 3) || has_tag(tag, 2, false, 6) || has_tag(tag, 2, true, 7)
+    has_tag(tag, Tag::constructed(3))
+        || has_tag(tag, Tag::primitive(6))
+        || has_tag(tag, Tag::constructed(7))
 }
 
 /// The tag is one of a PDU's.
@@ -88,11 +90,11 @@ fn confirmed(alloc: Global, contents: &[u8], edition: Edition) -> Result<Pdu, Re
 
 /// What the contents of a reject are.
 #[tactic(auto, unfolding(crate::specs::Hearing::reject_told))]
-fn rejected(contents: &[u8], edition: Edition) -> Result<Pdu, Refusal>
-    ensures told { Hears pdu_value result (reject_told (lengths_of edition) contents.now) }
+fn rejected(alloc: Global, contents: &[u8], edition: Edition) -> Result<Pdu, Refusal>
+    ensures told { Hears pdu_value result (reject_told (lengths_of edition) edition contents.now) }
     ensures client { IfOk result IsHeard }
 {
-    match read_heard_reject(contents, edition) {
+    match read_heard_reject(alloc, contents, edition) {
         Ok(invoke) => Ok(Pdu::HeardReject { invoke }),
         Err(unread) => Err(invalid(unread)),
     }
@@ -118,10 +120,10 @@ fn element(alloc: Global, element: Element<'_>, edition: Edition) -> Result<Pdu,
     let tag = element.tag;
     if !is_pdu(tag) {
         Err(Refusal::UnknownType)
-    } else if has_tag(tag, 2, true, 0) {
+    } else if has_tag(tag, Tag::constructed(0)) {
         confirmed(alloc, element.contents, edition)
-    } else if has_tag(tag, 2, true, 4) {
-        rejected(element.contents, edition)
+    } else if has_tag(tag, Tag::constructed(4)) {
+        rejected(alloc, element.contents, edition)
     } else if is_noted(tag) {
         Ok(Pdu::HeardOther)
     } else {

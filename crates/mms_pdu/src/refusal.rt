@@ -4,23 +4,31 @@ ghost use Rattle.std.specs.Prelude.{◌≡◌};
 ghost use Rattle.mms_pdu.specs.Rejects.{reject_of};
 
 use mms_types::{Memory, Reject, RejectReason};
+use thiserror::Error;
 
 /// Why octets that a client sent are refused, in the order in which the causes are looked for, and want of memory.
-#[derive(Clone, Copy, Debug, PartialEq, Eq)]
+#[derive(Clone, Copy, Debug, PartialEq, Eq, Error)]
 pub enum Refusal {
     /// They are not one whole element, or one that is not of its PDU's form, or that only a server sends.
+    #[error("the PDU is not of its form")]
     InvalidPdu,
     /// The tag is none of a PDU: context 0 to 13.
+    #[error("the tag is none of a PDU")]
     UnknownType,
     /// A confirmed request has a list of modifiers.
+    #[error("request {invoke} has a list of modifiers")]
     Modifier { invoke: u32 },
     /// The service of a confirmed request is not offered.
+    #[error("request {invoke} asks for a service that is not offered")]
     Service { invoke: u32 },
     /// The argument's data or type nests deeper than 10, and all before it is of its form.
+    #[error("the argument of request {invoke} nests too deep")]
     Recursion { invoke: u32 },
     /// The argument is not of its form.
+    #[error("the argument of request {invoke} is not of its form")]
     Argument { invoke: u32 },
     /// Memory ran out.
+    #[error("out of memory")]
     Memory,
 }
 

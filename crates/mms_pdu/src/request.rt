@@ -1,52 +1,43 @@
 //! confirmed-Request: what is asked for, and its argument.
 
-ghost use Rattle.std.specs.Prelude.{◌≡◌, ℕ, Ok, Err, IfOk, pos};
+ghost use Rattle.std.specs.Prelude.{◌≡◌, ◌++◌, Ok, Err, Some, OnOk, OnErr, IfOk};
 ghost use Rattle.ber_core.specs.Part.{part};
-ghost use Rattle.ber_forms.specs.Form.{universal, unsigned32};
-ghost use Rattle.ber_forms.specs.Value.{number};
-ghost use Rattle.ber_forms.specs.Reading.{Gives, required_at, alternatives};
+ghost use Rattle.ber_forms.specs.ByNumber.{form_at, read_as};
+ghost use Rattle.ber_forms.specs.Reading.{Gives};
+ghost use Rattle.ber_forms.specs.Reads.{NeedsNoMemory};
+ghost use Rattle.ber_forms.specs.Spelling.{alternative_octets};
+ghost use Rattle.ber_forms.specs.Value.{chosen};
+ghost use Rattle.mms_types.specs.Spelling.{widest};
 ghost use Rattle.pdu_names.specs.Editions.{lengths_of};
-ghost use Rattle.mms_pdu.specs.Pdus.{requests, request_value, pdu_value};
+ghost use Rattle.mms_pdu.specs.Services.{requests};
+ghost use Rattle.mms_pdu.specs.Pdus.{pdu_value};
 ghost use Rattle.mms_pdu.specs.Heard.{IsHeard};
-ghost use Rattle.mms_pdu.specs.Hearing.{Hears, has_service, sole_part, service_of, asked_at, asking, argued, request_told};
+ghost use Rattle.mms_pdu.specs.Hearing.{Hears, sole_part, service_of, asked_at, asking, argued, served, request_told};
 
 use crate::refusal::Refusal;
-use ber_core::{Element, Tag};
-use ber_forms::{Cursor, Unread, has_tag, unsigned32};
+use ber_core::{Element, Memory as Full, Tag, Writer};
+use ber_forms::{Cursor, Unread};
 use mms_types::{Edition, Pdu, Request};
-use pdu_assoc::{read_get_name_list, read_identify, read_status};
-use pdu_names::cursor;
+use pdu_assoc::{GetNameListRequest, StatusRequest};
+use pdu_names::{Formed, Null, cursor, read_as};
 use std::alloc::Global;
 
 /// The last element: nothing follows it.
 #[tactic(auto, unfolding(crate::specs::Hearing::sole_part))]
 pub(crate) fn sole<'a>(parts: &mut Cursor<'a>, edition: Edition) -> Result<Element<'a>, Unread>
     requires { parts.old.lengths ≡ lengths_of edition }
-    ensures { Gives part result (sole_part (lengths_of edition) parts.old.octets) }
+    ensures exact { Gives part result (sole_part (lengths_of edition) parts.old.octets) }
+    ensures no_memory { NeedsNoMemory result }
 {
     let element = parts.part()?;
     parts.end()?;
     Ok(element)
 }
 
-/// The next element, an invokeID.
-#[tactic(auto, unfolding(ber_forms::specs::Reading::required_by))]
-pub(crate) fn required_invoke(parts: &mut Cursor<'_>, edition: Edition) -> Result<u32, Unread>
-    requires { parts.old.lengths ≡ lengths_of edition }
-    ensures exact { Gives (λ n. (number (pos n), parts.new.octets)) result (required_at (lengths_of edition) (universal 2 unsigned32) parts.old.octets) }
-    ensures kept { parts.new.lengths ≡ parts.old.lengths }
-{
-    let element = parts.required(Tag {
-        class: 0,
-        constructed: false,
-        number: 2,
-    })?;
-    unsigned32(element.contents)
-}
-
 /// The element is a service: its class is context.
 fn service(element: Element<'_>) -> Result<Element<'_>, Unread>
-    ensures { Gives part result (service_of (part element.entry)) }
+    ensures exact { Gives part result (service_of (part element.entry)) }
+    ensures no_memory { NeedsNoMemory result }
 {
     if element.tag.class == 2 {
         Ok(element)
@@ -58,10 +49,11 @@ fn service(element: Element<'_>) -> Result<Element<'_>, Unread>
 /// What the contents of a confirmed-Request ask for: its invokeID, whether it has a list of modifiers, and the service.
 #[tactic(auto, unfolding(crate::specs::Hearing::asked_at))]
 pub(crate) fn asked(contents: &[u8], edition: Edition) -> Result<(u32, bool, Element<'_>), Unread>
-    ensures { Gives (λ a. asking a.0 a.1 (part a.2)) result (asked_at (lengths_of edition) contents.now) }
+    ensures exact { Gives (λ a. asking a.0 a.1 (part a.2)) result (asked_at (lengths_of edition) contents.now) }
+    ensures no_memory { NeedsNoMemory result }
 {
     let mut parts = cursor(edition, contents);
-    let invoke = required_invoke(&mut parts, edition)?;
+    let invoke = parts.required_universal_u32()?;
     let modifiers = parts.optional(Tag {
         class: 0,
         constructed: true,
@@ -72,55 +64,43 @@ pub(crate) fn asked(contents: &[u8], edition: Edition) -> Result<(u32, bool, Ele
     Ok((invoke, modifiers.is_some(), element))
 }
 
-/// The services that are offered, by their numbers: Status, GetNameList and Identify.
-const OFFERED: [u32; 3] = [0, 1, 2];
-
-/// The service of that number is offered by the edition.
-fn is_offered(number: u32, edition: Edition) -> bool
-    ensures { result ≡ has_service (requests edition) number }
-{
-    match edition {
-        Edition::One => OFFERED.contains(&number),
-    }
-}
-
-/// The argument of a service for the support of the device.
-fn argument(alloc: Global, service: Element<'_>, edition: Edition) -> Result<Request, Unread>
-    ensures { Gives request_value result (alternatives (lengths_of edition) (requests edition) (part service.entry)) }
-{
-    if has_tag(service.tag, 2, false, 0) {
-        let derivation = read_status(service.contents, edition)?;
-        Ok(Request::Status { derivation })
-    } else if has_tag(service.tag, 2, true, 1) {
-        let asked = read_get_name_list(alloc, service.contents, edition)?;
-        Ok(Request::GetNameList {
-            class: asked.class,
-            scope: asked.scope,
-            after: asked.after,
-        })
-    } else if has_tag(service.tag, 2, false, 2) {
-        read_identify(service.contents, edition)?;
-        Ok(Request::Identify)
-    } else {
-        Err(Unread::Malformed)
-    }
-}
-
-/// The request for a service that is offered, or why its argument is refused.
-fn argued(
+/// The argument of a service that is offered, or why it is refused.
+fn argument<F: Formed>(
     alloc: Global,
     invoke: u32,
     service: Element<'_>,
     edition: Edition,
-) -> Result<Pdu, Refusal>
-    ensures told { Hears pdu_value result (argued invoke (alternatives (lengths_of edition) (requests edition) (part service.entry))) }
-    ensures client { IfOk result IsHeard }
+) -> Result<F::Item, Refusal>
+    ensures { Hears (λ x. chosen service.entry.tag.number (F.kind.value x)) result (argued invoke (read_as (lengths_of edition) (part service.entry) (Some (F.kind.form edition)))) }
 {
-    match argument(alloc, service, edition) {
-        Ok(request) => Ok(Pdu::ConfirmedRequest { invoke, request }),
+    match read_as::<F>(alloc, service, edition) {
+        Ok(found) => Ok(found),
         Err(Unread::TooDeep) => Err(Refusal::Recursion { invoke }),
         Err(Unread::Malformed) => Err(Refusal::Argument { invoke }),
         Err(Unread::Memory) => Err(Refusal::Memory),
+    }
+}
+
+/// The request for the service of that number, or why it is refused: a service that isn't listed here is not offered.
+#[tactic(auto, unfolding(crate::specs::Services::requests))]
+fn served(
+    alloc: Global,
+    invoke: u32,
+    service: Element<'_>,
+    edition: Edition,
+) -> Result<Request, Refusal>
+    ensures { Hears requests.value result (served (lengths_of edition) invoke (part service.entry) (form_at service.entry.tag.number (requests.alternatives edition))) }
+{
+    match service.tag.number {
+        0 => Ok(Request::Status(argument::<StatusRequest>(alloc, invoke, service, edition)?)),
+        1 => Ok(Request::GetNameList(argument::<GetNameListRequest>(
+            alloc, invoke, service, edition,
+        )?)),
+        2 => {
+            argument::<Null>(alloc, invoke, service, edition)?;
+            Ok(Request::Identify)
+        }
+        _ => Err(Refusal::Service { invoke }),
     }
 }
 
@@ -139,8 +119,19 @@ pub(crate) fn request(
     if modified {
         return Err(Refusal::Modifier { invoke });
     }
-    if !is_offered(service.tag.number, edition) {
-        return Err(Refusal::Service { invoke });
+    let request = served(alloc, invoke, service, edition)?;
+    Ok(Pdu::ConfirmedRequest { invoke, request })
+}
+
+/// Appends the service with its argument, or nothing where memory runs out.
+#[tactic(auto, unfolding(crate::specs::Services::requests))]
+pub(crate) fn put_argument(out: &mut Writer, request: &Request) -> Result<(), Full>
+    ensures ok { OnOk result (out.new ≡ out.old ++ alternative_octets (requests.alternatives widest) (requests.value request.now)) }
+    ensures err { OnErr result (out.new ≡ out.old) }
+{
+    match request {
+        Request::Status(x) => StatusRequest::put_part(out, 0, x),
+        Request::GetNameList(x) => GetNameListRequest::put_part(out, 1, x),
+        Request::Identify => Null::put_part(out, 2, &()),
     }
-    argued(alloc, invoke, service, edition)
 }

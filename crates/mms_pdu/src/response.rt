@@ -1,61 +1,58 @@
 //! confirmed-Response.
 
-ghost use Rattle.std.specs.Prelude.{◌≡◌, Ok, Err};
+ghost use Rattle.std.specs.Prelude.{◌≡◌, ◌++◌, false, Ok, Err, OnOk, OnErr};
 ghost use Rattle.ber_core.specs.Part.{part};
-ghost use Rattle.ber_forms.specs.Form.{one_of};
-ghost use Rattle.ber_forms.specs.Reading.{Gives, reading, alternatives, required_at};
+ghost use Rattle.ber_forms.specs.ByNumber.{form_at, read_as};
+ghost use Rattle.ber_forms.specs.Reading.{Gives};
 ghost use Rattle.pdu_names.specs.Editions.{lengths_of};
-ghost use Rattle.mms_pdu.specs.Pdus.{answers, answer_value, response_form, with_invoke_value};
+ghost use Rattle.pdu_names.specs.Gives.{GivesContents};
+ghost use Rattle.mms_pdu.specs.Services.{answers, answers_sound};
+ghost use Rattle.mms_pdu.specs.Pdus.{responded};
 
-use crate::request::required_invoke;
-use ber_core::Element;
-use ber_forms::{Cursor, Unread, has_tag};
+use ber_core::{Element, Memory as Full, Writer};
+use ber_forms::Unread;
 use mms_types::{Answer, Edition};
-use pdu_assoc::{read_get_name_list_answer, read_identify_answer, read_status_answer};
-use pdu_names::cursor;
+use pdu_assoc::{GetNameListResponse, IdentifyResponse, StatusResponse};
+use pdu_names::{Chosen, Formed, OneOf, Own, cursor, read_as};
 use std::alloc::Global;
 
-/// The answer of a service that the element is.
-fn answer(alloc: Global, service: Element<'_>, edition: Edition) -> Result<Answer, Unread>
-    ensures { Gives answer_value result (alternatives (lengths_of edition) (answers edition) (part service.entry)) }
+/// The answer of the service of that number.
+#[tactic(auto, unfolding(crate::specs::Services::answers))]
+fn answered(alloc: Global, service: Element<'_>, edition: Edition) -> Result<Answer, Unread>
+    ensures { Gives answers.value result (read_as (lengths_of edition) (part service.entry) (form_at service.entry.tag.number (answers.alternatives edition))) }
 {
-    if has_tag(service.tag, 2, true, 0) {
-        let state = read_status_answer(service.contents, edition)?;
-        Ok(Answer::Status {
-            logical: state.logical,
-            physical: state.physical,
-        })
-    } else if has_tag(service.tag, 2, true, 1) {
-        let listed = read_get_name_list_answer(alloc, service.contents, edition)?;
-        Ok(Answer::GetNameList {
-            names: listed.names,
-            more: listed.more,
-        })
-    } else if has_tag(service.tag, 2, true, 2) {
-        let texts = read_identify_answer(alloc, service.contents, edition)?;
-        Ok(Answer::Identify {
-            vendor: texts.vendor,
-            model: texts.model,
-            revision: texts.revision,
-        })
-    } else {
-        Err(Unread::Malformed)
+    match service.tag.number {
+        0 => Ok(Answer::Status(read_as::<StatusResponse>(alloc, service, edition)?)),
+        1 => Ok(Answer::GetNameList(read_as::<GetNameListResponse>(alloc, service, edition)?)),
+        2 => Ok(Answer::Identify(read_as::<IdentifyResponse>(alloc, service, edition)?)),
+        _ => Err(Unread::Malformed),
     }
 }
 
-/// The next element, an answer.
-#[tactic(auto, unfolding(ber_forms::specs::Reading::chosen_by))]
-fn required_answer(
-    alloc: Global,
-    parts: &mut Cursor<'_>,
-    edition: Edition,
-) -> Result<Answer, Unread>
-    requires { parts.old.lengths ≡ lengths_of edition }
-    ensures exact { Gives (λ a. (answer_value a, parts.new.octets)) result (required_at (lengths_of edition) (one_of (answers edition)) parts.old.octets) }
-    ensures kept { parts.new.lengths ≡ parts.old.lengths }
-{
-    let element = parts.part()?;
-    answer(alloc, element, edition)
+/// The form of an answer: each service by its number (ISO 9506-2, ConfirmedServiceResponse).
+pub(crate) struct Answers;
+
+impl Chosen for Answers {
+    type Item = Answer;
+
+    ghost arms = { answers };
+
+    ghost needs_no_memory = { false };
+
+    fn of(alloc: Global, element: Element<'_>, edition: Edition) -> Result<Answer, Unread> {
+        answered(alloc, element, edition)
+    }
+
+    #[tactic(auto, unfolding(crate::specs::Services::answers))]
+    fn put_chosen(out: &mut Writer, x: &Answer) -> Result<(), Full> {
+        match x {
+            Answer::Status(x) => StatusResponse::put_part(out, 0, x),
+            Answer::GetNameList(x) => GetNameListResponse::put_part(out, 1, x),
+            Answer::Identify(x) => IdentifyResponse::put_part(out, 2, x),
+        }
+    }
+
+    ghost sound = { answers_sound };
 }
 
 /// The invokeID and the answer that the contents of a confirmed-Response say.
@@ -64,11 +61,11 @@ pub(crate) fn response(
     contents: &[u8],
     edition: Edition,
 ) -> Result<(u32, Answer), Unread>
-    ensures { Gives (λ r. with_invoke_value r.0 (answer_value r.1)) result (reading (lengths_of edition) (response_form edition) contents.now) }
+    ensures { GivesContents responded edition contents.now result }
 {
     let mut parts = cursor(edition, contents);
-    let invoke = required_invoke(&mut parts, edition)?;
-    let answer = required_answer(alloc, &mut parts, edition)?;
+    let invoke = parts.required_universal_u32()?;
+    let answer = OneOf::<Answers>::take(alloc, &mut parts, edition)?;
     parts.end()?;
     Ok((invoke, answer))
 }
