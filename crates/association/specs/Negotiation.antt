@@ -1,14 +1,13 @@
 -- The negotiation of an association (ISO 9506-1, environment and general management, Initiate).
-use Rattle.std.specs.Prelude.{ℕ, ℤ, pos, Bool, List, [], ◌∷◌, Option, Some, None, Result, Ok, Err, unwrap_or, int_lt, unsigned_abs, bit_and, slice_index, if◌then◌else◌}
+use Rattle.std.specs.Prelude.{ℕ, ℤ, pos, Bool, List, [], ◌∷◌, ◌++◌, Option, Some, None, Result, Ok, Err, unwrap_or, int_lt, unsigned_abs, bit_and, slice_index, if◌then◌else◌}
 use Rattle.std.specs.Int.{int_min}
 use Rattle.mms_types.specs.declared.initiate.Initiate.{Initiate}
 use Rattle.mms_types.specs.declared.initiate.InitiateAnswer.{InitiateAnswer}
 use Rattle.mms_types.specs.declared.service_error.ServiceError.{ServiceError}
+use Rattle.mms_types.specs.Errors.{version_incompatible, max_segment_insufficient, calling_insufficient, called_insufficient, nesting_insufficient}
+use Rattle.mms_types.specs.OptionBits.{option_octets, conclude, cancel}
+use Rattle.mms_pdu.specs.Services.{services}
 use Rattle.association.specs.declared.negotiation.Negotiated.{Negotiated}
-
--- an error of class initiate, without more of the refusal (ISO 9506-2, ServiceError)
-abbrev pub initiate_error : ℕ → ServiceError
-initiate_error code = record { class = 8; code = code; info = None }
 
 -- the proposed size of a PDU; where it is absent, 65,000 octets (this profile's choice)
 abbrev pub size_of : Initiate → ℤ
@@ -22,11 +21,11 @@ nesting_of p = unwrap_or p.nesting (pos 10)
 -- version-incompatible, max-segment-insufficient, max-services-outstanding-calling-insufficient, -called-insufficient, nesting-level-insufficient
 abbrev pub causes : Initiate → List (Bool × ServiceError)
 causes p =
-    (int_lt p.detail.version (pos 1), initiate_error 1)
-    ∷ (int_lt (size_of p) (pos 512), initiate_error 2)
-    ∷ (int_lt p.calling (pos 1), initiate_error 3)
-    ∷ (int_lt p.called (pos 1), initiate_error 4)
-    ∷ (int_lt (nesting_of p) (pos 1), initiate_error 7)
+    (int_lt p.detail.version (pos 1), version_incompatible)
+    ∷ (int_lt (size_of p) (pos 512), max_segment_insufficient)
+    ∷ (int_lt p.calling (pos 1), calling_insufficient)
+    ∷ (int_lt p.called (pos 1), called_insufficient)
+    ∷ (int_lt (nesting_of p) (pos 1), nesting_insufficient)
     ∷ []
 
 -- the error of the first cause that holds
@@ -42,9 +41,9 @@ refusal_of p = first_error (causes p)
 abbrev pub parameters_of_both : List ℕ → List ℕ
 parameters_of_both octets = bit_and (slice_index octets 0) 0xE9 ∷ bit_and (slice_index octets 1) 0x00 ∷ []
 
--- the services that the server offers, 85 bits: status, getNameList, identify, conclude and cancel
+-- the services that the server offers, 85 bits: the confirmed services of the one list, conclude and cancel
 abbrev pub offered : List ℕ
-offered = 0xE0 ∷ 0 ∷ 0 ∷ 0 ∷ 0 ∷ 0 ∷ 0 ∷ 0 ∷ 0 ∷ 0 ∷ 0x18 ∷ []
+offered = option_octets 11 (services.numbers ++ conclude ∷ cancel ∷ [])
 
 -- the answer to a proposal: of each value the lesser of the proposal's and the server's (65,000 octets, 10, 10, 10, version 1), the parameters of both
 abbrev pub answer_to : Initiate → InitiateAnswer

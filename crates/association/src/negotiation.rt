@@ -20,7 +20,7 @@ const VERSION: i16 = 1;
 /// The parameters that the server supports: str1, str2, vnam, vadr and vlis.
 const PARAMETERS: [u8; 2] = [0xE9, 0x00];
 
-/// The services that the server offers: status, getNameList, identify, conclude and cancel.
+/// The services that the server offers: the bits of the one list of services, of conclude and of cancel.
 const SERVICES: [u8; 11] = [0xE0, 0, 0, 0, 0, 0, 0, 0, 0, 0, 0x18];
 
 /// What an association was negotiated to (ISO 9506-1, Initiate).

@@ -84,7 +84,7 @@ module _ (s : State) where
   listing_held o c = class_held c
 
   serving_held : (admitted : Result Unit NotAdmitted) (asked : Request) → AreHeld hand (serving (length s.clients) admitted asked)
-  serving_held (Ok taken) (request.GetNameList c o after) = listing_held o c
+  serving_held (Ok taken) (request.GetNameList x) = listing_held x.scope x.class
   serving_held admitted asked = tt
 
   asked_held : (other : List (Option Part)) (row : ClientRow) (heard : Result Pdu Refusal) → AreHeld hand (asks_for (length s.clients) other row heard)

@@ -4,6 +4,7 @@ use Rattle.mms_types.specs.declared.memory.Memory.{Memory}
 use Rattle.mms_types.specs.declared.event.What.TheVariants.{Octets, Abort}
 use Rattle.mms_types.specs.declared.initiate.InitiateAnswer.{InitiateAnswer}
 use Rattle.mms_types.specs.declared.service_error.ServiceError.{ServiceError}
+use Rattle.mms_types.specs.Errors as errors
 use Rattle.mms_types.specs.declared.name_list.ObjectScope.{ObjectScope}
 use Rattle.mms_types.specs.declared.name_list.ObjectScope.TheVariants.{Domain}
 use Rattle.mms_types.specs.declared.pdu.Request.{Request}
@@ -40,29 +41,29 @@ with_pdu row p = row_with_output row (Octets (pdu_octets p))
 abbrev pub with_abort : ClientRow → ClientRow
 with_abort row = row_with_output row Abort
 
--- an error without more of the refusal
-abbrev pub error : ℕ → ℕ → ServiceError
-error class code = record { class = class; code = code; info = None }
-
 -- class service, other
 abbrev pub other_error : ServiceError
-other_error = error 4 0
+other_error = errors.other
 
 -- class service-preempt, cancel
 abbrev pub cancel_error : ServiceError
-cancel_error = error 5 3
+cancel_error = errors.cancel
 
 -- class access, object-non-existent
 abbrev pub missing_error : ServiceError
-missing_error = error 7 2
+missing_error = errors.object_non_existent
 
 -- class conclude, further-communication-required
 abbrev pub further_error : ServiceError
-further_error = error 9 1
+further_error = errors.further_communication_required
 
 -- class cancel, invoke-id-unknown
 abbrev pub unknown_error : ServiceError
-unknown_error = error 10 1
+unknown_error = errors.invoke_id_unknown
+
+-- a request is refused, without a modifier
+abbrev pub confirmed_error : ℕ → ServiceError → Pdu
+confirmed_error invoke error = pdu.ConfirmedError (record { invoke = invoke; modifier = None; error = error })
 
 -- pdu-error, invalid-pdu
 abbrev pub invalid_pdu : Pdu
@@ -73,25 +74,25 @@ invalid_pdu = pdu.Reject (record { invoke = None; reason = InvalidPdu })
 -- names are not listed where the domain of their scope is not live: there are no domains yet, so none is. No class has a name yet.
 abbrev pub listed : ObjectScope → Result Answer ServiceError
 listed (Domain domain) = Err missing_error
-listed scope = Ok (answer.GetNameList [] false)
+listed scope = Ok (answer.GetNameList (record { names = []; more = false }))
 
 -- the answer to a request, or the cause for which it is refused: Status is answered with state-changes-allowed and operational, Identify with the device's
 -- texts
 abbrev pub reply : Constants → Request → Result Answer ServiceError
-reply device (request.Status derivation) = Ok (answer.Status 0 0)
-reply device (request.GetNameList class scope after) = listed scope
-reply device request.Identify = Ok (answer.Identify device.vendor device.model device.revision)
+reply device (request.Status asked) = Ok (answer.Status (record { logical = 0; physical = 0 }))
+reply device (request.GetNameList asked) = listed asked.scope
+reply device request.Identify = Ok (answer.Identify (record { vendor = device.vendor; model = device.model; revision = device.revision }))
 
 -- a positive answer is sent unless it is longer than the negotiated size of a PDU; then the error is service, other
 abbrev pub response : ℕ → ℕ → Answer → Pdu
 response size invoke told =
     if nat_le (length (pdu_octets (pdu.ConfirmedResponse invoke told))) size then pdu.ConfirmedResponse invoke told
-    else pdu.ConfirmedError invoke None other_error
+    else confirmed_error invoke other_error
 
 -- a cause is told by a confirmed-Error
 abbrev pub replied : ℕ → ℕ → Result Answer ServiceError → Pdu
 replied size invoke (Ok told) = response size invoke told
-replied size invoke (Err cause) = pdu.ConfirmedError invoke None cause
+replied size invoke (Err cause) = confirmed_error invoke cause
 
 -- a request that is read is rejected where its invokeID waits, otherwise where as many requests wait as were negotiated, and is otherwise answered or refused
 abbrev pub outcome : Result Unit NotAdmitted → Constants → ℕ → ℕ → Request → Pdu
@@ -113,8 +114,8 @@ concluded (first ∷ rest) row = with_pdu row (pdu.ConcludeError further_error)
 
 -- a request that waits is cancelled; one that doesn't is unknown
 abbrev pub cancelled : Bool → ClientRow → ℕ → ClientRow
-cancelled true row invoke = with_pdu (with_pdu (row_without_waiting row invoke) (pdu.CancelResponse invoke)) (pdu.ConfirmedError invoke None cancel_error)
-cancelled false row invoke = with_pdu row (pdu.CancelError invoke unknown_error)
+cancelled true row invoke = with_pdu (with_pdu (row_without_waiting row invoke) (pdu.CancelResponse invoke)) (confirmed_error invoke cancel_error)
+cancelled false row invoke = with_pdu row (pdu.CancelError (record { invoke = invoke; error = unknown_error }))
 
 -- a refusal is told by a reject
 abbrev pub refused : ClientRow → Result Reject Memory → ClientRow

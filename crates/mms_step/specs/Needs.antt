@@ -68,7 +68,7 @@ listing n s c = class_places n c
 
 -- a request that is not rejected
 abbrev pub serving : ℕ → Result Unit NotAdmitted → Request → List ℕ
-serving n (Ok taken) (request.GetNameList c s after) = listing n s c
+serving n (Ok taken) (request.GetNameList x) = listing n x.scope x.class
 serving n admitted asked = []
 
 -- what a PDU asks for in an association

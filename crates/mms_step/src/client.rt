@@ -7,14 +7,15 @@ ghost use Rattle.association.specs.Negotiation.{negotiation};
 ghost use Rattle.association.specs.Waiting.{is_waiting};
 ghost use Rattle.mms_pdu.specs.Pdus.{pdu_octets};
 ghost use Rattle.mms_pdu.specs.Heard.{pdu_heard};
-ghost use Rattle.mms_step.specs.Association.{with_pdu, with_abort, listed, reply, response, replied, outcome, negotiated, concluded, cancelled, idle_hears, open_hears, hear, lose};
+ghost use Rattle.mms_step.specs.Association.{with_pdu, with_abort, confirmed_error, listed, reply, response, replied, outcome, negotiated, concluded, cancelled, idle_hears, open_hears, hear, lose};
 ghost use Rattle.mms_step.specs.Partition.{settled};
 
 use association::{Association, ClientPart, Constants, Negotiated, NotAdmitted, outcome_of};
 use mms_pdu::{Refusal, Writer, put_pdu, read_pdu, reject_for};
 use mms_types::{
-    Answer, Edition, Identifiers, Initiate, Memory, ObjectScope, Octets, Pdu, Reject, RejectReason,
-    Request, ServiceError, What,
+    Answer, CancelError, ConfirmedError, Edition, GetNameListAnswer, Identifiers, IdentifyAnswer,
+    Initiate, Memory, ObjectScope, Octets, Pdu, Reject, RejectReason, Request, ServiceError,
+    StatusAnswer, What,
 };
 use std::alloc::Global;
 use std::marker::Model;
@@ -56,10 +57,10 @@ fn listed(alloc: Global, scope: &ObjectScope) -> Result<Answer, ServiceError>
 {
     match scope {
         ObjectScope::Domain(_) => Err(ServiceError::OBJECT_NON_EXISTENT),
-        ObjectScope::Vmd | ObjectScope::Association => Ok(Answer::GetNameList {
+        ObjectScope::Vmd | ObjectScope::Association => Ok(Answer::GetNameList(GetNameListAnswer {
             names: Identifiers::new(alloc),
             more: false,
-        }),
+        })),
     }
 }
 
@@ -72,16 +73,16 @@ fn reply(
     ensures { IfOk result (λ told. told ≡ reply device.now asked.now) }
 {
     match asked {
-        Request::Status { .. } => Ok(Ok(Answer::Status {
+        Request::Status(_) => Ok(Ok(Answer::Status(StatusAnswer {
             logical: 0,
             physical: 0,
-        })),
-        Request::GetNameList { scope, .. } => Ok(listed(alloc, scope)),
-        Request::Identify => Ok(Ok(Answer::Identify {
+        }))),
+        Request::GetNameList(asked) => Ok(listed(alloc, &asked.scope)),
+        Request::Identify => Ok(Ok(Answer::Identify(IdentifyAnswer {
             vendor: device.vendor.copy(alloc)?,
             model: device.model.copy(alloc)?,
             revision: device.revision.copy(alloc)?,
-        })),
+        }))),
     }
 }
 
@@ -166,16 +167,16 @@ impl Client {
 
     /// Refuses a confirmed request.
     fn refuse(&mut self, alloc: Global, invoke: u32, error: ServiceError) -> Result<(), Memory>
-        ensures sent { OnOk result (self.new ≡ settled (with_pdu self.old.row (Pdu.ConfirmedError invoke None error))) }
+        ensures sent { OnOk result (self.new ≡ settled (with_pdu self.old.row (confirmed_error invoke error))) }
         ensures kept { OnErr result (self.new ≡ self.old) }
     {
         self.send(
             alloc,
-            &Pdu::ConfirmedError {
+            &Pdu::ConfirmedError(ConfirmedError {
                 invoke,
                 modifier: None,
                 error,
-            },
+            }),
         )
     }
 
@@ -272,11 +273,11 @@ impl Client {
         ensures kept { OnErr result (self.new ≡ self.old) }
     {
         let cancelled = self.spelled(alloc, &Pdu::CancelResponse { invoke })?;
-        let error = Pdu::ConfirmedError {
+        let error = Pdu::ConfirmedError(ConfirmedError {
             invoke,
             modifier: None,
             error: ServiceError::CANCEL,
-        };
+        });
         let preempted = self.spelled(alloc, &error)?;
         self.part.reserve(2, 0)?;
         self.part.answered(invoke);
@@ -295,7 +296,7 @@ impl Client {
             Err(NotAdmitted::Waiting) => self.cancel_waiting(alloc, invoke),
             _ => {
                 let error = ServiceError::INVOKE_ID_UNKNOWN;
-                self.send(alloc, &Pdu::CancelError { invoke, error })
+                self.send(alloc, &Pdu::CancelError(CancelError { invoke, error }))
             }
         }
     }

@@ -150,8 +150,8 @@ fn push_request(parts: &mut Parts, clients: u32, part: &ClientPart, invoke: u32,
     ensures { parts.new ≡ parts.old ++ serving clients (admission invoke part.now.row) asked.now }
 {
     match (part.admit(invoke), asked) {
-        (Ok(()), Request::GetNameList { class, scope, .. }) => {
-            push_listing(parts, clients, scope, *class);
+        (Ok(()), Request::GetNameList(listed)) => {
+            push_listing(parts, clients, &listed.scope, listed.class);
         }
         _ => {}
     }
