@@ -2,3 +2,5 @@ pub mod Whole
 pub mod AskedAgain
 pub mod FormOf
 pub mod HeardAgain
+pub mod Causes
+pub mod FirstCause

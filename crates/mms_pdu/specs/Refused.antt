@@ -1,6 +1,6 @@
 -- Why octets are refused that a client sends: the causes in their order, each a condition on the whole octets (ISO 9506-2, RejectPDU; the
 -- order is this profile's choice).
-use Rattle.std.specs.Prelude.{◌≡◌, ◌⊎◌, ℕ, pos, true, false, IsTrue, List, [], ◌∷◌, Result, Err}
+use Rattle.std.specs.Prelude.{◌≡◌, ◌≢◌, ◌⊎◌, ℕ, pos, true, false, IsTrue, List, [], ◌∷◌, Result, Err}
 use Rattle.ber_core.specs.declared.element.Lengths.{Lengths}
 use Rattle.ber_core.specs.declared.element.Tag.{Tag}
 use Rattle.ber_core.specs.Part.{Part}
@@ -104,3 +104,8 @@ IsRefused lengths edition octets =
     else of_request lengths octets refusal.Service (IsNotOffered lengths edition)
     else of_request lengths octets refusal.Recursion (NestsTooDeep lengths edition)
     else of_request lengths octets refusal.Argument (HasBadArgument lengths edition)
+
+-- A call refuses the octets by the first cause that holds, and where one holds, unless it is want of memory.
+pub record RefusesFirst {X : Type 0} (lengths : Lengths) (edition : Edition) (octets : List ℕ) (result : Result X Refusal) : Type 0 where
+  pub first : (r : Refusal) → r ≢ refusal.Memory → result ≡ Err r → IsRefused lengths edition octets r
+  pub only : (r : Refusal) → IsRefused lengths edition octets r → (result ≡ Err r) ⊎ (result ≡ Err refusal.Memory)

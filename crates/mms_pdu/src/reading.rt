@@ -6,6 +6,7 @@ ghost use Rattle.ber_forms.specs.Reading.{Gives, has_tag, alternatives};
 ghost use Rattle.pdu_names.specs.Editions.{lengths_of};
 ghost use Rattle.mms_pdu.specs.Pdus.{pdu_value};
 ghost use Rattle.mms_pdu.specs.Heard.{IsHeard, pdu_heard};
+ghost use Rattle.mms_pdu.specs.Refused.{RefusesFirst};
 ghost use Rattle.mms_pdu.specs.Hearing.{Hears, is_pdu, kept_pdus, noted_pdus, valid, invalid_of, and_then, asked_at, request_told, reject_told, part_told, heard, depth_of};
 
 use crate::refusal::Refusal;
@@ -151,6 +152,7 @@ fn whole(alloc: Global, octets: &[u8], edition: Edition) -> Result<Pdu, Refusal>
 pub fn read_pdu(alloc: Global, octets: &[u8], edition: Edition) -> Result<Read, Refusal>
     ensures heard { Hears (λ r. pdu_value r.pdu) result (heard (lengths_of edition) edition octets.now) }
     ensures pdu { Hears (λ r. r.pdu) result (pdu_heard edition octets.now) }
+    ensures refused { RefusesFirst (lengths_of edition) edition octets.now result }
     ensures client { IfOk result (λ r. IsHeard r.pdu) }
     ensures depth { IfOk result (λ r. r.depth ≡ depth_of r.pdu) }
 {

@@ -1,0 +1,321 @@
+-- The refusal that is told is that of the first cause that holds.
+use Rattle.std.proofs.Common.{◌≡◌, ◌≢◌, ℕ, ◌⊎◌, inl, inr, Bool, true, false, cond, eqb, List, Option, Some, None, Result, Ok, Err, refl, sym, ap, subst, ◌∙◌}
+use Rattle.std.specs.Prelude.{IsTrue, []}
+use Rattle.ber_core.specs.declared.element.Lengths.{Lengths}
+use Rattle.ber_core.specs.Part.{Part}
+use Rattle.ber_core.specs.Element.{IsElement}
+use Rattle.ber_core.proofs.Elements.{IsBytes, one_element}
+use Rattle.ber_forms.specs.Fault.{Fault}
+use Rattle.ber_forms.specs.Fault as fault
+use Rattle.ber_forms.specs.Value.{Value, nothing, text, chosen}
+use Rattle.ber_forms.specs.Form.{Form, Alternatives, no_other, or, choice}
+use Rattle.ber_forms.specs.Reading.{◌>>=◌, is_tag, is_constructed, has_tag, reading, alternatives}
+use Rattle.ber_forms.specs.ByNumber.{has_number, form_at, read_as}
+use Rattle.ber_forms.specs.InForm.{InForm, IsAlternative}
+use Rattle.ber_forms.proofs.Sound.{fine_is, alternatives_sound}
+use Rattle.ber_forms.proofs.Numbered.{tag_class, sound_distinct, by_number}
+use Rattle.mms_types.specs.declared.identifier.Edition.{Edition}
+use Rattle.pdu_assoc.specs.Heard.{heard_error, heard_reject_form, answered}
+use Rattle.mms_pdu.specs.declared.refusal.Refusal.{Refusal}
+use Rattle.mms_pdu.specs.declared.refusal.Refusal.TheVariants as refusal
+use Rattle.mms_pdu.specs.Services.{requests, requests_sound}
+use Rattle.mms_pdu.specs.Pdus.{heard_reject}
+use Rattle.mms_pdu.specs.Hearing.{Asked, is_pdu, kept_pdus, noted_pdus, noted_and, valid, and_then, argued, asked_value, served, sole_part, asked_at, reject_told, request_told, part_told, heard, Hears}
+use Rattle.mms_pdu.specs.Refused.{Asks, other_pdus, IsNoElement, HasUnknownTag, IsNoPdu, HasModifiers, IsNotOffered, NestsTooDeep, HasBadArgument, ◌else◌, refused_as, of_request, IsRefused, RefusesFirst}
+use Rattle.mms_pdu.proofs.Whole.{alternative_tag}
+use Rattle.mms_pdu.proofs.Causes.{AskedSo, sole_is, sole_only, one_only, one_deep, one_deep_only, asked_is, asks_part}
+
+-- ---- the first cause
+
+-- the cause holds of this refusal alone, or of none
+abbrev pub Tells : (Refusal → Type 0) → Option Refusal → Type 0
+Tells Cause (Some told) = Cause told × ((r : Refusal) → Cause r → r ≡ told)
+Tells Cause None = (r : Refusal) → Cause r → ⊥
+
+here : (C D : Refusal → Type 0) (t : Refusal) → Tells C (Some t) → Tells (C else D) (Some t)
+here C D t h = (inl h.0, unique)
+  where
+    unique : (r : Refusal) → (C else D) r → r ≡ t
+    unique r (inl c) = h.1 r c
+    unique r (inr d) = absurd (d.0 (t, h.0))
+
+later : (C D : Refusal → Type 0) (o : Option Refusal) → Tells C None → Tells D o → Tells (C else D) o
+later C D (Some t) none h = (inr (λ k. none k.0 k.1, h.0), unique)
+  where
+    unique : (r : Refusal) → (C else D) r → r ≡ t
+    unique r (inl c) = absurd (none r c)
+    unique r (inr d) = h.1 r d.1
+later C D None none h = never
+  where
+    never : (r : Refusal) → (C else D) r → ⊥
+    never r (inl c) = none r c
+    never r (inr d) = h r d.1
+
+abbrev refusal_in : {A : Type 0} → Result A Refusal → Option Refusal
+refusal_in (Ok x) = None
+refusal_in (Err r) = Some r
+
+-- ---- numbers
+
+no_form : (k : ℕ) (others : Alternatives) → form_at k others ≡ None → has_number others k ≡ false
+no_form k no_other e = refl
+no_form k (or n f others) e = by_number (eqb k n) e (no_form k others)
+  where
+    by_number : (b : Bool) → cond b (Some f) (form_at k others) ≡ None → (form_at k others ≡ None → has_number others k ≡ false) → cond b true (has_number others k) ≡ false
+    by_number true e rest = absurd cc
+    by_number false e rest = rest e
+
+some_form : (k : ℕ) (others : Alternatives) (f : Form) → form_at k others ≡ Some f → has_number others k ≡ true
+some_form k no_other f e = absurd cc
+some_form k (or n g others) f e = by_number (eqb k n) e (some_form k others f)
+  where
+    by_number : (b : Bool) → cond b (Some g) (form_at k others) ≡ Some f → (form_at k others ≡ Some f → has_number others k ≡ true) → cond b true (has_number others k) ≡ true
+    by_number true e rest = refl
+    by_number false e rest = rest e
+
+not_both : {P : Type 0} (b : Bool) → b ≡ true → b ≡ false → P
+not_both b e f = absurd (cc (e, f))
+
+module _ (lengths : Lengths) (edition : Edition) (octets : List ℕ) where
+  abbrev NoElement : Refusal → Type 0
+  NoElement = refused_as refusal.InvalidPdu (IsNoElement lengths edition octets)
+
+  abbrev UnknownTag : Refusal → Type 0
+  UnknownTag = refused_as refusal.UnknownType (HasUnknownTag lengths edition octets)
+
+  abbrev NoPdu : Refusal → Type 0
+  NoPdu = refused_as refusal.InvalidPdu (IsNoPdu lengths edition octets)
+
+  abbrev Modified : Refusal → Type 0
+  Modified = of_request lengths octets refusal.Modifier (HasModifiers lengths edition)
+
+  abbrev NotOffered : Refusal → Type 0
+  NotOffered = of_request lengths octets refusal.Service (IsNotOffered lengths edition)
+
+  abbrev TooDeep : Refusal → Type 0
+  TooDeep = of_request lengths octets refusal.Recursion (NestsTooDeep lengths edition)
+
+  abbrev BadArgument : Refusal → Type 0
+  BadArgument = of_request lengths octets refusal.Argument (HasBadArgument lengths edition)
+
+  abbrev FromRequests : Refusal → Type 0
+  FromRequests = Modified else NotOffered else TooDeep else BadArgument
+
+  others : Alternatives
+  others = requests.alternatives edition
+
+  -- ---- a confirmed-Request
+
+  module _ (a : Asked) (k : Asks lengths octets a) (unique : (b : Asked) → Asks lengths octets b → b ≡ a) where
+    holds : (told : ℕ → Refusal) (Cause : Asked → Type 0) → Cause a → Tells (of_request lengths octets told Cause) (Some (told a.invoke))
+    holds told Cause h = ((a, k, h, refl), λ r c. c.3 ∙ ap (λ (b : Asked). told b.invoke) (unique c.0 c.1))
+
+    holds_not : (told : ℕ → Refusal) (Cause : Asked → Type 0) → (Cause a → ⊥) → Tells (of_request lengths octets told Cause) None
+    holds_not told Cause h = λ r c. h (subst Cause (unique c.0 c.1) c.2)
+
+    request_tells : (c : List ℕ) → AskedSo lengths c a → Tells FromRequests (refusal_in (request_told lengths edition a))
+    unfolding request_told
+    request_tells c so = by_modified a.modified refl
+      where
+        form : Option Form
+        form = form_at a.service.tag.number (requests.alternatives edition)
+
+        is : alternatives lengths (requests.alternatives edition) a.service ≡ read_as lengths a.service (form_at a.service.tag.number (requests.alternatives edition))
+        is = by_number lengths a.service (requests.alternatives edition) (sound_distinct (requests.alternatives edition) (requests_sound edition))
+
+        not_deep : (r : Result Value Fault) → alternatives lengths (requests.alternatives edition) a.service ≡ r → r ≢ Err fault.too_deep → NestsTooDeep lengths edition a → ⊥
+        not_deep r e ne h = ne (sym e ∙ one_deep_only lengths (requests.alternatives edition) so.service a.service so.service_is h)
+
+        by_read : (r : Result Value Fault) → alternatives lengths (requests.alternatives edition) a.service ≡ r
+            → Tells (TooDeep else BadArgument) (refusal_in (and_then (argued a.invoke r) (λ v. Ok (asked_value a.invoke v))))
+        by_read (Ok v) e =
+            later TooDeep BadArgument None (holds_not refusal.Recursion (NestsTooDeep lengths edition) (not_deep (Ok v) e (λ f. absurd cc)))
+            (holds_not refusal.Argument (HasBadArgument lengths edition) (λ bad. bad v (alternatives_sound lengths (requests.alternatives edition) a.service v so.inner_fits e)))
+        by_read (Err fault.too_deep) e =
+            here TooDeep BadArgument (refusal.Recursion a.invoke)
+            (holds refusal.Recursion (NestsTooDeep lengths edition) (one_deep lengths (requests.alternatives edition) so.service a.service so.fits so.service_is e))
+        by_read (Err fault.malformed) e =
+            later TooDeep BadArgument (Some (refusal.Argument a.invoke)) (holds_not refusal.Recursion (NestsTooDeep lengths edition) (not_deep (Err fault.malformed) e (λ f. absurd cc)))
+            (holds refusal.Argument (HasBadArgument lengths edition) (λ v h. absurd (cc (e, one_only lengths (requests.alternatives edition) so.service a.service v so.service_is h))))
+
+        by_form : (o : Option Form) → form_at a.service.tag.number (requests.alternatives edition) ≡ o
+            → Tells (NotOffered else TooDeep else BadArgument) (refusal_in (and_then (served lengths a.invoke a.service o) (λ v. Ok (asked_value a.invoke v))))
+        by_form None e =
+            here NotOffered (TooDeep else BadArgument) (refusal.Service a.invoke)
+            (holds refusal.Service (IsNotOffered lengths edition) (no_form a.service.tag.number (requests.alternatives edition) e))
+        by_form (Some f) e =
+            let there = some_form a.service.tag.number (requests.alternatives edition) f e in
+            let read = read_as lengths a.service (Some f) in
+            later NotOffered (TooDeep else BadArgument) (refusal_in (and_then (argued a.invoke read) (λ v. Ok (asked_value a.invoke v))))
+            (holds_not refusal.Service (IsNotOffered lengths edition) (λ h. not_both (has_number (requests.alternatives edition) a.service.tag.number) there h))
+            (by_read read (is ∙ ap (λ (o : Option Form). read_as lengths a.service o) e))
+
+        by_modified : (b : Bool) → a.modified ≡ b
+            → Tells FromRequests (refusal_in (cond b (Err (refusal.Modifier a.invoke)) (and_then (served lengths a.invoke a.service (form_at a.service.tag.number (requests.alternatives edition))) (λ v. Ok (asked_value a.invoke v)))))
+        by_modified true m =
+            here Modified (NotOffered else TooDeep else BadArgument) (refusal.Modifier a.invoke) (holds refusal.Modifier (HasModifiers lengths edition) m)
+        by_modified false m =
+            later Modified (NotOffered else TooDeep else BadArgument)
+            (refusal_in (and_then (served lengths a.invoke a.service (form_at a.service.tag.number (requests.alternatives edition))) (λ v. Ok (asked_value a.invoke v))))
+            (holds_not refusal.Modifier (HasModifiers lengths edition) (λ h. not_both a.modified h m))
+            (by_form (form_at a.service.tag.number (requests.alternatives edition)) refl)
+
+  -- ---- one element
+
+  module _ (p : Part) (is : IsElement lengths octets p) (fits : IsBytes p.contents) where
+    same : (q : Part) → IsElement lengths octets q → q ≡ p
+    same q also = (one_element lengths octets octets [] [] q p also is refl).1
+
+    read_other : (v : Value) → InForm lengths (choice (other_pdus edition)) octets v → alternatives lengths (other_pdus edition) p ≡ Ok v
+    read_other v h = one_only lengths (other_pdus edition) octets p v is (subst (λ (q : Part). IsAlternative lengths (other_pdus edition) q v) (same h.0 h.1) h.2)
+
+    -- of no confirmed-Request a cause holds
+    asks_none : is_tag 2 true 0 p.tag ≡ false → (a : Asked) → Asks lengths octets a → ⊥
+    asks_none t a k = not_both (is_tag 2 true 0 p.tag) (asks_part lengths octets a p is k).0 t
+
+    no_requests : ((a : Asked) → Asks lengths octets a → ⊥) → Tells FromRequests None
+    no_requests none =
+        later Modified (NotOffered else TooDeep else BadArgument) None (λ r c. none c.0 c.1)
+        (later NotOffered (TooDeep else BadArgument) None (λ r c. none c.0 c.1)
+        (later TooDeep BadArgument None (λ r c. none c.0 c.1) (λ r c. none c.0 c.1)))
+
+    -- another PDU is told where it is of its form, and is invalid where it isn't
+    other_tells : is_tag 2 true 0 p.tag ≡ false
+        → Tells (NoPdu else FromRequests) (refusal_in (cond (is_tag 2 true 4 p.tag) (reject_told lengths edition p.contents) (cond (has_tag noted_pdus p.tag) (Ok nothing) (valid (alternatives lengths (kept_pdus edition) p)))))
+    unfolding reject_told
+    other_tells t = by_reject (is_tag 2 true 4 p.tag) refl
+      where
+        none : (a : Asked) → Asks lengths octets a → ⊥
+        none = asks_none t
+
+        is_pdu_of : (w : Value) → alternatives lengths (other_pdus edition) p ≡ Ok w → Tells (NoPdu else FromRequests) None
+        is_pdu_of w e = later NoPdu FromRequests None (λ r c. c.1.other w (p, is, alternatives_sound lengths (other_pdus edition) p w fits e)) (no_requests none)
+
+        is_no_pdu : ((w : Value) → alternatives lengths (other_pdus edition) p ≡ Ok w → ⊥) → Tells (NoPdu else FromRequests) (Some refusal.InvalidPdu)
+        is_no_pdu h =
+            here NoPdu FromRequests refusal.InvalidPdu
+            ((refl, record { asked = none; other = λ v k. h v (read_other v k) }), λ r c. c.0)
+
+        by_elements : (r : Result Value Fault) → alternatives lengths (other_pdus edition) p ≡ (r >>= λ w. Ok (chosen 4 w)) → (x : Value) → Tells (NoPdu else FromRequests) (refusal_in (and_then (valid r) (λ _. Ok x)))
+        by_elements (Ok w) e x = is_pdu_of (chosen 4 w) e
+        by_elements (Err d) e x = is_no_pdu (λ w k. absurd (cc (e, k)))
+
+        by_kept : (r : Result Value Fault) → alternatives lengths (other_pdus edition) p ≡ r → Tells (NoPdu else FromRequests) (refusal_in (valid r))
+        by_kept (Ok w) e = is_pdu_of w e
+        by_kept (Err d) e = is_no_pdu (λ w k. absurd (cc (e, k)))
+
+        noted_is : has_tag noted_pdus p.tag ≡ true → (w : Value) × (alternatives lengths (noted_and (kept_pdus edition)) p ≡ Ok w)
+        noted_is e = by_tags (is_tag 2 true 3 p.tag) (is_tag 2 false 6 p.tag) (is_tag 2 true 7 p.tag) refl refl refl
+          where
+            by_tags : (x y z : Bool) → is_tag 2 true 3 p.tag ≡ x → is_tag 2 false 6 p.tag ≡ y → is_tag 2 true 7 p.tag ≡ z → (w : Value) × (alternatives lengths (noted_and (kept_pdus edition)) p ≡ Ok w)
+            by_tags true y z f g h = (chosen 3 (text p.contents), rw f refl)
+            by_tags false true z f g h = (chosen 6 (text p.contents), rw (f, g) refl)
+            by_tags false false true f g h = (chosen 7 (text p.contents), rw (f, g, h) refl)
+            by_tags false false false f g h = not_both (has_tag noted_pdus p.tag) e (rw (f, g, h) refl)
+
+        noted_not : has_tag noted_pdus p.tag ≡ false → alternatives lengths (noted_and (kept_pdus edition)) p ≡ alternatives lengths (kept_pdus edition) p
+        noted_not e = by_tags (is_tag 2 true 3 p.tag) (is_tag 2 false 6 p.tag) (is_tag 2 true 7 p.tag) refl refl refl
+          where
+            by_tags : (x y z : Bool) → is_tag 2 true 3 p.tag ≡ x → is_tag 2 false 6 p.tag ≡ y → is_tag 2 true 7 p.tag ≡ z → alternatives lengths (noted_and (kept_pdus edition)) p ≡ alternatives lengths (kept_pdus edition) p
+            by_tags false false false f g h = rw (f, g, h) refl
+            by_tags true y z f g h = not_both (has_tag noted_pdus p.tag) (rw f refl) e
+            by_tags false true z f g h = not_both (has_tag noted_pdus p.tag) (rw (f, g) refl) e
+            by_tags false false true f g h = not_both (has_tag noted_pdus p.tag) (rw (f, g, h) refl) e
+
+        by_noted : (b : Bool) → has_tag noted_pdus p.tag ≡ b → is_tag 2 true 4 p.tag ≡ false → Tells (NoPdu else FromRequests) (refusal_in (cond b (Ok nothing) (valid (alternatives lengths (kept_pdus edition) p))))
+        by_noted true n f = let w = noted_is n in is_pdu_of w.0 (rw f w.1)
+        by_noted false n f = by_kept (alternatives lengths (kept_pdus edition) p) (rw f (noted_not n))
+
+        by_reject : (b : Bool) → is_tag 2 true 4 p.tag ≡ b
+            → Tells (NoPdu else FromRequests) (refusal_in (cond b (reject_told lengths edition p.contents) (cond (has_tag noted_pdus p.tag) (Ok nothing) (valid (alternatives lengths (kept_pdus edition) p)))))
+        by_reject true f =
+            by_elements (reading lengths heard_reject_form p.contents) (rw f refl) (chosen 4 (heard_reject.value (answered (reading lengths (heard_error.form edition) p.contents))))
+        by_reject false f = by_noted (has_tag noted_pdus p.tag) refl f
+
+    asked_tells : is_tag 2 true 0 p.tag ≡ true → Tells (NoPdu else FromRequests) (refusal_in (and_then (valid (asked_at lengths p.contents)) (request_told lengths edition)))
+    asked_tells t = by_asked (asked_at lengths p.contents) refl
+      where
+        no_number : has_number (other_pdus edition) 0 ≡ false
+        no_number = refl
+
+        not_other : (v : Value) → InForm lengths (choice (other_pdus edition)) octets v → ⊥
+        not_other v h =
+            let k = alternative_tag lengths (other_pdus edition) p v (read_other v h) in
+            not_both (has_number (other_pdus edition) 0) (subst (λ (n : ℕ). has_number (other_pdus edition) n ≡ true) (tag_class true 0 p.tag t).1 k.1) no_number
+
+        by_asked : (r : Result Asked Fault) → asked_at lengths p.contents ≡ r → Tells (NoPdu else FromRequests) (refusal_in (and_then (valid r) (request_told lengths edition)))
+        by_asked (Err d) e =
+            here NoPdu FromRequests refusal.InvalidPdu
+            ((refl, record { asked = λ a k. absurd (cc (e, (asks_part lengths octets a p is k).1)); other = not_other }), λ r c. c.0)
+        by_asked (Ok a) e =
+            let so = asked_is lengths p.contents a fits e in
+            let k : Asks lengths octets a = record { part = p; whole = is; tag = t; components = so.list; cut = so.cut; are = so.are } in
+            let unique : (b : Asked) → Asks lengths octets b → b ≡ a = λ b j. fine_is b a (sym (asks_part lengths octets b p is j).1 ∙ e) in
+            later NoPdu FromRequests (refusal_in (request_told lengths edition a)) (λ r c. c.1.asked a k) (request_tells a k unique p.contents so)
+
+    part_tells : Tells (UnknownTag else NoPdu else FromRequests) (refusal_in (part_told lengths edition p))
+    unfolding part_told
+    part_tells = by_pdu (is_pdu p.tag) refl
+      where
+        by_zero : (b : Bool) → is_tag 2 true 0 p.tag ≡ b
+            → Tells (NoPdu else FromRequests) (refusal_in (cond b (and_then (valid (asked_at lengths p.contents)) (request_told lengths edition))
+            (cond (is_tag 2 true 4 p.tag) (reject_told lengths edition p.contents) (cond (has_tag noted_pdus p.tag) (Ok nothing) (valid (alternatives lengths (kept_pdus edition) p))))))
+        by_zero true t = asked_tells t
+        by_zero false t = other_tells t
+
+        by_pdu : (b : Bool) → is_pdu p.tag ≡ b
+            → Tells (UnknownTag else NoPdu else FromRequests) (refusal_in (cond b (cond (is_tag 2 true 0 p.tag) (and_then (valid (asked_at lengths p.contents)) (request_told lengths edition))
+            (cond (is_tag 2 true 4 p.tag) (reject_told lengths edition p.contents) (cond (has_tag noted_pdus p.tag) (Ok nothing) (valid (alternatives lengths (kept_pdus edition) p))))) (Err refusal.UnknownType)))
+        by_pdu false e = here UnknownTag (NoPdu else FromRequests) refusal.UnknownType ((refl, (p, is, e)), λ r c. c.0)
+        by_pdu true e =
+            later UnknownTag (NoPdu else FromRequests) _
+            (λ r c. not_both (is_pdu p.tag) e (subst (λ (q : Part). is_pdu q.tag ≡ false) (same c.1.0 c.1.1) c.1.2))
+            (by_zero (is_tag 2 true 0 p.tag) refl)
+
+  -- ---- all octets
+
+  pub heard_tells : IsBytes octets → Tells (IsRefused lengths edition octets) (refusal_in (heard lengths edition octets))
+  unfolding heard
+  heard_tells fits = by_sole (sole_part lengths octets) refl
+    where
+      by_sole : (r : Result Part Fault) → sole_part lengths octets ≡ r → Tells (NoElement else UnknownTag else NoPdu else FromRequests) (refusal_in (and_then (valid r) (part_told lengths edition)))
+      by_sole (Err d) e =
+          here NoElement (UnknownTag else NoPdu else FromRequests) refusal.InvalidPdu
+          ((refl, λ p is. absurd (cc (e, sole_only lengths octets p is))), λ r c. c.0)
+      by_sole (Ok p) e =
+          let x = sole_is lengths octets p fits e in
+          later NoElement (UnknownTag else NoPdu else FromRequests) (refusal_in (part_told lengths edition p)) (λ r c. c.1 p x.0) (part_tells p x.0 x.1)
+
+-- ---- what a call answers
+
+abbrev refused : {X : Type 0} → Refusal → Result X Refusal
+refused e = Err e
+
+err_is : {X : Type 0} (e r : Refusal) → refused {X = X} e ≡ refused r → e ≡ r
+err_is e r h = cc
+
+pub refuses_first : {X : Type 0} (lengths : Lengths) (edition : Edition) (octets : List ℕ) (view : X → Value) (result : Result X Refusal) → IsBytes octets
+    → Hears view result (heard lengths edition octets) → RefusesFirst lengths edition octets result
+refuses_first {X} lengths edition octets view (Ok x) fits h = record {
+  first = λ r ne e. absurd cc;
+  only = λ r c. absurd (subst (λ (t : Result Value Refusal). Tells (IsRefused lengths edition octets) (refusal_in t)) h (heard_tells lengths edition octets fits) r c);
+}
+refuses_first {X} lengths edition octets view (Err e) fits h = by_memory e h
+  where
+    tells : (e : Refusal) → heard lengths edition octets ≡ Err e → Tells (IsRefused lengths edition octets) (Some e)
+    tells e is = subst (λ (t : Result Value Refusal). Tells (IsRefused lengths edition octets) (refusal_in t)) is (heard_tells lengths edition octets fits)
+
+    told : (e : Refusal) → heard lengths edition octets ≡ Err e → RefusesFirst lengths edition octets (refused {X = X} e)
+    told e is = record {
+      first = λ r ne same. subst (λ (t : Refusal). IsRefused lengths edition octets t) (err_is {X = X} e r same) (tells e is).0;
+      only = λ r c. inl (ap (λ (t : Refusal). Err t) (sym ((tells e is).1 r c)));
+    }
+
+    by_memory : (e : Refusal) → Hears view (Err e) (heard lengths edition octets) → RefusesFirst lengths edition octets (refused {X = X} e)
+    by_memory refusal.Memory h = record { first = λ r ne same. absurd (ne (sym (err_is {X = X} refusal.Memory r same))); only = λ r c. inr refl }
+    by_memory refusal.InvalidPdu h = told refusal.InvalidPdu h
+    by_memory refusal.UnknownType h = told refusal.UnknownType h
+    by_memory (refusal.Modifier n) h = told (refusal.Modifier n) h
+    by_memory (refusal.Service n) h = told (refusal.Service n) h
+    by_memory (refusal.Recursion n) h = told (refusal.Recursion n) h
+    by_memory (refusal.Argument n) h = told (refusal.Argument n) h
