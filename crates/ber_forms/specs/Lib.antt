@@ -5,6 +5,7 @@ pub mod Fault
 pub mod Reading
 pub mod ByNumber
 pub mod Ahead
+pub mod Steps
 pub mod Spelling
 pub mod InForm
 pub mod Fits

@@ -2,7 +2,7 @@
 
 ghost use Rattle.std.specs.Prelude.{◌≡◌, ◌≤◌, ℕ, Ok, Err, Some, None, IfOk};
 ghost use Rattle.ber_forms.specs.Bits.{cleared};
-ghost use Rattle.ber_forms.specs.Reading.{Gives, required_at, optional_at, defaulted_at};
+ghost use Rattle.ber_forms.specs.Steps.{DefaultedGives, OptionalGives, RequiredGives};
 ghost use Rattle.ber_forms.specs.Reads.{NeedsNoMemory};
 ghost use Rattle.ber_forms.specs.Form as form;
 ghost use Rattle.ber_forms.specs.Value as value;
@@ -16,7 +16,7 @@ impl<'a> Cursor<'a> {
     /// A truth value under the context tag `number`.
     #[tactic(auto, unfolding(crate::specs::Reading::required_by))]
     pub fn required_boolean(&mut self, number: u32) -> Result<bool, Unread>
-        ensures exact { Gives (λ b. (value.truth b, self.new.octets)) result (required_at self.old.lengths (form.context number form.boolean) self.old.octets) }
+        ensures exact { RequiredGives value.truth (form.context number form.boolean) self.old self.new result }
         ensures kept { self.new.lengths ≡ self.old.lengths }
         ensures no_memory { NeedsNoMemory result }
     {
@@ -27,7 +27,7 @@ impl<'a> Cursor<'a> {
     /// A truth value under the context tag `number`, if it is there.
     #[tactic(auto, unfolding(crate::specs::Reading::optional_by))]
     pub fn optional_boolean(&mut self, number: u32) -> Result<Option<bool>, Unread>
-        ensures exact { Gives (λ o. (value.optionally value.truth o, self.new.octets)) result (optional_at self.old.lengths (form.context number form.boolean) self.old.octets) }
+        ensures exact { OptionalGives value.truth (form.context number form.boolean) self.old self.new result }
         ensures kept { self.new.lengths ≡ self.old.lengths }
         ensures no_memory { NeedsNoMemory result }
     {
@@ -40,7 +40,7 @@ impl<'a> Cursor<'a> {
     /// A truth value under the context tag `number`, and `default` where it is missing.
     #[tactic(auto, unfolding(crate::specs::Reading::defaulting))]
     pub fn defaulted_boolean(&mut self, number: u32, default: bool) -> Result<bool, Unread>
-        ensures exact { Gives (λ b. (value.given (value.truth b), self.new.octets)) result (defaulted_at self.old.lengths (form.context number form.boolean) (value.truth default) self.old.octets) }
+        ensures exact { DefaultedGives value.truth (form.context number form.boolean) (value.truth default) self.old self.new result }
         ensures kept { self.new.lengths ≡ self.old.lengths }
         ensures no_memory { NeedsNoMemory result }
     {
@@ -53,7 +53,7 @@ impl<'a> Cursor<'a> {
     /// NULL under the context tag `number`.
     #[tactic(auto, unfolding(crate::specs::Reading::required_by))]
     pub fn required_null(&mut self, number: u32) -> Result<(), Unread>
-        ensures exact { Gives (λ _. (value.nothing, self.new.octets)) result (required_at self.old.lengths (form.context number form.null) self.old.octets) }
+        ensures exact { RequiredGives (λ _. value.nothing) (form.context number form.null) self.old self.new result }
         ensures kept { self.new.lengths ≡ self.old.lengths }
         ensures no_memory { NeedsNoMemory result }
     {
@@ -65,7 +65,7 @@ impl<'a> Cursor<'a> {
     #[tactic(auto, unfolding(crate::specs::Reading::required_by))]
     pub fn required_bit_string(&mut self, number: u32) -> Result<Bits<'a>, Unread>
         ensures few { IfOk result (λ b. b.unused ≤ 7) }
-        ensures exact { Gives (λ b. (value.bits b.unused (cleared b.unused b.octets.now), self.new.octets)) result (required_at self.old.lengths (form.context number form.bit_string) self.old.octets) }
+        ensures exact { RequiredGives (λ b. value.bits b.unused (cleared b.unused b.octets.now)) (form.context number form.bit_string) self.old self.new result }
         ensures kept { self.new.lengths ≡ self.old.lengths }
         ensures no_memory { NeedsNoMemory result }
     {
@@ -76,7 +76,7 @@ impl<'a> Cursor<'a> {
     /// Octets under the context tag `number`, as they stand in the contents.
     #[tactic(auto, unfolding(crate::specs::Reading::required_by))]
     pub fn required_octets(&mut self, number: u32) -> Result<&'a [u8], Unread>
-        ensures exact { Gives (λ s. (value.text s.now, self.new.octets)) result (required_at self.old.lengths (form.context number (form.octet_string form.any_octets)) self.old.octets) }
+        ensures exact { RequiredGives (λ s. value.text s.now) (form.context number (form.octet_string form.any_octets)) self.old self.new result }
         ensures kept { self.new.lengths ≡ self.old.lengths }
         ensures no_memory { NeedsNoMemory result }
     {
@@ -87,7 +87,7 @@ impl<'a> Cursor<'a> {
     /// Octets under the context tag `number`, if they are there.
     #[tactic(auto, unfolding(crate::specs::Reading::optional_by))]
     pub fn optional_octets(&mut self, number: u32) -> Result<Option<&'a [u8]>, Unread>
-        ensures exact { Gives (λ o. (value.optionally (λ s. value.text s.now) o, self.new.octets)) result (optional_at self.old.lengths (form.context number (form.octet_string form.any_octets)) self.old.octets) }
+        ensures exact { OptionalGives (λ s. value.text s.now) (form.context number (form.octet_string form.any_octets)) self.old self.new result }
         ensures kept { self.new.lengths ≡ self.old.lengths }
         ensures no_memory { NeedsNoMemory result }
     {
@@ -100,7 +100,7 @@ impl<'a> Cursor<'a> {
     /// A VisibleString under the context tag `number`. Malformed for an octet below 20 or above 7E.
     #[tactic(auto, unfolding(crate::specs::Reading::required_by))]
     pub fn required_visible(&mut self, number: u32) -> Result<&'a [u8], Unread>
-        ensures exact { Gives (λ s. (value.text s.now, self.new.octets)) result (required_at self.old.lengths (form.context number form.visible_string) self.old.octets) }
+        ensures exact { RequiredGives (λ s. value.text s.now) (form.context number form.visible_string) self.old self.new result }
         ensures kept { self.new.lengths ≡ self.old.lengths }
         ensures no_memory { NeedsNoMemory result }
     {
@@ -111,7 +111,7 @@ impl<'a> Cursor<'a> {
     /// A VisibleString under the context tag `number`, if it is there.
     #[tactic(auto, unfolding(crate::specs::Reading::optional_by))]
     pub fn optional_visible(&mut self, number: u32) -> Result<Option<&'a [u8]>, Unread>
-        ensures exact { Gives (λ o. (value.optionally (λ s. value.text s.now) o, self.new.octets)) result (optional_at self.old.lengths (form.context number form.visible_string) self.old.octets) }
+        ensures exact { OptionalGives (λ s. value.text s.now) (form.context number form.visible_string) self.old self.new result }
         ensures kept { self.new.lengths ≡ self.old.lengths }
         ensures no_memory { NeedsNoMemory result }
     {

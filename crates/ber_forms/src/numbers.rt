@@ -1,7 +1,7 @@
 //! Components that are numbers, each under a context tag.
 
 ghost use Rattle.std.specs.Prelude.{◌≡◌, ℕ, Ok, Err, Some, None, IfOk, IfSome, ◌≤ℤ◌, pos};
-ghost use Rattle.ber_forms.specs.Reading.{Gives, required_at, optional_at, defaulted_at};
+ghost use Rattle.ber_forms.specs.Steps.{DefaultedGives, OptionalGives, RequiredGives};
 ghost use Rattle.ber_forms.specs.Reads.{NeedsNoMemory};
 ghost use Rattle.ber_forms.specs.Form as form;
 ghost use Rattle.ber_forms.specs.Value as value;
@@ -16,7 +16,7 @@ impl<'a> Cursor<'a> {
     /// tag, there is none, or it says no such number.
     #[tactic(auto, unfolding(crate::specs::Reading::required_by))]
     pub fn required_integer(&mut self, number: u32, low: i64, high: i64) -> Result<i64, Unread>
-        ensures exact { Gives (λ n. (value.number n, self.new.octets)) result (required_at self.old.lengths (form.context number (form.integer low high)) self.old.octets) }
+        ensures exact { RequiredGives value.number (form.context number (form.integer low high)) self.old self.new result }
         ensures kept { self.new.lengths ≡ self.old.lengths }
         ensures no_memory { NeedsNoMemory result }
         ensures low { IfOk result (λ n. low ≤ℤ n) }
@@ -34,7 +34,7 @@ impl<'a> Cursor<'a> {
         low: i64,
         high: i64,
     ) -> Result<Option<i64>, Unread>
-        ensures exact { Gives (λ o. (value.optionally value.number o, self.new.octets)) result (optional_at self.old.lengths (form.context number (form.integer low high)) self.old.octets) }
+        ensures exact { OptionalGives value.number (form.context number (form.integer low high)) self.old self.new result }
         ensures kept { self.new.lengths ≡ self.old.lengths }
         ensures no_memory { NeedsNoMemory result }
         ensures low { IfOk result (λ o. IfSome o (λ n. low ≤ℤ n)) }
@@ -57,7 +57,7 @@ impl<'a> Cursor<'a> {
     ) -> Result<i64, Unread>
         requires low { low ≤ℤ default }
         requires high { default ≤ℤ high }
-        ensures exact { Gives (λ n. (value.given (value.number n), self.new.octets)) result (defaulted_at self.old.lengths (form.context number (form.integer low high)) (value.number default) self.old.octets) }
+        ensures exact { DefaultedGives value.number (form.context number (form.integer low high)) (value.number default) self.old self.new result }
         ensures kept { self.new.lengths ≡ self.old.lengths }
         ensures no_memory { NeedsNoMemory result }
         ensures low { IfOk result (λ n. low ≤ℤ n) }
@@ -71,7 +71,7 @@ impl<'a> Cursor<'a> {
 
     /// A number of 8 bits with a sign under the context tag `number`.
     pub fn required_i8(&mut self, number: u32) -> Result<i8, Unread>
-        ensures exact { Gives (λ n. (value.number n, self.new.octets)) result (required_at self.old.lengths (form.context number form.int8) self.old.octets) }
+        ensures exact { RequiredGives value.number (form.context number form.int8) self.old self.new result }
         ensures kept { self.new.lengths ≡ self.old.lengths }
         ensures no_memory { NeedsNoMemory result }
     {
@@ -80,7 +80,7 @@ impl<'a> Cursor<'a> {
 
     /// A number of 16 bits with a sign under the context tag `number`.
     pub fn required_i16(&mut self, number: u32) -> Result<i16, Unread>
-        ensures exact { Gives (λ n. (value.number n, self.new.octets)) result (required_at self.old.lengths (form.context number form.int16) self.old.octets) }
+        ensures exact { RequiredGives value.number (form.context number form.int16) self.old self.new result }
         ensures kept { self.new.lengths ≡ self.old.lengths }
         ensures no_memory { NeedsNoMemory result }
     {
@@ -89,7 +89,7 @@ impl<'a> Cursor<'a> {
 
     /// A number of 32 bits with a sign under the context tag `number`.
     pub fn required_i32(&mut self, number: u32) -> Result<i32, Unread>
-        ensures exact { Gives (λ n. (value.number n, self.new.octets)) result (required_at self.old.lengths (form.context number form.int32) self.old.octets) }
+        ensures exact { RequiredGives value.number (form.context number form.int32) self.old self.new result }
         ensures kept { self.new.lengths ≡ self.old.lengths }
         ensures no_memory { NeedsNoMemory result }
     {
@@ -98,7 +98,7 @@ impl<'a> Cursor<'a> {
 
     /// A number of 8 bits without a sign under the context tag `number`.
     pub fn required_u8(&mut self, number: u32) -> Result<u8, Unread>
-        ensures exact { Gives (λ n. (value.number (pos n), self.new.octets)) result (required_at self.old.lengths (form.context number form.unsigned8) self.old.octets) }
+        ensures exact { RequiredGives (λ n. value.number (pos n)) (form.context number form.unsigned8) self.old self.new result }
         ensures kept { self.new.lengths ≡ self.old.lengths }
         ensures no_memory { NeedsNoMemory result }
     {
@@ -108,7 +108,7 @@ impl<'a> Cursor<'a> {
     /// A number of 8 bits without a sign, from `low` to `high`, under the context tag `number`.
     #[tactic(auto, unfolding(crate::specs::Reading::required_by))]
     pub fn required_u8_in(&mut self, number: u32, low: u8, high: u8) -> Result<u8, Unread>
-        ensures exact { Gives (λ n. (value.number (pos n), self.new.octets)) result (required_at self.old.lengths (form.context number (form.integer (pos low) (pos high))) self.old.octets) }
+        ensures exact { RequiredGives (λ n. value.number (pos n)) (form.context number (form.integer (pos low) (pos high))) self.old self.new result }
         ensures kept { self.new.lengths ≡ self.old.lengths }
         ensures no_memory { NeedsNoMemory result }
     {
@@ -125,7 +125,7 @@ impl<'a> Cursor<'a> {
         high: u8,
         default: u8,
     ) -> Result<u8, Unread>
-        ensures exact { Gives (λ n. (value.given (value.number (pos n)), self.new.octets)) result (defaulted_at self.old.lengths (form.context number (form.integer (pos low) (pos high))) (value.number (pos default)) self.old.octets) }
+        ensures exact { DefaultedGives (λ n. value.number (pos n)) (form.context number (form.integer (pos low) (pos high))) (value.number (pos default)) self.old self.new result }
         ensures kept { self.new.lengths ≡ self.old.lengths }
         ensures no_memory { NeedsNoMemory result }
     {
@@ -138,7 +138,7 @@ impl<'a> Cursor<'a> {
     /// A number of 16 bits without a sign, from `low` to `high`, under the context tag `number`.
     #[tactic(auto, unfolding(crate::specs::Reading::required_by))]
     pub fn required_u16_in(&mut self, number: u32, low: u16, high: u16) -> Result<u16, Unread>
-        ensures exact { Gives (λ n. (value.number (pos n), self.new.octets)) result (required_at self.old.lengths (form.context number (form.integer (pos low) (pos high))) self.old.octets) }
+        ensures exact { RequiredGives (λ n. value.number (pos n)) (form.context number (form.integer (pos low) (pos high))) self.old self.new result }
         ensures kept { self.new.lengths ≡ self.old.lengths }
         ensures no_memory { NeedsNoMemory result }
     {
@@ -148,7 +148,7 @@ impl<'a> Cursor<'a> {
 
     /// A number of 16 bits without a sign under the context tag `number`.
     pub fn required_u16(&mut self, number: u32) -> Result<u16, Unread>
-        ensures exact { Gives (λ n. (value.number (pos n), self.new.octets)) result (required_at self.old.lengths (form.context number form.unsigned16) self.old.octets) }
+        ensures exact { RequiredGives (λ n. value.number (pos n)) (form.context number form.unsigned16) self.old self.new result }
         ensures kept { self.new.lengths ≡ self.old.lengths }
         ensures no_memory { NeedsNoMemory result }
     {
@@ -157,7 +157,7 @@ impl<'a> Cursor<'a> {
 
     /// A number of 32 bits without a sign under the context tag `number`.
     pub fn required_u32(&mut self, number: u32) -> Result<u32, Unread>
-        ensures exact { Gives (λ n. (value.number (pos n), self.new.octets)) result (required_at self.old.lengths (form.context number form.unsigned32) self.old.octets) }
+        ensures exact { RequiredGives (λ n. value.number (pos n)) (form.context number form.unsigned32) self.old self.new result }
         ensures kept { self.new.lengths ≡ self.old.lengths }
         ensures no_memory { NeedsNoMemory result }
     {
@@ -167,7 +167,7 @@ impl<'a> Cursor<'a> {
     /// A number of 32 bits without a sign under the universal tag of INTEGER.
     #[tactic(auto, unfolding(crate::specs::Reading::required_by))]
     pub fn required_universal_u32(&mut self) -> Result<u32, Unread>
-        ensures exact { Gives (λ n. (value.number (pos n), self.new.octets)) result (required_at self.old.lengths (form.universal 2 form.unsigned32) self.old.octets) }
+        ensures exact { RequiredGives (λ n. value.number (pos n)) (form.universal 2 form.unsigned32) self.old self.new result }
         ensures kept { self.new.lengths ≡ self.old.lengths }
         ensures no_memory { NeedsNoMemory result }
     {
@@ -177,7 +177,7 @@ impl<'a> Cursor<'a> {
 
     /// A number of 8 bits with a sign under the context tag `number`, if it is there.
     pub fn optional_i8(&mut self, number: u32) -> Result<Option<i8>, Unread>
-        ensures exact { Gives (λ o. (value.optionally value.number o, self.new.octets)) result (optional_at self.old.lengths (form.context number form.int8) self.old.octets) }
+        ensures exact { OptionalGives value.number (form.context number form.int8) self.old self.new result }
         ensures kept { self.new.lengths ≡ self.old.lengths }
         ensures no_memory { NeedsNoMemory result }
     {
@@ -189,7 +189,7 @@ impl<'a> Cursor<'a> {
 
     /// A number of 16 bits with a sign under the context tag `number`, if it is there.
     pub fn optional_i16(&mut self, number: u32) -> Result<Option<i16>, Unread>
-        ensures exact { Gives (λ o. (value.optionally value.number o, self.new.octets)) result (optional_at self.old.lengths (form.context number form.int16) self.old.octets) }
+        ensures exact { OptionalGives value.number (form.context number form.int16) self.old self.new result }
         ensures kept { self.new.lengths ≡ self.old.lengths }
         ensures no_memory { NeedsNoMemory result }
     {
@@ -201,7 +201,7 @@ impl<'a> Cursor<'a> {
 
     /// A number of 32 bits with a sign under the context tag `number`, if it is there.
     pub fn optional_i32(&mut self, number: u32) -> Result<Option<i32>, Unread>
-        ensures exact { Gives (λ o. (value.optionally value.number o, self.new.octets)) result (optional_at self.old.lengths (form.context number form.int32) self.old.octets) }
+        ensures exact { OptionalGives value.number (form.context number form.int32) self.old self.new result }
         ensures kept { self.new.lengths ≡ self.old.lengths }
         ensures no_memory { NeedsNoMemory result }
     {
@@ -213,7 +213,7 @@ impl<'a> Cursor<'a> {
 
     /// A number of 8 bits without a sign under the context tag `number`, if it is there.
     pub fn optional_u8(&mut self, number: u32) -> Result<Option<u8>, Unread>
-        ensures exact { Gives (λ o. (value.optionally (λ n. value.number (pos n)) o, self.new.octets)) result (optional_at self.old.lengths (form.context number form.unsigned8) self.old.octets) }
+        ensures exact { OptionalGives (λ n. value.number (pos n)) (form.context number form.unsigned8) self.old self.new result }
         ensures kept { self.new.lengths ≡ self.old.lengths }
         ensures no_memory { NeedsNoMemory result }
     {
@@ -225,7 +225,7 @@ impl<'a> Cursor<'a> {
 
     /// A number of 16 bits without a sign under the context tag `number`, if it is there.
     pub fn optional_u16(&mut self, number: u32) -> Result<Option<u16>, Unread>
-        ensures exact { Gives (λ o. (value.optionally (λ n. value.number (pos n)) o, self.new.octets)) result (optional_at self.old.lengths (form.context number form.unsigned16) self.old.octets) }
+        ensures exact { OptionalGives (λ n. value.number (pos n)) (form.context number form.unsigned16) self.old self.new result }
         ensures kept { self.new.lengths ≡ self.old.lengths }
         ensures no_memory { NeedsNoMemory result }
     {
@@ -237,7 +237,7 @@ impl<'a> Cursor<'a> {
 
     /// A number of 32 bits without a sign under the context tag `number`, if it is there.
     pub fn optional_u32(&mut self, number: u32) -> Result<Option<u32>, Unread>
-        ensures exact { Gives (λ o. (value.optionally (λ n. value.number (pos n)) o, self.new.octets)) result (optional_at self.old.lengths (form.context number form.unsigned32) self.old.octets) }
+        ensures exact { OptionalGives (λ n. value.number (pos n)) (form.context number form.unsigned32) self.old self.new result }
         ensures kept { self.new.lengths ≡ self.old.lengths }
         ensures no_memory { NeedsNoMemory result }
     {

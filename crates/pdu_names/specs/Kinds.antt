@@ -290,3 +290,13 @@ choice c = record {
 -- a choice with no tag of its own
 abbrev pub one_of : {R : Type 0} → Choice R → Item R
 one_of c = record { member = λ e. asn.one_of (c.alternatives e); value = c.value; said = c.said; again = c.again; alike = c.alike }
+
+-- ---- ApplicationReference
+
+-- an explicit tag: contents that are one element
+abbrev pub explicit : {X : Type 0} → Item X → Kind X
+explicit m = sequence (required m (λ x. x) no_more) (λ x. x) (λ x. refl)
+
+-- the client's number under an explicit tag 1, and no other component (this profile's choice)
+abbrev pub application_reference : Kind ℕ
+application_reference = explicit (context 1 (explicit (universal 2 unsigned32)))

@@ -1,12 +1,17 @@
 //! Forms of contents that are no elements.
 #![tactic(auto, unfolding(ber_forms::specs::Spelling::appended), using(ber_forms::proofs::Joined::writing))]
 
-ghost use Rattle.std.specs.Prelude.{◌≡◌, refl, true, false, IfOk, IfErr};
-ghost use Rattle.pdu_names.specs.Kinds.{null, boolean, int32, unsigned32, octet_string, visible_string};
+ghost use Rattle.std.specs.Prelude.{◌≡◌, refl, true, false, Ok, Err, IfOk, IfErr};
+ghost use Rattle.pdu_names.specs.Kinds.{null, boolean, int32, unsigned32, octet_string, visible_string, universal, explicit, application_reference};
+ghost use Rattle.pdu_names.specs.Gives.{GivesContents};
+ghost use Rattle.ber_forms.specs.Reads.{NeedsNoMemory};
 
+use crate::edition::cursor;
 use crate::formed::Formed;
 use ber_core::{Memory as Full, Tag, Writer};
-use ber_forms::{Unread, put_boolean, put_integer, put_null, put_octets};
+use ber_forms::{
+    Unread, enclose, put_boolean, put_integer, put_null, put_octets, put_universal_integer,
+};
 use mms_types::{Edition, Octets};
 use std::alloc::Global;
 
@@ -192,6 +197,49 @@ impl Formed for VisibleString {
 
     fn put_part(out: &mut Writer, number: u32, x: &Octets) -> Result<(), Full> {
         put_octets(out, number, x.as_slice())
+    }
+
+    ghost sound = { λ _. refl };
+}
+
+/// A number of 32 bits without a sign, the one element of an explicit tag.
+fn explicit_u32(contents: &[u8], edition: Edition) -> Result<u32, Unread>
+    ensures exact { GivesContents (explicit (universal 2 unsigned32)) edition contents.now result }
+    ensures no_memory { NeedsNoMemory result }
+{
+    let mut parts = cursor(edition, contents);
+    let number = parts.required_universal_u32()?;
+    parts.end()?;
+    Ok(number)
+}
+
+/// The form of an ApplicationReference: the client's number.
+pub struct ApplicationReference;
+
+impl Formed for ApplicationReference {
+    type Item = u32;
+
+    ghost kind = { application_reference };
+
+    ghost needs_no_memory = { true };
+
+    fn is_constructed() -> bool {
+        true
+    }
+
+    #[tactic(auto, unfolding(ber_forms::specs::Reading::required_by))]
+    fn read(_alloc: Global, contents: &[u8], edition: Edition) -> Result<u32, Unread> {
+        let mut parts = cursor(edition, contents);
+        let element = parts.required(Tag::constructed(1))?;
+        let number = explicit_u32(element.contents, edition)?;
+        parts.end()?;
+        Ok(number)
+    }
+
+    fn put(out: &mut Writer, x: &u32) -> Result<(), Full> {
+        let since = out.len();
+        let written = put_universal_integer(out, i64::from(*x));
+        enclose(out, since, written, Tag::constructed(1))
     }
 
     ghost sound = { λ _. refl };

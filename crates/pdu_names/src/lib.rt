@@ -7,6 +7,7 @@ mod formed;
 mod identifier;
 mod laws;
 mod leaves;
+mod listed;
 mod name;
 mod own;
 mod parts;
@@ -15,7 +16,10 @@ mod whole;
 pub use edition::{cursor, lengths};
 pub use formed::Formed;
 pub use laws::spells_each;
-pub use leaves::{Boolean, Null, OctetString, Signed32, Unsigned32, VisibleString};
+pub use leaves::{
+    ApplicationReference, Boolean, Null, OctetString, Signed32, Unsigned32, VisibleString,
+};
+pub use listed::{AnyNumber, Count, ListOf, Listed, Within};
 pub use name::Name;
 pub use own::{Chosen, OneOf, Own, put_each, read_as, read_each};
 pub use parts::{optional, put_optional, required};
