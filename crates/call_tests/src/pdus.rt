@@ -3,8 +3,8 @@
 use ber_core::Writer;
 use ber_forms::Unread;
 use mms_pdu::write_pdu;
-use mms_types::{Edition, Pdu, Reject, RejectReason, ServiceError, StateInfo};
-use pdu_names::{read_name, write_name};
+use mms_types::{ConfirmedError, Edition, Pdu, Reject, RejectReason, ServiceError, StateInfo};
+use pdu_names::{Name, read_form, write_form};
 use std::test::Fail;
 
 #[test]
@@ -16,19 +16,19 @@ fn answers_to_requests_that_wait_are_written(rt: HostRuntime) -> Result<(), Fail
     };
     let table: [(Pdu, &[u8]); 5] = [
         (
-            Pdu::ConfirmedError {
+            Pdu::ConfirmedError(ConfirmedError {
                 invoke: 2,
                 modifier: None,
                 error: ServiceError::CANCEL,
-            },
+            }),
             b"\xA2\x0A\x80\x01\x02\xA2\x05\xA0\x03\x85\x01\x03",
         ),
         (
-            Pdu::ConfirmedError {
+            Pdu::ConfirmedError(ConfirmedError {
                 invoke: 5,
                 modifier: None,
                 error: stopped,
-            },
+            }),
             b"\xA2\x0F\x80\x01\x05\xA2\x0A\xA0\x03\x84\x01\x02\xA3\x03\x82\x01\x02",
         ),
         (
@@ -67,11 +67,11 @@ fn names_of_objects_both_ways(rt: HostRuntime) -> Result<(), Fail> {
         (b"\xA1\x06\x80\x01D\x1A\x01T", false),
     ];
     for (octets, is_named) in table {
-        match read_name(rt.alloc(), octets, Edition::One) {
+        match read_form::<Name>(rt.alloc(), octets, Edition::One) {
             Ok(name) => {
                 assert!(rt; is_named, "of {octets:?}");
                 let mut out = Writer::new(rt.alloc());
-                write_name(&mut out, &name)?;
+                write_form::<Name>(&mut out, &name)?;
                 assert_eq!(rt; out.octets(), octets);
             }
             Err(unread) => {
