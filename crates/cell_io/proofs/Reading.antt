@@ -6,9 +6,9 @@ use Rattle.std.specs.Io.KnownBytes.{Consumes, Keeps, prepend_known, IsAtEnd}
 use Rattle.std.proofs.KnownBytes.{Consumes-nil, Consumes-kept}
 use Rattle.std.specs.declared.option.Option.{Option}
 use Rattle.cell_io.specs.Lines.{has_feed, first_line, after_line, kept_of}
-use Rattle.cell_io.specs.Held.{IsLaterPart}
+use Rattle.cell_io.specs.Held.{Held, IsLaterPart, FailsInLine}
 use Rattle.cell_io.proofs.Kept.{kept_more}
-use Rattle.cell_io.proofs.Texts.{first_all, after_none, first_later, after_later, feed_later, first_here, after_here, longer}
+use Rattle.cell_io.proofs.Texts.{first_all, after_none, first_later, after_later, feed_later, first_here, after_here, longer, feed_here}
 
 -- octets with no line feed were given since the line began, and kept in `line`
 pub record Passed (before now : Option (List ℕ)) (began given : ℕ) (line : List ℕ) : Type 0 where
@@ -93,6 +93,12 @@ text_there (Some x) None held began given line p h = absurd p.consumed
 text_there (Some x) (Some y) held began given line p h =
     omega (arith, some_held held h, ap length p.consumed, length-append p.octets (held ++ y), length-append held y)
 
+pub feed_there : (before left : Option (List ℕ)) (held : List ℕ) (began given : ℕ) (line : List ℕ) → Passed before (prepend_known held left) began given line
+    → has_feed held ≡ true → IfSome before (λ text. has_feed text ≡ true)
+feed_there None left held began given line p h = tt
+feed_there (Some x) None held began given line p h = absurd p.consumed
+feed_there (Some x) (Some y) held began given line p h = ap has_feed p.consumed ∙ feed_later p.octets (held ++ y) p.no_feed ∙ feed_here held y h
+
 -- ---- the line ends with the input
 
 whole_text : (x y bs : List ℕ) → x ≡ bs ++ y → y ≡ [] → x ≡ bs
@@ -106,11 +112,11 @@ line_open (Some x) (Some y) began given line p e =
     p.kept ∙ sym (ap kept_of (ap first_line (whole_text x y p.octets p.consumed e) ∙ first_all p.octets p.no_feed))
 
 pub rest_open : (before now : Option (List ℕ)) (began given : ℕ) (line : List ℕ) → Passed before now began given line → IsAtEnd now
-    → IfSome before (λ text. now ≡ Some (after_line text))
+    → IfSome before (λ text. Some [] ≡ Some (after_line text))
 rest_open None now began given line p e = tt
 rest_open (Some x) None began given line p e = absurd p.consumed
 rest_open (Some x) (Some y) began given line p e =
-    ap Some (e ∙ sym (ap after_line (whole_text x y p.octets p.consumed e) ∙ after_none p.octets p.no_feed))
+    ap Some (sym (ap after_line (whole_text x y p.octets p.consumed e) ∙ after_none p.octets p.no_feed))
 
 pub size_open : (before now : Option (List ℕ)) (began given : ℕ) (line : List ℕ) → Passed before now began given line → IsAtEnd now
     → IfSome before (λ text. given ≡ began + length (first_line text))
@@ -150,6 +156,17 @@ past (Some x) None held began given most line p h = absurd p.consumed
 past (Some x) (Some y) held began given most line p h =
     let first : first_line x ≡ p.octets ++ first_line (held ++ y) = ap first_line p.consumed ∙ first_later p.octets (held ++ y) p.no_feed in
     omega (arith, p.size, ap length first, length-append p.octets (first_line (held ++ y)), longer held y)
+
+-- the source failed: the front of a line was read
+pub fails : (held : Held) (before left : Option (List ℕ)) (given : ℕ) (line : List ℕ) → held.ended ≡ false → Passed (prepend_known held.octets before) left held.given given line
+    → FailsInLine held before left given
+fails held before left given line o p = record {
+  unended = o;
+  octets = p.octets;
+  consumed = rw o p.consumed;
+  no_feed = p.no_feed;
+  size = p.size;
+}
 
 -- ---- what is left in the source
 

@@ -1,11 +1,11 @@
 -- The first line of a text and of a joining of texts.
-use Rattle.std.proofs.Common.{◌≡◌, ℕ, suc, zero, ◌+◌, ◌-◌, ◌<◌, ◌≤◌, true, false, List, [], ◌∷◌, ◌++◌, length, take, drop, refl, sym, ap, ◌∙◌, arith, add-one}
+use Rattle.std.proofs.Common.{◌≡◌, ℕ, suc, zero, ◌+◌, ◌-◌, ◌<◌, ◌≤◌, ◌==◌, Bool, true, false, List, [], ◌∷◌, ◌++◌, length, take, drop, refl, sym, ap, ◌∙◌, arith, add-one}
 use Rattle.std.proofs.lemmas.List.{drop-take, drop-drop}
 use Rattle.std.proofs.lemmas.Grind.{common_steps}
 use Rattle.std.proofs.lemmas.Bool.Decides.{nat_tests}
 use Rattle.std.specs.List.{concat}
 use Rattle.memchr.specs.Find.{Nowhere, NoneBefore, Passes, is_byte}
-use Rattle.cell_io.specs.Lines.{onto_first, lines_of, has_feed, first_line, after_line}
+use Rattle.cell_io.specs.Lines.{onto_first, lines_of, has_feed, first_line, after_line, whole_lines}
 
 -- ---- where the first line feed is
 
@@ -84,6 +84,10 @@ pub after_here : (xs ys : List ℕ) → has_feed xs ≡ true → after_line (xs 
 after_here [] ys h = cc
 after_here (b ∷ bs) ys h = grind (arith, nat_tests, common_steps, after_here bs ys)
 
+pub feed_here : (xs ys : List ℕ) → has_feed xs ≡ true → has_feed (xs ++ ys) ≡ true
+feed_here [] ys h = cc
+feed_here (b ∷ bs) ys h = grind (arith, nat_tests, common_steps, feed_here bs ys)
+
 pub longer : (xs ys : List ℕ) → length (first_line xs) ≤ length (first_line (xs ++ ys))
 longer [] ys = omega arith
 longer (b ∷ bs) ys = grind (arith, nat_tests, common_steps, longer bs ys)
@@ -109,6 +113,32 @@ lines_joined (b ∷ bs) = grind (arith, nat_tests, common_steps, lines_joined bs
 pub first-after : (text : List ℕ) → first_line text ++ after_line text ≡ text
 first-after [] = refl
 first-after (b ∷ bs) = grind (arith, nat_tests, common_steps, first-after bs)
+
+-- ---- the whole lines of octets
+
+pub whole_none : (bs : List ℕ) → has_feed bs ≡ false → whole_lines bs ≡ []
+whole_none [] h = refl
+whole_none (b ∷ bs) h = rw h refl
+
+feed_first : (text ys : List ℕ) → has_feed text ≡ true → has_feed (first_line text ++ ys) ≡ true
+feed_first [] ys h = cc
+feed_first (b ∷ bs) ys h = grind (arith, nat_tests, common_steps, feed_first bs ys)
+
+whole_step : (b : ℕ) (bs ys : List ℕ) (t : Bool) → (b == 10) ≡ t → has_feed (b ∷ bs) ≡ true → (has_feed bs ≡ true → whole_lines (first_line bs ++ ys) ≡ first_line bs ++ whole_lines ys)
+    → whole_lines (first_line (b ∷ bs) ++ ys) ≡ first_line (b ∷ bs) ++ whole_lines ys
+whole_step b bs ys true e h rest = rw (e, e) refl
+whole_step b bs ys false e h rest =
+    let here : has_feed bs ≡ true = rw e at h in
+    let more : has_feed (first_line bs ++ ys) ≡ true = feed_first bs ys here in
+    rw (e, e, more) (ap (λ (l : List ℕ). b ∷ l) (rest here))
+
+pub whole_first : (text ys : List ℕ) → has_feed text ≡ true → whole_lines (first_line text ++ ys) ≡ first_line text ++ whole_lines ys
+whole_first [] ys h = cc
+whole_first (b ∷ bs) ys h = whole_step b bs ys (b == 10) refl h (λ k. whole_first bs ys k)
+
+pub lines_here : (text ys : List ℕ) → has_feed text ≡ true → lines_of (first_line text ++ ys) ≡ first_line text ∷ lines_of ys
+lines_here [] ys h = cc
+lines_here (b ∷ bs) ys h = grind (arith, nat_tests, common_steps, lines_here bs ys)
 
 -- ---- a window of a buffer
 

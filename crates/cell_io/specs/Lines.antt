@@ -29,3 +29,8 @@ after_line (b ∷ bs) = cond (b == 10) bs (after_line bs)
 -- what is kept of a line: its first 196,612 octets
 abbrev pub kept_of : List ℕ → List ℕ
 kept_of line = take 196612 line
+
+-- the whole lines of some octets: up to the last line feed
+abbrev pub whole_lines : List ℕ → List ℕ
+whole_lines [] = []
+whole_lines (b ∷ bs) = cond (has_feed (b ∷ bs)) (b ∷ whole_lines bs) []

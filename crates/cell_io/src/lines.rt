@@ -1,8 +1,8 @@
 ghost use Rattle.std.specs.Prelude.{◌≡◌, ◌+◌, ◌-◌, ◌<◌, ◌≤◌, ◌^◌, [], ◌++◌, true, false, ℕ, List, length, take, drop, IfOk, IfSome, IfErr, OnErr, OnOk, Some};
-ghost use Rattle.std.specs.Io.KnownBytes.{Consumes, IsAtEnd, Keeps};
+ghost use Rattle.std.specs.Io.KnownBytes.{IsAtEnd, Keeps, prepend_known};
 ghost use Rattle.cell_io.specs.Faults.{Rose, HasCause};
 ghost use Rattle.cell_io.specs.Lines.{first_line, after_line, has_feed, kept_of};
-ghost use Rattle.cell_io.specs.Held.{Held, ahead, IsLaterPart};
+ghost use Rattle.cell_io.specs.Held.{Held, ahead, IsLaterPart, IsEndSeen, FailsInLine};
 ghost use Rattle.cell_io.specs.declared.lines.Stop.TheVariants as stop;
 
 use crate::first_part::first_part;
@@ -50,13 +50,14 @@ impl From<Memory> for Stop {
 }
 
 /// A reader of the lines of a source. It reads 32 KiB at a time and takes no memory for a line
-/// but in the caller's buffer.
+/// but in the caller's buffer. It remembers the end of the source, and reads nothing after it.
 #[derive(Drop)]
 pub struct Lines {
     chunk: Vec<u8>,
     start: usize,
     end: usize,
     given: u64,
+    ended: bool,
 }
 
 impl Model for Lines {
@@ -68,6 +69,7 @@ impl Model for Lines {
     ghost view = { λ s. record {
       octets = take (s.end - s.start) (drop s.start s.chunk.items);
       given = s.given;
+      ended = s.ended;
     } };
 
     ghost invariant = { λ s. (s.start ≤ s.end) × (s.end ≤ length s.chunk.items)
@@ -79,12 +81,14 @@ impl Lines {
     pub fn new(alloc: Global) -> Result<Lines, Memory>
         ensures octets { IfOk result (λ s. s.octets ≡ []) }
         ensures given { IfOk result (λ s. s.given ≡ 0) }
+        ensures ended { IfOk result (λ s. s.ended ≡ false) }
     {
         Ok(Lines {
             chunk: vec![in alloc; 0; CHUNK]?,
             start: 0,
             end: 0,
             given: 0,
+            ended: false,
         })
     }
 
@@ -114,19 +118,27 @@ impl Lines {
         // True exactly where something was ahead; then at least one octet was given.
         ensures there { IfOk result (λ more. more ≡ true →
             IfSome (ahead self.old (S.left input.old)) (λ text. 0 < length text)) }
-        ensures over { IfOk result (λ more. more ≡ false → IsAtEnd (S.left input.new)) }
         ensures none { IfOk result (λ more. more ≡ false →
             IfSome (ahead self.old (S.left input.old)) (λ text. text ≡ [])) }
         ensures grows { IfOk result (λ more. more ≡ true → self.old.given < self.new.given) }
         ensures stays { IfOk result (λ more. more ≡ false → self.new.given ≡ self.old.given) }
+
+        // The end is seen where no line is given, or one without its line feed. After it nothing
+        // is read, and no line is given.
+        ensures over { IfOk result (λ more. more ≡ false → self.new.ended ≡ true) }
+        ensures feed { IfOk result (λ more. more ≡ true → self.new.ended ≡ false →
+            IfSome (ahead self.old (S.left input.old)) (λ text. has_feed text ≡ true)) }
+        ensures unended { IfOk result (λ more. more ≡ true → self.old.ended ≡ false) }
+        ensures unread { self.old.ended ≡ true → (input.new ≡ input.old) × (self.new ≡ self.old) }
+        ensures seen { IsEndSeen self.old (S.left input.old) → IsEndSeen self.new (S.left input.new) }
 
         // Why it stops. A fault comes only before the line's end was read.
         ensures too_much { IfErr result (λ e. e ≡ Stop.TooMuch →
             IfSome (ahead self.old (S.left input.old)) (λ text. 4294967296 < self.old.given + length (first_line text))) }
         ensures fault { IfErr result (λ e. e ≡ Stop.Fault →
             Rose (S.faults input.old) (S.faults input.new)) }
-        ensures before_end { IfErr result (λ e. e ≡ Stop.Fault → (bs : List ℕ)
-            × Consumes (ahead self.old (S.left input.old)) (S.left input.new) bs × (has_feed bs ≡ false)) }
+        ensures before_end { IfErr result (λ e. e ≡ Stop.Fault →
+            FailsInLine self.old (S.left input.old) (S.left input.new) self.new.given) }
 
         // On every answer.
         ensures order { self.old.given ≤ self.new.given }
@@ -135,6 +147,45 @@ impl Lines {
         ensures later { S.faults input.old ≤ S.faults input.new }
     {
         line.clear();
+        let _given = self.given();
+        if self.ended {
+            return Ok(false);
+        }
+        self.read_line(input, line)
+    }
+
+    /// As `next`, where the end wasn't seen yet and the line is empty.
+    fn read_line<S: Source>(&mut self, input: &mut S, line: &mut Vec<u8>) -> Result<bool, Stop>
+        requires unended { self.old.ended ≡ false }
+        requires empty { line.old.items ≡ [] }
+        ensures line { OnOk result (IfSome (prepend_known self.old.octets (S.left input.old)) (λ text.
+            line.new.items ≡ kept_of (first_line text))) }
+        ensures rest { OnOk result (IfSome (prepend_known self.old.octets (S.left input.old)) (λ text.
+            ahead self.new (S.left input.new) ≡ Some (after_line text))) }
+        ensures size { OnOk result (IfSome (prepend_known self.old.octets (S.left input.old)) (λ text.
+            self.new.given ≡ self.old.given + length (first_line text))) }
+        ensures kept { OnOk result (length line.new.items ≤ 196612) }
+        ensures there { IfOk result (λ more. more ≡ true →
+            IfSome (prepend_known self.old.octets (S.left input.old)) (λ text. 0 < length text)) }
+        ensures none { IfOk result (λ more. more ≡ false →
+            IfSome (prepend_known self.old.octets (S.left input.old)) (λ text. text ≡ [])) }
+        ensures grows { IfOk result (λ more. more ≡ true → self.old.given < self.new.given) }
+        ensures stays { IfOk result (λ more. more ≡ false → self.new.given ≡ self.old.given) }
+        ensures over { IfOk result (λ more. more ≡ false → self.new.ended ≡ true) }
+        ensures feed { IfOk result (λ more. more ≡ true → self.new.ended ≡ false →
+            IfSome (prepend_known self.old.octets (S.left input.old)) (λ text. has_feed text ≡ true)) }
+        ensures seen { IsEndSeen self.new (S.left input.new) }
+        ensures too_much { IfErr result (λ e. e ≡ Stop.TooMuch →
+            IfSome (prepend_known self.old.octets (S.left input.old)) (λ text. 4294967296 < self.old.given + length (first_line text))) }
+        ensures fault { IfErr result (λ e. e ≡ Stop.Fault →
+            Rose (S.faults input.old) (S.faults input.new)) }
+        ensures before_end { IfErr result (λ e. e ≡ Stop.Fault →
+            FailsInLine self.old (S.left input.old) (S.left input.new) self.new.given) }
+        ensures order { self.old.given ≤ self.new.given }
+        ensures most { self.new.given ≤ 4294967296 }
+        ensures left { IsLaterPart (S.left input.old) (S.left input.new) }
+        ensures later { S.faults input.old ≤ S.faults input.new }
+    {
         let before = self.given();
         for _turn in 0..MOST + 2 {
             if self.give_part(line)? {
@@ -161,6 +212,7 @@ impl Lines {
         ensures cause { IfErr result (λ e. ¬ (e ≡ Stop.Fault)) }
         ensures order { self.old.given ≤ self.new.given }
         ensures most { self.new.given ≤ 4294967296 }
+        ensures same { self.new.ended ≡ self.old.ended }
     {
         let held = &self.chunk[self.start..self.end];
         let part = first_part(held);
@@ -175,18 +227,22 @@ impl Lines {
 
     /// Takes octets from the source in place of what was held. Tells whether there were any.
     fn fill<S: Source>(&mut self, input: &mut S) -> Result<bool, Failed>
-        ensures moved { OnOk result (Keeps (S.left input.old) (ahead self.new (S.left input.new))) }
+        ensures moved { OnOk result (Keeps (S.left input.old) (prepend_known self.new.octets (S.left input.new))) }
         ensures some { IfOk result (λ more. more ≡ true → 0 < length self.new.octets) }
         ensures none { IfOk result (λ more. more ≡ false →
             (self.new.octets ≡ []) × IsAtEnd (S.left input.new)) }
+        ensures unended { IfOk result (λ more. more ≡ true → self.new.ended ≡ false) }
+        ensures ended { IfOk result (λ more. more ≡ false → self.new.ended ≡ true) }
         ensures kept { OnErr result (Keeps (S.left input.old) (S.left input.new)) }
+        ensures same { OnErr result (self.new.ended ≡ self.old.ended) }
         ensures cause { HasCause (S.faults input.old) (S.faults input.new) result }
         ensures given { self.new.given ≡ self.old.given }
     {
         self.start = 0;
         self.end = 0;
         self.end = input.read(&mut self.chunk)?;
-        Ok(self.end > 0)
+        self.ended = self.end == 0;
+        Ok(!self.ended)
     }
 }
 

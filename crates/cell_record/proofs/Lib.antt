@@ -5,6 +5,7 @@ pub mod OneFurther
 pub mod Kept
 pub mod Steps
 pub mod Readings
+pub mod Stopping
 pub mod ReportLemmas
 pub mod Valid
 pub mod Bodies

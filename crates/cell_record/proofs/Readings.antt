@@ -21,7 +21,7 @@ join es (phase ∷ rest) = (es ++ phase) ∷ rest
 abbrev pub with_events : List CellEvent → Reading → Reading
 with_events es r = record { phases = join es r.phases; refusal = r.refusal }
 
-join-nil : (ps : List (List CellEvent)) → join [] ps ≡ ps
+pub join-nil : (ps : List (List CellEvent)) → join [] ps ≡ ps
 join-nil [] = refl
 join-nil (p ∷ ps) = refl
 
@@ -43,6 +43,10 @@ pub then_is : {T : Type 0} (a b : Option T) (f : T → T) (r t : T) → f r ≡ 
 then_is None b f r t e p q = tt
 then_is (Some s) None f r t e p q = cc
 then_is (Some s) (Some u) f r t e p q = let k = ap f q in cc
+
+pub still : {T : Type 0} (a : Option T) → Becomes a (λ r. r) a
+still None = tt
+still (Some r) = refl
 
 -- nothing more or less
 pub same_same : {T : Type 0} (a b c : Option T) → Becomes a (λ r. r) b → Becomes b (λ r. r) c → Becomes a (λ r. r) c

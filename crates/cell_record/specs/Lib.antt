@@ -3,6 +3,7 @@ pub mod EventLine
 pub mod Recording
 pub mod Progress
 pub mod Numbered
+pub mod Stops
 pub mod History
 pub mod Report
 pub mod Grammar

@@ -2,8 +2,8 @@
 use Rattle.std.specs.Prelude.{◌≡◌, ℕ, ◌+◌, ◌<◌, ◌≤◌, List, [], length, Some, IfSome}
 use Rattle.std.specs.Option.{option_map}
 use Rattle.std.specs.declared.option.Option.{Option}
-use Rattle.cell_io.specs.Lines.{lines_of, first_line, after_line, kept_of}
-use Rattle.std.specs.Io.KnownBytes.{Consumes}
+use Rattle.cell_io.specs.Lines.{lines_of, first_line, after_line, kept_of, has_feed}
+use Rattle.std.specs.Io.KnownBytes.{Consumes, IsAtEnd}
 use Rattle.cell_io.specs.Held.{Held, ahead}
 use Rattle.cell_record.specs.Recording.{Place, Opening, Reading, reading_of, setup_of, fresh, ended}
 use Rattle.cell_record.specs.declared.counts.Counts.{Counts}

@@ -1,10 +1,9 @@
 //! The lines of a source with their numbers.
 
 ghost use Rattle.std.specs.Prelude.{◌≡◌, ◌+◌, ◌<◌, ◌≤◌, [], true, false, length, IfOk, IfErr, IfSome};
-ghost use Rattle.std.specs.Io.KnownBytes.{IsAtEnd};
 ghost use Rattle.cell_io.specs.Faults.{Rose};
-ghost use Rattle.cell_io.specs.Lines.{first_line};
-ghost use Rattle.cell_io.specs.Held.{ahead};
+ghost use Rattle.cell_io.specs.Lines.{first_line, has_feed};
+ghost use Rattle.cell_io.specs.Held.{ahead, IsEndSeen, FailsInLine};
 ghost use Rattle.cell_record.specs.Words.{content as content_of};
 ghost use Rattle.cell_record.specs.EventLine.{same};
 ghost use Rattle.cell_record.specs.Numbered.{IsPart, Gives, EndsThere};
@@ -38,7 +37,7 @@ impl Model for NumberedLines {
 impl NumberedLines {
     /// Nothing was read.
     pub fn new(alloc: Global) -> Result<NumberedLines, RecordError>
-        ensures held { IfOk result (λ s. (s.held.octets ≡ []) × (s.held.given ≡ 0)) }
+        ensures held { IfOk result (λ s. (s.held.octets ≡ []) × (s.held.given ≡ 0) × (s.held.ended ≡ false)) }
         ensures lines { IfOk result (λ s. s.lines ≡ 0) }
         ensures memory { IfErr result (λ e. e ≡ RecordError.Memory) }
     {
@@ -93,7 +92,10 @@ impl NumberedLines {
         ensures gives { IfOk result (λ more. more ≡ true → Gives (ahead self.old.held (S.left input.old)) (ahead self.new.held (S.left input.new))
             self.new.line self.old.held.given self.new.held.given) }
         ensures ends { IfOk result (λ more. more ≡ false → EndsThere (ahead self.old.held (S.left input.old)) (ahead self.new.held (S.left input.new))) }
-        ensures over { IfOk result (λ more. more ≡ false → IsAtEnd (S.left input.new)) }
+        ensures over { IfOk result (λ more. more ≡ false → self.new.held.ended ≡ true) }
+        ensures feed { IfOk result (λ more. more ≡ true → self.new.held.ended ≡ false → IfSome (ahead self.old.held (S.left input.old)) (λ text. has_feed text ≡ true)) }
+        ensures unended { IfOk result (λ more. more ≡ true → self.old.held.ended ≡ false) }
+        ensures seen { IsEndSeen self.old.held (S.left input.old) → IsEndSeen self.new.held (S.left input.new) }
         ensures count { IfOk result (λ more. more ≡ true → self.new.lines ≡ self.old.lines + 1) }
         ensures same { IfOk result (λ more. more ≡ false → self.new.lines ≡ self.old.lines) }
         ensures grows { IfOk result (λ more. more ≡ true → self.old.held.given < self.new.held.given) }
@@ -101,6 +103,7 @@ impl NumberedLines {
         ensures too_much { IfErr result (λ e. IsStated e → (e ≡ RecordError.TooMuch (self.old.lines + 1)) × IfSome (ahead self.old.held (S.left input.old)) (λ text.
             4294967296 < self.old.held.given + length (first_line text))) }
         ensures fault { IfErr result (λ e. e ≡ RecordError.ReadFault → Rose (S.faults input.old) (S.faults input.new)) }
+        ensures stops { IfErr result (λ e. e ≡ RecordError.ReadFault → FailsInLine self.old.held (S.left input.old) (S.left input.new) self.new.held.given) }
         ensures order { self.old.held.given ≤ self.new.held.given }
         ensures most { self.new.held.given ≤ 4294967296 }
         ensures left { IsPart (S.left input.old) (S.left input.new) }

@@ -2,10 +2,12 @@
 
 ghost use Rattle.std.specs.Prelude.{◌≡◌, ◌+◌, ◌<◌, ◌≤◌, ◌++◌, [], true, false, ℕ, List, length, codes, IfOk, IfErr, IfSome, OnOk, Ok, Err};
 ghost use Rattle.cell_io.specs.Faults.{Rose};
+ghost use Rattle.cell_io.specs.Held.{IsEndSeen};
 ghost use Rattle.cell_config.specs.Said.{IsConfig};
 ghost use Rattle.cell_record.specs.Words.{is_long};
 ghost use Rattle.cell_record.specs.Recording.{Place, Opening, expected, in_text, size_by, setup_word, opened, configured, opening_of};
-ghost use Rattle.cell_record.specs.Numbered.{IsPart, at, setup};
+ghost use Rattle.cell_record.specs.Numbered.{IsPart, at, place_at, setup};
+ghost use Rattle.cell_record.specs.Stops.{Leads, StopsOpening};
 ghost use Rattle.cell_record.specs.Progress.{Becomes, IsStated};
 
 use crate::numbered::NumberedLines;
@@ -30,9 +32,14 @@ fn expect<S: Source>(
     requires short { length want.now < 196608 }
     ensures there { OnOk result ((next : List (List ℕ) → Place → Opening) → Becomes (at (expected want.now word next) lines.old (S.left input.old)) (λ r. r)
         (at next lines.new (S.left input.new))) }
+    ensures leads { OnOk result ((next : List (List ℕ) → Place → Opening) → Leads (expected want.now word next) lines.old.held (place_at lines.old) (S.left input.old) (λ r. r)
+        next lines.new.held (place_at lines.new) (S.left input.new)) }
     ensures refused { IfErr result (λ e. IsStated e → (next : List (List ℕ) → Place → Opening) → IfSome (at (expected want.now word next) lines.old (S.left input.old)) (λ r. r ≡ Err e)) }
     ensures fault { IfErr result (λ e. e ≡ RecordError.ReadFault → Rose (S.faults input.old) (S.faults input.new)) }
+    ensures stops { IfErr result (λ e. e ≡ RecordError.ReadFault → (next : List (List ℕ) → Place → Opening)
+        → StopsOpening (expected want.now word next) lines.old.held (place_at lines.old) (S.left input.old) (S.left input.new)) }
     ensures grows { OnOk result (lines.old.held.given < lines.new.held.given) }
+    ensures seen { IsEndSeen lines.old.held (S.left input.old) → IsEndSeen lines.new.held (S.left input.new) }
     ensures left { IsPart (S.left input.old) (S.left input.new) }
     ensures later { S.faults input.old ≤ S.faults input.new }
 {
@@ -98,10 +105,16 @@ fn read_setup_line<S: Source>(
         (at (setup text.new.items) lines.new (S.left input.new))) }
     ensures end { IfOk result (λ end. end ≡ true → Becomes (at (setup text.old.items) lines.old (S.left input.old)) (λ r. r)
         (at (configured text.new.items) lines.new (S.left input.new))) }
+    ensures leads { IfOk result (λ end. end ≡ false → Leads (setup text.old.items) lines.old.held (place_at lines.old) (S.left input.old) (λ r. r)
+        (setup text.new.items) lines.new.held (place_at lines.new) (S.left input.new)) }
+    ensures last { IfOk result (λ end. end ≡ true → Leads (setup text.old.items) lines.old.held (place_at lines.old) (S.left input.old) (λ r. r)
+        (configured text.new.items) lines.new.held (place_at lines.new) (S.left input.new)) }
     ensures size { OnOk result (length text.new.items ≤ 1048576) }
     ensures refused { IfErr result (λ e. IsStated e → IfSome (at (setup text.old.items) lines.old (S.left input.old)) (λ r. r ≡ Err e)) }
     ensures fault { IfErr result (λ e. e ≡ RecordError.ReadFault → Rose (S.faults input.old) (S.faults input.new)) }
+    ensures stops { IfErr result (λ e. e ≡ RecordError.ReadFault → StopsOpening (setup text.old.items) lines.old.held (place_at lines.old) (S.left input.old) (S.left input.new)) }
     ensures grows { OnOk result (lines.old.held.given < lines.new.held.given) }
+    ensures seen { IsEndSeen lines.old.held (S.left input.old) → IsEndSeen lines.new.held (S.left input.new) }
     ensures most { lines.new.held.given ≤ 4294967296 }
     ensures left { IsPart (S.left input.old) (S.left input.new) }
     ensures later { S.faults input.old ≤ S.faults input.new }
@@ -134,9 +147,12 @@ fn read_setup<S: Source>(
     input: &mut S,
 ) -> Result<Vec<u8>, RecordError>
     ensures text { IfOk result (λ text. Becomes (at (setup []) lines.old (S.left input.old)) (λ r. r) (at (configured text.items) lines.new (S.left input.new))) }
+    ensures leads { IfOk result (λ text. Leads (setup []) lines.old.held (place_at lines.old) (S.left input.old) (λ r. r) (configured text.items) lines.new.held (place_at lines.new) (S.left input.new)) }
     ensures refused { IfErr result (λ e. IsStated e → IfSome (at (setup []) lines.old (S.left input.old)) (λ r. r ≡ Err e)) }
     ensures fault { IfErr result (λ e. e ≡ RecordError.ReadFault → Rose (S.faults input.old) (S.faults input.new)) }
+    ensures stops { IfErr result (λ e. e ≡ RecordError.ReadFault → StopsOpening (setup []) lines.old.held (place_at lines.old) (S.left input.old) (S.left input.new)) }
     ensures grows { OnOk result (lines.old.held.given < lines.new.held.given) }
+    ensures seen { IsEndSeen lines.old.held (S.left input.old) → IsEndSeen lines.new.held (S.left input.new) }
     ensures left { IsPart (S.left input.old) (S.left input.new) }
     ensures later { S.faults input.old ≤ S.faults input.new }
 {
@@ -171,9 +187,12 @@ pub fn read_opening<S: Source>(
     input: &mut S,
 ) -> Result<Config, RecordError>
     ensures opens { IfOk result (λ config. Becomes (at opening_of lines.old (S.left input.old)) (λ r. r) (at (opened config) lines.new (S.left input.new))) }
+    ensures leads { IfOk result (λ config. Leads opening_of lines.old.held (place_at lines.old) (S.left input.old) (λ r. r) (opened config) lines.new.held (place_at lines.new) (S.left input.new)) }
     ensures valid { IfOk result IsConfig }
     ensures refused { IfErr result (λ e. IsStated e → IfSome (at opening_of lines.old (S.left input.old)) (λ r. r ≡ Err e)) }
     ensures fault { IfErr result (λ e. e ≡ RecordError.ReadFault → Rose (S.faults input.old) (S.faults input.new)) }
+    ensures stops { IfErr result (λ e. e ≡ RecordError.ReadFault → StopsOpening opening_of lines.old.held (place_at lines.old) (S.left input.old) (S.left input.new)) }
+    ensures seen { IsEndSeen lines.old.held (S.left input.old) → IsEndSeen lines.new.held (S.left input.new) }
     ensures grows { OnOk result (lines.old.held.given + 3 ≤ lines.new.held.given) }
     ensures left { IsPart (S.left input.old) (S.left input.new) }
     ensures later { S.faults input.old ≤ S.faults input.new }

@@ -1,12 +1,13 @@
 //! The lines of one phase.
 
 ghost use Rattle.std.specs.Prelude.{◌≡◌, ◌+◌, ◌<◌, ◌≤◌, ◌^◌, [], true, false, length, IfOk, IfErr, IfSome, MatchOption, All, ⊤};
-ghost use Rattle.std.specs.Io.KnownBytes.{IsAtEnd};
 ghost use Rattle.cell_io.specs.Faults.{Rose};
+ghost use Rattle.cell_io.specs.Held.{IsEndSeen};
 ghost use Rattle.cell_record.specs.EventLine.{MayHappen, IsRecorded};
 ghost use Rattle.cell_record.specs.Recording.{makes, moved, whole, refused, with_phase};
 ghost use Rattle.cell_record.specs.Grammar.{phase_ms};
-ghost use Rattle.cell_record.specs.Numbered.{IsPart, at, phases, after_phase, IsWithin};
+ghost use Rattle.cell_record.specs.Numbered.{IsPart, at, place_at, phases, after_phase, IsWithin};
+ghost use Rattle.cell_record.specs.Stops.{Leads, StopsInPhase};
 ghost use Rattle.cell_record.specs.Progress.{Becomes, IsStated};
 
 use crate::RecordError;
@@ -39,12 +40,16 @@ fn next_said<S: Source>(
     ensures says { IfOk result (λ o. MatchOption o
         (IfSome (at (phases clients counts.old) lines.old (S.left input.old)) (λ r. (r ≡ whole) × (at (phases clients counts.old) lines.new (S.left input.new) ≡ Some r)))
         (λ s. Becomes (at (phases clients counts.old) lines.old (S.left input.old)) (makes s) (at (phases clients counts.new) lines.new (S.left input.new)))) }
+    ensures leads { IfOk result (λ o. MatchOption o ⊤ (λ s. Leads (phases clients counts.old) lines.old.held (place_at lines.old) (S.left input.old) (makes s)
+        (phases clients counts.new) lines.new.held (place_at lines.new) (S.left input.new))) }
     ensures may { IfOk result (λ o. MatchOption o ⊤ (MayHappen clients)) }
     ensures counts { IfOk result (λ o. MatchOption o (counts.new ≡ counts.old) (λ s. counts.new ≡ moved counts.old s)) }
     ensures within { IfOk result (λ _. IsWithin counts.new) }
-    ensures over { IfOk result (λ o. MatchOption o (IsAtEnd (S.left input.new)) (λ _. ⊤)) }
+    ensures over { IfOk result (λ o. MatchOption o (lines.new.held.ended ≡ true) (λ _. ⊤)) }
     ensures refused { IfErr result (λ e. IsStated e → IfSome (at (phases clients counts.old) lines.old (S.left input.old)) (λ r. r ≡ refused e)) }
     ensures fault { IfErr result (λ e. e ≡ RecordError.ReadFault → Rose (S.faults input.old) (S.faults input.new)) }
+    ensures stops { IfErr result (λ e. e ≡ RecordError.ReadFault → StopsInPhase (phases clients counts.old) lines.old.held (place_at lines.old) (S.left input.old) (S.left input.new)) }
+    ensures seen { IsEndSeen lines.old.held (S.left input.old) → IsEndSeen lines.new.held (S.left input.new) }
     ensures grows { IfOk result (λ o. MatchOption o ⊤ (λ _. lines.old.held.given < lines.new.held.given)) }
     ensures order { lines.old.held.given ≤ lines.new.held.given }
     ensures most { lines.new.held.given ≤ 4294967296 }
@@ -79,13 +84,17 @@ pub fn read_phase<S: Source>(
     requires begins { counts.old.events ≡ 0 }
     ensures phase { IfOk result (λ p. Becomes (at (phases clients counts.old) lines.old (S.left input.old)) (with_phase p.events)
         (at (after_phase clients p.last counts.new.moment) lines.new (S.left input.new))) }
+    ensures leads { IfOk result (λ p. Leads (phases clients counts.old) lines.old.held (place_at lines.old) (S.left input.old) (with_phase p.events)
+        (after_phase clients p.last counts.new.moment) lines.new.held (place_at lines.new) (S.left input.new)) }
     ensures recorded { IfOk result (λ p. All (IsRecorded clients) p.events) }
     ensures few { IfOk result (λ p. length p.events ≤ 16384) }
     ensures within { IfOk result (λ _. IsWithin counts.new) }
     ensures moment { IfOk result (λ p. counts.new.moment ≡ counts.old.moment + phase_ms p.events) }
-    ensures over { IfOk result (λ p. p.last ≡ true → IsAtEnd (S.left input.new)) }
+    ensures over { IfOk result (λ p. p.last ≡ true → lines.new.held.ended ≡ true) }
     ensures refused { IfErr result (λ e. IsStated e → IfSome (at (phases clients counts.old) lines.old (S.left input.old)) (λ r. r ≡ refused e)) }
     ensures fault { IfErr result (λ e. e ≡ RecordError.ReadFault → Rose (S.faults input.old) (S.faults input.new)) }
+    ensures stops { IfErr result (λ e. e ≡ RecordError.ReadFault → StopsInPhase (phases clients counts.old) lines.old.held (place_at lines.old) (S.left input.old) (S.left input.new)) }
+    ensures seen { IsEndSeen lines.old.held (S.left input.old) → IsEndSeen lines.new.held (S.left input.new) }
     ensures grows { IfOk result (λ p. p.last ≡ false → lines.old.held.given < lines.new.held.given) }
     ensures order { lines.old.held.given ≤ lines.new.held.given }
     ensures left { IsPart (S.left input.old) (S.left input.new) }

@@ -1,17 +1,17 @@
 //! A recording that is being read.
 
 ghost use Rattle.std.specs.Prelude.{◌≡◌, ◌+◌, ◌<◌, ◌≤◌, ◌^◌, ◌⊎◌, true, false, length, IfOk, IfErr, IfSome, OnOk, MatchOption, All, Some, None, Err, ⊤, ◌↔◌};
-ghost use Rattle.std.specs.Io.KnownBytes.{IsAtEnd};
 ghost use Rattle.std.specs.Option.{option_map};
 ghost use Rattle.cell_io.specs.Faults.{Rose};
 ghost use Rattle.cell_io.specs.Lines.{lines_of};
-ghost use Rattle.cell_io.specs.Held.{ahead, IsLaterPart};
+ghost use Rattle.cell_io.specs.Held.{ahead, IsEndSeen, IsLaterPart};
 ghost use Rattle.cell_config.specs.Said.{IsConfig};
 ghost use Rattle.cell_record.specs.EventLine.{IsRecorded};
 ghost use Rattle.cell_record.specs.Recording.{reading_of_text, opening_of_text, config_of_text, opened, refused, ended, with_phase};
 ghost use Rattle.cell_record.specs.Grammar.{phase_ms};
 ghost use Rattle.cell_record.specs.Numbered.{IsPart};
-ghost use Rattle.cell_record.specs.Progress.{Progress, place_of, rest_of, Becomes, IsStated};
+ghost use Rattle.cell_record.specs.Progress.{Progress, place_of, rest_of, rest_in, Becomes, IsStated};
+ghost use Rattle.cell_record.specs.Stops.{Leads, LeadsText, IsCutInOpening, StopsInPhase};
 
 use crate::RecordError;
 use crate::counts::Counts;
@@ -76,6 +76,8 @@ impl Recording {
             (option_map (λ text. opened r.config (lines_of text) (place_of r)) (ahead r.held (S.left input.new)))) }
         ensures begins { IfOk result (λ r. Becomes (option_map reading_of_text (S.left input.old)) (λ s. s) (rest_of r (S.left input.new))) }
 
+        ensures leads { IfOk result (λ r. LeadsText (S.left input.old) r.config (rest_in r) r.held (place_of r) (S.left input.new)) }
+
         // It begins with the configuration that the text tells, at its moment.
         ensures new { IfOk result (λ r. (r.moment ≡ r.config.start.0) × (r.number ≡ 0) × (r.over ≡ false) × (r.refusal ≡ None)) }
         ensures tells { IfOk result (λ r. IfSome (S.left input.old) (λ text. config_of_text text ≡ Some r.config)) }
@@ -84,8 +86,10 @@ impl Recording {
         // Why it is refused.
         ensures refused { IfErr result (λ e. IsStated e → IfSome (S.left input.old) (λ text. opening_of_text text ≡ Err e)) }
         ensures fault { IfErr result (λ e. e ≡ RecordError.ReadFault → Rose (S.faults input.old) (S.faults input.new)) }
+        ensures stops { IfErr result (λ e. e ≡ RecordError.ReadFault → IfSome (S.left input.old) (λ text. IsCutInOpening text (S.left input.new))) }
 
         // On every answer.
+        ensures seen { IfOk result (λ r. IsEndSeen r.held (S.left input.new)) }
         ensures left { IsLaterPart (S.left input.old) (S.left input.new) }
         ensures later { S.faults input.old ≤ S.faults input.new }
     {
@@ -124,7 +128,9 @@ impl Recording {
             (IfSome (rest_of self.old (S.left input.old)) (λ r. r ≡ ended))
             (λ p. Becomes (rest_of self.old (S.left input.old)) (with_phase p.events) (rest_of self.new (S.left input.new)))) }
         ensures over { IfOk result (λ o. MatchOption o (self.old.over ≡ true) (λ _. self.old.over ≡ false)) }
-        ensures ended { IfOk result (λ o. MatchOption o ⊤ (λ _. self.new.over ≡ true → IsAtEnd (S.left input.new))) }
+        ensures ended { IfOk result (λ o. MatchOption o ⊤ (λ _. self.new.over ≡ true → self.new.held.ended ≡ true)) }
+        ensures leads { IfOk result (λ o. MatchOption o ⊤ (λ p. Leads (rest_in self.old) self.old.held (place_of self.old) (S.left input.old) (with_phase p.events)
+            (rest_in self.new) self.new.held (place_of self.new) (S.left input.new))) }
         ensures unread { IfOk result (λ o. MatchOption o (input.new ≡ input.old) (λ _. ⊤)) }
         ensures number { IfOk result (λ o. MatchOption o ⊤ (λ p. (p.number ≡ self.old.number + 1) × (self.new.number ≡ p.number) × (p.number < 2 ^ 32))) }
         ensures recorded { IfOk result (λ o. MatchOption o ⊤ (λ p. All (IsRecorded self.new.config.clients) p.events)) }
@@ -137,12 +143,15 @@ impl Recording {
         // Why it is refused.
         ensures refused { IfErr result (λ e. IsStated e → IfSome (rest_of self.old (S.left input.old)) (λ r. r ≡ refused e)) }
         ensures fault { IfErr result (λ e. e ≡ RecordError.ReadFault → (self.old.refusal ≡ Some e) ⊎ Rose (S.faults input.old) (S.faults input.new)) }
+        ensures stops { IfErr result (λ e. e ≡ RecordError.ReadFault → self.old.refusal ≡ None
+            → StopsInPhase (rest_in self.old) self.old.held (place_of self.old) (S.left input.old) (S.left input.new)) }
         ensures open { OnOk result (self.new.refusal ≡ None) }
         ensures kept { IfErr result (λ e. self.new.refusal ≡ Some e) }
         ensures again { MatchOption self.old.refusal ⊤ (λ e. result ≡ Err e) }
 
         // On every answer.
         ensures config { self.new.config ≡ self.old.config }
+        ensures seen { IsEndSeen self.old.held (S.left input.old) → IsEndSeen self.new.held (S.left input.new) }
         ensures left { IsLaterPart (S.left input.old) (S.left input.new) }
         ensures later { S.faults input.old ≤ S.faults input.new }
     {
@@ -175,7 +184,11 @@ impl Recording {
         ensures recorded { IfOk result (λ es. All (IsRecorded self.old.config.clients) es) }
         ensures few { IfOk result (λ es. length es ≤ 16384) }
         ensures moment { IfOk result (λ es. self.new.moment ≡ self.old.moment + phase_ms es) }
-        ensures over { OnOk result (self.new.over ≡ true → IsAtEnd (S.left input.new)) }
+        ensures over { OnOk result (self.new.over ≡ true → self.new.held.ended ≡ true) }
+        ensures leads { IfOk result (λ es. Leads (rest_in self.old) self.old.held (place_of self.old) (S.left input.old) (with_phase es)
+            (rest_in self.new) self.new.held (place_of self.new) (S.left input.new)) }
+        ensures stops { IfErr result (λ e. e ≡ RecordError.ReadFault → StopsInPhase (rest_in self.old) self.old.held (place_of self.old) (S.left input.old) (S.left input.new)) }
+        ensures seen { IsEndSeen self.old.held (S.left input.old) → IsEndSeen self.new.held (S.left input.new) }
         ensures number { OnOk result (self.new.number ≡ self.old.number + 1) }
         ensures refused { IfErr result (λ e. IsStated e → IfSome (rest_of self.old (S.left input.old)) (λ r. r ≡ refused e)) }
         ensures fault { IfErr result (λ e. e ≡ RecordError.ReadFault → Rose (S.faults input.old) (S.faults input.new)) }

@@ -1,9 +1,11 @@
 -- What was written of the first phases, and what is stated of the rest.
-use Rattle.std.proofs.Common.{◌≡◌, ℕ, ◌+◌, List, [], ◌∷◌, ◌++◌, length, refl, sym, ap, ◌∙◌, subst, append_assoc, append-nil, None, Some, IfSome, Ok, Err, arith}
+use Rattle.std.proofs.Common.{◌≡◌, ℕ, ◌+◌, ◌≤◌, List, [], ◌∷◌, ◌++◌, length, refl, sym, ap, ◌∙◌, subst, append_assoc, append-nil, None, Some, IfSome, Ok, Err, arith}
 use Rattle.std.specs.Option.{option_map}
 use Rattle.std.specs.declared.option.Option.{Option}
-use Rattle.std.specs.Io.KnownBytes.{Appends}
-use Rattle.std.proofs.KnownBytes.{Appends-trans, Appends-nil}
+use Rattle.std.specs.Io.KnownBytes.{Appends, Keeps}
+use Rattle.std.proofs.KnownBytes.{Appends-trans, Appends-kept, Appends-nil, Consumes-trans}
+use Rattle.cell_io.specs.Held.{IsLaterPart}
+use Rattle.cell_io.specs.Lines.{whole_lines}
 use Rattle.cell_io.specs.Prefix.{AppendsPrefix}
 use Rattle.mms_types.specs.Actors.{clients_to}
 use Rattle.mms_types.specs.declared.event.CellEvent.{CellEvent}
@@ -12,13 +14,14 @@ use Rattle.mms_device.specs.Served.{Served, device_after}
 use Rattle.cell_record.specs.declared.refusal.RecordError.{RecordError}
 use Rattle.cell_record.specs.declared.refusal.RecordError.TheVariants.{Bad, BadConfig, TooMuch, ReadFault, Memory}
 use Rattle.cell_config.specs.declared.config.Config.{Config}
-use Rattle.cell_record.specs.Recording.{Reading, Opening, with_phase, refused, opening_of_text, config_in, config_of_text, after_opening, reading_of_text}
-use Rattle.cell_record.specs.Progress.{Becomes, IsStated}
+use Rattle.cell_record.specs.Recording.{Place, Reading, Opening, with_phase, refused, opening_of_text, config_in, config_of_text, after_opening, reading_of_text}
+use Rattle.cell_record.specs.Progress.{Progress, Becomes, IsStated, place_of, rest_in}
+use Rattle.cell_record.specs.Stops.{IsCutInOpening, Leads, ReadsText, Stops, lines_in}
 use Rattle.cell_record.specs.History.{drains, history}
 use Rattle.cell_record.proofs.Readings.{then}
 use Rattle.cell_record.specs.Report.{placed_from, taken, phase_text, report_from}
 use Rattle.cell_run.specs.Along.{phase_told}
-use Rattle.cell_run.specs.Outcome.{IsFinal, WritesFront, last_line, printed, printed_by, printed_for, report_of, status_of, status_for}
+use Rattle.cell_run.specs.Outcome.{IsCut, IsFinal, WritesComplete, last_line, printed, printed_by, printed_for, report_of, status_of, status_for}
 use Rattle.cell_run.specs.declared.status.Status.{Status}
 use Rattle.cell_run.proofs.Alongside.{told_after}
 
@@ -166,32 +169,46 @@ wholly_written config s (Some x) (Some r) done o out0 out1 out2 b e told p q con
     ap (λ (l : List (List CellEvent)). report_of config l ++ last_line o) (sym (append-nil done)) ∙ ap (printed_for config) at ∙ sym (printed_opened config x config_is) in
     (told ∙ ap (λ (y : Reading). status_for y.refusal) at, subst (Appends out0 out2) all (Appends-trans out0 out1 out2 (report_of config done) (last_line o) p q))
 
--- the phases that were written are the first of those that are stated
-front_of : (config : Config) (opening : Opening) (done : List (List CellEvent)) (r : Reading) (out0 out1 : Option (List ℕ)) → config_in opening ≡ Some config
-    → with_phases done r ≡ after_opening opening → Appends out0 out1 (report_of config done) → WritesFront opening out0 out1
-front_of config (Err e) done r out0 out1 is by p = absurd (cc is)
-front_of config (Ok o) done r out0 out1 is by p =
-    let same : config ≡ o.config = cc is in
-    (done, (r.phases, ap (λ (y : Reading). y.phases) (sym by)), subst (λ (x : Config). Appends out0 out1 (report_of x done)) same p)
+-- ---- where the source fails
 
-pub fronts_written : (config : Config) (left : Option (List ℕ)) (a : Option Reading) (done : List (List CellEvent)) (out0 out1 : Option (List ℕ))
-    → Becomes (option_map reading_of_text left) (with_phases done) a → Appends out0 out1 (report_of config done) → IfSome left (Tells config)
-    → IfSome left (λ text. WritesFront (opening_of_text text) out0 out1)
-fronts_written config None a done out0 out1 b p o = tt
-fronts_written config (Some x) None done out0 out1 b p o = absurd (cc b)
-fronts_written config (Some x) (Some r) done out0 out1 b p o =
-    let is : with_phases done r ≡ reading_of_text x = cc b in front_of config (opening_of_text x) done r out0 out1 o is p
+-- the phases that were written are those that are complete in what was read
+complete_so : (config : Config) (opening : Opening) (lines : ℕ) (done : List (List CellEvent)) (events : List CellEvent) (out0 out1 : Option (List ℕ)) → config_in opening ≡ Some config
+    → after_opening opening ≡ record { phases = done ++ events ∷ []; refusal = None } → Appends out0 out1 (report_of config done) → WritesComplete opening lines out0 out1
+complete_so config (Err e) lines done events out0 out1 is by p = absurd (cc is)
+complete_so config (Ok o) lines done events out0 out1 is by p =
+    let same : config ≡ o.config = cc is in (done, events, by, subst (λ (x : Config). Appends out0 out1 (report_of x done)) same p)
+
+pub cut_in_phase : (config : Config) (left last : Option (List ℕ)) (end : Place) (done : List (List CellEvent)) (events : List CellEvent) (out0 out1 out2 : Option (List ℕ)) → end.octets ≤ 4294967296
+    → IfSome left (λ text. ReadsText text last config end (with_phases done (record { phases = events ∷ []; refusal = None }))) → Appends out0 out1 (report_of config done) → Keeps out1 out2
+    → IfSome left (λ text. IsCut text last out0 out2)
+cut_in_phase config None last end done events out0 out1 out2 m k p q = tt
+cut_in_phase config (Some text) last end done events out0 out1 out2 m k p q = record {
+  octets = k.octets;
+  read = record { consumed = k.consumed; most = omega (arith, m, k.size) };
+  written = complete_so config (opening_of_text (whole_lines k.octets)) (length (lines_in k.octets)) done events out0 out2 k.tells k.says (Appends-kept out0 out1 out2 (report_of config done) p q);
+}
+
+-- nothing was written before the line `end`
+pub cut_in_opening : (left last out0 out1 : Option (List ℕ)) → Keeps out0 out1 → IfSome left (λ text. IsCutInOpening text last) → IfSome left (λ text. IsCut text last out0 out1)
+cut_in_opening None last out0 out1 p k = tt
+cut_in_opening (Some text) last out0 out1 p k = record {
+  octets = k.octets;
+  read = k.read;
+  written = subst (λ (o : Opening). WritesComplete o (length (lines_in k.octets)) out0 out1) (sym k.says) (k.word, refl, Appends-kept out0 out0 out1 [] (Appends-nil out0) p);
+}
+
+pub later_then : (a b c : Option (List ℕ)) → IsLaterPart a b → IsLaterPart b c → IsLaterPart a c
+later_then a b c p q = (p.0 ++ q.0, Consumes-trans a b c p.0 q.0 p.1 q.1)
+
+-- a phase more
+pub leads_phases : (r s t : Progress) (left left' left'' : Option (List ℕ)) (done : List (List CellEvent)) (x : List CellEvent)
+    → Leads (rest_in r) r.held (place_of r) left (with_phases done) (rest_in s) s.held (place_of s) left'
+    → Leads (rest_in s) s.held (place_of s) left' (with_phase x) (rest_in t) t.held (place_of t) left''
+    → Leads (rest_in r) r.held (place_of r) left (with_phases (done ++ x ∷ [])) (rest_in t) t.held (place_of t) left''
+leads_phases r s t left left' left'' done x p q = λ last end k z.
+    subst (Stops (rest_in r) r.held (place_of r) left last end) (phases-then done x k) (p last end (with_phase x k) (q last end k z))
 
 -- ---- where the lines up to `end` are refused
-
--- nothing was written
-no_front : (opening : Opening) (out0 out1 : Option (List ℕ)) → Appends out0 out1 [] → WritesFront opening out0 out1
-no_front (Err e) out0 out1 p = p
-no_front (Ok o) out0 out1 p = ([], ((after_opening (Ok o)).phases, refl), p)
-
-pub no_fronts : (left out0 out1 : Option (List ℕ)) → Appends out0 out1 [] → IfSome left (λ text. WritesFront (opening_of_text text) out0 out1)
-no_fronts None out0 out1 p = tt
-no_fronts (Some text) out0 out1 p = no_front (opening_of_text text) out0 out1 p
 
 nothing_partly : (text : List ℕ) (out0 out1 : Option (List ℕ)) → AppendsPrefix out0 out1 [] → AppendsPrefix out0 out1 text
 nothing_partly text out0 out1 q = record {

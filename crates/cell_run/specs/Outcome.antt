@@ -1,11 +1,12 @@
 -- What a run prints, and the status with which it ends (this profile's choice).
-use Rattle.std.specs.Prelude.{◌≡◌, ℕ, List, [], ◌∷◌, ◌++◌, codes, map, Some, None, Ok, Err}
+use Rattle.std.specs.Prelude.{◌≡◌, ℕ, ◌+◌, List, [], ◌∷◌, ◌++◌, length, codes, map, Some, None, Ok, Err}
 use Rattle.std.specs.Prelude.{String}
 use Rattle.std.specs.Global.{Global}
 use Rattle.std.specs.String.{string_bytes}
 use Rattle.std.specs.Fmt.{decimal}
 use Rattle.std.specs.Io.KnownBytes.{Appends}
 use Rattle.std.specs.declared.option.Option.{Option}
+use Rattle.cell_io.specs.Lines.{whole_lines}
 use Rattle.mms_types.specs.declared.event.CellEvent.{CellEvent}
 use Rattle.mms_step.specs.Step.{said}
 use Rattle.cell_record.specs.declared.refusal.BadWord.{BadWord}
@@ -14,6 +15,7 @@ use Rattle.cell_record.specs.declared.refusal.RecordError.{RecordError}
 use Rattle.cell_record.specs.declared.refusal.RecordError.TheVariants.{Bad, BadConfig, TooMuch, ReadFault, Memory}
 use Rattle.cell_config.specs.declared.config.Config.{Config}
 use Rattle.cell_record.specs.Recording.{Reading, Opening, after_opening, opening_of_text, reading_of_text}
+use Rattle.cell_record.specs.Stops.{IsRead, lines_in}
 use Rattle.cell_record.specs.Report.{report}
 use Rattle.cell_run.specs.declared.status.Status.{Status}
 use Rattle.cell_run.specs.declared.status.Status.TheVariants as status
@@ -78,14 +80,19 @@ printed text = printed_by (opening_of_text text)
 abbrev pub status_of : List ℕ → Status
 status_of text = status_for (reading_of_text text).refusal
 
--- the first of the phases
-abbrev pub IsFront : List (List CellEvent) → List (List CellEvent) → Type 0
-IsFront done phases = (rest : List (List CellEvent)) × (phases ≡ done ++ rest)
+-- ---- where the source fails
 
--- the report of the first phases was written, and nothing where the lines up to `end` are refused
-abbrev pub WritesFront : Opening → Option (List ℕ) → Option (List ℕ) → Type 0
-WritesFront (Err e) old new = Appends old new []
-WritesFront (Ok o) old new = (done : List (List CellEvent)) × IsFront done (after_opening (Ok o)).phases × Appends old new (report_of o.config done)
+-- of octets that were read: the phases that they complete, which are all but the last, where no line of them is refused; none before the line `end`, where but the next line is missing
+abbrev pub WritesComplete : Opening → ℕ → Option (List ℕ) → Option (List ℕ) → Type 0
+WritesComplete (Err e) lines old new = (word : BadWord) × (e ≡ Bad (lines + 1) word) × Appends old new []
+WritesComplete (Ok o) lines old new =
+    (done : List (List CellEvent)) × (events : List CellEvent) × (after_opening (Ok o) ≡ record { phases = done ++ events ∷ []; refusal = None }) × Appends old new (report_of o.config done)
+
+-- the source failed behind so much of a text, and the report of the phases that are complete there was written
+pub record IsCut (text : List ℕ) (last old new : Option (List ℕ)) : Type 0 where
+  pub octets : List ℕ
+  pub read : IsRead text last octets
+  pub written : WritesComplete (opening_of_text (whole_lines octets)) (length (lines_in octets)) old new
 
 -- the statuses that words and text decide
 abbrev pub IsFinal : Status → Type 0
@@ -97,14 +104,3 @@ IsFinal status.TooMuch = Unit {0}
 IsFinal status.Memory = ⊥
 IsFinal status.ReadFault = ⊥
 IsFinal status.WriteFault = ⊥
-
--- the answers to other words
-abbrev pub IsUsageOrWant : Status → Type 0
-IsUsageOrWant status.Usage = Unit {0}
-IsUsageOrWant status.Memory = Unit {0}
-IsUsageOrWant status.WriteFault = Unit {0}
-IsUsageOrWant status.Done = ⊥
-IsUsageOrWant status.Bad = ⊥
-IsUsageOrWant status.BadConfig = ⊥
-IsUsageOrWant status.TooMuch = ⊥
-IsUsageOrWant status.ReadFault = ⊥

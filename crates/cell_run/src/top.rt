@@ -7,9 +7,8 @@ ghost use Rattle.cell_io.specs.Prefix.{AppendsPrefix};
 ghost use Rattle.mms_types.specs.declared.event.CellEvent.{CellEvent};
 ghost use Rattle.cell_record.specs.Grammar.{ReadsRecording};
 ghost use Rattle.cell_config.specs.declared.config.Config.{Config};
-ghost use Rattle.cell_record.specs.Recording.{opening_of_text};
 ghost use Rattle.cell_run.specs.Codes.{IsFinalCode, IsStatus, code_of};
-ghost use Rattle.cell_run.specs.Outcome.{IsFinal, IsReplay, WritesFront, printed, IsUsageOrWant, report_of, status_of, texts, usage_text};
+ghost use Rattle.cell_run.specs.Outcome.{IsFinal, IsCut, IsReplay, printed, report_of, status_of, texts, usage_text};
 
 use crate::engine::replay;
 use crate::status::Status;
@@ -40,7 +39,7 @@ fn usage<K: Sink>(out: &mut K) -> Status
 fn served<S: Source, K: Sink>(alloc: Global, words: &[String], input: &mut S, out: &mut K) -> Status
     // The words decide first. Without those of `replay` nothing is read, and the usage is written.
     ensures usage { result ≡ Status.Usage → (IsReplay (texts words.now) → ⊥) × Appends (K.held out.old) (K.held out.new) usage_text }
-    ensures other_words { (IsReplay (texts words.now) → ⊥) → (input.new ≡ input.old) × AppendsPrefix (K.held out.old) (K.held out.new) usage_text × IsUsageOrWant result }
+    ensures other_words { (IsReplay (texts words.now) → ⊥) → (input.new ≡ input.old) × AppendsPrefix (K.held out.old) (K.held out.new) usage_text × ((result ≡ Status.Usage) ⊎ (result ≡ Status.WriteFault)) }
 
     // With them, what the text says is written.
     ensures stated { IsReplay (texts words.now) → IsFinal result → IfSome (S.left input.old) (λ text. (result ≡ status_of text) × Appends (K.held out.old) (K.held out.new) (printed text)) }
@@ -49,7 +48,7 @@ fn served<S: Source, K: Sink>(alloc: Global, words: &[String], input: &mut S, ou
 
     // Faults come only where the counts rose.
     ensures read { result ≡ Status.ReadFault → Rose (S.faults input.old) (S.faults input.new) }
-    ensures phases { IsReplay (texts words.now) → result ≡ Status.ReadFault → IfSome (S.left input.old) (λ text. WritesFront (opening_of_text text) (K.held out.old) (K.held out.new)) }
+    ensures cut { IsReplay (texts words.now) → result ≡ Status.ReadFault → IfSome (S.left input.old) (λ text. IsCut text (S.left input.new) (K.held out.old) (K.held out.new)) }
     ensures write { result ≡ Status.WriteFault → Rose (K.faults out.old) (K.faults out.new) }
     ensures reads { S.faults input.old ≤ S.faults input.new }
     ensures writes { K.faults out.old ≤ K.faults out.new }
@@ -90,7 +89,7 @@ pub fn run_cell<R: Threads + Wait + Sync, S: Source, K: Sink, G: Gate + Sync>(
 
     // The words decide first. Without those of a command nothing is read.
     ensures usage { result ≡ 1 → (IsReplay (texts words.now) → ⊥) × Appends (K.held out.old) (K.held out.new) usage_text }
-    ensures other_words { (IsReplay (texts words.now) → ⊥) → (result ≡ 1) ⊎ (result ≡ 3) ⊎ (result ≡ 5) }
+    ensures other_words { (IsReplay (texts words.now) → ⊥) → (result ≡ 1) ⊎ (result ≡ 5) }
     ensures nothing_read { (IsReplay (texts words.now) → ⊥) → (input.new ≡ input.old) × AppendsPrefix (K.held out.old) (K.held out.new) usage_text }
 
     // What is written for the octets that were read, and with which status: 0, 2, 6 or 7.
@@ -106,7 +105,7 @@ pub fn run_cell<R: Threads + Wait + Sync, S: Source, K: Sink, G: Gate + Sync>(
 
     // Faults are told only where a count rose.
     ensures read { result ≡ 4 → Rose (S.faults input.old) (S.faults input.new) }
-    ensures complete_phases { IsReplay (texts words.now) → result ≡ 4 → IfSome (S.left input.old) (λ text. WritesFront (opening_of_text text) (K.held out.old) (K.held out.new)) }
+    ensures cut { IsReplay (texts words.now) → result ≡ 4 → IfSome (S.left input.old) (λ text. IsCut text (S.left input.new) (K.held out.old) (K.held out.new)) }
     ensures write { result ≡ 5 → Rose (K.faults out.old) (K.faults out.new) }
     ensures counts { (S.faults input.old ≤ S.faults input.new) × (K.faults out.old ≤ K.faults out.new) }
 {

@@ -4,6 +4,7 @@ use Rattle.cell_io.specs.Held.{ahead}
 use Rattle.cell_record.specs.Recording.{expected, opened, configured}
 use Rattle.cell_record.specs.Numbered.{place_at, setup}
 use Rattle.cell_record.specs.declared.refusal.BadWord.TheVariants as bad
+use Rattle.cell_record.proofs.Stopping.{leads_same, leads_told, opening_then}
 use Rattle.cell_record.proofs.Steps.{same_told, all_told}
 use Rattle.cell_record.proofs.Readings.{same_same, same_is, part_then}
 use Rattle.cell_record.proofs.opening.read_opening.Goals as goal
@@ -51,3 +52,27 @@ returns-clause-refused g c =
     same_is _ _ _ read
     (all_told (configured c.in_ok-text.text.items) (Err e) (place_at c.read_setup.new.lines) (ahead c.read_setup.new.lines.held (g.S.Source.left c.read_setup.new.input))
     (λ lines p. ap (λ (x : List ℕ). configured x lines p) (sym c.deref.ensures.value) ∙ told s lines p))) c.read_text.ensures.rule
+
+pub returns-in_err-expect-clause-stops : goal.returns-in_err-expect-clause-stops
+returns-in_err-expect-clause-stops g c =
+    let r = err_from_is_err_and c.from_residual.result c.from_residual.ensures.1 in
+    rw (r.1, r.2) (λ s. c.in_err-expect.ensures.stops s (expected (codes "config") bad.Config (setup [])))
+
+pub returns-in_err-expect-2-clause-stops : goal.returns-in_err-expect-2-clause-stops
+returns-in_err-expect-2-clause-stops g c =
+    let r = err_from_is_err_and c.from_residual-in_err-expect-2.result c.from_residual-in_err-expect-2.ensures.1 in
+    rw (r.1, r.2) (λ s. opening_then _ _ _ _ _ _ _ _ _ (c.in_ok-expect.ensures.leads (expected (codes "config") bad.Config (setup []))) (c.in_err-expect-2.ensures.stops s (setup [])))
+
+pub returns-in_err-text-clause-stops : goal.returns-in_err-text-clause-stops
+returns-in_err-text-clause-stops g c =
+    let r = err_from_is_err_and c.from_residual-in_err-text.result c.from_residual-in_err-text.ensures.1 in
+    let read = leads_same _ _ _ _ _ _ _ _ _ _ _ _ (c.in_ok-expect.ensures.leads (expected (codes "config") bad.Config (setup []))) (c.in_ok-expect-2.ensures.leads (setup [])) in
+    rw (r.1, r.2) (λ s. opening_then _ _ _ _ _ _ _ _ _ read (c.in_err-text.ensures.stops s))
+
+pub returns-clause-leads : goal.returns-clause-leads
+returns-clause-leads g c =
+    let read = leads_same _ _ _ _ _ _ _ _ _ _ _ _ (leads_same _ _ _ _ _ _ _ _ _ _ _ _ (c.in_ok-expect.ensures.leads (expected (codes "config") bad.Config (setup []))) (c.in_ok-expect-2.ensures.leads (setup []))) c.in_ok-text.ensures.leads in
+    IfOk-weaker c.read_text.result _ _ (λ config told.
+    leads_same _ _ _ _ _ _ _ _ _ _ _ _ read
+    (leads_told (configured c.in_ok-text.text.items) (opened config) c.read_setup.new.lines.held (place_at c.read_setup.new.lines) (g.S.Source.left c.read_setup.new.input)
+    (λ lines p. ap (λ (x : List ℕ). configured x lines p) (sym c.deref.ensures.value) ∙ told lines p))) c.read_text.ensures.config

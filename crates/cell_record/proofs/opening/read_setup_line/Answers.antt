@@ -1,4 +1,4 @@
-use Rattle.std.proofs.Common.{◌≡◌, ◌+◌, ◌-◌, ◌++◌, true, false, ℕ, List, sym, ◌∙◌, ap, Err, codes, arith, length, Some, None}
+use Rattle.std.proofs.Common.{◌≡◌, ◌+◌, ◌-◌, ◌++◌, true, false, ℕ, List, refl, sym, ◌∙◌, ap, Err, codes, arith, length, Some, None}
 use Rattle.std.proofs.lemmas.Result.{err_from_is_err_and}
 use Rattle.cell_io.specs.Held.{ahead}
 use Rattle.cell_record.specs.EventLine.{same}
@@ -6,6 +6,8 @@ use Rattle.cell_record.specs.Words.{content}
 use Rattle.cell_record.specs.Recording.{in_text, setup_word, size_by, configured}
 use Rattle.cell_record.specs.Numbered.{place_at, setup}
 use Rattle.cell_record.specs.declared.refusal.RecordError.TheVariants.{Bad, TooMuch}
+use Rattle.cell_record.specs.declared.refusal.BadWord.TheVariants as bad
+use Rattle.cell_record.proofs.Stopping.{leads_there, opening_stops}
 use Rattle.cell_record.proofs.Steps.{there, is, much, at_end, not_end, bad_setup, much_setup}
 use Rattle.cell_record.proofs.opening.read_setup_line.Goals as goal
 
@@ -53,4 +55,34 @@ returns-clause-more g c = λ _.
     let added : c.add_line.new.text.items ≡ text ++ in_text line = c.in_ok-add_line.ensures.text ∙ ap (λ (x : List ℕ). text ++ in_text x) c.line-3.ensures in
     rw (c.in_ok-next.ensures.count c.if-not-branch.false, added) (there (setup text) (setup (text ++ in_text line)) (λ r. r) (ahead c.args.lines.now.held (g.S.Source.left c.args.input.now))
     (ahead c.next.new.self.held (g.S.Source.left c.next.new.input)) line p c.next.new.self.held.given c.next.ensures.most (c.in_ok-next.ensures.gives c.if-not-branch.false)
+    (λ l rest k n f. not_end text whole p c.next.new.self.held.given line l rest e none (omega (arith, c.given.ensures.given, c.given-before.ensures.given)) k n f))
+
+pub returns-in_err-next-clause-stops : goal.returns-in_err-next-clause-stops
+returns-in_err-next-clause-stops g c =
+    let r = err_from_is_err_and c.from_residual.result c.from_residual.ensures.1 in
+    rw (r.1, r.2) (λ s.
+    opening_stops (setup c.args.text.now.items) c.args.lines.now.held (g.S.Source.left c.args.input.now) (g.S.Source.left c.next.new.input) c.next.new.self.held.given c.args.lines.now.lines bad.Config c.next.ensures.most refl
+    (c.in_err-next.ensures.stops s))
+
+pub returns-then-is-clause-last : goal.returns-then-is-clause-last
+returns-then-is-clause-last g c = λ _.
+    let p = place_at c.args.lines.now in
+    let e : same (content c.next.new.self.line) (codes "end") ≡ true = sym c.if-is.ensures in
+    rw (c.in_ok-next.ensures.count c.if-not-branch.false) (leads_there (setup c.args.text.now.items) (configured c.args.text.now.items) (λ r. r) c.args.lines.now.held c.next.new.self.held (g.S.Source.left c.args.input.now) (g.S.Source.left c.next.new.input)
+    c.next.new.self.line p (c.in_ok-next.ensures.unended c.if-not-branch.false) c.next.ensures.most (c.in_ok-next.ensures.gives c.if-not-branch.false) (c.in_ok-next.ensures.feed c.if-not-branch.false)
+    (λ l rest k n f. at_end c.args.text.now.items p c.next.new.self.line l rest e k f))
+
+pub returns-clause-leads : goal.returns-clause-leads
+returns-clause-leads g c = λ _.
+    let p = place_at c.args.lines.now in
+    let text = c.args.text.now.items in
+    let line = c.next.new.self.line in
+    let e : same (content line) (codes "end") ≡ false = sym c.if-is.ensures in
+    let whole = c.given.result - c.given-before.result in
+    let len : c.len.result ≡ length text = omega (arith, c.len.ensures, c.args.text.now.ok) in
+    let size : c.size_in_text.result ≡ size_by whole line = c.size_in_text.ensures.size ∙ ap (size_by whole) c.line.ensures in
+    let none : None ≡ setup_word (length text + size_by whole line) line = c.in-None.ensures ∙ ap (λ (n : ℕ). setup_word (n + c.size_in_text.result) c.line-2.result.now) len ∙ ap (λ (n : ℕ). setup_word (length text + n) c.line-2.result.now) size ∙ ap (setup_word (length text + size_by whole line)) c.line-2.ensures in
+    let added : c.add_line.new.text.items ≡ text ++ in_text line = c.in_ok-add_line.ensures.text ∙ ap (λ (x : List ℕ). text ++ in_text x) c.line-3.ensures in
+    rw (c.in_ok-next.ensures.count c.if-not-branch.false, added) (leads_there (setup text) (setup (text ++ in_text line)) (λ r. r) c.args.lines.now.held c.next.new.self.held (g.S.Source.left c.args.input.now) (g.S.Source.left c.next.new.input)
+    line p (c.in_ok-next.ensures.unended c.if-not-branch.false) c.next.ensures.most (c.in_ok-next.ensures.gives c.if-not-branch.false) (c.in_ok-next.ensures.feed c.if-not-branch.false)
     (λ l rest k n f. not_end text whole p c.next.new.self.held.given line l rest e none (omega (arith, c.given.ensures.given, c.given-before.ensures.given)) k n f))

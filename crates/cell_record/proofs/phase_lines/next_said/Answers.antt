@@ -1,10 +1,11 @@
-use Rattle.std.proofs.Common.{◌+◌, ℕ, sym, ◌∙◌, ap, arith}
+use Rattle.std.proofs.Common.{◌+◌, ℕ, refl, sym, ◌∙◌, ap, arith}
 use Rattle.std.proofs.lemmas.Result.{err_from_is_err_and}
 use Rattle.cell_io.specs.Held.{ahead}
 use Rattle.cell_record.specs.EventLine.{said_of}
 use Rattle.cell_record.specs.Recording.{refused, makes, refusal_of}
 use Rattle.cell_record.specs.Numbered.{place_at, phases}
 use Rattle.cell_record.specs.declared.refusal.RecordError.TheVariants.{Bad, TooMuch}
+use Rattle.cell_record.proofs.Stopping.{leads_there, phase_stops}
 use Rattle.cell_record.proofs.Steps.{there, is, much, says, says_bad, says_much, much_says}
 use Rattle.cell_record.proofs.phase_lines.next_said.Goals as goal
 
@@ -42,3 +43,20 @@ returns-in-Err-Bad-clause-refused g c = λ _.
     rw c.count-number.ensures.count (is (phases c.args.clients c.args.counts.now) (refused (Bad (p.lines + 1) c.in-Err-Bad.word)) (ahead c.args.lines.now.held (g.S.Source.left c.args.input.now))
     (ahead c.next.new.self.held (g.S.Source.left c.next.new.input)) c.next.new.self.line p c.next.new.self.held.given c.next.ensures.most (c.in_ok-next.ensures.gives c.if-not-branch.false)
     (λ l rest k n f. says_bad c.args.clients c.args.counts.now p c.next.new.self.line l rest c.in-Err-Bad.word e k f))
+
+pub returns-in-None-clause-leads : goal.returns-in-None-clause-leads
+returns-in-None-clause-leads g c =
+    let p = place_at c.args.lines.now in
+    let e = ap (said_of c.args.clients) (sym c.content.ensures) ∙ c.in-Ok.ensures.says in
+    let none = c.in-None.ensures.refusal ∙ ap (λ (n : ℕ). refusal_of (n + 1) c.count.new.self c.in-Ok.said) c.count-number.ensures.count in
+    rw (c.in_ok-next.ensures.count c.if-not-branch.false) (leads_there (phases c.args.clients c.args.counts.now) (phases c.args.clients c.count.new.self) (makes c.in-Ok.said) c.args.lines.now.held c.next.new.self.held
+    (g.S.Source.left c.args.input.now) (g.S.Source.left c.next.new.input) c.next.new.self.line p (c.in_ok-next.ensures.unended c.if-not-branch.false) c.next.ensures.most (c.in_ok-next.ensures.gives c.if-not-branch.false)
+    (c.in_ok-next.ensures.feed c.if-not-branch.false)
+    (λ l rest k n f. says c.args.clients c.args.counts.now c.count.new.self p c.next.new.self.line l rest c.in-Ok.said e c.in-None.ensures.counts none k f))
+
+pub returns-in_err-next-clause-stops : goal.returns-in_err-next-clause-stops
+returns-in_err-next-clause-stops g c =
+    let r = err_from_is_err_and c.from_residual.result c.from_residual.ensures.1 in
+    rw (r.1, r.2) (λ s.
+    phase_stops (phases c.args.clients c.args.counts.now) c.args.lines.now.held (g.S.Source.left c.args.input.now) (g.S.Source.left c.next.new.input) c.next.new.self.held.given c.args.lines.now.lines c.next.ensures.most refl
+    (c.in_err-next.ensures.stops s))

@@ -2,7 +2,9 @@ use Rattle.std.proofs.Common.{◌≡◌, ◌+◌, ◌≤◌, length}
 use Rattle.std.specs.List.{All}
 use Rattle.cell_record.specs.EventLine.{IsRecorded}
 use Rattle.cell_record.specs.Grammar.{phase_ms}
-use Rattle.cell_record.specs.Numbered.{IsPart, at, phases, IsWithin}
+use Rattle.cell_record.specs.Numbered.{IsPart, at, place_at, phases, IsWithin}
+use Rattle.cell_io.specs.Held.{IsEndSeen}
+use Rattle.cell_record.specs.Stops.{Leads}
 use Rattle.cell_record.specs.Progress.{Becomes}
 use Rattle.cell_record.proofs.Readings.{with_events}
 use Rattle.cell_record.proofs.phase_lines.read_phase.Given as goal
@@ -10,6 +12,9 @@ use Rattle.cell_record.proofs.phase_lines.read_phase.Given as goal
 abbrev pub invariant-loop-turn : goal.invariant-loop-turn
 invariant-loop-turn g l = record {
   rest : Becomes (at (phases l.clients l.initial.counts) l.initial.lines (g.S.Source.left l.initial.input)) (with_events l.events) (at (phases l.clients l.counts) l.lines (g.S.Source.left l.input));
+  leads : Leads (phases l.clients l.initial.counts) l.initial.lines.held (place_at l.initial.lines) (g.S.Source.left l.initial.input) (with_events l.events)
+      (phases l.clients l.counts) l.lines.held (place_at l.lines) (g.S.Source.left l.input);
+  seen : IsEndSeen l.initial.lines.held (g.S.Source.left l.initial.input) → IsEndSeen l.lines.held (g.S.Source.left l.input);
   recorded : All (IsRecorded l.clients) l.events;
   size : length l.events ≡ l.counts.events;
   within : IsWithin l.counts;

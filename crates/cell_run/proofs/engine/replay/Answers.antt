@@ -1,5 +1,5 @@
-use Rattle.std.proofs.Common.{◌≡◌, ◌+◌, ◌∷◌, ◌++◌, [], ℕ, length, Some, ap, sym, ◌∙◌, subst, refl, arith, length-append, lit<}
-use Rattle.std.proofs.KnownBytes.{Appends-trans, Appends-nil}
+use Rattle.std.proofs.Common.{◌≡◌, ◌+◌, ◌∷◌, ◌++◌, [], ℕ, length, Some, None, ap, sym, ◌∙◌, subst, refl, arith, length-append, lit<}
+use Rattle.std.proofs.KnownBytes.{Appends-trans, Appends-nil, Consumes-nil}
 use Rattle.std.specs.List.{All}
 use Rattle.std.specs.Io.KnownBytes.{Appends, IsAtEnd}
 use Rattle.cell_io.specs.Prefix.{AppendsPrefix}
@@ -8,7 +8,7 @@ use Rattle.cell_config.specs.declared.config.Config.{Config}
 use Rattle.mms_step.specs.State.{State, start}
 use Rattle.mms_device.specs.Served.{Served, device_after}
 use Rattle.cell_record.specs.EventLine.{IsRecorded}
-use Rattle.cell_record.specs.Recording.{with_phase}
+use Rattle.cell_record.specs.Recording.{Reading, with_phase}
 use Rattle.cell_record.specs.Progress.{rest_of}
 use Rattle.cell_record.specs.Grammar.{phase_ms}
 use Rattle.cell_record.specs.History.{drains, history}
@@ -16,7 +16,7 @@ use Rattle.cell_record.proofs.Readings.{then}
 use Rattle.cell_run.specs.Along.{along}
 use Rattle.cell_run.specs.Outcome.{last_line, report_of}
 use Rattle.cell_run.proofs.Alongside.{after_sized, after-append, phase_now, phase_count}
-use Rattle.cell_run.proofs.Fronts.{with_phases, next_text, partly_written, phase_partly, told_next, refusal_more, opening_partly, opening_written, none_written, begun, read_so_far, refusal_written, phases-then, report-snoc, history-snoc}
+use Rattle.cell_run.proofs.Fronts.{with_phases, next_text, partly_written, phase_partly, told_next, refusal_more, opening_partly, opening_written, none_written, begun, read_so_far, refusal_written, phases-then, report-snoc, history-snoc, leads_phases, later_then, cut_in_opening, cut_in_phase}
 use Rattle.cell_run.proofs.engine.replay.Goals as goal
 
 pub returns-in-Err-clause-stated : goal.returns-in-Err-clause-stated
@@ -37,10 +37,12 @@ loop-turn-init g c =
     let new = c.in-Ok.ensures.new in
     let device = c.in-Ok-new.ensures ∙ ap (λ (x : Config). at (start x)) c.config.ensures in
     record {
-      done = ([], refl, device, Appends-nil (g.K.Sink.held c.args.out.now), begun (rest_of c.in-Ok.recording (g.S.Source.left c.open.new.input)));
+      done = ([], refl, device, Appends-nil (g.K.Sink.held c.args.out.now), begun (rest_of c.in-Ok.recording (g.S.Source.left c.open.new.input)), λ last end r z. z);
       refusal = new.3;
       config = refl;
       over = λ e. absurd (cc (e, new.2));
+      seen = c.in-Ok.ensures.seen;
+      left = ([], Consumes-nil _);
       number = new.1;
       few = lit< tt;
       clock = ap (λ (d : Served). d.state.now) device ∙ sym new.0;
@@ -94,7 +96,7 @@ pub returns-in-Ok-None-clause-ended : goal.returns-in-Ok-None-clause-ended
 returns-in-Ok-None-clause-ended g c = λ done.
     let over = rw c.in-Ok-None.field-0-is at c.in-Ok-None.ensures.over in
     let same = rw c.in-Ok-None.field-0-is at c.in-Ok-None.ensures.unread in
-    subst IsAtEnd (ap (λ (s : _). g.S.Source.left s) (sym same)) (c.loop-turn.invariant.over over)
+    subst IsAtEnd (ap (λ (s : _). g.S.Source.left s) (sym same)) (c.loop-turn.invariant.seen (c.loop-turn.invariant.over over))
 
 pub returns-in-Err-next_phase-clause-stated : goal.returns-in-Err-next_phase-clause-stated
 returns-in-Err-next_phase-clause-stated g c =
@@ -130,6 +132,7 @@ loop-turn-preserved g c =
     let size = rw c.in-Ok-Some.field-0-is at c.in-Ok-Some.ensures.few in
     let moment = rw c.in-Ok-Some.field-0-is at c.in-Ok-Some.ensures.moment in
     let ended = rw c.in-Ok-Some.field-0-is at c.in-Ok-Some.ensures.ended in
+    let leads = rw c.in-Ok-Some.field-0-is at c.in-Ok-Some.ensures.leads in
     let many : c.in-Ok-Some.phase.number ≡ 1 + length d.0 = omega (arith, number.0, c.loop-turn.invariant.number, d.1) in
     let text = told_next config c.loop-turn.device d.0 c.in-Ok-Some.phase.number es d.2 many in
     let one = length-append d.0 (es ∷ []) in
@@ -150,10 +153,13 @@ loop-turn-preserved g c =
             (Appends-trans _ _ _ (report_of config d.0) (next_text config (1 + length d.0) (history config.clients d.0) es) d.3
             (subst (Appends (g.K.Sink.held c.loop-turn.out) (g.K.Sink.held c.serve_phase.new.out)) text c.in-Ok-serve_phase.ensures.whole)),
         then _ _ _ (with_phases d.0) (with_phase es) (with_phases (d.0 ++ es ∷ [])) (phases-then d.0 es) d.4 phase,
+        leads_phases c.in-Ok.recording c.loop-turn.recording c.next_phase.new.self _ _ _ d.0 es d.5 leads,
       );
       refusal = c.in-Ok-Some.ensures.open;
       config = c.next_phase.ensures.config ∙ c.loop-turn.invariant.config;
       over = ended;
+      seen = c.next_phase.ensures.seen c.loop-turn.invariant.seen;
+      left = later_then _ _ _ c.loop-turn.invariant.left c.next_phase.ensures.left;
       number = omega (arith, number.1, number.0, c.loop-turn.invariant.number);
       few = omega (arith, number.0, number.2, c.loop-turn.invariant.number);
       clock = now ∙ ap (λ (n : ℕ). n + phase_ms es) c.loop-turn.invariant.clock ∙ sym moment;
@@ -161,3 +167,19 @@ loop-turn-preserved g c =
       reads = omega (arith, c.loop-turn.invariant.reads, c.next_phase.ensures.later);
       writes = omega (arith, c.loop-turn.invariant.writes, c.serve_phase.ensures.later);
     }
+
+pub returns-in-Err-clause-cut : goal.returns-in-Err-clause-cut
+returns-in-Err-clause-cut g c = λ fault.
+    let r = c.refuse.ensures.read fault in
+    cut_in_opening (g.S.Source.left c.args.input.now) (g.S.Source.left c.open.new.input) (g.K.Sink.held c.args.out.now) (g.K.Sink.held c.refuse.new.out) r.1 (c.in-Err.ensures.stops r.0)
+
+pub returns-in-Err-next_phase-clause-cut : goal.returns-in-Err-next_phase-clause-cut
+returns-in-Err-next_phase-clause-cut g c = λ fault.
+    let r = c.refuse-in-Err-next_phase.ensures.read fault in
+    let d = c.loop-turn.invariant.done in
+    let s = c.in-Err-next_phase.ensures.stops r.0 c.loop-turn.invariant.refusal in
+    let part : Reading = record { phases = s.events ∷ []; refusal = None } in
+    let last = g.S.Source.left c.next_phase.new.input in
+    let later = later_then _ _ _ c.loop-turn.invariant.left c.next_phase.ensures.left in
+    cut_in_phase c.in-Ok.recording.config (g.S.Source.left c.args.input.now) last s.end d.0 s.events (g.K.Sink.held c.args.out.now) (g.K.Sink.held c.loop-turn.out) (g.K.Sink.held c.refuse-in-Err-next_phase.new.out) s.most
+    (c.in-Ok.ensures.leads last s.end (with_phases d.0 part) later (d.5 last s.end part s.stops)) d.3 r.1

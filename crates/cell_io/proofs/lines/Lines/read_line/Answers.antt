@@ -3,8 +3,8 @@ use Rattle.std.proofs.lemmas.Result.{err_from_is_err_and}
 use Rattle.std.proofs.lemmas.Bool.Decides.{nat_tests}
 use Rattle.cell_io.proofs.Kept.{kept_length}
 use Rattle.cell_io.proofs.Texts.{first_all}
-use Rattle.cell_io.proofs.Reading.{goes_on, given_some, line_ended, rest_ended, size_ended, text_there, line_open, rest_open, size_open, text_some, text_none, held_end, past, later_held}
-use Rattle.cell_io.proofs.lines.Lines.next.Goals as goal
+use Rattle.cell_io.proofs.Reading.{goes_on, given_some, line_ended, rest_ended, size_ended, text_there, line_open, rest_open, size_open, text_some, text_none, held_end, past, later_held, feed_there, fails}
+use Rattle.cell_io.proofs.lines.Lines.read_line.Goals as goal
 
 pub give_part-requires : goal.give_part-requires
 give_part-requires g c = kept_length 196612 _ _ c.loop-turn.invariant.passed.kept
@@ -15,7 +15,7 @@ returns-then-branch-clause-line g c =
 
 pub returns-then-branch-clause-rest : goal.returns-then-branch-clause-rest
 returns-then-branch-clause-rest g c =
-    rest_ended _ _ _ _ _ _ _ c.loop-turn.invariant.passed (c.in_ok-give_part.ensures.ended ∙ c.if-branch.true) c.in_ok-give_part.ensures.rest
+    rw (c.give_part.ensures.same ∙ c.loop-turn.invariant.unended) (rest_ended _ _ _ _ _ _ _ c.loop-turn.invariant.passed (c.in_ok-give_part.ensures.ended ∙ c.if-branch.true) c.in_ok-give_part.ensures.rest)
 
 pub returns-then-branch-clause-size : goal.returns-then-branch-clause-size
 returns-then-branch-clause-size g c =
@@ -44,9 +44,10 @@ returns-then-not-branch-clause-line g c =
 pub returns-then-not-branch-clause-rest : goal.returns-then-not-branch-clause-rest
 returns-then-not-branch-clause-rest g c =
     let none = c.in_ok-fill.ensures.none c.if-not-branch.true in
-    rest_open _ _ _ _ _
+    rw (c.in_ok-fill.ensures.ended c.if-not-branch.true)
+    (rest_open _ _ _ _ _
     (goes_on _ _ _ _ _ _ _ _ _ c.loop-turn.invariant.passed (c.in_ok-give_part.ensures.ended ∙ c.if-branch.false) c.in_ok-give_part.ensures.line c.in_ok-give_part.ensures.size c.in_ok-fill.ensures.moved)
-    (held_end _ _ none.0 none.1)
+    (held_end _ _ none.0 none.1))
 
 pub returns-then-not-branch-clause-size : goal.returns-then-not-branch-clause-size
 returns-then-not-branch-clause-size g c =
@@ -77,8 +78,12 @@ returns-in_err-give_part-clause-fault g c =
 pub returns-in_err-fill-clause-before_end : goal.returns-in_err-fill-clause-before_end
 returns-in_err-fill-clause-before_end g c =
     let r = err_from_is_err_and c.from_residual-in_err-fill.result c.from_residual-in_err-fill.ensures.1 in
-    let p = goes_on _ _ _ _ _ _ _ _ _ c.loop-turn.invariant.passed (c.in_ok-give_part.ensures.ended ∙ c.if-branch.false) c.in_ok-give_part.ensures.line c.in_ok-give_part.ensures.size c.in_err-fill.ensures.kept in
-    rw (r.1, r.2) (λ _. (p.octets, p.consumed, p.no_feed))
+    let p = goes_on _ _ _ _ _ _ _ _ _ c.loop-turn.invariant.passed (c.in_ok-give_part.ensures.ended ∙ c.if-branch.false) c.in_ok-give_part.ensures.line (c.fill.ensures.given ∙ c.in_ok-give_part.ensures.size) c.in_err-fill.ensures.kept in
+    rw (r.1, r.2) (λ _. fails c.args.self.now (g.S.Source.left c.args.input.now) (g.S.Source.left c.fill.new.input) c.fill.new.self.given _ c.requires.unended p)
+
+pub returns-then-branch-clause-feed : goal.returns-then-branch-clause-feed
+returns-then-branch-clause-feed g c =
+    λ _ _. feed_there _ _ _ _ _ _ c.loop-turn.invariant.passed (c.in_ok-give_part.ensures.ended ∙ c.if-branch.true)
 
 pub loop-turn-preserved : goal.loop-turn-preserved
 loop-turn-preserved g c =
@@ -87,6 +92,7 @@ loop-turn-preserved g c =
     let some = c.in_ok-fill.ensures.some c.if-not-branch.false in
     record {
       passed = goes_on _ _ _ _ _ _ _ _ _ i.passed no_feed c.in_ok-give_part.ensures.line (c.fill.ensures.given ∙ c.in_ok-give_part.ensures.size) c.in_ok-fill.ensures.moved;
+      unended = c.in_ok-fill.ensures.unended c.if-not-branch.false;
       before = i.before;
       turns = omega (arith, some, i.turns, c.fill.ensures.given, c.in_ok-give_part.ensures.size, ap length (first_all c.loop-turn.self.octets no_feed));
       order = omega (arith, i.order, c.give_part.ensures.order, c.fill.ensures.given);

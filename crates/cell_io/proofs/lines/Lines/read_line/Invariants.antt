@@ -1,11 +1,13 @@
-use Rattle.std.proofs.Common.{◌≡◌, ◌+◌, ◌≤◌, min, length}
-use Rattle.cell_io.specs.Held.{ahead, IsLaterPart}
+use Rattle.std.proofs.Common.{◌≡◌, ◌+◌, ◌≤◌, false, min, length}
+use Rattle.std.specs.Io.KnownBytes.{prepend_known}
+use Rattle.cell_io.specs.Held.{IsLaterPart}
 use Rattle.cell_io.proofs.Reading.{Passed}
-use Rattle.cell_io.proofs.lines.Lines.next.Given as goal
+use Rattle.cell_io.proofs.lines.Lines.read_line.Given as goal
 
 abbrev pub invariant-loop-turn : goal.invariant-loop-turn
 invariant-loop-turn g l = record {
-  passed : Passed (ahead l.initial.self (g.S.Source.left l.initial.input)) (ahead l.self (g.S.Source.left l.input)) l.initial.self.given l.self.given l.line.items;
+  passed : Passed (prepend_known l.initial.self.octets (g.S.Source.left l.initial.input)) (prepend_known l.self.octets (g.S.Source.left l.input)) l.initial.self.given l.self.given l.line.items;
+  unended : l.self.ended ≡ false;
   before : l.before ≡ l.initial.self.given;
   turns : l._turn + l.initial.self.given ≤ l.self.given + min 1 (length l.self.octets);
   order : l.initial.self.given ≤ l.self.given;
