@@ -1,33 +1,52 @@
 -- A recording that no fault hinders is served and reported.
-use Rattle.std.proofs.Common.{◌≡◌, ◌⊎◌, inl, inr, ℕ, List, ap, subst, refl, ◌∙◌, Some, None, IfSome, append-nil}
+use Rattle.std.proofs.Common.{◌≡◌, ◌⊎◌, inl, inr, ℕ, List, ap, subst, refl, ◌∙◌, Some, None, IfSome, append-nil, ◌++◌, Ok, Err}
 use Rattle.std.specs.declared.option.Option.{Option}
 use Rattle.std.specs.Io.KnownBytes.{Appends}
 use Rattle.mms_types.specs.declared.event.CellEvent.{CellEvent}
 use Rattle.cell_config.specs.declared.config.Config.{Config}
 use Rattle.cell_record.specs.Grammar.{ReadsRecording}
-use Rattle.cell_record.specs.Recording.{Reading}
+use Rattle.cell_record.specs.History.{Interleaves}
+use Rattle.cell_record.specs.Recording.{Reading, Opening, config_in, after_opening, opening_of_text}
 use Rattle.cell_record.proofs.Valid.{recording_is_read}
-use Rattle.cell_run.proofs.Fronts.{printed_opened}
+use Rattle.cell_run.specs.declared.words.Command.{Command}
+use Rattle.cell_run.specs.declared.words.Command.TheVariants.{Replay}
+use Rattle.cell_run.specs.Words.{Serves}
 use Rattle.cell_run.specs.declared.status.Status.{Status}
 use Rattle.cell_run.specs.declared.status.Status.TheVariants as status
 use Rattle.cell_run.specs.Codes.{code_of}
-use Rattle.cell_run.specs.Outcome.{IsFinal, printed, printed_for, report_of, status_of, status_for}
+use Rattle.cell_run.specs.Outcome.{Completes, IsFinal, PrintsBy, WritesAll, last_line, report_of, status_of, status_for}
 
 -- what is promised of a text
-abbrev pub Completes : Status → Option (List ℕ) → Option (List ℕ) → Type 0 → Type 0 → List ℕ → Type 0
-Completes s a b R K text = (config : Config) (phases : List (List CellEvent)) → ReadsRecording text config phases → (R → ⊥) → (K → ⊥) → (code_of s ≡ 3) ⊎ ((code_of s ≡ 0) × Appends a b (report_of config phases))
+abbrev pub Promise : Status → Option (List ℕ) → Option (List ℕ) → Type 0 → Type 0 → List ℕ → Type 0
+Promise s a b R K text =
+    (config : Config) (phases : List (List CellEvent)) → ReadsRecording text config phases → (R → ⊥) → (K → ⊥) → (code_of s ≡ 3) ⊎ ((code_of s ≡ 0) × Completes Replay config phases a b)
 
 is_done : (text : List ℕ) (config : Config) (phases : List (List CellEvent)) → ReadsRecording text config phases → status_of text ≡ status.Done
 is_done text config phases r = ap (λ (y : Reading). status_for y.refusal) (recording_is_read text config phases r).1
 
-is_printed : (text : List ℕ) (config : Config) (phases : List (List CellEvent)) → ReadsRecording text config phases → printed text ≡ report_of config phases
-is_printed text config phases r =
-    printed_opened config text (recording_is_read text config phases r).0 ∙ ap (printed_for config) (recording_is_read text config phases r).1 ∙ append-nil (report_of config phases)
+-- what is printed of a recording is the report of bodies that serve its phases
+report_so : (command : Command) (config : Config) (phases : List (List CellEvent)) (opening : Opening) (printed : List ℕ) (a b : Option (List ℕ)) → config_in opening ≡ Some config
+    → after_opening opening ≡ record { phases = phases; refusal = None } → PrintsBy command opening printed → Appends a b printed → Completes command config phases a b
+report_so command config phases (Err e) printed a b is said p w = absurd (cc is)
+report_so command config phases (Ok o) printed a b is said p w =
+    let same : o.config ≡ config = cc is in
+    let all = ap (λ (r : Reading). r.phases) said in
+    let whole : printed ≡ report_of config p.bodies = p.is ∙ ap (λ (r : Reading). report_of o.config p.bodies ++ last_line r.refusal) said ∙ append-nil (report_of o.config p.bodies) ∙ ap (λ (x : Config). report_of x p.bodies) same in
+    record {
+      bodies = p.bodies;
+      interleave = subst (Interleaves p.bodies) all p.interleave;
+      serve = subst (Serves command p.bodies) all p.serve;
+      written = subst (Appends a b) whole w;
+    }
 
-pub completes : (s : Status) (left a b : Option (List ℕ)) (R K : Type 0) → (IsFinal s → IfSome left (λ text. (s ≡ status_of text) × Appends a b (printed text)))
-    → (s ≡ status.ReadFault → R) → (s ≡ status.WriteFault → K) → (s ≡ status.Usage → ⊥) → IfSome left (Completes s a b R K)
+reported : (text : List ℕ) (config : Config) (phases : List (List CellEvent)) (a b : Option (List ℕ)) → ReadsRecording text config phases → WritesAll Replay text a b → Completes Replay config phases a b
+reported text config phases a b r w =
+    let read = recording_is_read text config phases r in report_so Replay config phases (opening_of_text text) w.printed a b read.0 read.1 w.prints w.written
+
+pub completes : (s : Status) (left a b : Option (List ℕ)) (R K : Type 0) → (IsFinal s → IfSome left (λ text. (s ≡ status_of text) × WritesAll Replay text a b))
+    → (s ≡ status.ReadFault → R) → (s ≡ status.WriteFault → K) → (s ≡ status.Usage → ⊥) → IfSome left (Promise s a b R K)
 completes s None a b R K stated read write usage = tt
-completes status.Done (Some text) a b R K stated read write usage = λ config phases r nr nk. inr (refl, subst (Appends a b) (is_printed text config phases r) (stated tt).1)
+completes status.Done (Some text) a b R K stated read write usage = λ config phases r nr nk. inr (refl, reported text config phases a b r (stated tt).1)
 completes status.Memory (Some text) a b R K stated read write usage = λ config phases r nr nk. inl refl
 completes status.ReadFault (Some text) a b R K stated read write usage = λ config phases r nr nk. absurd (nr (read refl))
 completes status.WriteFault (Some text) a b R K stated read write usage = λ config phases r nr nk. absurd (nk (write refl))

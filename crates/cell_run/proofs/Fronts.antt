@@ -17,11 +17,13 @@ use Rattle.cell_config.specs.declared.config.Config.{Config}
 use Rattle.cell_record.specs.Recording.{Place, Reading, Opening, with_phase, refused, opening_of_text, config_in, config_of_text, after_opening, reading_of_text}
 use Rattle.cell_record.specs.Progress.{Progress, Becomes, IsStated, place_of, rest_in}
 use Rattle.cell_record.specs.Stops.{IsCutInOpening, Leads, ReadsText, Stops, lines_in}
-use Rattle.cell_record.specs.History.{drains, history}
+use Rattle.cell_record.specs.History.{drains, history, Interleaves}
 use Rattle.cell_record.proofs.Readings.{then}
 use Rattle.cell_record.specs.Report.{placed_from, taken, phase_text, report_from}
 use Rattle.cell_run.specs.Along.{phase_told}
-use Rattle.cell_run.specs.Outcome.{IsCut, IsFinal, WritesComplete, last_line, printed, printed_by, printed_for, report_of, status_of, status_for}
+use Rattle.cell_run.specs.Outcome.{IsCut, IsFinal, WritesCut, last_line, report_of, status_of, status_for}
+use Rattle.cell_run.specs.Printed.{printed, printed_by, printed_for}
+use Rattle.cell_run.specs.declared.words.Command.TheVariants.{Replay}
 use Rattle.cell_run.specs.declared.status.Status.{Status}
 use Rattle.cell_run.proofs.Alongside.{told_after}
 
@@ -171,16 +173,30 @@ wholly_written config s (Some x) (Some r) done o out0 out1 out2 b e told p q con
 
 -- ---- where the source fails
 
+-- phases serve themselves
+pub interleaves_self : (phases : List (List CellEvent)) → Interleaves phases phases
+interleaves_self [] = tt
+interleaves_self (phase ∷ phases) = (record { each = λ actor. refl }, interleaves_self phases)
+
 -- the phases that were written are those that are complete in what was read
 complete_so : (config : Config) (opening : Opening) (lines : ℕ) (done : List (List CellEvent)) (events : List CellEvent) (out0 out1 : Option (List ℕ)) → config_in opening ≡ Some config
-    → after_opening opening ≡ record { phases = done ++ events ∷ []; refusal = None } → Appends out0 out1 (report_of config done) → WritesComplete opening lines out0 out1
+    → after_opening opening ≡ record { phases = done ++ events ∷ []; refusal = None } → Appends out0 out1 (report_of config done) → WritesCut Replay opening lines out0 out1
 complete_so config (Err e) lines done events out0 out1 is by p = absurd (cc is)
 complete_so config (Ok o) lines done events out0 out1 is by p =
-    let same : config ≡ o.config = cc is in (done, events, by, subst (λ (x : Config). Appends out0 out1 (report_of x done)) same p)
+    let same : config ≡ o.config = cc is in
+    record {
+      done = done;
+      events = events;
+      said_is = by;
+      bodies = done;
+      interleave = interleaves_self done;
+      serve = refl;
+      written = subst (λ (x : Config). Appends out0 out1 (report_of x done)) same p;
+    }
 
 pub cut_in_phase : (config : Config) (left last : Option (List ℕ)) (end : Place) (done : List (List CellEvent)) (events : List CellEvent) (out0 out1 out2 : Option (List ℕ)) → end.octets ≤ 4294967296
     → IfSome left (λ text. ReadsText text last config end (with_phases done (record { phases = events ∷ []; refusal = None }))) → Appends out0 out1 (report_of config done) → Keeps out1 out2
-    → IfSome left (λ text. IsCut text last out0 out2)
+    → IfSome left (λ text. IsCut Replay text last out0 out2)
 cut_in_phase config None last end done events out0 out1 out2 m k p q = tt
 cut_in_phase config (Some text) last end done events out0 out1 out2 m k p q = record {
   octets = k.octets;
@@ -189,12 +205,12 @@ cut_in_phase config (Some text) last end done events out0 out1 out2 m k p q = re
 }
 
 -- nothing was written before the line `end`
-pub cut_in_opening : (left last out0 out1 : Option (List ℕ)) → Keeps out0 out1 → IfSome left (λ text. IsCutInOpening text last) → IfSome left (λ text. IsCut text last out0 out1)
+pub cut_in_opening : (left last out0 out1 : Option (List ℕ)) → Keeps out0 out1 → IfSome left (λ text. IsCutInOpening text last) → IfSome left (λ text. IsCut Replay text last out0 out1)
 cut_in_opening None last out0 out1 p k = tt
 cut_in_opening (Some text) last out0 out1 p k = record {
   octets = k.octets;
   read = k.read;
-  written = subst (λ (o : Opening). WritesComplete o (length (lines_in k.octets)) out0 out1) (sym k.says) (k.word, refl, Appends-kept out0 out0 out1 [] (Appends-nil out0) p);
+  written = subst (λ (o : Opening). WritesCut Replay o (length (lines_in k.octets)) out0 out1) (sym k.says) (k.word, refl, Appends-kept out0 out0 out1 [] (Appends-nil out0) p);
 }
 
 pub later_then : (a b c : Option (List ℕ)) → IsLaterPart a b → IsLaterPart b c → IsLaterPart a c

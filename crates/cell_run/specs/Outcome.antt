@@ -1,12 +1,13 @@
 -- What a run prints, and the status with which it ends (this profile's choice).
-use Rattle.std.specs.Prelude.{◌≡◌, ℕ, ◌+◌, List, [], ◌∷◌, ◌++◌, length, codes, map, Some, None, Ok, Err}
-use Rattle.std.specs.Prelude.{String}
-use Rattle.std.specs.Global.{Global}
-use Rattle.std.specs.String.{string_bytes}
+use Rattle.std.specs.Prelude.{◌≡◌, ℕ, ◌+◌, List, [], ◌∷◌, ◌++◌, length, codes, Some, None, Ok, Err}
 use Rattle.std.specs.Fmt.{decimal}
 use Rattle.std.specs.Io.KnownBytes.{Appends}
 use Rattle.std.specs.declared.option.Option.{Option}
 use Rattle.cell_io.specs.Lines.{whole_lines}
+use Rattle.cell_io.specs.Prefix.{AppendsPrefix}
+use Rattle.cell_record.specs.History.{Interleaves}
+use Rattle.cell_run.specs.declared.words.Command.{Command}
+use Rattle.cell_run.specs.Words.{Serves}
 use Rattle.mms_types.specs.declared.event.CellEvent.{CellEvent}
 use Rattle.mms_step.specs.Step.{said}
 use Rattle.cell_record.specs.declared.refusal.BadWord.{BadWord}
@@ -19,16 +20,6 @@ use Rattle.cell_record.specs.Stops.{IsRead, lines_in}
 use Rattle.cell_record.specs.Report.{report}
 use Rattle.cell_run.specs.declared.status.Status.{Status}
 use Rattle.cell_run.specs.declared.status.Status.TheVariants as status
-
--- the words of the command: the one word `replay`
-abbrev pub IsReplay : List (List ℕ) → Type 0
-IsReplay words = words ≡ codes "replay" ∷ []
-
-abbrev pub texts : List (String Global) → List (List ℕ)
-texts words = map (λ w. string_bytes w) words
-
-abbrev pub usage_text : List ℕ
-usage_text = codes "usage: mmscell replay | run --workers N | stress --seed N --clients N --rounds N --workers N\n"
 
 -- ---- why a recording isn't served to its end
 
@@ -65,34 +56,67 @@ status_for (Some Memory) = status.Memory
 abbrev pub report_of : Config → List (List CellEvent) → List ℕ
 report_of config phases = report (said config) config.clients phases
 
--- of what is said after the configuration: the report of the complete phases, and why no more are served
-abbrev pub printed_for : Config → Reading → List ℕ
-printed_for config r = report_of config r.phases ++ last_line r.refusal
+-- what a command may print of what is said after the configuration: the report of bodies that serve the complete phases, and why no more are served
+pub record PrintsFor (command : Command) (config : Config) (said : Reading) (printed : List ℕ) : Type 0 where
+  pub bodies : List (List CellEvent)
+  pub interleave : Interleaves bodies said.phases
+  pub serve : Serves command bodies said.phases
+  pub is : printed ≡ report_of config bodies ++ last_line said.refusal
 
 -- where the lines up to `end` are refused, that alone is told
-abbrev pub printed_by : Opening → List ℕ
-printed_by (Err e) = last_line (Some e)
-printed_by (Ok o) = printed_for o.config (after_opening (Ok o))
+abbrev pub PrintsBy : Command → Opening → List ℕ → Type 0
+PrintsBy command (Err e) printed = printed ≡ last_line (Some e)
+PrintsBy command (Ok o) printed = PrintsFor command o.config (after_opening (Ok o)) printed
 
-abbrev pub printed : List ℕ → List ℕ
-printed text = printed_by (opening_of_text text)
+-- what a command may print of a text
+abbrev pub Prints : Command → List ℕ → List ℕ → Type 0
+Prints command text printed = PrintsBy command (opening_of_text text) printed
 
+-- all of that was written
+pub record WritesAll (command : Command) (text : List ℕ) (old new : Option (List ℕ)) : Type 0 where
+  pub printed : List ℕ
+  pub prints : Prints command text printed
+  pub written : Appends old new printed
+
+-- the report of bodies that serve all the phases was written
+pub record Completes (command : Command) (config : Config) (phases : List (List CellEvent)) (old new : Option (List ℕ)) : Type 0 where
+  pub bodies : List (List CellEvent)
+  pub interleave : Interleaves bodies phases
+  pub serve : Serves command bodies phases
+  pub written : Appends old new (report_of config bodies)
+
+-- a prefix of it was written
+pub record WritesSome (command : Command) (text : List ℕ) (old new : Option (List ℕ)) : Type 0 where
+  pub printed : List ℕ
+  pub prints : Prints command text printed
+  pub written : AppendsPrefix old new printed
+
+-- the status of a text that was read to its end, or up to what refuses it
 abbrev pub status_of : List ℕ → Status
 status_of text = status_for (reading_of_text text).refusal
 
 -- ---- where the source fails
 
--- of octets that were read: the phases that they complete, which are all but the last, where no line of them is refused; none before the line `end`, where but the next line is missing
-abbrev pub WritesComplete : Opening → ℕ → Option (List ℕ) → Option (List ℕ) → Type 0
-WritesComplete (Err e) lines old new = (word : BadWord) × (e ≡ Bad (lines + 1) word) × Appends old new []
-WritesComplete (Ok o) lines old new =
-    (done : List (List CellEvent)) × (events : List CellEvent) × (after_opening (Ok o) ≡ record { phases = done ++ events ∷ []; refusal = None }) × Appends old new (report_of o.config done)
+-- of octets that were read behind a configuration: no line of them is refused, they complete all their phases but the last, and the report of bodies that serve these was written
+pub record WritesComplete (command : Command) (config : Config) (said : Reading) (old new : Option (List ℕ)) : Type 0 where
+  pub done : List (List CellEvent)
+  pub events : List CellEvent
+  pub said_is : said ≡ record { phases = done ++ events ∷ []; refusal = None }
+  pub bodies : List (List CellEvent)
+  pub interleave : Interleaves bodies done
+  pub serve : Serves command bodies done
+  pub written : Appends old new (report_of config bodies)
+
+-- before the line `end` nothing was written, and but the next line is missing
+abbrev pub WritesCut : Command → Opening → ℕ → Option (List ℕ) → Option (List ℕ) → Type 0
+WritesCut command (Err e) lines old new = (word : BadWord) × (e ≡ Bad (lines + 1) word) × Appends old new []
+WritesCut command (Ok o) lines old new = WritesComplete command o.config (after_opening (Ok o)) old new
 
 -- the source failed behind so much of a text, and the report of the phases that are complete there was written
-pub record IsCut (text : List ℕ) (last old new : Option (List ℕ)) : Type 0 where
+pub record IsCut (command : Command) (text : List ℕ) (last old new : Option (List ℕ)) : Type 0 where
   pub octets : List ℕ
   pub read : IsRead text last octets
-  pub written : WritesComplete (opening_of_text (whole_lines octets)) (length (lines_in octets)) old new
+  pub written : WritesCut command (opening_of_text (whole_lines octets)) (length (lines_in octets)) old new
 
 -- the statuses that words and text decide
 abbrev pub IsFinal : Status → Type 0

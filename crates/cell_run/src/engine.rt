@@ -4,11 +4,13 @@ ghost use Rattle.std.specs.Prelude.{◌≡◌, ◌≢◌, ◌≤◌, IfSome};
 ghost use Rattle.std.specs.Io.KnownBytes.{Appends, IsAtEnd};
 ghost use Rattle.cell_io.specs.Faults.{Rose};
 ghost use Rattle.cell_io.specs.Prefix.{AppendsPrefix};
-ghost use Rattle.cell_run.specs.Outcome.{IsCut, IsFinal, printed, status_of};
+ghost use Rattle.cell_run.specs.Outcome.{IsCut, IsFinal, status_of};
+ghost use Rattle.cell_run.specs.Printed.{printed};
 
 use crate::last_line::refuse;
 use crate::serving::serve_phase;
 use crate::status::Status;
+use crate::words::Command;
 use cell_io::{Sink, Source, WriteError};
 use cell_record::Recording;
 use mms_device::Whole;
@@ -23,7 +25,7 @@ pub fn replay<S: Source, K: Sink>(alloc: Global, input: &mut S, out: &mut K) -> 
     ensures partly { IfSome (S.left input.old) (λ text. AppendsPrefix (K.held out.old) (K.held out.new) (printed text)) }
     ensures ended { result ≡ Status.Done → IsAtEnd (S.left input.new) }
     ensures read { result ≡ Status.ReadFault → Rose (S.faults input.old) (S.faults input.new) }
-    ensures cut { result ≡ Status.ReadFault → IfSome (S.left input.old) (λ text. IsCut text (S.left input.new) (K.held out.old) (K.held out.new)) }
+    ensures cut { result ≡ Status.ReadFault → IfSome (S.left input.old) (λ text. IsCut Command.Replay text (S.left input.new) (K.held out.old) (K.held out.new)) }
     ensures write { result ≡ Status.WriteFault → Rose (K.faults out.old) (K.faults out.new) }
     ensures reads { S.faults input.old ≤ S.faults input.new }
     ensures writes { K.faults out.old ≤ K.faults out.new }

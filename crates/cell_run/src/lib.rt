@@ -8,4 +8,4 @@ mod status;
 mod top;
 mod words;
 
-pub use top::run_cell;
+pub use top::{run_cell, serve_alone};

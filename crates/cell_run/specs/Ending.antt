@@ -1,0 +1,52 @@
+-- How a run ends (this profile's choice).
+use Rattle.std.specs.Prelude.{◌≡◌, ◌≢◌, ◌≤◌, ℕ, List, IfSome, Some, None}
+use Rattle.std.specs.Io.KnownBytes.{Appends, IsAtEnd}
+use Rattle.std.specs.declared.option.Option.{Option}
+use Rattle.cell_io.specs.Faults.{Rose}
+use Rattle.cell_io.specs.Prefix.{AppendsPrefix}
+use Rattle.cell_run.specs.declared.words.Command.{Command}
+use Rattle.cell_run.specs.declared.status.Status.{Status}
+use Rattle.cell_run.specs.declared.status.Status.TheVariants as status
+use Rattle.cell_run.specs.Codes.{code_of}
+use Rattle.cell_run.specs.Words.{usage_text}
+use Rattle.cell_run.specs.Outcome.{IsCut, IsFinal, WritesAll, WritesSome, status_of}
+
+-- what is seen of a source or a sink: what is left there or held, where that is told, and the count of faults
+pub record Seen : Type 0 where
+  pub octets : Option (List ℕ)
+  pub faults : ℕ
+
+-- with other words the usage line is written, unless the sink fails
+abbrev pub EndsUsage : Status → Seen → Seen → Type 0
+EndsUsage status.Usage out after = Appends out.octets after.octets usage_text
+EndsUsage status.WriteFault out after = Rose out.faults after.faults × AppendsPrefix out.octets after.octets usage_text
+EndsUsage status.Done out after = ⊥
+EndsUsage status.Bad out after = ⊥
+EndsUsage status.Memory out after = ⊥
+EndsUsage status.ReadFault out after = ⊥
+EndsUsage status.BadConfig out after = ⊥
+EndsUsage status.TooMuch out after = ⊥
+
+-- a command that serves a recording ends so
+pub record EndsServing (command : Command) (s : Status) (input rest out after : Seen) : Type 0 where
+  pub known : s ≢ status.Usage
+  -- what the text says, with the status that it gives, was written whole, or else a prefix of that
+  pub whole : IsFinal s → IfSome input.octets (λ text. (s ≡ status_of text) × WritesAll command text out.octets after.octets)
+  pub part : IfSome input.octets (λ text. WritesSome command text out.octets after.octets)
+  pub ended : s ≡ status.Done → IsAtEnd rest.octets
+  -- faults are told only where a count rose, and one of the source where it stopped the reading
+  pub read : s ≡ status.ReadFault → Rose input.faults rest.faults
+  pub cut : s ≡ status.ReadFault → IfSome input.octets (λ text. IsCut command text rest.octets out.octets after.octets)
+  pub write : s ≡ status.WriteFault → Rose out.faults after.faults
+
+-- how a run ends by its words
+abbrev pub Ends : Option Command → Status → Seen → Seen → Seen → Seen → Type 0
+Ends None s input rest out after = EndsUsage s out after
+Ends (Some command) s input rest out after = EndsServing command s input rest out after
+
+-- by its exit status
+pub record EndsWith (command : Option Command) (code : ℕ) (input rest out after : Seen) : Type 0 where
+  pub status : Status
+  pub is : code ≡ code_of status
+  pub ends : Ends command status input rest out after
+  pub counts : (input.faults ≤ rest.faults) × (out.faults ≤ after.faults)
