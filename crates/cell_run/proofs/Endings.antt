@@ -1,5 +1,5 @@
 -- How `replay` ends.
-use Rattle.std.proofs.Common.{◌≡◌, ◌≢◌, ◌⊎◌, ℕ, List, subst, refl, sym, Some, None, Ok, Err, IfSome}
+use Rattle.std.proofs.Common.{◌≡◌, ◌≢◌, ◌⊎◌, ℕ, List, [], ◌∷◌, ◌++◌, ◌≤◌, length, ap, subst, refl, sym, ◌∙◌, Some, None, Ok, Err, IfSome, arith}
 use Rattle.std.specs.declared.option.Option.{Option}
 use Rattle.std.specs.Io.KnownBytes.{Appends, IsAtEnd}
 use Rattle.cell_io.specs.Faults.{Rose}
@@ -7,16 +7,22 @@ use Rattle.cell_io.specs.Prefix.{AppendsPrefix}
 use Rattle.mms_types.specs.declared.event.CellEvent.{CellEvent}
 use Rattle.cell_config.specs.declared.config.Config.{Config}
 use Rattle.cell_record.specs.Grammar.{ReadsRecording}
-use Rattle.cell_record.specs.Recording.{Opening, after_opening, opening_of_text}
+use Rattle.cell_record.specs.Recording.{Place, Reading, Opening, after_opening, config_in, opening_of_text, reading_of_text}
 use Rattle.cell_run.specs.declared.words.Command.{Command}
 use Rattle.cell_run.specs.declared.words.Command.TheVariants.{Replay}
 use Rattle.cell_run.specs.declared.status.Status.{Status}
 use Rattle.cell_run.specs.declared.status.Status.TheVariants as status
 use Rattle.cell_run.specs.Codes.{code_of}
-use Rattle.cell_run.specs.Outcome.{Completes, IsCut, IsFinal, PrintsBy, WritesAll, WritesSome, status_of}
+use Rattle.cell_run.specs.Outcome.{Completes, IsCut, IsFinal, PrintsBy, PrintsFor, WritesAll, WritesCut, WritesSome, report_of, status_for, status_of}
 use Rattle.cell_run.specs.Printed.{printed, printed_by}
 use Rattle.cell_run.specs.Ending.{Seen, Ends, EndsServing}
-use Rattle.cell_run.proofs.Fronts.{interleaves_self}
+use Rattle.std.specs.Option.{option_map}
+use Rattle.cell_io.specs.Lines.{whole_lines}
+use Rattle.cell_io.specs.Held.{Held, IsLaterPart}
+use Rattle.cell_record.specs.Progress.{Becomes}
+use Rattle.cell_record.specs.Stops.{LeadsText, ReadsText, lines_in}
+use Rattle.cell_run.specs.Serving.{WritesAllOf, WritesSomeOf, WritesToStop, interleaves_self}
+use Rattle.cell_run.proofs.Fronts.{Tells}
 use Rattle.cell_run.proofs.Complete.{completes}
 
 prints : (opening : Opening) → PrintsBy Replay opening (printed_by opening)
@@ -44,6 +50,66 @@ replay_ends s input rest out after known whole part ended read cut write = recor
   cut = cut;
   write = write;
 }
+
+-- ---- the phases of a text
+
+prints_so : (command : Command) (config : Config) (opening : Opening) (r : Reading) (printed : List ℕ) → config_in opening ≡ Some config → r ≡ after_opening opening → PrintsFor command config r printed → PrintsBy command opening printed
+prints_so command config (Err e) r printed is said p = absurd (cc is)
+prints_so command config (Ok o) r printed is said p =
+    let same : config ≡ o.config = cc is in subst (λ (x : Config). PrintsFor command x (after_opening (Ok o)) printed) same (subst (λ (x : Reading). PrintsFor command config x printed) said p)
+
+all_said : (command : Command) (config : Config) (s : Status) (left : Option (List ℕ)) (a : Option Reading) (old new : Option (List ℕ)) → Becomes (option_map reading_of_text left) (λ r. r) a → IfSome left (Tells config)
+    → IfSome a (λ r. (s ≡ status_for r.refusal) × WritesAllOf command config r old new) → IfSome left (λ text. (s ≡ status_of text) × WritesAll command text old new)
+all_said command config s None a old new b t w = tt
+all_said command config s (Some x) None old new b t w = absurd (cc b)
+all_said command config s (Some x) (Some r) old new b t w =
+    let is : r ≡ reading_of_text x = cc b in
+    (w.0 ∙ ap (λ (y : Reading). status_for y.refusal) is, record { printed = w.1.printed; prints = prints_so command config (opening_of_text x) r w.1.printed t is w.1.prints; written = w.1.written })
+
+some_said : (command : Command) (config : Config) (left : Option (List ℕ)) (a : Option Reading) (old new : Option (List ℕ)) → Becomes (option_map reading_of_text left) (λ r. r) a → IfSome left (Tells config)
+    → IfSome a (λ r. WritesSomeOf command config r old new) → IfSome left (λ text. WritesSome command text old new)
+some_said command config None a old new b t w = tt
+some_said command config (Some x) None old new b t w = absurd (cc b)
+some_said command config (Some x) (Some r) old new b t w =
+    let is : r ≡ reading_of_text x = cc b in
+    record { printed = w.printed; prints = prints_so command config (opening_of_text x) r w.printed t is w.prints; written = w.written }
+
+complete_with : (command : Command) (config : Config) (opening : Opening) (lines : ℕ) (f : List (List ℕ) → Place → Reading) (held : Held) (p : Place) (now last old new : Option (List ℕ)) (w : WritesToStop command config f held p now last old new)
+    → config_in opening ≡ Some config → after_opening opening ≡ record { phases = w.done ++ w.events ∷ []; refusal = None } → WritesCut command opening lines old new
+complete_with command config (Err e) lines f held p now last old new w is said = absurd (cc is)
+complete_with command config (Ok o) lines f held p now last old new w is said =
+    let same : config ≡ o.config = cc is in
+    record { done = w.done; events = w.events; said_is = said; bodies = w.bodies; interleave = w.interleave; serve = w.serve; written = subst (λ (x : Config). Appends old new (report_of x w.bodies)) same w.written }
+
+pub cut_said : (command : Command) (config : Config) (f : List (List ℕ) → Place → Reading) (held : Held) (p : Place) (left now last old new : Option (List ℕ)) → IsLaterPart now last → LeadsText left config f held p now
+    → WritesToStop command config f held p now last old new → IfSome left (λ text. IsCut command text last old new)
+cut_said command config f held p left now last old new later leads w = at left (leads last w.end (record { phases = w.done ++ w.events ∷ []; refusal = None }) later w.stops)
+  where
+    at : (l : Option (List ℕ)) → IfSome l (λ text. ReadsText text last config w.end (record { phases = w.done ++ w.events ∷ []; refusal = None })) → IfSome l (λ text. IsCut command text last old new)
+    at None k = tt
+    at (Some text) k = record {
+      octets = k.octets;
+      read = record { consumed = k.consumed; most = omega (arith, w.most, k.size) };
+      written = complete_with command config (opening_of_text (whole_lines k.octets)) (length (lines_in k.octets)) f held p now last old new w k.tells k.says;
+    }
+
+-- how it ends where the lines up to `end` were read
+pub phases_end : (command : Command) (config : Config) (s : Status) (input rest out after : Seen) (a : Option Reading) → Becomes (option_map reading_of_text input.octets) (λ r. r) a → IfSome input.octets (Tells config)
+    → s ≢ status.Usage → (IsFinal s → IfSome a (λ r. (s ≡ status_for r.refusal) × WritesAllOf command config r out.octets after.octets)) → IfSome a (λ r. WritesSomeOf command config r out.octets after.octets)
+    → (s ≡ status.Done → IsAtEnd rest.octets) → (s ≡ status.ReadFault → Rose input.faults rest.faults) → (s ≡ status.ReadFault → IfSome input.octets (λ text. IsCut command text rest.octets out.octets after.octets))
+    → (s ≡ status.WriteFault → Rose out.faults after.faults) → EndsServing command s input rest out after
+phases_end command config s input rest out after a b tells known whole part ended read cut write = record {
+  known = known;
+  whole = λ final. all_said command config s input.octets a out.octets after.octets b tells (whole final);
+  part = some_said command config input.octets a out.octets after.octets b tells part;
+  ended = ended;
+  read = read;
+  cut = cut;
+  write = write;
+}
+
+pub rose_later : (a b c : ℕ) → a ≤ b → Rose b c → Rose a c
+rose_later a b c h r = omega (arith, h, r)
 
 -- a recording that no fault hinders
 pub replay_completes : (s : Status) (code : ℕ) (input rest out after : Seen) → code ≡ code_of s → EndsServing Replay s input rest out after

@@ -1,11 +1,10 @@
 -- What was written of the first phases, and what is stated of the rest.
-use Rattle.std.proofs.Common.{◌≡◌, ℕ, ◌+◌, ◌≤◌, List, [], ◌∷◌, ◌++◌, length, refl, sym, ap, ◌∙◌, subst, append_assoc, append-nil, None, Some, IfSome, Ok, Err, arith}
+use Rattle.std.proofs.Common.{◌≡◌, ℕ, ◌+◌, List, [], ◌∷◌, ◌++◌, length, refl, sym, ap, ◌∙◌, subst, append_assoc, append-nil, None, Some, IfSome, Ok, Err, arith}
 use Rattle.std.specs.Option.{option_map}
 use Rattle.std.specs.declared.option.Option.{Option}
 use Rattle.std.specs.Io.KnownBytes.{Appends, Keeps}
 use Rattle.std.proofs.KnownBytes.{Appends-trans, Appends-kept, Appends-nil, Consumes-trans}
 use Rattle.cell_io.specs.Held.{IsLaterPart}
-use Rattle.cell_io.specs.Lines.{whole_lines}
 use Rattle.cell_io.specs.Prefix.{AppendsPrefix}
 use Rattle.mms_types.specs.Actors.{clients_to}
 use Rattle.mms_types.specs.declared.event.CellEvent.{CellEvent}
@@ -14,10 +13,10 @@ use Rattle.mms_device.specs.Served.{Served, device_after}
 use Rattle.cell_record.specs.declared.refusal.RecordError.{RecordError}
 use Rattle.cell_record.specs.declared.refusal.RecordError.TheVariants.{Bad, BadConfig, TooMuch, ReadFault, Memory}
 use Rattle.cell_config.specs.declared.config.Config.{Config}
-use Rattle.cell_record.specs.Recording.{Place, Reading, Opening, with_phase, refused, opening_of_text, config_in, config_of_text, after_opening, reading_of_text}
+use Rattle.cell_record.specs.Recording.{Reading, Opening, with_phase, refused, opening_of_text, config_in, config_of_text, after_opening, reading_of_text}
 use Rattle.cell_record.specs.Progress.{Progress, Becomes, IsStated, place_of, rest_in}
-use Rattle.cell_record.specs.Stops.{IsCutInOpening, Leads, ReadsText, Stops, lines_in}
-use Rattle.cell_record.specs.History.{drains, history, Interleaves}
+use Rattle.cell_record.specs.Stops.{IsCutInOpening, Leads, Stops, lines_in}
+use Rattle.cell_record.specs.History.{drains, history}
 use Rattle.cell_record.proofs.Readings.{then}
 use Rattle.cell_record.specs.Report.{placed_from, taken, phase_text, report_from}
 use Rattle.cell_run.specs.Along.{phase_told}
@@ -172,37 +171,6 @@ wholly_written config s (Some x) (Some r) done o out0 out1 out2 b e told p q con
     (told ∙ ap (λ (y : Reading). status_for y.refusal) at, subst (Appends out0 out2) all (Appends-trans out0 out1 out2 (report_of config done) (last_line o) p q))
 
 -- ---- where the source fails
-
--- phases serve themselves
-pub interleaves_self : (phases : List (List CellEvent)) → Interleaves phases phases
-interleaves_self [] = tt
-interleaves_self (phase ∷ phases) = (record { each = λ actor. refl }, interleaves_self phases)
-
--- the phases that were written are those that are complete in what was read
-complete_so : (config : Config) (opening : Opening) (lines : ℕ) (done : List (List CellEvent)) (events : List CellEvent) (out0 out1 : Option (List ℕ)) → config_in opening ≡ Some config
-    → after_opening opening ≡ record { phases = done ++ events ∷ []; refusal = None } → Appends out0 out1 (report_of config done) → WritesCut Replay opening lines out0 out1
-complete_so config (Err e) lines done events out0 out1 is by p = absurd (cc is)
-complete_so config (Ok o) lines done events out0 out1 is by p =
-    let same : config ≡ o.config = cc is in
-    record {
-      done = done;
-      events = events;
-      said_is = by;
-      bodies = done;
-      interleave = interleaves_self done;
-      serve = refl;
-      written = subst (λ (x : Config). Appends out0 out1 (report_of x done)) same p;
-    }
-
-pub cut_in_phase : (config : Config) (left last : Option (List ℕ)) (end : Place) (done : List (List CellEvent)) (events : List CellEvent) (out0 out1 out2 : Option (List ℕ)) → end.octets ≤ 4294967296
-    → IfSome left (λ text. ReadsText text last config end (with_phases done (record { phases = events ∷ []; refusal = None }))) → Appends out0 out1 (report_of config done) → Keeps out1 out2
-    → IfSome left (λ text. IsCut Replay text last out0 out2)
-cut_in_phase config None last end done events out0 out1 out2 m k p q = tt
-cut_in_phase config (Some text) last end done events out0 out1 out2 m k p q = record {
-  octets = k.octets;
-  read = record { consumed = k.consumed; most = omega (arith, m, k.size) };
-  written = complete_so config (opening_of_text (whole_lines k.octets)) (length (lines_in k.octets)) done events out0 out2 k.tells k.says (Appends-kept out0 out1 out2 (report_of config done) p q);
-}
 
 -- nothing was written before the line `end`
 pub cut_in_opening : (left last out0 out1 : Option (List ℕ)) → Keeps out0 out1 → IfSome left (λ text. IsCutInOpening text last) → IfSome left (λ text. IsCut Replay text last out0 out1)

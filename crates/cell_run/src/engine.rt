@@ -1,35 +1,33 @@
-//! A recording, served on one thread.
+//! A recording, served phase by phase.
 
-ghost use Rattle.std.specs.Prelude.{◌≡◌, ◌≢◌, ◌≤◌, IfSome};
+ghost use Rattle.std.specs.Prelude.{◌≡◌, ◌≢◌, ◌≤◌, [], false, IfSome, None};
 ghost use Rattle.std.specs.Io.KnownBytes.{Appends, IsAtEnd};
 ghost use Rattle.cell_io.specs.Faults.{Rose};
+ghost use Rattle.cell_io.specs.Held.{IsEndSeen, IsLaterPart};
 ghost use Rattle.cell_io.specs.Prefix.{AppendsPrefix};
-ghost use Rattle.cell_run.specs.Outcome.{IsCut, IsFinal, status_of};
-ghost use Rattle.cell_run.specs.Printed.{printed};
+ghost use Rattle.cell_record.specs.Progress.{place_of, rest_in, rest_of};
+ghost use Rattle.cell_run.specs.Ending.{EndsServing};
+ghost use Rattle.cell_run.specs.Outcome.{IsFinal, status_for};
+ghost use Rattle.cell_run.specs.Serving.{WritesAllOf, WritesSomeOf, WritesToStop};
 
 use crate::last_line::refuse;
-use crate::serving::serve_phase;
+use crate::server::Server;
 use crate::status::Status;
 use crate::words::Command;
 use cell_io::{Sink, Source, WriteError};
-use cell_record::Recording;
+use cell_record::{Recording, write_phase};
 use mms_device::Whole;
 use std::alloc::Global;
 
 /// More phases than a recording has.
 const PHASES: u64 = 4_294_967_296;
 
-/// Serves a recording phase by phase, and writes its report.
+/// Serves a recording phase by phase on one thread, and writes its report.
 pub fn replay<S: Source, K: Sink>(alloc: Global, input: &mut S, out: &mut K) -> Status
-    ensures stated { IsFinal result → IfSome (S.left input.old) (λ text. (result ≡ status_of text) × Appends (K.held out.old) (K.held out.new) (printed text)) }
-    ensures partly { IfSome (S.left input.old) (λ text. AppendsPrefix (K.held out.old) (K.held out.new) (printed text)) }
-    ensures ended { result ≡ Status.Done → IsAtEnd (S.left input.new) }
-    ensures read { result ≡ Status.ReadFault → Rose (S.faults input.old) (S.faults input.new) }
-    ensures cut { result ≡ Status.ReadFault → IfSome (S.left input.old) (λ text. IsCut Command.Replay text (S.left input.new) (K.held out.old) (K.held out.new)) }
-    ensures write { result ≡ Status.WriteFault → Rose (K.faults out.old) (K.faults out.new) }
+    ensures ends { EndsServing Command.Replay result (record { octets = S.left input.old; faults = S.faults input.old }) (record { octets = S.left input.new; faults = S.faults input.new })
+        (record { octets = K.held out.old; faults = K.faults out.old }) (record { octets = K.held out.new; faults = K.faults out.new }) }
     ensures reads { S.faults input.old ≤ S.faults input.new }
     ensures writes { K.faults out.old ≤ K.faults out.new }
-    ensures known { result ≢ Status.Usage }
 {
     let mut recording = match Recording::open(alloc, input) {
         Ok(recording) => recording,
@@ -38,15 +36,48 @@ pub fn replay<S: Source, K: Sink>(alloc: Global, input: &mut S, out: &mut K) -> 
     let Ok(mut device) = Whole::new(alloc, recording.config()) else {
         return Status::Memory;
     };
+    serve_phases(alloc, &mut recording, &mut device, input, out)
+}
+
+/// Serves the phases of a recording of which only the lines up to `end` were read, and writes their report.
+fn serve_phases<V: Server, S: Source, K: Sink>(
+    alloc: Global,
+    recording: &mut Recording,
+    server: &mut V,
+    input: &mut S,
+    out: &mut K,
+) -> Status
+    requires begins { (recording.old.moment ≡ recording.old.config.start.0) × (recording.old.number ≡ 0) × (recording.old.over ≡ false) × (recording.old.refusal ≡ None) }
+    requires seen { IsEndSeen recording.old.held (S.left input.old) }
+    requires fresh { V.has_served server.old recording.old.config [] [] }
+
+    // What is still said was written whole, with the status that it gives, or else a prefix of it.
+    ensures whole { IsFinal result → IfSome (rest_of recording.old (S.left input.old)) (λ r. (result ≡ status_for r.refusal) × WritesAllOf V.command recording.old.config r (K.held out.old) (K.held out.new)) }
+    ensures part { IfSome (rest_of recording.old (S.left input.old)) (λ r. WritesSomeOf V.command recording.old.config r (K.held out.old) (K.held out.new)) }
+    ensures ended { result ≡ Status.Done → IsAtEnd (S.left input.new) }
+
+    // Faults.
+    ensures read { result ≡ Status.ReadFault → Rose (S.faults input.old) (S.faults input.new) }
+    ensures stop { result ≡ Status.ReadFault → WritesToStop V.command recording.old.config (rest_in recording.old) recording.old.held (place_of recording.old) (S.left input.old) (S.left input.new) (K.held out.old) (K.held out.new) }
+    ensures write { result ≡ Status.WriteFault → Rose (K.faults out.old) (K.faults out.new) }
+    ensures reads { S.faults input.old ≤ S.faults input.new }
+    ensures writes { K.faults out.old ≤ K.faults out.new }
+    ensures left { IsLaterPart (S.left input.old) (S.left input.new) }
+    ensures known { result ≢ Status.Usage }
+{
     for _turn in 0..PHASES {
-        match recording.next_phase(alloc, input) {
-            Ok(Some(phase)) => match serve_phase(alloc, &mut device, out, phase) {
-                Ok(()) => {}
-                Err(WriteError::Fault) => return Status::WriteFault,
-                Err(WriteError::Memory) => return Status::Memory,
-            },
+        let phase = match recording.next_phase(alloc, input) {
+            Ok(Some(phase)) => phase,
             Ok(None) => return Status::Done,
             Err(refusal) => return refuse(alloc, out, refusal),
+        };
+        let Ok(told) = server.serve(alloc, phase) else {
+            return Status::Memory;
+        };
+        match write_phase(alloc, out, &told) {
+            Ok(()) => {}
+            Err(WriteError::Fault) => return Status::WriteFault,
+            Err(WriteError::Memory) => return Status::Memory,
         }
     }
     unreachable!()

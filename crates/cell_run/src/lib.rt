@@ -3,6 +3,7 @@
 
 mod engine;
 mod last_line;
+mod server;
 mod serving;
 mod status;
 mod top;

@@ -1,4 +1,4 @@
-//! A phase is served, and its text written.
+//! The device of one thread serves phases as they are recorded.
 
 ghost use Rattle.std.specs.Prelude.{◌≡◌, ◌+◌, ◌-◌, ◌≤◌, ◌<◌, ◌^◌, ◌++◌, length, OnOk, OnErr, IfOk, IfErr};
 ghost use Rattle.std.specs.List.{All};
@@ -13,8 +13,8 @@ ghost use Rattle.cell_record.specs.History.{drains};
 ghost use Rattle.cell_record.specs.Report.{placed_from};
 ghost use Rattle.cell_run.specs.Along.{along, phase_told, taken_along};
 
-use cell_io::{Sink, WriteError};
-use cell_record::{ClientOutputs, Phase, PlacedEvents, Told, write_phase};
+use crate::server::Server;
+use cell_record::{ClientOutputs, Phase, PlacedEvents, Told};
 use mms_device::Whole;
 use mms_types::{CellEvent, Memory};
 use std::alloc::Global;
@@ -50,7 +50,7 @@ fn drain_clients(alloc: Global, device: &mut Whole) -> Result<ClientOutputs, Mem
 }
 
 /// Serves a phase: what there is to tell of it.
-fn serve(alloc: Global, device: &mut Whole, phase: Phase) -> Result<Told, Memory>
+fn serve_whole(alloc: Global, device: &mut Whole, phase: Phase) -> Result<Told, Memory>
     requires recorded { All (IsRecorded (length device.old.state.clients)) phase.events }
     requires time { device.old.state.now + phase_ms phase.events ≤ last_moment }
     requires few { device.old.count + length phase.events + 64 < 2 ^ 57 - 1 }
@@ -70,24 +70,17 @@ fn serve(alloc: Global, device: &mut Whole, phase: Phase) -> Result<Told, Memory
     })
 }
 
-/// Serves a phase, and writes its text.
-pub fn serve_phase<K: Sink>(
-    alloc: Global,
-    device: &mut Whole,
-    out: &mut K,
-    phase: Phase,
-) -> Result<(), WriteError>
-    requires recorded { All (IsRecorded (length device.old.state.clients)) phase.events }
-    requires time { device.old.state.now + phase_ms phase.events ≤ last_moment }
-    requires few { device.old.count + length phase.events + 64 < 2 ^ 57 - 1 }
-    ensures whole { OnOk result (Appends (K.held out.old) (K.held out.new) (phase_told device.old phase.number phase.events)) }
-    ensures part { OnErr result (AppendsPrefix (K.held out.old) (K.held out.new) (phase_told device.old phase.number phase.events)) }
-    ensures device { OnOk result (device.new ≡ along device.old (phase.events ++ drains (clients_to (length device.old.state.clients)))) }
-    ensures cause { IfErr result (λ e. e ≡ WriteError.Fault → Rose (K.faults out.old) (K.faults out.new)) }
-    ensures later { K.faults out.old ≤ K.faults out.new }
-{
-    let Ok(told) = serve(alloc, device, phase) else {
-        return Err(WriteError::Memory);
-    };
-    write_phase(alloc, out, &told)
+impl Server for Whole {
+    ghost use Rattle.cell_run.specs.declared.words.Command.TheVariants.{Replay};
+    ghost use Rattle.cell_run.specs.Serving.{HasReplayed, replay_serves};
+
+    ghost command = { Replay };
+
+    ghost has_served = { HasReplayed };
+
+    ghost serves = { replay_serves };
+
+    fn serve(&mut self, alloc: Global, phase: Phase) -> Result<Told, Memory> {
+        serve_whole(alloc, self, phase)
+    }
 }

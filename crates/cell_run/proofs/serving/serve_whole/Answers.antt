@@ -4,7 +4,7 @@ use Rattle.mms_device.specs.Served.{Served}
 use Rattle.cell_record.specs.History.{drains}
 use Rattle.cell_run.specs.Along.{along, taken_along}
 use Rattle.cell_run.proofs.Alongside.{along_count, along_sized, along-append}
-use Rattle.cell_run.proofs.serving.serve.Goals as goal
+use Rattle.cell_run.proofs.serving.serve_whole.Goals as goal
 
 pub drain_clients-requires : goal.drain_clients-requires
 drain_clients-requires c =
