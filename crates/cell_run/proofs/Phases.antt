@@ -46,10 +46,6 @@ all_ms-append (p ∷ ps) x = let rest = all_ms-append ps x in omega (arith, rest
 
 -- ---- what is written
 
-same_report : (config : Config) (bodies : List (List CellEvent)) (o : Option RecordError) (r : Reading) → r ≡ record { phases = []; refusal = o }
-    → (done : List (List CellEvent)) → report_of config bodies ++ last_line o ≡ report_of config bodies ++ last_line (with_phases done r).refusal
-same_report config bodies o r e done = ap (λ (x : Reading). report_of config bodies ++ last_line x.refusal) (sym e)
-
 -- all phases were served, and then it is told why there are no more
 pub all_of : (command : Command) (config : Config) (s : Status) (rest0 restn : Option Reading) (phases bodies : List (List CellEvent)) (o : Option RecordError) (out0 out1 out2 : Option (List ℕ))
     → Becomes rest0 (with_phases phases) restn → IfSome restn (λ r. r ≡ record { phases = []; refusal = o }) → s ≡ status_for o → Interleaves bodies phases × Serves command bodies phases
@@ -58,17 +54,19 @@ all_of command config s None restn phases bodies o out0 out1 out2 b e is serve p
 all_of command config s (Some x) None phases bodies o out0 out1 out2 b e is serve p q = absurd (cc b)
 all_of command config s (Some x) (Some r) phases bodies o out0 out1 out2 b e is serve p q =
     let at : with_phases phases r ≡ x = cc b in
-    let whole : record { phases = phases; refusal = o } ≡ x = ap (λ (l : List (List CellEvent)). record { phases = l; refusal = o }) (sym (append-nil phases)) ∙ ap (with_phases phases) (sym e) ∙ at in
-    (is ∙ ap (λ (y : Reading). status_for y.refusal) whole, record {
-      printed = report_of config bodies ++ last_line o;
-      prints = record {
-        bodies = bodies;
-        interleave = subst (λ (y : Reading). Interleaves bodies y.phases) whole serve.0;
-        serve = subst (λ (y : Reading). Serves command bodies y.phases) whole serve.1;
-        is = ap (λ (y : Reading). report_of config bodies ++ last_line y.refusal) whole;
-      };
-      written = Appends-trans out0 out1 out2 (report_of config bodies) (last_line o) p q;
-    })
+    let whole : record { phases = phases; refusal = o } ≡ x = ap (λ (l : List (List CellEvent)). record { phases = l; refusal = o }) (sym (append-nil phases)) ∙ ap (with_phases phases) (sym e) ∙ at in (
+      is ∙ ap (λ (y : Reading). status_for y.refusal) whole,
+      record {
+        printed = report_of config bodies ++ last_line o;
+        prints = record {
+          bodies = bodies;
+          interleave = subst (λ (y : Reading). Interleaves bodies y.phases) whole serve.0;
+          serve = subst (λ (y : Reading). Serves command bodies y.phases) whole serve.1;
+          is = ap (λ (y : Reading). report_of config bodies ++ last_line y.refusal) whole;
+        };
+        written = Appends-trans out0 out1 out2 (report_of config bodies) (last_line o) p q;
+      },
+    )
 
 -- of these phases a prefix of the report was written
 pub some_of : (command : Command) (config : Config) (rest0 restn : Option Reading) (phases bodies : List (List CellEvent)) (out0 out1 : Option (List ℕ))
