@@ -1,0 +1,6 @@
+pub mod Cut
+pub mod CutLaws
+pub mod DeviceLaws
+pub mod Lists
+pub mod Served
+pub mod ServedLaws
