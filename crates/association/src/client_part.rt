@@ -1,4 +1,4 @@
-ghost use Rattle.std.specs.Prelude.{◌≡◌, ◌≢◌, ◌↔◌, ◌<◌, ◌≤◌, ◌-◌, false, [], OnOk, OnErr, IfOk, IfSome, IsOk, IsSome, length, slice_get};
+ghost use Rattle.std.specs.Prelude.{◌≡◌, ◌≢◌, ◌↔◌, ◌<◌, ◌≤◌, ◌-◌, ◌==◌, not, false, [], OnOk, OnErr, IfOk, IfSome, IsOk, IsSome, length, slice_get};
 ghost use Rattle.std.specs.Option.{option_copied};
 ghost use Rattle.association.specs.Admission.{admission};
 ghost use Rattle.association.specs.Client.{closed_row, drained_row, negotiated_of, new_row, opened_row, row_with_output, row_with_waiting, row_without_waiting};
@@ -109,7 +109,6 @@ impl ClientPart {
     /// below 1; then all stays as it was. Otherwise the association is open with the values of the
     /// answer.
     pub fn negotiate(&mut self, proposal: &Initiate) -> Result<InitiateAnswer, ServiceError>
-        requires idle { self.old.row.association ≡ Association.Idle }
         ensures told { result ≡ negotiation proposal.now }
         ensures opened { IfOk result (λ answer.
             self.new ≡ record self.old { row = opened_row self.old.row (values_of answer) }) }
@@ -122,9 +121,9 @@ impl ClientPart {
 
     /// Whether a confirmed request of that invokeID is taken (ISO 9506-1, the rejection of
     /// requests). It is refused as Waiting exactly where a request of that invokeID waits, and
-    /// otherwise as Outstanding exactly where as many requests wait as called allows.
+    /// otherwise as Outstanding exactly where as many requests wait as called allows; without an
+    /// association it allows none.
     pub fn admit(&self, invoke: u32) -> Result<(), NotAdmitted>
-        requires open { self.now.row.association ≢ Association.Idle }
         ensures told { result ≡ admission invoke self.now.row }
         ensures distinct { AreDistinct self.now.row.waiting }
     {
@@ -190,6 +189,20 @@ impl ClientPart {
     {
         self.waiting.push_reserved(Waiting { invoke, key, entry });
         self.waiting_room -= 1;
+    }
+
+    /// Whether any request waits.
+    pub fn has_waiting(&self) -> bool
+        ensures { result ≡ not (length self.now.row.waiting == 0) }
+    {
+        !self.waiting.is_empty()
+    }
+
+    /// Whether the request of that invokeID waits.
+    pub fn is_waiting(&self, invoke: u32) -> bool
+        ensures { result ≡ is_waiting invoke self.now.row.waiting }
+    {
+        has_waiting(&self.waiting, invoke)
     }
 
     /// The request that waits at that place: its invokeID, its semaphore and the number of its
