@@ -1,11 +1,11 @@
 -- Laws of a step that touches what its stages want: proved once, for every state that is cut into parts.
-use Rattle.std.specs.Prelude.{◌≡◌, ◌<◌, ℕ, zero, suc, Bool, true, false, not, ◌==◌, ◌||◌, ◌&&◌, Option, None, Some, List, [], ◌∷◌, ◌++◌, is_some, unwrap_or, map, length, slice_get, if◌then◌else◌, refl}
+use Rattle.std.specs.Prelude.{◌≡◌, ◌<◌, ℕ, zero, suc, Bool, true, false, not, ◌==◌, ◌||◌, ◌&&◌, Option, None, Some, List, [], ◌∷◌, ◌++◌, is_some, unwrap_or, map, length, slice_get, Contains, if◌then◌else◌, refl}
 use Rattle.std.specs.Option.{option_map}
 use Rattle.std.proofs.Common.{ap, ap₂, sym, ◌∙◌, ◌⊎◌, inl, inr, subst, arith}
 use Rattle.std.proofs.lemmas.Bool.Decides.{nat_tests}
 use Rattle.std.proofs.lemmas.List.{length-map}
 use Rattle.part_table.specs.Held.{held_at, places_held, laid_over, IsHandOf}
-use Rattle.part_table.specs.HeldLaws.{held_of_list}
+use Rattle.part_table.specs.HeldLaws.{held_of_list, length-laid_over, length-by_places}
 use Rattle.parted_state.specs.Cut.{is_in, with_places, is_held, are_held, missing, as_in, wanted_of, shown_of, after_of, all_after_of, SameAt, Agree, AreTold, IsFramed, IsCut}
 
 pub same_number : (p q : ℕ) → (p == q) ≡ true → p ≡ q
@@ -40,6 +40,20 @@ in_either (x ∷ xs) ys i is = by_test (x == i) (in_either xs ys i) is
         → ((b || is_in xs i) ≡ true) ⊎ (is_in ys i ≡ true)
     by_test true rest is = inl refl
     by_test false rest is = rest is
+
+-- membership is what std calls Contains
+pub contains_in : (xs : List ℕ) (i : ℕ) → Contains xs i → is_in xs i ≡ true
+contains_in [] i (k, below, same) = absurd (omega (arith, below))
+contains_in (x ∷ xs) i (zero, below, same) = in_front (x ∷ []) xs i (ap (λ (b : Bool). b || false) (ap (λ (m : ℕ). m == i) same ∙ same_itself i))
+contains_in (x ∷ xs) i (suc k, below, same) = in_back (x ∷ []) xs i (contains_in xs i (k, omega (arith, below), same))
+
+pub in_contains : (xs : List ℕ) (i : ℕ) → is_in xs i ≡ true → Contains xs i
+in_contains [] i is = absurd (cc is)
+in_contains (x ∷ xs) i is = by_test (x == i) refl (in_contains xs i) is
+  where
+    by_test : (b : Bool) → (x == i) ≡ b → (is_in xs i ≡ true → Contains xs i) → (b || is_in xs i) ≡ true → Contains (x ∷ xs) i
+    by_test true e rest h = (0, omega arith, same_number x i e)
+    by_test false e rest h = let found = rest h in let below = found.1 in (suc found.0, omega (arith, below), found.2)
 
 -- ---- places that are held
 
@@ -119,6 +133,61 @@ module _ {P : Type 0} where
   -- all parts are parts of what they are
   pub all_of_them : (parts : List P) → IsHandOf (map Some parts) parts
   all_of_them parts = record { places = length-map parts Some; values = laid_all parts parts refl }
+
+  -- ---- hands of a list
+
+  laid_twice : (hand : List (Option P)) (parts : List P) → length hand ≡ length parts → laid_over hand (laid_over hand parts) ≡ laid_over hand parts
+  laid_twice [] parts same = refl
+  laid_twice (h ∷ hand) [] same = refl
+  laid_twice (None ∷ hand) (part ∷ parts) same = let rest : length hand ≡ length parts = omega arith in ap (λ (l : List P). part ∷ l) (laid_twice hand parts rest)
+  laid_twice (Some x ∷ hand) (part ∷ parts) same = let rest : length hand ≡ length parts = omega arith in ap (λ (l : List P). x ∷ l) (laid_twice hand parts rest)
+
+  pub hand_laid : (hand : List (Option P)) (parts : List P) → length hand ≡ length parts → IsHandOf hand (laid_over hand parts)
+  hand_laid hand parts same = record { places = same ∙ sym (length-laid_over hand parts); values = laid_twice hand parts same }
+
+  -- two hands of one list that hold the same places are the same
+  pub same_hand : (one other : List (Option P)) (parts : List P) → IsHandOf one parts → IsHandOf other parts → places_held one ≡ places_held other → one ≡ other
+  same_hand [] [] parts a b same = refl
+  same_hand [] (y ∷ other) parts a b same = absurd (cc same)
+  same_hand (x ∷ one) [] parts a b same = absurd (cc same)
+  same_hand (x ∷ one) (y ∷ other) [] a b same = let none = a.places in absurd (omega (arith, none))
+  same_hand (x ∷ one) (y ∷ other) (part ∷ parts) a b same =
+      let va : unwrap_or x part ≡ part = first a.values in
+      let vb : unwrap_or y part ≡ part = first b.values in
+      let ra : laid_over one parts ≡ parts = rest a.values in
+      let rb : laid_over other parts ≡ parts = rest b.values in
+      let pa = a.places in
+      let pb = b.places in
+      let la : length one ≡ length parts = omega (arith, pa) in
+      let lb : length other ≡ length parts = omega (arith, pb) in
+      let here : is_some x ≡ is_some y = cc same in
+      let more : places_held one ≡ places_held other = cc same in
+      ap₂ (λ (o : Option P) (l : List (Option P)). o ∷ l) (by_value x y here va vb)
+      (same_hand one other parts (record { places = la; values = ra }) (record { places = lb; values = rb }) more)
+    where
+      first : {p q : P} {ps qs : List P} → p ∷ ps ≡ q ∷ qs → p ≡ q
+      first e = cc e
+
+      rest : {p q : P} {ps qs : List P} → p ∷ ps ≡ q ∷ qs → ps ≡ qs
+      rest e = cc e
+
+      by_value : (o u : Option P) → is_some o ≡ is_some u → unwrap_or o part ≡ part → unwrap_or u part ≡ part → o ≡ u
+      by_value None None e f g = refl
+      by_value None (Some v) e f g = absurd (cc e)
+      by_value (Some w) None e f g = absurd (cc e)
+      by_value (Some w) (Some v) e f g = ap Some (f ∙ sym g)
+
+  -- where all places are held, they are all parts
+  pub still_all : (hand : List (Option P)) (parts before : List P) → IsHandOf hand parts → places_held hand ≡ places_held (map Some before) → hand ≡ map Some parts
+  still_all hand parts before of same =
+      same_hand hand (map Some parts) parts of (all_of_them parts)
+      (same ∙ all_places before parts (sym (length-map before Some) ∙ sym (length-by_places hand (map Some before) same) ∙ of.places))
+    where
+      all_places : (xs ys : List P) → length xs ≡ length ys → places_held (map Some xs) ≡ places_held (map Some ys)
+      all_places [] [] many = refl
+      all_places [] (y ∷ ys) many = absurd (omega arith)
+      all_places (x ∷ xs) [] many = absurd (omega arith)
+      all_places (x ∷ xs) (y ∷ ys) many = let fewer : length xs ≡ length ys = omega arith in ap (λ (l : List Bool). true ∷ l) (all_places xs ys fewer)
 
   -- ---- lists changed by place
 
@@ -274,6 +343,23 @@ module _ {S P : Type 0} (parts_of : S → List P) (state_in : List (Option P) �
               let held = held_in hand (wanted_of stages s) i all_shown.0 e in
               let no : is_held hand i ≡ false = ap is_some free in absurd (cc (sym no ∙ held))
 
+      -- what becomes of a part that is held is told by those that are held
+      pub held_told : IsFramed parts_of stages step (state_in hand) → (i : ℕ) → is_held hand i ≡ true → SameAt parts_of i (step s) (step (state_in hand))
+      held_told framed_shown i held = by_test (is_in (wanted_of stages s) i) refl
+        where
+          by_test : (b : Bool) → is_in (wanted_of stages s) i ≡ b → SameAt parts_of i (step s) (step (state_in hand))
+          by_test true e = (framed.touches.told (state_in hand) (agrees hand s (wanted_of stages s) shows all_shown.0)).same i e
+          by_test false e =
+              framed.touches.others i e ∙ shows.same i held ∙ sym (framed_shown.touches.others i (ap (λ (l : List ℕ). is_in l i) all_shown.1 ∙ e))
+
+      -- every part that isn't held stays
+      pub others_stay : (i : ℕ) → is_held hand i ≡ false → SameAt parts_of i (step s) s
+      others_stay i free = by_test (is_in (wanted_of stages s) i) refl
+        where
+          by_test : (b : Bool) → is_in (wanted_of stages s) i ≡ b → SameAt parts_of i (step s) s
+          by_test false e = framed.touches.others i e
+          by_test true e = absurd (cc (sym free ∙ held_in hand (wanted_of stages s) i all_shown.0 e))
+
     pub after_holds_the_same : (hand : List (Option P)) → places_held (after_of parts_of state_in stages step hand) ≡ places_held hand
     after_holds_the_same hand = places_kept (as_in (wanted_of stages (state_in hand)) (parts_of (step (state_in hand)))) hand
 
@@ -306,6 +392,22 @@ module _ {S P : Type 0} (parts_of : S → List P) (state_in : List (Option P) �
               is_there (a ∷ old) [] i same there = absurd (omega arith)
               is_there (a ∷ old) (b ∷ new) zero same there = refl
               is_there (a ∷ old) (b ∷ new) (suc i) same there = let rest : length old ≡ length new = omega arith in is_there old new i rest there
+
+      -- held parts become parts of the state after the step
+      pub hand_after : (s : S) (hand : List (Option P)) → ((t : S) → IsFramed parts_of stages step t) → IsHandOf hand (parts_of s)
+          → missing hand (shown_of parts_of state_in stages hand) ≡ [] → IsHandOf (after_of parts_of state_in stages step hand) (parts_of (step s))
+      hand_after s hand framed of enough =
+          let over = parts_step s (framed s) ∙ after_is_laid_over hand (parts_of s) (framed (state_in (map Some (parts_of s)))) of enough in
+          let new = after_of parts_of state_in stages step hand in
+          let many : length new ≡ length (parts_of s) = length-by_places new hand (after_holds_the_same hand) ∙ of.places in
+          subst (λ (l : List P). IsHandOf new l) (sym over) (hand_laid new (parts_of s) many)
+
+      -- and a hand of that state that holds the same is what they become
+      pub is_after : (s : S) (hand new : List (Option P)) → ((t : S) → IsFramed parts_of stages step t) → IsHandOf hand (parts_of s)
+          → missing hand (shown_of parts_of state_in stages hand) ≡ [] → IsHandOf new (parts_of (step s)) → places_held new ≡ places_held hand
+          → new ≡ after_of parts_of state_in stages step hand
+      is_after s hand new framed of enough after same =
+          same_hand new (after_of parts_of state_in stages step hand) (parts_of (step s)) after (hand_after s hand framed of enough) (same ∙ sym (after_holds_the_same hand))
 
       -- where all parts are held and all places that are wanted are among them, nothing is missing
       pub all_are_enough : (s : S) → IsFramed parts_of stages step s → ((i : ℕ) → is_in (wanted_of stages s) i ≡ true → i < length (parts_of s))

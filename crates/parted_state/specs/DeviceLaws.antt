@@ -93,7 +93,7 @@ module _ {S T R F P : Type 0} (d : Device S T R F P) (is : IsDevice d) where
       by_test true e = let below : k < front d = grind (arith, nat_tests) in around_front (front d) n xs k below
       by_test false e = let past : front d ≤ k = grind (arith, nat_tests) in around_behind (front d) n xs k (k + n) past refl
 
-  abbrev shown_rows : List (Option P) → List R
+  abbrev pub shown_rows : List (Option P) → List R
   shown_rows hand = map d.row_in (take (clients_among d (length hand)) (drop (front d) hand))
 
   many_rows : (hand : List (Option P)) → length (shown_rows hand) ≡ clients_among d (length hand)
@@ -126,7 +126,7 @@ module _ {S T R F P : Type 0} (d : Device S T R F P) (is : IsDevice d) where
   get_shown (x ∷ xs) zero = refl
   get_shown (x ∷ xs) (suc i) = get_shown xs i
 
-  shown_row : (hand : List (Option P)) (j : ℕ) → j < clients_among d (length hand) → slice_get (shown_rows hand) j ≡ Some (d.row_in (held_at hand (client_place d (suc j))))
+  pub shown_row : (hand : List (Option P)) (j : ℕ) → j < clients_among d (length hand) → slice_get (shown_rows hand) j ≡ Some (d.row_in (held_at hand (client_place d (suc j))))
   shown_row hand j below =
       let n = clients_among d (length hand) in
       let more = is.behind in
@@ -151,9 +151,9 @@ module _ {S T R F P : Type 0} (d : Device S T R F P) (is : IsDevice d) where
             ap (λ (m : ℕ). slice_get (parts_of d (state_in d one)) m) e
             ∙ shown_table one k
             ∙ is.by_place (around (front d) (clients_among d (length one)) one) (around (front d) (clients_among d (length other)) other) k
-              (ap (λ (o : Option (Option P)). unwrap_or o None) (around_at (clients_among d (length one)) one k) ∙ there
-              ∙ ap (λ (m : ℕ). held_at other (table_place d m k)) counted
-              ∙ sym (ap (λ (o : Option (Option P)). unwrap_or o None) (around_at (clients_among d (length other)) other k)))
+            (ap (λ (o : Option (Option P)). unwrap_or o None) (around_at (clients_among d (length one)) one k) ∙ there
+            ∙ ap (λ (m : ℕ). held_at other (table_place d m k)) counted
+            ∙ sym (ap (λ (o : Option (Option P)). unwrap_or o None) (around_at (clients_among d (length other)) other k)))
             ∙ sym (shown_table other k)
             ∙ ap (λ (m : ℕ). slice_get (parts_of d (state_in d other)) (table_place d m k)) (sym counted)
             ∙ ap (λ (m : ℕ). slice_get (parts_of d (state_in d other)) m) (sym e)

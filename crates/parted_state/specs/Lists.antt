@@ -123,6 +123,25 @@ module _ {A : Type 0} where
       by_test true = refl
       by_test false = refl
 
+module _ {A : Type 0} where
+  pub held_of_all : (xs : List A) (k : ℕ) → slice_get xs k ≡ held_at (map Some xs) k
+  held_of_all [] k = refl
+  held_of_all (x ∷ xs) zero = refl
+  held_of_all (x ∷ xs) (suc k) = held_of_all xs k
+
+  -- where what is chosen of one list is as the other has it
+  pub chosen_same : (p : ℕ → Bool) (xs ys : List A) → length xs ≡ length ys → ((i : ℕ) → p i ≡ true → slice_get xs i ≡ slice_get ys i) → chosen p xs ys ≡ map Some ys
+  chosen_same p [] [] many same = refl
+  chosen_same p [] (y ∷ ys) many same = absurd (omega arith)
+  chosen_same p (x ∷ xs) [] many same = absurd (omega arith)
+  chosen_same p (x ∷ xs) (y ∷ ys) many same =
+      let rest : length xs ≡ length ys = omega arith in
+      ap₂ (λ (a : A) (l : List (Option A)). Some a ∷ l) (by_test (p 0) refl) (chosen_same (λ k. p (suc k)) xs ys rest (λ i is. same (suc i) is))
+    where
+      by_test : (b : Bool) → p 0 ≡ b → (if b then x else y) ≡ y
+      by_test true e = let first : Some x ≡ Some y = same 0 e in cc first
+      by_test false e = refl
+
 pub get_some : {A : Type 0} (xs : List A) (i : ℕ) → slice_get (map Some xs) i ≡ option_map Some (slice_get xs i)
 get_some [] i = refl
 get_some (x ∷ xs) zero = refl

@@ -7,8 +7,8 @@ use native.Mathlib.Decide.{ℕ_discrete}
 use Rattle.part_table.specs.Held.{held_at}
 use Rattle.parted_state.specs.Cut.{is_in, wanted_of, SameAt, Agree, AreTold, IsFramed}
 use Rattle.parted_state.specs.CutLaws.{in_front, in_back, in_either, same_itself, same_number}
-use Rattle.parted_state.specs.Served.{Done, Device, Services, change, chosen, is_told, front, client_place, table_place, parts_of, masked, merged, row_at, reached, delivered, told_if, told_places, asked, uses, row_of, done_of, step, own_place, places, footprint, table_stages, wants, AreAsked, IsServed, IsDevice}
-use Rattle.parted_state.specs.Lists.{get_some, get_past, length-change, get_changed, get_change, same_veiled, get_chosen, append_none, in_mapped, no_more}
+use Rattle.parted_state.specs.Served.{Done, Device, Services, change, veiled, chosen, is_told, front, client_place, table_place, parts_of, masked, merged, row_at, reached, delivered, told_if, told_places, asked, uses, row_of, done_of, step, own_place, places, footprint, table_stages, wants, AreAsked, IsServed, IsDevice}
+use Rattle.parted_state.specs.Lists.{get_some, get_veiled, chosen_same, held_of_all, get_past, length-change, get_changed, get_change, same_veiled, get_chosen, append_none, in_mapped, no_more}
 use Rattle.parted_state.specs.DeviceLaws.{as_many, table_at, client_at, spot}
 
 module _ {S T R F P : Type 0} (d : Device S T R F P) (is : IsDevice d) where
@@ -131,6 +131,17 @@ module _ {S T R F P : Type 0} (d : Device S T R F P) (is : IsDevice d) where
       by_test true = at_some (d.table_parts one)
       by_test false = at_some (d.table_parts other)
 
+  -- some of the tables as they are make all tables as they are
+  pub merged_masked : (us : List ℕ) (t : T) → merged d us (masked d us t) t ≡ t
+  merged_masked us t =
+      ap d.tables_in (chosen_same (is_in us) (d.table_parts (masked d us t)) (d.table_parts t) (is.many (masked d us t) ∙ sym (is.many t)) same) ∙ is.whole t
+    where
+      same : (k : ℕ) → is_in us k ≡ true → slice_get (d.table_parts (masked d us t)) k ≡ slice_get (d.table_parts t) k
+      same k on =
+          is.by_place (veiled (is_in us) (d.table_parts t)) (map Some (d.table_parts t)) k
+          (get_veiled (is_in us) (d.table_parts t) k on ∙ held_of_all (d.table_parts t) k)
+          ∙ ap (λ (x : T). slice_get (d.table_parts x) k) (is.whole t)
+
   -- ---- what an event asks for, and what it does
 
   module _ {E : Type 0} (v : Services T R F E) (event : E) (served : IsServed d v event) where
@@ -249,17 +260,19 @@ module _ {S T R F P : Type 0} (d : Device S T R F P) (is : IsDevice d) where
             ap₂ (λ (l : List (ℕ × F)) (n : ℕ). told_places d l n)
             (ap (λ (r : R). (v.serves (d.tables_of t) r event).told) row ∙ told_same (d.tables_of s) (d.tables_of t) (row_of d v s event) same)
             (counted ws s t agree)
-    stages_told s (stage ∷ stages) ws us own inside all here there =
-        (first, stages_told s stages (ws ++ places d v (length (d.clients_of s)) (stage (d.tables_of s) (row_of d v s event))) (us ++ (stage (d.tables_of s) (row_of d v s event)))
-        (λ i e. in_front ws (places d v (length (d.clients_of s)) (stage (d.tables_of s) (row_of d v s event))) (client_place d (suc i)) (own i e))
-        (λ k on. elim (in_either us (stage (d.tables_of s) (row_of d v s event)) k on) [
-          | inl a ↦ in_front ws (places d v (length (d.clients_of s)) (stage (d.tables_of s) (row_of d v s event))) (table_place d (length (d.clients_of s)) k) (inside k a)
-          | inr b ↦ in_back ws (places d v (length (d.clients_of s)) (stage (d.tables_of s) (row_of d v s event))) (table_place d (length (d.clients_of s)) k) (in_mapped (table_place d (length (d.clients_of s))) (stage (d.tables_of s) (row_of d v s event)) k b)
-        ])
-        (λ k on. subst (λ (l : List ℕ). is_in l k ≡ true) (sym (append_assoc us (stage (d.tables_of s) (row_of d v s event)) (asked d v stages (d.tables_of s) (row_of d v s event)))) (all k on))
-        here.1
-        (λ t agree. subst (λ (l : List ℕ). AreAsked d v (us ++ l) stages (d.tables_of t) (row_of d v s event)) (same t (fewer ws (places d v (length (d.clients_of s)) (stage (d.tables_of s) (row_of d v s event))) s t agree))
-        (there t (fewer ws (places d v (length (d.clients_of s)) (stage (d.tables_of s) (row_of d v s event))) s t agree)).1))
+    stages_told s (stage ∷ stages) ws us own inside all here there = (
+      first,
+      stages_told s stages (ws ++ places d v (length (d.clients_of s)) (stage (d.tables_of s) (row_of d v s event))) (us ++ (stage (d.tables_of s) (row_of d v s event)))
+          (λ i e. in_front ws (places d v (length (d.clients_of s)) (stage (d.tables_of s) (row_of d v s event))) (client_place d (suc i)) (own i e))
+          (λ k on. elim (in_either us (stage (d.tables_of s) (row_of d v s event)) k on) [
+            | inl a ↦ in_front ws (places d v (length (d.clients_of s)) (stage (d.tables_of s) (row_of d v s event))) (table_place d (length (d.clients_of s)) k) (inside k a)
+            | inr b ↦ in_back ws (places d v (length (d.clients_of s)) (stage (d.tables_of s) (row_of d v s event))) (table_place d (length (d.clients_of s)) k) (in_mapped (table_place d (length (d.clients_of s))) (stage (d.tables_of s) (row_of d v s event)) k b)
+          ])
+          (λ k on. subst (λ (l : List ℕ). is_in l k ≡ true) (sym (append_assoc us (stage (d.tables_of s) (row_of d v s event)) (asked d v stages (d.tables_of s) (row_of d v s event)))) (all k on))
+          here.1
+          (λ t agree. subst (λ (l : List ℕ). AreAsked d v (us ++ l) stages (d.tables_of t) (row_of d v s event)) (same t (fewer ws (places d v (length (d.clients_of s)) (stage (d.tables_of s) (row_of d v s event))) s t agree))
+          (there t (fewer ws (places d v (length (d.clients_of s)) (stage (d.tables_of s) (row_of d v s event))) s t agree)).1),
+    )
       where
         same : (t : S) → Agree (parts_of d) ws s t → stage (d.tables_of t) (row_of d v s event) ≡ stage (d.tables_of s) (row_of d v s event)
         same t agree =
@@ -274,15 +287,16 @@ module _ {S T R F P : Type 0} (d : Device S T R F P) (is : IsDevice d) where
             (ap (λ (r : R). stage (d.tables_of t) r) (row_at_same ws s t (v.own event) agree own) ∙ same t agree)
 
     stage_within : (s : S) → AreTold (parts_of d) s [] (wants d v event)
-    stage_within s =
-        (λ t agree. ap (λ (n : ℕ). footprint d v n event) (counted [] s t agree),
-        stages_told s (v.asks event) (footprint d v (length (d.clients_of s)) event) (v.words event)
-        (λ i e. own_first (v.own event) i (places d v (length (d.clients_of s)) (v.words event)) e)
-        (λ k on. in_back (own_place d v (v.own event)) (places d v (length (d.clients_of s)) (v.words event)) (table_place d (length (d.clients_of s)) k)
-            (in_mapped (table_place d (length (d.clients_of s))) (v.words event) k on))
-        (λ k on. on)
-        (served.stages (d.tables_of s) (row_of d v s event))
-        (λ t agree. served.stages (d.tables_of t) (row_of d v s event)))
+    stage_within s = (
+      λ t agree. ap (λ (n : ℕ). footprint d v n event) (counted [] s t agree),
+      stages_told s (v.asks event) (footprint d v (length (d.clients_of s)) event) (v.words event)
+          (λ i e. own_first (v.own event) i (places d v (length (d.clients_of s)) (v.words event)) e)
+          (λ k on. in_back (own_place d v (v.own event)) (places d v (length (d.clients_of s)) (v.words event)) (table_place d (length (d.clients_of s)) k)
+          (in_mapped (table_place d (length (d.clients_of s))) (v.words event) k on))
+          (λ k on. on)
+          (served.stages (d.tables_of s) (row_of d v s event))
+          (λ t agree. served.stages (d.tables_of t) (row_of d v s event)),
+    )
 
     -- ---- what is wanted is all that is touched
 
@@ -337,7 +351,7 @@ module _ {S T R F P : Type 0} (d : Device S T R F P) (is : IsDevice d) where
               subst (λ (m : ℕ). SameAt (parts_of d) m (step d v s event) s) (sym e)
               (step_client s j below
               ∙ ap (option_map d.client_part) (delivered_kept (done_of d v s event).told (d.clients_of s) j
-                (not_told s j below (ap (λ (m : ℕ). is_in (wanted_of (wants d v event) s) m) (sym e) ∙ out)))
+              (not_told s j below (ap (λ (m : ℕ). is_in (wanted_of (wants d v event) s) m) (sym e) ∙ out)))
               ∙ sym (client_at d is s j below))
         ]
 
@@ -376,7 +390,7 @@ module _ {S T R F P : Type 0} (d : Device S T R F P) (is : IsDevice d) where
               ∙ table_kept (d.tables_of s) (row_of d v s event) k e
               ∙ table_same (wanted_of (wants d v event) s) s t k agree inside
               ∙ sym (table_kept (d.tables_of t) (row_of d v s event) k
-                (ap (λ (l : List ℕ). is_in l k) (uses_same (d.tables_of s) (d.tables_of t) (row_of d v s event) tables_told) ∙ e))
+              (ap (λ (l : List ℕ). is_in l k) (uses_same (d.tables_of s) (d.tables_of t) (row_of d v s event) tables_told) ∙ e))
               ∙ after_t
 
       become : (i : ℕ) → is_in (wanted_of (wants d v event) s) i ≡ true → SameAt (parts_of d) i (step d v s event) (step d v t event)
@@ -389,9 +403,9 @@ module _ {S T R F P : Type 0} (d : Device S T R F P) (is : IsDevice d) where
                 subst (λ (m : ℕ). SameAt (parts_of d) m (step d v s event) (step d v t event)) (sym e)
                 (step_client s j below
                 ∙ ap (option_map d.client_part)
-                  (delivered_same (done_of d v s event).told (d.clients_of s) (d.clients_of t) j
-                  (client_same (wanted_of (wants d v event) s) s t j agree (ap (λ (m : ℕ). is_in (wanted_of (wants d v event) s) m) (sym e) ∙ inside))
-                  ∙ ap (λ (l : List (ℕ × F)). slice_get (delivered d l (d.clients_of t)) j) (sym effects_told))
+                (delivered_same (done_of d v s event).told (d.clients_of s) (d.clients_of t) j
+                (client_same (wanted_of (wants d v event) s) s t j agree (ap (λ (m : ℕ). is_in (wanted_of (wants d v event) s) m) (sym e) ∙ inside))
+                ∙ ap (λ (l : List (ℕ × F)). slice_get (delivered d l (d.clients_of t)) j) (sym effects_told))
                 ∙ sym (step_client t j (omega (arith, below, many_told))))
           ]
 
@@ -478,9 +492,9 @@ module _ {S T R F P : Type 0} (d : Device S T R F P) (is : IsDevice d) where
         let below : i < d.tables + n =
         elim (in_either (footprint d v n event) (wanted_of (table_stages d v event (v.asks event)) s) i inside) [
           | inl a ↦ elim (in_either (own_place d v (v.own event)) (places d v n (v.words event)) i a) [
-              | inl x ↦ own_below n (v.own event) i own x
-              | inr y ↦ placed_below n (v.words event) words i y
-            ]
+            | inl x ↦ own_below n (v.own event) i own x
+            | inr y ↦ placed_below n (v.words event) words i y
+          ]
           | inr b ↦ stages_below s (v.asks event) later i b
         ] in
         omega (arith, below, many)
