@@ -10,7 +10,8 @@ use Rattle.mms_types.specs.declared.event.CellEvent.TheVariants.{Heard, Lost, Ti
 use Rattle.cell_config.specs.declared.config.Config.{Config}
 use Rattle.mms_step.specs.State.{State, start, last_moment}
 use Rattle.mms_step.specs.Step.{step, replay, said, outbox_of, MayCome, IsInTime}
-use Rattle.mms_step.proofs.PartsAfter.{length-start, length-change}
+use Rattle.mms_step.proofs.PartsAfter.{length-start, step_still}
+use Rattle.mms_step.proofs.PartsAfter.{step_sized as as_many_clients}
 use Rattle.mms_device.specs.Served.{Served, served, device_after}
 use Rattle.cell_record.specs.EventLine.{IsRecorded}
 use Rattle.cell_record.specs.Words.{between}
@@ -24,15 +25,11 @@ use Rattle.cell_run.specs.Along.{along, taken_along, phase_told}
 
 -- as many clients
 pub step_sized : (s : State) (e : CellEvent) → length (step s e).clients ≡ length s.clients
-step_sized s (Heard client octets) = length-change _ s.clients (client - 1)
-step_sized s (Lost client) = length-change _ s.clients (client - 1)
-step_sized s (Tick ms) = refl
-step_sized s (Ends name) = refl
-step_sized s (Drain client) = length-change _ s.clients (client - 1)
+step_sized s e = as_many_clients s e
 
 -- as much time as the event takes
 pub step_now : (s : State) (e : CellEvent) → (step s e).now ≡ s.now + ms_in e
-step_now s (Heard client octets) = omega arith
+step_now s (Heard client octets) = let still = step_still s client octets in omega (arith, still)
 step_now s (Lost client) = omega arith
 step_now s (Tick ms) = refl
 step_now s (Ends name) = omega arith

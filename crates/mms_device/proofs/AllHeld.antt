@@ -83,5 +83,5 @@ client_of_all hand client all some there =
 pub drains : (hand new : List (Option Part)) (event : CellEvent) → HoldsAll hand → IsSound (state_in hand) → MayCome (state_in hand) event → new ≡ after event hand → Serves hand new event
 drains hand new event all sound may is =
     serves hand new event all sound may
-    (λ s of. step_of_hand s hand new event of (among_hand hand event all may.among) (none_needed hand event all may.among) is)
+    (λ s of. step_of_hand s hand new event of (none_needed hand event all may.among) is)
     (places_then hand new event is)

@@ -5,9 +5,8 @@ use Rattle.association.specs.Client.{ClientRow, Client as RoomyRow}
 use Rattle.part_table.specs.Held.{held_at}
 use Rattle.mms_step.specs.declared.part.Part.{Part}
 use Rattle.mms_step.specs.declared.part.Part.TheVariants.{Clock, Client}
-use Rattle.mms_step.specs.Step.{change}
-use Rattle.mms_step.specs.Partition.{settled}
-use Rattle.mms_step.specs.After.{on_client, on_clock}
+use Rattle.parted_state.specs.Served.{change}
+use Rattle.mms_step.specs.Partition.{settled, on_client, on_clock}
 
 changed_part : {P : Type 0} (f : P → P) (hand : List (Option P)) (i : ℕ) (x : P) → held_at hand i ≡ Some x
     → set (set hand i None) i (Some (f x)) ≡ change (option_map f) hand i

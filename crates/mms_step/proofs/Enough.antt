@@ -1,42 +1,158 @@
 -- Where nothing is needed that is not held, the parts that an event changes are held, and become those of the state after it.
-use Rattle.std.specs.Prelude.{◌≡◌, ℕ, ◌≤◌, not, Option, List, [], ◌∷◌, filter, length, OnOk, OnErr, Result, Ok, Err}
-use Rattle.std.proofs.Common.{ap, sym, ◌∙◌, arith}
-use Rattle.mms_types.specs.Actors.{IsAmong}
+use Rattle.std.specs.Prelude.{◌≡◌, ℕ, zero, suc, ◌+◌, ◌≤◌, Bool, true, false, not, ◌&&◌, ◌||◌, Option, List, [], ◌∷◌, filter, is_some, length, OnOk, OnErr, Result, Ok, Err, refl}
+use Rattle.std.specs.List.{list_all}
+use Rattle.std.specs.Option.{option_map}
+use Rattle.std.proofs.Common.{ap, sym, ◌∙◌, subst, arith}
+use Rattle.mms_types.specs.Actors.{IsAmong, actor_of}
 use Rattle.mms_types.specs.declared.memory.Memory.{Memory}
 use Rattle.mms_types.specs.declared.event.CellEvent.{CellEvent}
+use Rattle.mms_types.specs.declared.event.CellEvent.TheVariants.{Heard, Lost, Tick, Ends, Drain}
+use Rattle.association.specs.Client.{ClientRow, drained_row}
 use Rattle.part_table.specs.Held.{held_at, places_held, IsHandOf}
+use Rattle.parted_state.specs.Cut.{are_held, missing}
+use Rattle.parted_state.specs.CutLaws as laws
+use Rattle.parted_state.specs.Served.{change}
+use Rattle.parted_state.specs.Served as parted
 use Rattle.mms_step.specs.declared.part.Part.{Part}
 use Rattle.mms_step.specs.State.{State, IsSound}
+use Rattle.mms_step.specs.Effects.{felt_all}
+use Rattle.mms_step.specs.Association.{loss_told}
+use Rattle.mms_step.specs.Serving.{services}
 use Rattle.mms_step.specs.Step.{step}
-use Rattle.mms_step.specs.Partition.{parts_of, client_place, clock_place, clients_among, IsClient, IsClock}
-use Rattle.mms_step.specs.Needs.{need, is_held}
+use Rattle.mms_step.specs.Meant.{row_heard}
+use Rattle.mms_step.specs.Partition.{cell, parts_of, state_in, client_place, clients_among, on_client, on_clock, IsClient, IsClock}
+use Rattle.mms_step.specs.Needs.{need, is_held, footprint, shown}
 use Rattle.mms_step.specs.After.{after}
-use Rattle.mms_step.specs.AfterLaws.{first_held, after_holds_the_same}
-use Rattle.mms_step.proofs.Holding.{clients_counted, held_client, held_clock, step_of_hand}
+use Rattle.mms_step.specs.AfterLaws.{after_holds_the_same}
+use Rattle.mms_step.proofs.Holding.{clients_counted, held_client, held_clock, after_of_hand, change_is_held, change_holds_the_same}
+use Rattle.mms_step.proofs.Needed.{drain_needs_none}
+use Rattle.mms_step.proofs.PartsAfter.{with_client, client_changed, step_heard, step_lost, step_drained}
 
 -- parts of a sound state
 abbrev pub OfState : List (Option Part) → Type 0
 OfState hand = (s : State) × IsSound s × IsHandOf hand (parts_of s)
 
-pub client_is_held : (hand : List (Option Part)) (client : ℕ) (rest : List ℕ) → OfState hand → (1 ≤ client) × (client ≤ clients_among (length hand))
-    → filter (λ p. not (is_held hand p)) (client_place client ∷ rest) ≡ [] → IsClient (held_at hand (client_place client))
-client_is_held hand client rest (s, sound, of) among none =
+abbrev pub OfSome : List (Option Part) → Type 0
+OfSome hand = (s : State) × IsHandOf hand (parts_of s)
+
+-- where nothing is missing, the first that is wanted is held
+pub first_held : (hand : List (Option Part)) (place : ℕ) (rest : List ℕ) → filter (λ p. not (is_held hand p)) (place ∷ rest) ≡ [] → is_held hand place ≡ true
+first_held hand place rest none = by_test (is_held hand place) refl (laws.none_missing hand (place ∷ rest) none)
+  where
+    by_test : (b : Bool) → is_held hand place ≡ b → (b && list_all (is_held hand) rest) ≡ true → b ≡ true
+    by_test true e all = refl
+    by_test false e all = absurd (cc all)
+
+among_state : (s : State) (hand : List (Option Part)) (event : CellEvent) → IsHandOf hand (parts_of s) → IsAmong (clients_among (length hand)) event → IsAmong (length s.clients) event
+among_state s hand event of among = subst (λ (n : ℕ). IsAmong n event) (clients_counted s hand of) among
+
+-- ---- the parts of a client and of the clock are held where an event wants them
+
+-- where no part is missing that the words of an event tell, that of its client is held
+pub own_is_held : (hand : List (Option Part)) (n : ℕ) (event : CellEvent) (client : ℕ) → actor_of event ≡ client → 1 ≤ client → missing hand (footprint n event) ≡ []
+    → is_held hand (client_place client) ≡ true
+own_is_held hand n event zero whose some enough = absurd (omega (arith, some))
+own_is_held hand n event (suc i) whose some enough =
+    let all = laws.none_missing hand (footprint n event) enough in
+    let own = (laws.held_parted hand (parted.own_place cell services (actor_of event)) (parted.places cell services n (services.words event)) all).0 in
+    laws.held_in hand (client_place (suc i) ∷ []) (client_place (suc i)) (ap (λ (c : ℕ). are_held hand (parted.own_place cell services c)) (sym whose) ∙ own)
+    (ap (λ (c : Bool). c || false) (laws.same_itself (client_place (suc i))))
+
+-- where nothing is needed, nothing is missing of what the words tell
+pub words_held : (hand : List (Option Part)) (event : CellEvent) → need event hand ≡ [] → missing hand (footprint (length (state_in hand).clients) event) ≡ []
+words_held hand event enough =
+    laws.missing_none hand (footprint (length (state_in hand).clients) event)
+    (laws.held_parted hand (footprint (length (state_in hand).clients) event) _ (laws.none_missing hand (shown event hand) enough)).0
+
+pub client_is_held : (hand : List (Option Part)) (event : CellEvent) (client : ℕ) → OfState hand → (1 ≤ client) × (client ≤ clients_among (length hand)) → actor_of event ≡ client
+    → need event hand ≡ [] → IsClient (held_at hand (client_place client))
+client_is_held hand event client (s, sound, of) among whose enough =
     let counted = clients_counted s hand of in
-    held_client s hand client of among.0 (omega (arith, counted, among.1)) (first_held hand (client_place client) rest none)
+    held_client s hand client of among.0 (omega (arith, counted, among.1))
+    (own_is_held hand (length (state_in hand).clients) event client whose among.0 (words_held hand event enough))
 
-pub clock_is_held : (hand : List (Option Part)) (rest : List ℕ) → OfState hand → filter (λ p. not (is_held hand p)) (clock_place ∷ rest) ≡ [] → IsClock (held_at hand 0)
-clock_is_held hand rest (s, sound, of) none = held_clock s hand of (first_held hand clock_place rest none)
+pub client_by_words : (hand : List (Option Part)) (event : CellEvent) (client n : ℕ) → OfState hand → n ≡ clients_among (length hand) → (1 ≤ client) × (client ≤ n) → actor_of event ≡ client
+    → missing hand (footprint n event) ≡ [] → IsClient (held_at hand (client_place client))
+client_by_words hand event client n (s, sound, of) same among whose enough =
+    let counted = clients_counted s hand of in
+    held_client s hand client of among.0 (omega (arith, counted, same, among.1)) (own_is_held hand n event client whose among.0 enough)
 
--- what held parts become, for each state that they are parts of
-pub step_then : (hand new : List (Option Part)) (event told : CellEvent) → event ≡ told → IsAmong (clients_among (length hand)) event → need event hand ≡ []
-    → new ≡ after told hand → (s : State) → IsHandOf hand (parts_of s) → IsHandOf new (parts_of (step s event))
-step_then hand new event told is among enough done s of =
-    step_of_hand s hand new event of among enough (done ∙ ap (λ (e : CellEvent). after e hand) (sym is))
+pub clock_is_held : (hand : List (Option Part)) (ms : ℕ) → OfState hand → need (Tick ms) hand ≡ [] → IsClock (held_at hand 0)
+clock_is_held hand ms (s, sound, of) enough =
+    held_clock s hand of
+    (laws.held_in hand (footprint (length (state_in hand).clients) (Tick ms)) 0
+    (laws.none_missing hand (footprint (length (state_in hand).clients) (Tick ms)) (words_held hand (Tick ms) enough)) refl)
+
+-- ---- held parts after an event
+
+pub record Becomes (hand new : List (Option Part)) (event : CellEvent) : Type 0 where
+  pub step : (s : State) → IsHandOf hand (parts_of s) → IsHandOf new (parts_of (step s event))
+  pub parts : new ≡ after event hand
+  pub places : places_held new ≡ places_held hand
+
+become : (hand new : List (Option Part)) (event : CellEvent) → OfSome hand → need event hand ≡ [] → places_held new ≡ places_held hand
+    → ((s : State) → IsHandOf hand (parts_of s) → IsHandOf new (parts_of (step s event))) → Becomes hand new event
+become hand new event (s, of) enough same stepped =
+    record { step = stepped; parts = after_of_hand s hand new event of enough (stepped s of) same; places = same }
+
+-- the row of the client of an event is changed
+own_becomes : (hand new : List (Option Part)) (event : CellEvent) (client : ℕ) (f : ClientRow → ClientRow) → OfSome hand → (1 ≤ client) × (client ≤ clients_among (length hand))
+    → actor_of event ≡ client → need event hand ≡ [] → new ≡ change (option_map (on_client f)) hand (client_place client)
+    → ((s : State) → 1 ≤ client → client ≤ length s.clients → step s event ≡ with_client s client f) → Becomes hand new event
+own_becomes hand new event client f of_state among whose enough is stepped =
+    become hand new event of_state enough (ap (λ (h : List (Option Part)). places_held h) is ∙ change_holds_the_same (on_client f) hand (client_place client))
+    (λ s of. let counted = clients_counted s hand of in
+    let there : client ≤ length s.clients = omega (arith, counted, among.1) in
+    let held = own_is_held hand (length (state_in hand).clients) event client whose among.0 (words_held hand event enough) in
+    subst (λ (h : List (Option Part)). IsHandOf h (parts_of (step s event))) (sym is)
+    (subst (λ (l : List Part). IsHandOf (change (option_map (on_client f)) hand (client_place client)) l)
+    (sym (ap (λ (u : State). parts_of u) (stepped s among.0 there) ∙ client_changed s client f among.0 there))
+    (change_is_held (on_client f) hand (parts_of s) (client_place client) of held)))
+
+pub heard_becomes : (hand new : List (Option Part)) (client : ℕ) (octets : List ℕ) → OfState hand → IsAmong (clients_among (length hand)) (Heard client octets)
+    → need (Heard client octets) hand ≡ [] → new ≡ change (option_map (on_client (λ row. row_heard row octets))) hand (client_place client) → Becomes hand new (Heard client octets)
+heard_becomes hand new client octets of among enough is =
+    own_becomes hand new (Heard client octets) client (λ row. row_heard row octets) (of.0, of.2) among refl enough is (λ s some there. step_heard s client octets some there)
+
+pub lost_becomes : (hand new : List (Option Part)) (client : ℕ) → OfState hand → IsAmong (clients_among (length hand)) (Lost client) → need (Lost client) hand ≡ []
+    → new ≡ change (option_map (on_client (λ row. felt_all (loss_told row.association) row))) hand (client_place client) → Becomes hand new (Lost client)
+lost_becomes hand new client of among enough is =
+    own_becomes hand new (Lost client) client (λ row. felt_all (loss_told row.association) row) (of.0, of.2) among refl enough is (λ s some there. step_lost s client some there)
+
+pub drained_becomes : (hand new : List (Option Part)) (client : ℕ) → OfState hand → IsAmong (clients_among (length hand)) (Drain client) → need (Drain client) hand ≡ []
+    → new ≡ change (option_map (on_client drained_row)) hand (client_place client) → Becomes hand new (Drain client)
+drained_becomes hand new client of among enough is =
+    own_becomes hand new (Drain client) client drained_row (of.0, of.2) among refl enough is (λ s some there. step_drained s client some there)
+
+-- a client's part that is held alone is enough for its drain
+pub drained_is_after : (hand new : List (Option Part)) (client : ℕ) (s : State) → IsHandOf hand (parts_of s) → IsAmong (length s.clients) (Drain client)
+    → IsClient (held_at hand (client_place client)) → new ≡ change (option_map (on_client drained_row)) hand (client_place client) → new ≡ after (Drain client) hand
+drained_is_after hand new client s of among held is =
+    let counted = clients_counted s hand of in
+    (own_becomes hand new (Drain client) client drained_row (s, of) (among.0, omega (arith, counted, among.1)) refl
+    (drain_needs_none hand client among.0 (ap (λ (o : Option Part). is_some o) held)) is (λ u some there. step_drained u client some there)).parts
+
+pub ticked_becomes : (hand new : List (Option Part)) (ms : ℕ) → OfState hand → need (Tick ms) hand ≡ [] → new ≡ change (option_map (on_clock (λ now. now + ms))) hand 0
+    → Becomes hand new (Tick ms)
+ticked_becomes hand new ms of_state enough is =
+    become hand new (Tick ms) (of_state.0, of_state.2) enough (ap (λ (h : List (Option Part)). places_held h) is ∙ change_holds_the_same (on_clock (λ now. now + ms)) hand 0)
+    (λ s of. let held = laws.held_in hand (footprint (length (state_in hand).clients) (Tick ms)) 0
+    (laws.none_missing hand (footprint (length (state_in hand).clients) (Tick ms)) (words_held hand (Tick ms) enough)) refl in
+    subst (λ (h : List (Option Part)). IsHandOf h (parts_of (step s (Tick ms)))) (sym is)
+    (change_is_held (on_clock (λ now. now + ms)) hand (parts_of s) 0 of held))
+
+pub ended_becomes : (hand : List (Option Part)) (name : List ℕ) → OfState hand → need (Ends name) hand ≡ [] → Becomes hand hand (Ends name)
+ended_becomes hand name of enough = become hand hand (Ends name) (of.0, of.2) enough refl (λ s is. is)
+
+-- of another event that is the same
+pub becomes_as : (hand new : List (Option Part)) (event told : CellEvent) → event ≡ told → Becomes hand new told → Becomes hand new event
+becomes_as hand new event told is becomes = subst (λ (e : CellEvent). Becomes hand new e) (sym is) becomes
+
+-- and without memory, where nothing changes
+pub places_either : (result : Result Unit Memory) (hand new : List (Option Part)) (event : CellEvent) → OnOk result (Becomes hand new event) → OnErr result (new ≡ hand)
+    → places_held new ≡ places_held hand
+places_either (Ok done) hand new event becomes same = becomes.places
+places_either (Err memory) hand new event becomes same = ap (λ (h : List (Option Part)). places_held h) same
 
 pub places_then : (hand new : List (Option Part)) (event : CellEvent) → new ≡ after event hand → places_held new ≡ places_held hand
 places_then hand new event done = ap (λ (h : List (Option Part)). places_held h) done ∙ after_holds_the_same event hand
-
-pub places_either : (result : Result Unit Memory) (hand new : List (Option Part)) (event : CellEvent) → OnOk result (new ≡ after event hand) → OnErr result (new ≡ hand)
-    → places_held new ≡ places_held hand
-places_either (Ok done) hand new event after same = places_then hand new event after
-places_either (Err memory) hand new event after same = ap (λ (h : List (Option Part)). places_held h) same

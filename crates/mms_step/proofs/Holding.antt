@@ -1,22 +1,23 @@
 -- What held parts of a state are, before an event and after it.
-use Rattle.std.specs.Prelude.{◌≡◌, ℕ, zero, suc, ◌-◌, ◌≤◌, ◌<◌, Bool, true, Option, None, Some, List, [], ◌∷◌, ◌++◌, is_some, map, length, slice_get, refl}
+use Rattle.std.specs.Prelude.{◌≡◌, ℕ, zero, suc, ◌-◌, ◌≤◌, ◌<◌, Bool, true, Option, None, Some, List, [], ◌∷◌, ◌++◌, is_some, unwrap_or, map, length, slice_get, Contains, refl}
+use Rattle.std.specs.Option.{option_map}
 use Rattle.std.proofs.Common.{ap, ap₂, sym, ◌∙◌, subst, arith}
-use Rattle.std.proofs.lemmas.List.{length-map}
-use Rattle.std.specs.List.{filter_map}
-use Rattle.mms_types.specs.Actors.{IsAmong}
 use Rattle.mms_types.specs.declared.event.CellEvent.{CellEvent}
 use Rattle.association.specs.Client.{ClientRow}
 use Rattle.part_table.specs.Held.{held_at, places_held, laid_over, IsHandOf}
-use Rattle.part_table.specs.HeldLaws.{length-laid_over, laid_over-held, laid_over-free, held_of_list, free_by_places, length-by_places}
+use Rattle.part_table.specs.HeldLaws.{held_of_list}
+use Rattle.parted_state.specs.CutLaws as laws
+use Rattle.parted_state.specs.DeviceLaws as device
+use Rattle.parted_state.specs.Served.{change}
 use Rattle.mms_step.specs.declared.part.Part.{Part}
 use Rattle.mms_step.specs.declared.part.Part.TheVariants.{Clock, Client, Semaphores}
 use Rattle.mms_step.specs.State.{State}
 use Rattle.mms_step.specs.Step.{step}
-use Rattle.mms_step.specs.Partition.{parts_of, client_part, client_place, clients_among, clock_in, client_in, row_in, state_in, IsClock, IsClient}
-use Rattle.mms_step.specs.Needs.{need, is_held}
-use Rattle.mms_step.specs.After.{after}
-use Rattle.mms_step.specs.AfterLaws.{after_holds_the_same, after_is_laid_over}
-use Rattle.mms_step.proofs.PartsAfter.{parts_step, length-parts, in_front}
+use Rattle.mms_step.specs.Partition.{cell, parts_of, client_part, client_place, clients_among, clock_in, client_in, state_in, IsClock, IsClient}
+use Rattle.mms_step.specs.Needs.{need, shown, wants, is_held}
+use Rattle.mms_step.specs.After.{after, parts_after}
+use Rattle.mms_step.specs.AfterLaws.{is_device, each_framed}
+use Rattle.mms_step.proofs.PartsAfter.{length-parts, in_front}
 
 -- ---- before an event
 
@@ -56,121 +57,92 @@ held_clock s hand of held =
     let is = held_part hand (parts_of s) 0 (Clock s.now) of held refl in
     is ∙ sym (ap (λ (o : Option Part). Some (Clock (clock_in o))) is)
 
--- ---- after an event
+-- ---- an event
 
-laid_twice : {P : Type 0} (hand : List (Option P)) (parts : List P) → length hand ≡ length parts → laid_over hand (laid_over hand parts) ≡ laid_over hand parts
-laid_twice [] parts same = refl
-laid_twice (h ∷ hand) [] same = refl
-laid_twice {P} (None ∷ hand) (part ∷ parts) same = let rest : length hand ≡ length parts = omega arith in ap (λ (l : List P). part ∷ l) (laid_twice hand parts rest)
-laid_twice {P} (Some x ∷ hand) (part ∷ parts) same = let rest : length hand ≡ length parts = omega arith in ap (λ (l : List P). x ∷ l) (laid_twice hand parts rest)
+pub parts_step : (s : State) (event : CellEvent) → parts_of (step s event) ≡ parts_after event (parts_of s)
+parts_step s event = laws.parts_step parts_of state_in (wants event) (λ u. step u event) (device.cut cell is_device) s (each_framed event s)
 
-among_state : (s : State) (hand : List (Option Part)) (event : CellEvent) → IsHandOf hand (parts_of s) → IsAmong (clients_among (length hand)) event → IsAmong (length s.clients) event
-among_state s hand event of among = subst (λ (n : ℕ). IsAmong n event) (clients_counted s hand of) among
+shows : (s : State) (hand : List (Option Part)) → IsHandOf hand (parts_of s) → laws.Shows parts_of state_in hand s
+shows s hand of = laws.shows_state parts_of state_in (device.cut cell is_device) hand s of
 
--- the state's parts after the step are those held after it, over those that were there
-pub step_laid : (s : State) (hand : List (Option Part)) (event : CellEvent) → IsHandOf hand (parts_of s) → IsAmong (length s.clients) event → need event hand ≡ []
-    → parts_of (step s event) ≡ laid_over (after event hand) (parts_of s)
-step_laid s hand event of among enough = parts_step s event among ∙ after_is_laid_over event hand (parts_of s) of enough
-
-pub step_of_hand : (s : State) (hand new : List (Option Part)) (event : CellEvent) → IsHandOf hand (parts_of s) → IsAmong (clients_among (length hand)) event
+pub step_of_hand : (s : State) (hand new : List (Option Part)) (event : CellEvent) → IsHandOf hand (parts_of s)
     → need event hand ≡ [] → new ≡ after event hand → IsHandOf new (parts_of (step s event))
-step_of_hand s hand new event of among enough is =
-    let over = step_laid s hand event of (among_state s hand event of among) enough in
-    let same : length (after event hand) ≡ length (parts_of s) = length-by_places (after event hand) hand (after_holds_the_same event hand) ∙ of.places in
-    let hand_after : IsHandOf (after event hand) (laid_over (after event hand) (parts_of s)) =
-    record { places = same ∙ sym (length-laid_over (after event hand) (parts_of s)); values = laid_twice (after event hand) (parts_of s) same } in
+step_of_hand s hand new event of enough is =
     subst (λ (h : List (Option Part)). IsHandOf h (parts_of (step s event))) (sym is)
-    (subst (λ (l : List Part). IsHandOf (after event hand) l) (sym over) hand_after)
+    (laws.hand_after parts_of state_in (wants event) (λ u. step u event) (device.cut cell is_device) s hand (each_framed event) of enough)
 
-pub others_stay : (s : State) (hand : List (Option Part)) (event : CellEvent) (place : ℕ) → IsHandOf hand (parts_of s) → IsAmong (length s.clients) event
+-- a hand of the state after it that holds the same places
+pub after_of_hand : (s : State) (hand new : List (Option Part)) (event : CellEvent) → IsHandOf hand (parts_of s) → need event hand ≡ []
+    → IsHandOf new (parts_of (step s event)) → places_held new ≡ places_held hand → new ≡ after event hand
+after_of_hand s hand new event of enough becomes same =
+    laws.is_after parts_of state_in (wants event) (λ u. step u event) (device.cut cell is_device) s hand new (each_framed event) of enough becomes same
+
+pub others_stay : (s : State) (hand : List (Option Part)) (event : CellEvent) (place : ℕ) → IsHandOf hand (parts_of s)
     → need event hand ≡ [] → held_at hand place ≡ None → slice_get (parts_of (step s event)) place ≡ slice_get (parts_of s) place
-others_stay s hand event place of among enough free =
-    ap (λ (l : List Part). slice_get l place) (step_laid s hand event of among enough)
-    ∙ laid_over-free (after event hand) (parts_of s) place (free_by_places hand (after event hand) place (sym (after_holds_the_same event hand)) free)
-
-is_some_by_places : {P : Type 0} (one other : List (Option P)) (i : ℕ) → places_held one ≡ places_held other → is_some (held_at one i) ≡ is_some (held_at other i)
-is_some_by_places [] [] i same = refl
-is_some_by_places [] (y ∷ other) i same = absurd (cc same)
-is_some_by_places (x ∷ one) [] i same = absurd (cc same)
-is_some_by_places (x ∷ one) (y ∷ other) zero same = cc same
-is_some_by_places (x ∷ one) (y ∷ other) (suc i) same = let rest : places_held one ≡ places_held other = cc same in is_some_by_places one other i rest
+others_stay s hand event place of enough free =
+    laws.others_stay parts_of state_in (wants event) (λ u. step u event) s hand (shows s hand of) (each_framed event s) enough place (ap is_some free)
 
 pub held_determined : (s t : State) (hand : List (Option Part)) (event : CellEvent) (place : ℕ) → IsHandOf hand (parts_of s) → IsHandOf hand (parts_of t)
-    → IsAmong (length s.clients) event → need event hand ≡ [] → is_held hand place ≡ true
-    → slice_get (parts_of (step s event)) place ≡ slice_get (parts_of (step t event)) place
-held_determined s t hand event place of_s of_t among enough held =
-    by_value (held_at (after event hand) place) refl (is_some_by_places (after event hand) hand place (after_holds_the_same event hand) ∙ held)
+    → need event hand ≡ [] → is_held hand place ≡ true → slice_get (parts_of (step s event)) place ≡ slice_get (parts_of (step t event)) place
+held_determined s t hand event place of_s of_t enough held = at s of_s ∙ sym (at t of_t)
   where
-    counted : length s.clients ≡ length t.clients
-    counted = sym (clients_counted s hand of_s) ∙ clients_counted t hand of_t
+    at : (u : State) → IsHandOf hand (parts_of u) → slice_get (parts_of (step u event)) place ≡ slice_get (parts_of (step (state_in hand) event)) place
+    at u of = laws.held_told parts_of state_in (wants event) (λ v. step v event) u hand (shows u hand of) (each_framed event u) enough (each_framed event (state_in hand)) place held
 
-    at : (u : State) → IsHandOf hand (parts_of u) → IsAmong (length u.clients) event → (x : Part) → held_at (after event hand) place ≡ Some x
-        → slice_get (parts_of (step u event)) place ≡ Some x
-    at u of known x e =
-        ap (λ (l : List Part). slice_get l place) (step_laid u hand event of known enough)
-        ∙ laid_over-held (after event hand) (parts_of u) place x (length-by_places (after event hand) hand (after_holds_the_same event hand) ∙ of.places) e
-
-    by_value : (o : Option Part) → held_at (after event hand) place ≡ o → is_some o ≡ true
-        → slice_get (parts_of (step s event)) place ≡ slice_get (parts_of (step t event)) place
-    by_value None e h = absurd (cc h)
-    by_value (Some x) e h = at s of_s among x e ∙ sym (at t of_t (subst (λ (n : ℕ). IsAmong n event) counted among) x e)
+pub shown_grows : (s : State) (hand larger : List (Option Part)) (event : CellEvent) (place : ℕ) → IsHandOf hand (parts_of s) → IsHandOf larger (parts_of s)
+    → ((other : ℕ) → is_held hand other ≡ true → is_held larger other ≡ true) → Contains (shown event hand) place → Contains (shown event larger) place
+shown_grows s hand larger event place of of_larger more is =
+    laws.in_contains (shown event larger) place
+    (laws.shown_grows parts_of state_in (wants event) s hand larger [] (shows s hand of) (shows s larger of_larger) (each_framed event s).stages_told refl more place
+    (laws.contains_in (shown event hand) place is))
 
 -- ---- with all parts
 
-module _ {P : Type 0} where
-  pub all_held_at : (parts : List P) (place : ℕ) (part : P) → slice_get parts place ≡ Some part → held_at (map Some parts) place ≡ Some part
-  all_held_at [] place part there = there
-  all_held_at (x ∷ parts) zero part there = there
-  all_held_at (x ∷ parts) (suc place) part there = all_held_at parts place part there
+pub all_of_them : {P : Type 0} (parts : List P) → IsHandOf (map Some parts) parts
+all_of_them parts = laws.all_of_them parts
 
-  laid_all : (parts others : List P) → length parts ≡ length others → laid_over (map Some parts) others ≡ parts
-  laid_all [] [] same = refl
-  laid_all [] (y ∷ others) same = absurd (omega arith)
-  laid_all (x ∷ parts) [] same = absurd (omega arith)
-  laid_all (x ∷ parts) (y ∷ others) same = let rest : length parts ≡ length others = omega arith in ap (λ (l : List P). x ∷ l) (laid_all parts others rest)
-
-  -- all parts are parts of what they are
-  pub all_of_them : (parts : List P) → IsHandOf (map Some parts) parts
-  all_of_them parts = record { places = length-map parts Some; values = laid_all parts parts refl }
-
-  -- where all are held, they are all of what they are parts of
-  pub all_are : (hand : List (Option P)) (parts : List P) → IsHandOf hand parts → places_held hand ≡ map (λ (part : P). true) parts → hand ≡ map Some parts
-  all_are [] [] of held = refl
-  all_are [] (y ∷ parts) of held = absurd (cc of.places)
-  all_are (h ∷ hand) [] of held = absurd (cc of.places)
-  all_are (None ∷ hand) (y ∷ parts) of held = absurd (cc held)
-  all_are (Some x ∷ hand) (y ∷ parts) of held =
-      let over = of.values in
-      let here : x ≡ y = cc over in
-      let rest : laid_over hand parts ≡ parts = cc over in
-      let same = of.places in
-      let fewer : length hand ≡ length parts = omega (arith, same) in
-      let more : places_held hand ≡ map (λ (part : P). true) parts = cc held in
-      ap₂ (λ (a : P) (l : List (Option P)). Some a ∷ l) here (all_are hand parts (record { places = fewer; values = rest }) more)
-
-  places_all : (parts : List P) → places_held (map Some parts) ≡ map (λ (part : P). true) parts
-  places_all [] = refl
-  places_all (x ∷ parts) = ap (λ (l : List Bool). true ∷ l) (places_all parts)
-
-  -- a hand that holds the same places as all parts, and as many parts
-  pub still_all : (hand : List (Option P)) (parts before : List P) → IsHandOf hand parts → places_held hand ≡ places_held (map Some before) → hand ≡ map Some parts
-  still_all hand parts before of same =
-      let counted : length parts ≡ length before = sym of.places ∙ length-by_places hand (map Some before) same ∙ length-map before Some in
-      all_are hand parts of (same ∙ places_all before ∙ as_many before parts (sym counted))
-    where
-      as_many : (xs ys : List P) → length xs ≡ length ys → map (λ (x : P). true) xs ≡ map (λ (y : P). true) ys
-      as_many [] [] same = refl
-      as_many [] (y ∷ ys) same = absurd (cc same)
-      as_many (x ∷ xs) [] same = absurd (cc same)
-      as_many (x ∷ xs) (y ∷ ys) same = let rest : length xs ≡ length ys = omega arith in ap (λ (l : List Bool). true ∷ l) (as_many xs ys rest)
-
-rows_shown : (rows : List ClientRow) → filter_map row_in (map Some (map client_part rows ++ Semaphores ∷ [])) ≡ rows
-rows_shown [] = refl
-rows_shown (row ∷ rows) = ap (λ (l : List ClientRow). row ∷ l) (rows_shown rows)
+-- a hand that holds the same places as all parts
+pub still_all : {P : Type 0} (hand : List (Option P)) (parts before : List P) → IsHandOf hand parts → places_held hand ≡ places_held (map Some before) → hand ≡ map Some parts
+still_all hand parts before of same = laws.still_all hand parts before of same
 
 -- all parts of a state show the state
 pub shows_itself : (s : State) → state_in (map Some (parts_of s)) ≡ s
-shows_itself s = ap (λ (l : List ClientRow). with_rows l) (rows_shown s.clients)
-  where
-    with_rows : List ClientRow → State
-    with_rows rows = record { now = s.now; clients = rows }
+shows_itself s = (device.cut cell is_device).whole s
+
+-- ---- a part that is changed
+
+module _ {P : Type 0} where
+  -- a change of a held part holds the same places
+  pub change_holds_the_same : (f : P → P) (hand : List (Option P)) (i : ℕ) → places_held (change (option_map f) hand i) ≡ places_held hand
+  change_holds_the_same f [] i = refl
+  change_holds_the_same f (None ∷ hand) zero = refl
+  change_holds_the_same f (Some x ∷ hand) zero = refl
+  change_holds_the_same f (h ∷ hand) (suc i) = ap (λ (l : List Bool). is_some h ∷ l) (change_holds_the_same f hand i)
+
+  -- a part that is held is changed in the hand as in the list
+  pub change_is_held : (f : P → P) (hand : List (Option P)) (parts : List P) (i : ℕ) → IsHandOf hand parts → is_some (held_at hand i) ≡ true
+      → IsHandOf (change (option_map f) hand i) (change f parts i)
+  change_is_held f [] [] i of held = of
+  change_is_held f [] (y ∷ parts) i of held = absurd (cc held)
+  change_is_held f (h ∷ hand) [] i of held = let same = of.places in absurd (omega (arith, same))
+  change_is_held f (h ∷ hand) (part ∷ parts) i of held = by_place h i (first of.values) (rest of.values) held
+      (λ j e. change_is_held f hand parts j (record { places = fewer; values = rest of.values }) e)
+    where
+      first : {p q : P} {ps qs : List P} → p ∷ ps ≡ q ∷ qs → p ≡ q
+      first e = cc e
+
+      rest : {p q : P} {ps qs : List P} → p ∷ ps ≡ q ∷ qs → ps ≡ qs
+      rest e = cc e
+
+      fewer : length hand ≡ length parts
+      fewer = let same = of.places in omega (arith, same)
+
+      by_place : (o : Option P) (j : ℕ) → unwrap_or o part ≡ part → laid_over hand parts ≡ parts → is_some (held_at (o ∷ hand) j) ≡ true
+          → ((k : ℕ) → is_some (held_at hand k) ≡ true → IsHandOf (change (option_map f) hand k) (change f parts k))
+          → IsHandOf (change (option_map f) (o ∷ hand) j) (change f (part ∷ parts) j)
+      by_place None zero a b e more = absurd (cc e)
+      by_place (Some x) zero a b e more = record { places = omega (arith, fewer); values = ap₂ (λ (p : P) (l : List P). p ∷ l) (ap f a) b }
+      by_place o (suc k) a b e more =
+          let tail = more k e in
+          let many = tail.places in
+          record { places = omega (arith, many); values = ap₂ (λ (p : P) (l : List P). p ∷ l) a tail.values }

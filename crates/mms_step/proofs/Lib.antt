@@ -1,6 +1,6 @@
-pub mod Changed
-pub mod PartsAfter
-pub mod Holding
-pub mod Showing
-pub mod Enough
 pub mod AllParts
+pub mod Changed
+pub mod Enough
+pub mod Holding
+pub mod Needed
+pub mod PartsAfter

@@ -1,20 +1,32 @@
--- The step on a state is the step on its parts.
-use Rattle.std.specs.Prelude.{◌≡◌, ℕ, zero, suc, ◌+◌, ◌-◌, ◌≤◌, ◌<◌, List, [], ◌∷◌, ◌++◌, map, fold, length, refl}
-use Rattle.std.proofs.Common.{ap, sym, ◌∙◌, arith, length-append}
+-- What each event makes of a state.
+use Rattle.std.specs.Prelude.{◌≡◌, ℕ, zero, suc, ◌+◌, ◌-◌, ◌≤◌, ◌<◌, Bool, true, false, Option, List, [], ◌∷◌, ◌++◌, map, fold, length, slice_get, unwrap_or, if◌then◌else◌, refl}
+use Rattle.std.proofs.Common.{ap, ap₂, sym, ◌∙◌, arith, length-append}
 use Rattle.std.proofs.lemmas.List.{length-map, map-append}
-use Rattle.mms_types.specs.Actors.{clients_to, IsAmong}
+use Rattle.mms_types.specs.Actors.{clients_to}
 use Rattle.mms_types.specs.declared.event.CellEvent.{CellEvent}
 use Rattle.mms_types.specs.declared.event.CellEvent.TheVariants.{Heard, Lost, Tick, Ends, Drain}
+use Rattle.mms_types.specs.declared.service_error.ServiceError.{ServiceError}
+use Rattle.mms_types.specs.declared.pdu.Request.{Request}
+use Rattle.mms_types.specs.declared.pdu.Request.TheVariants as request
+use Rattle.mms_types.specs.declared.pdu.Answer.{Answer}
 use Rattle.association.specs.Client.{ClientRow, new_row, drained_row}
-use Rattle.mms_step.specs.declared.part.Part.{Part}
-use Rattle.mms_step.specs.declared.part.Part.TheVariants.{Clock, Variables, Domains, Programs, Conditions, Journals, Semaphores}
 use Rattle.cell_config.specs.declared.config.Config.{Config}
 use Rattle.cell_config.specs.Said.{IsConfig}
+use Rattle.parted_state.specs.Served.{change}
+use Rattle.parted_state.specs.Served as parted
+use Rattle.parted_state.specs.ServedLaws as served
+use Rattle.mms_step.specs.declared.part.Part.{Part}
+use Rattle.mms_step.specs.declared.part.Part.TheVariants.{Clock, Variables, Domains, Programs, Conditions, Journals, Semaphores}
 use Rattle.mms_step.specs.State.{State, start, device_of, first_rows, IsSound}
-use Rattle.mms_step.specs.Association.{hear, lose}
-use Rattle.mms_step.specs.Step.{change, step, with_client, replay, MayCome, MayFollow}
-use Rattle.mms_step.specs.Partition.{parts_of, client_part, client_place}
-use Rattle.mms_step.specs.After.{parts_after, on_client}
+use Rattle.mms_step.specs.Tables.{Tables}
+use Rattle.mms_step.specs.Effects.{Effect, felt, felt_all, tell}
+use Rattle.mms_step.specs.Association.{Verdict, Takes, verdict, loss_told}
+use Rattle.mms_step.specs.Services.{cause, effect, request_told}
+use Rattle.mms_step.specs.Serving.{size_of, is_served, tables_heard, own_told, also_told, serves, services}
+use Rattle.mms_step.specs.Meant.{no_tables, row_heard}
+use Rattle.mms_step.specs.Partition.{cell, parts_of, client_part, client_place, on_client, no_client}
+use Rattle.mms_step.specs.AfterLaws.{is_device}
+use Rattle.mms_step.specs.Step.{step, replay, MayCome, MayFollow}
 
 module _ {A : Type 0} where
   pub change-append : (f : A → A) (xs ys : List A) (i : ℕ) → i < length xs → change f (xs ++ ys) i ≡ change f xs i ++ ys
@@ -27,6 +39,22 @@ module _ {A : Type 0} where
   length-change f [] i = refl
   length-change f (x ∷ xs) zero = refl
   length-change f (x ∷ xs) (suc i) = omega (arith, length-change f xs i)
+
+  change-none : (xs : List A) (i : ℕ) → change (λ x. x) xs i ≡ xs
+  change-none [] i = refl
+  change-none (x ∷ xs) zero = refl
+  change-none (x ∷ xs) (suc i) = ap (λ (l : List A). x ∷ l) (change-none xs i)
+
+  change-twice : (f g : A → A) (xs : List A) (i : ℕ) → change f (change g xs i) i ≡ change (λ x. f (g x)) xs i
+  change-twice f g [] i = refl
+  change-twice f g (x ∷ xs) zero = refl
+  change-twice f g (x ∷ xs) (suc i) = ap (λ (l : List A). x ∷ l) (change-twice f g xs i)
+
+  -- what is changed is the one that stands there
+  change-here : (f g : A → A) (xs : List A) (i : ℕ) (d : A) → i < length xs → f (unwrap_or (slice_get xs i) d) ≡ g (unwrap_or (slice_get xs i) d) → change f xs i ≡ change g xs i
+  change-here f g [] i d within same = absurd (omega arith)
+  change-here f g (x ∷ xs) zero d within same = ap (λ (y : A). y ∷ xs) same
+  change-here f g (x ∷ xs) (suc i) d within same = ap (λ (l : List A). x ∷ l) (change-here f g xs i d (omega arith) same)
 
 pub change-map : {A B : Type 0} (g : B → B) (f : A → A) (h : A → B) → ((x : A) → g (h x) ≡ h (f x)) → (xs : List A) (i : ℕ)
     → change g (map h xs) i ≡ map h (change f xs i)
@@ -41,6 +69,10 @@ length-parts s =
     let rows : length (map client_part s.clients ++ Semaphores ∷ []) ≡ length (map client_part s.clients) + 1 = length-append (map client_part s.clients) (Semaphores ∷ []) in
     omega (arith, rows, length-map s.clients client_part)
 
+-- the row of a client is changed
+abbrev pub with_client : State → ℕ → (ClientRow → ClientRow) → State
+with_client s client f = record s { clients = change f s.clients (client - 1) }
+
 pub in_front : (client : ℕ) → 1 ≤ client → client_place client ≡ suc (suc (suc (suc (suc (suc (client - 1))))))
 in_front client some = omega arith
 
@@ -54,12 +86,109 @@ client_changed s client f some there =
     ap (λ (l : List Part). Clock s.now ∷ Variables ∷ Domains ∷ Programs ∷ Conditions ∷ Journals ∷ l) (sym rest)
     ∙ ap (λ (i : ℕ). change (on_client f) (parts_of s) i) (sym (in_front client some))
 
-pub parts_step : (s : State) (event : CellEvent) → IsAmong (length s.clients) event → parts_of (step s event) ≡ parts_after event (parts_of s)
-parts_step s (Heard client octets) among = client_changed s client (λ row. hear row octets) among.0 among.1
-parts_step s (Lost client) among = client_changed s client lose among.0 among.1
-parts_step s (Tick ms) among = refl
-parts_step s (Ends name) among = refl
-parts_step s (Drain client) among = client_changed s client drained_row among.0 among.1
+-- ---- what is told to one client changes its row
+
+told_one : (effects : List Effect) (i : ℕ) (rows : List ClientRow) → parted.delivered cell (tell (suc i) effects) rows ≡ change (felt_all effects) rows i
+told_one [] i rows = sym (change-none rows i)
+told_one (effect ∷ effects) i rows = told_one effects i (change (felt effect) rows i) ∙ change-twice (felt_all effects) (felt effect) rows i
+
+-- no service reads a table yet, nor tells another client, nor changes anything
+no_cause : (t : Tables) (row : ClientRow) (asked : Request) → cause t row asked ≡ cause no_tables row asked
+no_cause t row (request.GetNameList x) = refl
+no_cause t row asked = refl
+
+no_answer : (t : Tables) (row : ClientRow) (asked : Request) → (effect t row asked).answer ≡ (effect no_tables row asked).answer
+no_answer t row (request.GetNameList x) = refl
+no_answer t row asked = refl
+
+no_also : (t : Tables) (row : ClientRow) (asked : Request) → (effect t row asked).also ≡ []
+no_also t row (request.GetNameList x) = refl
+no_also t row asked = refl
+
+no_change : (t : Tables) (row : ClientRow) (asked : Request) → (effect t row asked).tables ≡ t
+no_change t row (request.GetNameList x) = refl
+no_change t row asked = refl
+
+pub own_same : (t : Tables) (row : ClientRow) (v : Verdict) → own_told t row v ≡ own_told no_tables row v
+own_same t row (Takes invoke asked) =
+    ap₂ (λ (c : Option ServiceError) (a : Option Answer). request_told (size_of row.association) invoke c a) (no_cause t row asked) (no_answer t row asked)
+own_same t row other = refl
+
+pub none_also : (t : Tables) (row : ClientRow) (v : Verdict) → also_told t row v ≡ []
+none_also t row (Takes invoke asked) = by_test (is_served t row invoke asked)
+  where
+    by_test : (b : Bool) → (if b then (effect t row asked).also else []) ≡ []
+    by_test true = no_also t row asked
+    by_test false = refl
+none_also t row other = refl
+
+none_changed : (t : Tables) (row : ClientRow) (v : Verdict) → tables_heard t row v ≡ t
+none_changed t row (Takes invoke asked) = by_test (is_served t row invoke asked)
+  where
+    by_test : (b : Bool) → (if b then (effect t row asked).tables else t) ≡ t
+    by_test true = no_change t row asked
+    by_test false = refl
+none_changed t row other = refl
+
+append_none : {A : Type 0} (xs : List A) → xs ++ [] ≡ xs
+append_none [] = refl
+append_none {A} (x ∷ xs) = ap (λ (l : List A). x ∷ l) (append_none xs)
+
+-- ---- each event
+
+pub heard_told : (t : Tables) (row : ClientRow) (client : ℕ) (octets : List ℕ)
+    → (serves t row (Heard client octets)).told ≡ tell client (own_told no_tables row (verdict row octets))
+heard_told t row client octets =
+    ap₂ (λ (own : List Effect) (also : List (ℕ × Effect)). tell client own ++ also) (own_same t row (verdict row octets)) (none_also t row (verdict row octets))
+    ∙ append_none (tell client (own_told no_tables row (verdict row octets)))
+
+pub step_heard : (s : State) (client : ℕ) (octets : List ℕ) → 1 ≤ client → client ≤ length s.clients
+    → step s (Heard client octets) ≡ with_client s client (λ row. row_heard row octets)
+step_heard s zero octets some there = absurd (omega arith)
+step_heard s (suc i) octets some there =
+    let row = parted.row_of cell services s (Heard (suc i) octets) in
+    let first : suc i - 1 ≡ i = omega arith in
+    ap₂ (λ (t : Tables) (rows : List ClientRow). at t rows) (none_changed (cell.tables_of s) row (verdict row octets))
+    (ap (λ (told : List (ℕ × Effect)). parted.delivered cell told s.clients) (heard_told (cell.tables_of s) row (suc i) octets)
+    ∙ told_one (own_told no_tables row (verdict row octets)) i s.clients
+    ∙ change-here (felt_all (own_told no_tables row (verdict row octets))) (λ r. row_heard r octets) s.clients i no_client (omega arith) refl
+    ∙ ap (λ (k : ℕ). change (λ r. row_heard r octets) s.clients k) (sym first))
+  where
+    at : Tables → List ClientRow → State
+    at t rows = record { now = t.now; clients = rows }
+
+pub step_lost : (s : State) (client : ℕ) → 1 ≤ client → client ≤ length s.clients
+    → step s (Lost client) ≡ with_client s client (λ row. felt_all (loss_told row.association) row)
+step_lost s zero some there = absurd (omega arith)
+step_lost s (suc i) some there =
+    let row = parted.row_of cell services s (Lost (suc i)) in
+    let first : suc i - 1 ≡ i = omega arith in
+    ap (λ (rows : List ClientRow). at rows)
+    (told_one (loss_told row.association) i s.clients
+    ∙ change-here (felt_all (loss_told row.association)) (λ r. felt_all (loss_told r.association) r) s.clients i no_client (omega arith) refl
+    ∙ ap (λ (k : ℕ). change (λ r. felt_all (loss_told r.association) r) s.clients k) (sym first))
+  where
+    at : List ClientRow → State
+    at rows = record { now = s.now; clients = rows }
+
+pub step_drained : (s : State) (client : ℕ) → 1 ≤ client → client ≤ length s.clients → step s (Drain client) ≡ with_client s client drained_row
+step_drained s zero some there = absurd (omega arith)
+step_drained s (suc i) some there =
+    let first : suc i - 1 ≡ i = omega arith in
+    ap (λ (k : ℕ). at (change drained_row s.clients k)) (sym first)
+  where
+    at : List ClientRow → State
+    at rows = record { now = s.now; clients = rows }
+
+-- as many clients
+pub step_sized : (s : State) (event : CellEvent) → length (step s event).clients ≡ length s.clients
+step_sized s event = served.length-delivered cell is_device (parted.done_of cell services s event).told s.clients
+
+-- the moment moves by ticks alone
+pub step_still : (s : State) (client : ℕ) (octets : List ℕ) → (step s (Heard client octets)).now ≡ s.now
+step_still s client octets =
+    let row = parted.row_of cell services s (Heard client octets) in
+    ap (λ (t : Tables). t.now) (none_changed (cell.tables_of s) row (verdict row octets))
 
 -- ---- what holds of each state
 
@@ -75,17 +204,18 @@ start_sound config is =
     let counted = length-start config in
     record { some = omega (arith, counted, is.some_client); few = omega (arith, counted, is.few_clients); dated = omega (arith, is.dated) }
 
-client_sound : (s : State) (client : ℕ) (f : ClientRow → ClientRow) → IsSound s → IsSound (with_client s client f)
-client_sound s client f sound =
-    let same = length-change f s.clients (client - 1) in
-    record { some = omega (arith, same); few = omega (arith, same); dated = sound.dated }
-
 pub step_sound : (s : State) (event : CellEvent) → IsSound s → MayCome s event → IsSound (step s event)
-step_sound s (Heard client octets) sound may = client_sound s client (λ row. hear row octets) sound
-step_sound s (Lost client) sound may = client_sound s client lose sound
+step_sound s (Heard client octets) sound may =
+    let same = step_sized s (Heard client octets) in
+    let now = step_still s client octets in
+    let before = sound.dated in
+    record { some = omega (arith, same, sound.some); few = omega (arith, same, sound.few); dated = omega (arith, now, before) }
+step_sound s (Lost client) sound may =
+    let same = step_sized s (Lost client) in record { some = omega (arith, same, sound.some); few = omega (arith, same, sound.few); dated = sound.dated }
 step_sound s (Tick ms) sound may = record { some = sound.some; few = sound.few; dated = may.time }
 step_sound s (Ends name) sound may = sound
-step_sound s (Drain client) sound may = client_sound s client drained_row sound
+step_sound s (Drain client) sound may =
+    let same = step_sized s (Drain client) in record { some = omega (arith, same, sound.some); few = omega (arith, same, sound.few); dated = sound.dated }
 
 sound_along : (s : State) (history : List CellEvent) → IsSound s → MayFollow s history → IsSound (fold step s history)
 sound_along s [] sound may = sound

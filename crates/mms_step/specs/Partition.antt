@@ -1,34 +1,22 @@
 -- The parts that the state is cut into, each a thing that one caller at a time can hold (this profile's choice).
-use Rattle.std.specs.Prelude.{◌≡◌, ℕ, ◌+◌, ◌-◌, List, [], ◌∷◌, ◌++◌, map, Option, None, Some}
-use Rattle.std.specs.List.{filter_map}
+use Rattle.std.specs.Prelude.{◌≡◌, ℕ, ◌+◌, ◌-◌, List, [], ◌∷◌, ◌++◌, map, Option, Some}
 use Rattle.mms_types.specs.declared.event.What.{What}
 use Rattle.association.specs.Client.{ClientRow, new_row, Client as RoomyRow}
 use Rattle.association.specs.declared.constants.Constants.{Constants}
 use Rattle.mms_types.specs.declared.identifier.Edition.TheVariants.{One}
 use Rattle.part_table.specs.Held.{held_at}
+use Rattle.parted_state.specs.Served.{Device}
+use Rattle.parted_state.specs.Served as parted
 use Rattle.mms_step.specs.declared.part.Part.{Part}
 use Rattle.mms_step.specs.declared.part.Part.TheVariants.{Clock, Variables, Domains, Programs, Conditions, Journals, Client, Semaphores}
 use Rattle.mms_step.specs.State.{State}
+use Rattle.mms_step.specs.Effects.{Effect, felt}
+use Rattle.mms_step.specs.Tables.{Tables}
 
 -- With n clients there are n + 7 parts: 0 the clock, 1 variables and their lists, 2 domains and uploads, 3 program invocations, 4 event conditions and
 -- enrolments, 5 journals, 5 + c client c, 6 + n semaphores.
 abbrev pub clock_place : ℕ
 clock_place = 0
-
-abbrev pub variables_place : ℕ
-variables_place = 1
-
-abbrev pub domains_place : ℕ
-domains_place = 2
-
-abbrev pub programs_place : ℕ
-programs_place = 3
-
-abbrev pub conditions_place : ℕ
-conditions_place = 4
-
-abbrev pub journals_place : ℕ
-journals_place = 5
 
 abbrev pub client_place : ℕ → ℕ
 client_place client = 5 + client
@@ -58,28 +46,36 @@ abbrev pub clock_in : Option Part → ℕ
 clock_in (Some (Clock now)) = now
 clock_in other = 0
 
--- the row, where a client's part is held
-abbrev pub row_in : Option Part → Option ClientRow
-row_in (Some (Client client)) = Some client.row
-row_in other = None
+-- what stands where there is no client
+abbrev pub no_device : Constants
+no_device = record { edition = One; vendor = []; model = []; revision = [] }
 
--- the state that held parts show: the moment, and the rows of the clients that are held
-abbrev pub state_in : List (Option Part) → State
-state_in hand = record { now = clock_in (held_at hand 0); clients = filter_map row_in hand }
+abbrev pub no_client : ClientRow
+no_client = new_row 0 no_device
+
+-- the row, where a client's part is held
+abbrev pub row_in : Option Part → ClientRow
+row_in (Some (Client client)) = client.row
+row_in other = no_client
 
 -- what is to be sent, where a client's part is held
 abbrev pub outbox_held : Option Part → List What
 outbox_held (Some (Client client)) = client.row.outbox
 outbox_held other = []
 
--- what stands where there is no client
-abbrev pub nobody : Constants
-nobody = record { edition = One; vendor = []; model = []; revision = [] }
-
 -- a client's part, or that of no client where none is held
 abbrev pub client_in : Option Part → RoomyRow
 client_in (Some (Client client)) = client
-client_in other = settled (new_row 0 nobody)
+client_in other = settled no_client
+
+-- the part of a client with its row changed, and the clock with its moment changed
+abbrev pub on_client : (ClientRow → ClientRow) → Part → Part
+on_client f (Client client) = client_part (f client.row)
+on_client f other = other
+
+abbrev pub on_clock : (ℕ → ℕ) → Part → Part
+on_clock f (Clock now) = Clock (f now)
+on_clock f other = other
 
 -- the clock is held, and a client's part
 abbrev pub IsClock : Option Part → Type 0
@@ -87,3 +83,25 @@ IsClock part = part ≡ Some (Clock (clock_in part))
 
 abbrev pub IsClient : Option Part → Type 0
 IsClient part = part ≡ Some (Client (client_in part))
+
+-- ---- the device, as tables and clients
+
+-- Where a part isn't held, its table is empty in what is shown.
+abbrev pub cell : Device State Tables ClientRow Effect Part
+cell = record {
+  tables_of = λ s. record { now = s.now };
+  clients_of = λ s. s.clients;
+  state_of = λ t rows. record { now = t.now; clients = rows };
+  table_parts = λ t. Clock t.now ∷ Variables ∷ Domains ∷ Programs ∷ Conditions ∷ Journals ∷ Semaphores ∷ [];
+  tables = 7;
+  last = 5;
+  client_part = client_part;
+  tables_in = λ hand. record { now = clock_in (held_at hand 0) };
+  row_in = row_in;
+  nobody = no_client;
+  felt = felt;
+}
+
+-- the state that held parts show: the moment, and the rows of the clients
+abbrev pub state_in : List (Option Part) → State
+state_in hand = parted.state_in cell hand

@@ -1,36 +1,19 @@
 -- One event of the device, and what a history of events leads to (ISO 9506-1, the virtual manufacturing device).
-use Rattle.std.specs.Prelude.{ℕ, zero, suc, ◌+◌, ◌-◌, ◌≤◌, List, [], ◌∷◌, fold, length, slice_get, Option, None, Some}
+use Rattle.std.specs.Prelude.{ℕ, ◌+◌, ◌-◌, ◌≤◌, List, [], ◌∷◌, fold, length, slice_get, Option, None, Some}
 use Rattle.mms_types.specs.Actors.{IsAmong}
 use Rattle.mms_types.specs.declared.event.What.{What}
 use Rattle.mms_types.specs.declared.event.CellEvent.{CellEvent}
-use Rattle.mms_types.specs.declared.event.CellEvent.TheVariants.{Heard, Lost, Tick, Ends, Drain}
-use Rattle.association.specs.Client.{ClientRow, drained_row}
+use Rattle.mms_types.specs.declared.event.CellEvent.TheVariants.{Tick}
+use Rattle.association.specs.Client.{ClientRow}
 use Rattle.cell_config.specs.declared.config.Config.{Config}
+use Rattle.parted_state.specs.Served as parted
 use Rattle.mms_step.specs.State.{State, start, last_moment}
-use Rattle.mms_step.specs.Association.{hear, lose}
+use Rattle.mms_step.specs.Partition.{cell}
+use Rattle.mms_step.specs.Serving.{services}
 
--- the one at a place is changed
-abbrev pub change : {A : Type 0} → (A → A) → List A → ℕ → List A
-change f [] place = []
-change f (x ∷ xs) zero = f x ∷ xs
-change f (x ∷ xs) (suc place) = x ∷ change f xs place
-
--- the row of a client is changed
-abbrev pub with_client : State → ℕ → (ClientRow → ClientRow) → State
-with_client s client f = record s { clients = change f s.clients (client - 1) }
-
--- time goes by up to a moment: there is no deadline yet
-abbrev pub tick : ℕ → State → State
-tick until s = record s { now = until }
-
--- one event: octets are heard from a client, its association is lost, time goes by, a program invocation ends (there is none yet), or what is to be sent
--- to a client is taken away
+-- one event: the tables become what it makes of them, and each client's row what it is told
 abbrev pub step : State → CellEvent → State
-step s (Heard client octets) = with_client s client (λ row. hear row octets)
-step s (Lost client) = with_client s client lose
-step s (Tick ms) = tick (s.now + ms) s
-step s (Ends name) = s
-step s (Drain client) = with_client s client drained_row
+step s event = parted.step cell services s event
 
 -- the state after a history of events, from the start of a configured device on
 abbrev pub replay : Config → List CellEvent → State

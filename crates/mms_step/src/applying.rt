@@ -6,13 +6,17 @@ ghost use Rattle.mms_types.specs.Actors.{IsAmong};
 ghost use Rattle.mms_types.specs.declared.event.CellEvent.TheVariants.{Drain};
 ghost use Rattle.association.specs.Client.{drained_row};
 ghost use Rattle.part_table.specs.Held.{held_at, places_held, IsHandOf};
+ghost use Rattle.parted_state.specs.Served.{change};
 ghost use Rattle.mms_step.specs.State.{State, IsSound, last_moment};
-ghost use Rattle.mms_step.specs.Association.{hear, lose};
-ghost use Rattle.mms_step.specs.Step.{change, step, IsInTime};
-ghost use Rattle.mms_step.specs.Partition.{parts_of, clients_among, clock_in, client_place, outbox_held, IsClock, IsClient};
+ghost use Rattle.mms_step.specs.Association.{loss_told};
+ghost use Rattle.mms_step.specs.Effects.{felt_all};
+ghost use Rattle.mms_step.specs.Meant.{row_heard};
+ghost use Rattle.mms_step.specs.Step.{step, IsInTime};
+ghost use Rattle.mms_step.specs.Partition.{parts_of, clients_among, clock_in, client_place, outbox_held, on_client, on_clock, IsClock, IsClient};
 ghost use Rattle.mms_step.specs.Needs.{need};
-ghost use Rattle.mms_step.specs.After.{after, on_client, on_clock};
+ghost use Rattle.mms_step.specs.After.{after};
 
+use crate::tables::BEFORE_CLIENTS;
 use crate::{Cell, Part};
 use mms_types::{CellEvent, Memory, What};
 use part_table::Hand;
@@ -22,10 +26,10 @@ use std::alloc::Global;
 fn hear_from(alloc: Global, held: &mut Hand<Cell>, client: u32, octets: &[u8]) -> Result<(), Memory>
     requires small { client ≤ 64 }
     requires held { IsClient (held_at held.old (client_place client)) }
-    ensures heard { OnOk result (held.new ≡ change (option_map (on_client (λ row. hear row octets.now))) held.old (client_place client)) }
+    ensures heard { OnOk result (held.new ≡ change (option_map (on_client (λ row. row_heard row octets.now))) held.old (client_place client)) }
     ensures kept { OnErr result (held.new ≡ held.old) }
 {
-    let place = 5 + client;
+    let place = BEFORE_CLIENTS + client;
     let Some(mut part) = held.take(place) else {
         unreachable!()
     };
@@ -41,9 +45,9 @@ fn hear_from(alloc: Global, held: &mut Hand<Cell>, client: u32, octets: &[u8]) -
 fn lose(held: &mut Hand<Cell>, client: u32)
     requires small { client ≤ 64 }
     requires held { IsClient (held_at held.old (client_place client)) }
-    ensures { held.new ≡ change (option_map (on_client lose)) held.old (client_place client) }
+    ensures { held.new ≡ change (option_map (on_client (λ row. felt_all (loss_told row.association) row))) held.old (client_place client) }
 {
-    let place = 5 + client;
+    let place = BEFORE_CLIENTS + client;
     let Some(mut part) = held.take(place) else {
         unreachable!()
     };
@@ -75,9 +79,11 @@ pub fn drain(client: u32, held: &mut Hand<Cell>) -> Vec<What>
     requires small { client ≤ 64 }
     requires held { IsClient (held_at held.old (client_place client)) }
     ensures outputs { result.items ≡ outbox_held (held_at held.old (client_place client)) }
-    ensures parts { held.new ≡ after (Drain client) held.old }
+    ensures emptied { held.new ≡ change (option_map (on_client drained_row)) held.old (client_place client) }
+    // Of a state that has that client, they are then the parts after the event.
+    ensures parts { (s : State) → IsHandOf held.old (parts_of s) → IsAmong (length s.clients) (Drain client) → held.new ≡ after (Drain client) held.old }
 {
-    let place = 5 + client;
+    let place = BEFORE_CLIENTS + client;
     let Some(mut part) = held.take(place) else {
         unreachable!()
     };

@@ -11,6 +11,9 @@ mod needs;
 mod opening;
 mod part;
 mod places;
+mod service;
+mod tables;
+mod verdict;
 
 pub use applying::{apply, drain};
 pub use cell::Cell;

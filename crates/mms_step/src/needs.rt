@@ -1,42 +1,27 @@
 //! Which parts an event needs.
 
-ghost use Rattle.std.specs.Prelude.{◌≡◌, ◌≢◌, ◌+◌, ◌≤◌, [], ◌∷◌, ◌++◌, length, IfOk, OnOk};
+ghost use Rattle.std.specs.Prelude.{◌≡◌, ◌+◌, ◌<◌, ◌≤◌, [], Some, length, IfOk};
 ghost use Rattle.mms_types.specs.Actors.{IsAmong};
-ghost use Rattle.association.specs.Admission.{admission};
-ghost use Rattle.association.specs.Waiting.{is_waiting};
 ghost use Rattle.part_table.specs.Held.{held_at, IsHandOf};
+ghost use Rattle.mms_step.specs.Meant.{meant, no_tables};
 ghost use Rattle.mms_step.specs.State.{State, IsSound};
-ghost use Rattle.mms_step.specs.Partition.{parts_of, clients_among, row_in, client_place};
-ghost use Rattle.mms_step.specs.Needs.{is_held, footprint, loss, conclusion, cancellation, class_places, listing, serving, asks_for, heard_by, lost_by, hearing, losing, further, shown, need};
+ghost use Rattle.mms_step.specs.Serving.{heard_asks, heard_more, loss_asks};
+ghost use Rattle.mms_step.specs.Tables.{loss_tables};
+ghost use Rattle.parted_state.specs.Cut.{missing};
+ghost use Rattle.mms_step.specs.Partition.{parts_of, client_place, clients_among, IsClient};
+ghost use Rattle.mms_step.specs.Needs.{footprint, heard_need, need, placed, two_stages};
 
-use crate::client::heard;
-use crate::{Cell, Part, Parts};
-use association::{Association, ClientPart, NotAdmitted};
-use mms_pdu::Refusal;
-use mms_types::{CellEvent, Memory, ObjectClass, ObjectScope, Pdu, Request};
+use crate::places::Parts;
+use crate::service::{request_asks, request_more};
+use crate::tables::{
+    BEFORE_CLIENTS, CLOCK, CONDITIONS, DOMAINS, JOURNALS, PROGRAMS, VARIABLES, semaphores,
+};
+use crate::verdict::{Found, read, verdict_of};
+use crate::{Cell, Part};
+use association::ClientPart;
+use mms_types::{CellEvent, Memory};
 use part_table::Hand;
 use std::alloc::Global;
-
-/// The parts by their numbers; that of client c is 5 + c, and the semaphores' with n clients 6 + n.
-pub(crate) const CLOCK: u8 = 0;
-
-const VARIABLES: u8 = 1;
-
-const DOMAINS: u8 = 2;
-
-const PROGRAMS: u8 = 3;
-
-const CONDITIONS: u8 = 4;
-
-const JOURNALS: u8 = 5;
-
-/// The number of the semaphores' part.
-fn semaphores(clients: u32) -> u8
-    requires { clients ≤ 64 }
-    ensures { result ≡ 6 + clients }
-{
-    6 + clients as u8
-}
 
 /// The parts that an event's words alone tell, with so many clients.
 pub fn footprint(event: &CellEvent, clients: u32) -> Parts
@@ -45,210 +30,140 @@ pub fn footprint(event: &CellEvent, clients: u32) -> Parts
     requires among { IsAmong clients event.now }
     ensures { result ≡ footprint clients event.now }
 {
-    let mut parts = Parts::new();
     match event {
         CellEvent::Heard { client, .. }
         | CellEvent::Lost { client }
-        | CellEvent::Drain { client } => parts.push(5 + *client as u8),
-        CellEvent::Tick { .. } => {
-            parts.push(CLOCK);
-            parts.push(CONDITIONS);
-            parts.push(semaphores(clients));
-        }
-        CellEvent::Ends { .. } => parts.push(PROGRAMS),
+        | CellEvent::Drain { client } => Parts::of(&[(BEFORE_CLIENTS + *client) as u8]),
+        CellEvent::Tick { .. } => Parts::of(&[CLOCK, CONDITIONS, semaphores(clients)]),
+        CellEvent::Ends { .. } => Parts::of(&[PROGRAMS]),
     }
-    parts
 }
 
-/// Appends what the loss of a client touches beside its own part.
-fn push_loss(parts: &mut Parts, clients: u32)
+/// The parts of the tables in which a client may have anything.
+fn loss_parts(clients: u32) -> Parts
     requires few { clients ≤ 64 }
-    requires room { length parts.old + 6 ≤ 256 }
-    ensures { parts.new ≡ parts.old ++ loss clients }
+    ensures { result ≡ placed clients loss_tables }
 {
-    parts.push(CLOCK);
-    parts.push(VARIABLES);
-    parts.push(DOMAINS);
-    parts.push(CONDITIONS);
-    parts.push(JOURNALS);
-    parts.push(semaphores(clients));
+    Parts::of(&[
+        CLOCK,
+        VARIABLES,
+        DOMAINS,
+        CONDITIONS,
+        JOURNALS,
+        semaphores(clients),
+    ])
 }
 
-/// Appends what a conclusion asks for.
-fn push_conclusion(parts: &mut Parts, clients: u32, held: &Hand<Cell>, part: &ClientPart)
+/// The parts of the tables that are used by what octets come to.
+fn heard_asks(found: &Found<'_>, clients: u32) -> Parts
     requires few { clients ≤ 64 }
-    requires room { length parts.old + 6 ≤ 256 }
-    ensures { parts.new ≡ parts.old ++ conclusion clients part.now.row.waiting (is_held held.now 2) }
+    ensures { result ≡ placed clients (heard_asks (meant found.now)) }
 {
-    if part.waiting_at(0).is_some() {
-        return;
+    match *found {
+        Found::Tells(_) => Parts::new(),
+        Found::Takes(_, asked) => request_asks(asked, clients),
+        Found::Concludes => Parts::of(&[DOMAINS]),
+        Found::Cancels(_) => Parts::of(&[CLOCK, semaphores(clients)]),
+        Found::Aborts => loss_parts(clients),
     }
-    if held.holds(u32::from(DOMAINS)) {
-        push_loss(parts, clients);
+}
+
+/// The parts of the tables that are used beside those, by what they show.
+fn heard_more(part: &ClientPart, found: &Found<'_>, clients: u32) -> Parts
+    requires few { clients ≤ 64 }
+    ensures { result ≡ placed clients (heard_more no_tables part.now.row (meant found.now)) }
+{
+    match *found {
+        Found::Takes(_, asked) => request_more(part, asked, clients),
+        Found::Concludes => Parts::of(&[
+            CLOCK,
+            VARIABLES,
+            CONDITIONS,
+            JOURNALS,
+            semaphores(clients),
+        ]),
+        Found::Tells(_) | Found::Cancels(_) | Found::Aborts => Parts::new(),
+    }
+}
+
+/// The parts of the tables that the loss of a client uses.
+fn loss_asks(part: &ClientPart, clients: u32) -> Parts
+    requires few { clients ≤ 64 }
+    ensures { result ≡ placed clients (loss_asks part.now.row.association) }
+{
+    if part.negotiated().is_some() {
+        loss_parts(clients)
     } else {
-        parts.push(DOMAINS);
+        Parts::new()
     }
 }
 
-/// Appends what a cancel-Request asks for.
-fn push_cancel(parts: &mut Parts, clients: u32, part: &ClientPart, invoke: u32)
-    requires few { clients ≤ 64 }
-    requires room { length parts.old + 6 ≤ 256 }
-    requires open { part.now.row.association ≢ Association.Idle }
-    ensures { parts.new ≡ parts.old ++ cancellation clients (is_waiting invoke part.now.row.waiting) }
+/// Those of the parts that are not held, and where all of them are, those of the further ones.
+fn missing_of(first: &Parts, second: &Parts, held: &Hand<Cell>) -> Parts
+    ensures { result ≡ two_stages held.now first.now second.now }
 {
-    match part.admit(invoke) {
-        Err(NotAdmitted::Waiting) => {
-            parts.push(CLOCK);
-            parts.push(semaphores(clients));
-        }
-        _ => {}
+    let missing = first.missing(held);
+    if missing.is_empty() {
+        second.missing(held)
+    } else {
+        missing
     }
 }
 
-/// Appends the part with the names of a class, where it has one.
-fn push_class(parts: &mut Parts, clients: u32, class: ObjectClass)
-    requires few { clients ≤ 64 }
-    requires room { length parts.old + 1 ≤ 256 }
-    ensures { parts.new ≡ parts.old ++ class_places clients class }
+/// The part of a client, which is held.
+fn client_held(held: &Hand<Cell>, client: u32) -> &ClientPart
+    requires small { client ≤ 64 }
+    requires held { IsClient (held_at held.now (client_place client)) }
+    ensures { held_at held.now (client_place client) ≡ Some (Part.Client result.now) }
 {
-    match class {
-        ObjectClass::NamedVariable | ObjectClass::NamedVariableList => parts.push(VARIABLES),
-        ObjectClass::Semaphore => parts.push(semaphores(clients)),
-        ObjectClass::EventCondition | ObjectClass::EventEnrollment => parts.push(CONDITIONS),
-        ObjectClass::Journal => parts.push(JOURNALS),
-        ObjectClass::Domain => parts.push(DOMAINS),
-        ObjectClass::ProgramInvocation => parts.push(PROGRAMS),
-        ObjectClass::ScatteredAccess
-        | ObjectClass::NamedType
-        | ObjectClass::EventAction
-        | ObjectClass::OperatorStation => {}
+    match held.get(BEFORE_CLIENTS + client) {
+        Some(Part::Client(client)) => client.part(),
+        _ => unreachable!(),
     }
 }
 
-/// Appends what a list of names asks for.
-fn push_listing(parts: &mut Parts, clients: u32, scope: &ObjectScope, class: ObjectClass)
-    requires few { clients ≤ 64 }
-    requires room { length parts.old + 2 ≤ 256 }
-    ensures { parts.new ≡ parts.old ++ listing clients scope.now class }
-{
-    match (scope, class) {
-        (ObjectScope::Domain(_), ObjectClass::Domain) => parts.push(DOMAINS),
-        (ObjectScope::Domain(_), _) => {
-            parts.push(DOMAINS);
-            push_class(parts, clients, class);
-        }
-        _ => push_class(parts, clients, class),
-    }
-}
-
-/// Appends what a confirmed request asks for.
-fn push_request(parts: &mut Parts, clients: u32, part: &ClientPart, invoke: u32, asked: &Request)
-    requires few { clients ≤ 64 }
-    requires room { length parts.old + 6 ≤ 256 }
-    requires open { part.now.row.association ≢ Association.Idle }
-    ensures { parts.new ≡ parts.old ++ serving clients (admission invoke part.now.row) asked.now }
-{
-    match (part.admit(invoke), asked) {
-        (Ok(()), Request::GetNameList(listed)) => {
-            push_listing(parts, clients, &listed.scope, listed.class);
-        }
-        _ => {}
-    }
-}
-
-/// Appends what a PDU asks for in an association.
-fn push_asked(
-    parts: &mut Parts,
-    clients: u32,
-    held: &Hand<Cell>,
-    part: &ClientPart,
-    heard: &Result<Pdu, Refusal>,
-)
-    requires few { clients ≤ 64 }
-    requires room { length parts.old + 6 ≤ 256 }
-    requires open { part.now.row.association ≢ Association.Idle }
-    ensures { parts.new ≡ parts.old ++ asks_for clients held.now part.now.row heard.now }
-{
-    match heard {
-        Ok(Pdu::InitiateRequest(_)) => push_loss(parts, clients),
-        Ok(Pdu::ConcludeRequest) => push_conclusion(parts, clients, held, part),
-        Ok(Pdu::CancelRequest { invoke }) => push_cancel(parts, clients, part, *invoke),
-        Ok(Pdu::ConfirmedRequest { invoke, request }) => {
-            push_request(parts, clients, part, *invoke, request);
-        }
-        _ => {}
-    }
-}
-
-/// Appends what octets from a client ask for.
-fn push_heard(
+/// What octets from a client need, once its part is held.
+fn need_heard(
     alloc: Global,
-    parts: &mut Parts,
     clients: u32,
     held: &Hand<Cell>,
     part: &ClientPart,
     octets: &[u8],
-) -> Result<(), Memory>
+) -> Result<Parts, Memory>
     requires few { clients ≤ 64 }
-    requires room { length parts.old + 6 ≤ 256 }
-    ensures { OnOk result (parts.new ≡ parts.old ++ heard_by clients held.now part.now.row.association part.now.row octets.now) }
+    ensures { IfOk result (λ parts. parts ≡ heard_need clients held.now part.now.row octets.now) }
 {
-    if part.negotiated().is_none() {
-        return Ok(());
-    }
-    let heard = heard(alloc, octets, part.constants().edition)?;
-    push_asked(parts, clients, held, part, &heard);
-    Ok(())
+    let read = read(alloc, octets, part.constants().edition)?;
+    let found = verdict_of(part, &read)?;
+    let first = heard_asks(&found, clients);
+    Ok(missing_of(&first, &heard_more(part, &found, clients), held))
 }
 
-/// Appends what the loss of a client asks for.
-fn push_lost(parts: &mut Parts, clients: u32, part: &ClientPart)
-    requires few { clients ≤ 64 }
-    requires room { length parts.old + 6 ≤ 256 }
-    ensures { parts.new ≡ parts.old ++ lost_by clients part.now.row.association }
-{
-    if part.negotiated().is_none() {
-        return;
-    }
-    push_loss(parts, clients);
-}
-
-/// Appends what the held parts show to be needed beside the footprint.
-fn push_further(
+/// What the words of an event, once the parts are held that they tell, and these parts need.
+fn need_more(
     alloc: Global,
-    parts: &mut Parts,
-    clients: u32,
     event: &CellEvent,
+    clients: u32,
     held: &Hand<Cell>,
-) -> Result<(), Memory>
-    requires few { clients ≤ 64 }
+) -> Result<Parts, Memory>
+    requires of { (s : State) × IsSound s × IsHandOf held.now (parts_of s) }
+    requires clients { clients ≡ clients_among (length held.now) }
     requires among { IsAmong clients event.now }
-    requires room { length parts.old + 6 ≤ 256 }
-    ensures { OnOk result (parts.new ≡ parts.old ++ further clients event.now held.now) }
+    requires words { missing held.now (footprint clients event.now) ≡ [] }
+    ensures { IfOk result (λ parts. parts ≡ need event.now held.now) }
 {
     match event {
-        CellEvent::Heard { client, octets } => match held.get(5 + *client) {
-            Some(Part::Client(client)) => {
-                push_heard(
-                    alloc,
-                    parts,
-                    clients,
-                    held,
-                    client.part(),
-                    octets.as_slice(),
-                )
-            }
-            _ => Ok(()),
-        },
-        CellEvent::Lost { client } => match held.get(5 + *client) {
-            Some(Part::Client(client)) => {
-                push_lost(parts, clients, client.part());
-                Ok(())
-            }
-            _ => Ok(()),
-        },
-        CellEvent::Tick { .. } | CellEvent::Ends { .. } | CellEvent::Drain { .. } => Ok(()),
+        CellEvent::Heard { client, octets } => {
+            let part = client_held(held, *client);
+            need_heard(alloc, clients, held, part, octets.as_slice())
+        }
+        CellEvent::Lost { client } => {
+            let part = client_held(held, *client);
+            Ok(loss_asks(part, clients).missing(held))
+        }
+        CellEvent::Tick { .. } => Ok(Parts::new()),
+        CellEvent::Ends { .. } => Ok(Parts::new()),
+        CellEvent::Drain { .. } => Ok(Parts::new()),
     }
 }
 
@@ -260,7 +175,10 @@ pub fn need(alloc: Global, event: &CellEvent, held: &Hand<Cell>) -> Result<Parts
     ensures { IfOk result (λ parts. parts ≡ need event.now held.now) }
 {
     let clients = held.places() as u32 - 7;
-    let mut parts = footprint(event, clients);
-    push_further(alloc, &mut parts, clients, event, held)?;
-    Ok(parts.missing(held))
+    let missing = footprint(event, clients).missing(held);
+    if missing.is_empty() {
+        need_more(alloc, event, clients, held)
+    } else {
+        Ok(missing)
+    }
 }

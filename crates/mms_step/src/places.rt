@@ -1,9 +1,9 @@
 //! Sets of parts.
 
-ghost use Rattle.std.specs.Prelude.{◌≡◌, ◌+◌, ◌<◌, ◌≤◌, ◌==◌, [], ◌∷◌, ◌++◌, length, not, filter};
+ghost use Rattle.std.specs.Prelude.{◌≡◌, ◌+◌, ◌<◌, ◌≤◌, ◌==◌, [], ◌∷◌, ◌++◌, length};
 ghost use Rattle.std.specs.List.{list_any};
 ghost use Rattle.part_table.specs.Held.{held_at};
-ghost use Rattle.mms_step.specs.Needs.{is_held};
+ghost use Rattle.parted_state.specs.Cut.{missing};
 
 use crate::Cell;
 use arrayvec::ArrayVec;
@@ -32,6 +32,18 @@ impl Parts {
         Parts {
             numbers: ArrayVec::new(),
         }
+    }
+
+    /// Parts of these numbers, in this order.
+    pub(crate) fn of(numbers: &[u8]) -> Parts
+        requires { length numbers.now ≤ 256 }
+        ensures { result ≡ numbers.now }
+    {
+        let mut parts = Parts::new();
+        for &number in numbers {
+            parts.push(number);
+        }
+        parts
     }
 
     /// The numbers.
@@ -73,7 +85,7 @@ impl Parts {
 
     /// Those of the parts that are not held.
     pub(crate) fn missing(&self, held: &Hand<Cell>) -> Parts
-        ensures { result ≡ filter (λ place. not (is_held held.now place)) self.now }
+        ensures { result ≡ missing held.now self.now }
     {
         let mut missing = Parts::new();
         for &part in self.as_slice() {

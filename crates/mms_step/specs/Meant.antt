@@ -1,0 +1,40 @@
+-- What a verdict that was found means.
+use Rattle.std.specs.Prelude.{ℕ, List, [], ◌∷◌}
+use Rattle.mms_types.specs.declared.event.What.TheVariants.{Abort}
+use Rattle.mms_types.specs.declared.pdu.Pdu.TheVariants as pdu
+use Rattle.association.specs.Client.{ClientRow}
+use Rattle.association.specs.Negotiation.{negotiation}
+use Rattle.mms_step.specs.declared.verdict.Said.{Said}
+use Rattle.mms_step.specs.declared.verdict.Said.TheVariants as said
+use Rattle.mms_step.specs.declared.verdict.Found.{Found}
+use Rattle.mms_step.specs.declared.verdict.Found.TheVariants as found
+use Rattle.mms_step.specs.Effects.{Effect, Sends, felt_all}
+use Rattle.mms_step.specs.Tables.{Tables}
+use Rattle.mms_step.specs.Association.{Verdict, Tells, Takes, Concludes, Cancels, Aborts, sends, negotiated, further_error, unknown_error, verdict}
+use Rattle.mms_step.specs.Serving.{own_told}
+
+abbrev pub effects_of : Said → List Effect
+effects_of said.Nothing = []
+effects_of said.Abort = Sends Abort ∷ []
+effects_of (said.Reject reject) = sends (pdu.Reject reject) ∷ []
+effects_of (said.Negotiation proposal) = negotiated (negotiation proposal.now)
+effects_of said.NoConclusion = sends (pdu.ConcludeError further_error) ∷ []
+effects_of (said.NoCancel invoke) = sends (pdu.CancelError (record { invoke = invoke; error = unknown_error })) ∷ []
+
+abbrev pub meant : Found → Verdict
+meant (found.Tells told) = Tells (effects_of told)
+meant (found.Takes invoke asked) = Takes invoke asked.now
+meant found.Concludes = Concludes
+meant (found.Cancels invoke) = Cancels invoke
+meant found.Aborts = Aborts
+
+-- no service reads a table yet, so what is heard is the same with none
+abbrev pub no_tables : Tables
+no_tables = record { now = 0 }
+
+-- the row of a client after a verdict, and after its octets
+abbrev pub row_after : Verdict → ClientRow → ClientRow
+row_after v row = felt_all (own_told no_tables row v) row
+
+abbrev pub row_heard : ClientRow → List ℕ → ClientRow
+row_heard row octets = row_after (verdict row octets) row

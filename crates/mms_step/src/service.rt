@@ -1,0 +1,120 @@
+//! The confirmed services (ISO 9506-1, VMD support): why a request is refused, its answer, and the tables that it uses.
+
+ghost use Rattle.std.specs.Prelude.{◌≡◌, ◌+◌, ◌≤◌, ◌++◌, length, IfOk, Some};
+ghost use Rattle.mms_step.specs.Meant.{no_tables};
+ghost use Rattle.mms_step.specs.Needs.{placed};
+ghost use Rattle.mms_step.specs.Services.{cause, class_tables, effect, listing, request_asks, request_more, scope_cause};
+
+use crate::places::Parts;
+use crate::tables::{CONDITIONS, DOMAINS, JOURNALS, PROGRAMS, VARIABLES, semaphores};
+use association::ClientPart;
+use mms_types::{
+    Answer, GetNameListAnswer, Identifiers, IdentifyAnswer, Memory, ObjectClass, ObjectScope, Request,
+    ServiceError, StatusAnswer,
+};
+use std::alloc::Global;
+
+/// Why names of a scope are not listed: there is no domain yet.
+fn scope_cause(scope: &ObjectScope) -> Option<ServiceError>
+    ensures { result ≡ scope_cause scope.now }
+{
+    match scope {
+        ObjectScope::Domain(_) => Some(ServiceError::OBJECT_NON_EXISTENT),
+        ObjectScope::Vmd | ObjectScope::Association => None,
+    }
+}
+
+/// The first condition for which a request is refused.
+pub(crate) fn cause(part: &ClientPart, asked: &Request) -> Option<ServiceError>
+    ensures { result ≡ cause no_tables part.now.row asked.now }
+{
+    let _asks = part;
+    match asked {
+        Request::GetNameList(asked) => scope_cause(&asked.scope),
+        Request::Status(_) | Request::Identify => None,
+    }
+}
+
+/// The answer to a request that is not refused. No class has a name yet.
+pub(crate) fn answer_to(alloc: Global, part: &ClientPart, asked: &Request) -> Result<Answer, Memory>
+    ensures { IfOk result (λ answer. (effect no_tables part.now.row asked.now).answer ≡ Some answer) }
+{
+    match asked {
+        Request::Status(_) => Ok(Answer::Status(StatusAnswer {
+            logical: 0,
+            physical: 0,
+        })),
+        Request::GetNameList(_) => Ok(Answer::GetNameList(GetNameListAnswer {
+            names: Identifiers::new(alloc),
+            more: false,
+        })),
+        Request::Identify => {
+            let device = part.constants();
+            Ok(Answer::Identify(IdentifyAnswer {
+                vendor: device.vendor.copy(alloc)?,
+                model: device.model.copy(alloc)?,
+                revision: device.revision.copy(alloc)?,
+            }))
+        }
+    }
+}
+
+/// Appends the part with the names of a class, where it has one.
+fn push_class(parts: &mut Parts, clients: u32, class: ObjectClass)
+    requires few { clients ≤ 64 }
+    requires room { length parts.old + 1 ≤ 256 }
+    ensures { parts.new ≡ parts.old ++ placed clients (class_tables class) }
+{
+    match class {
+        ObjectClass::NamedVariable | ObjectClass::NamedVariableList => parts.push(VARIABLES),
+        ObjectClass::Semaphore => parts.push(semaphores(clients)),
+        ObjectClass::EventCondition | ObjectClass::EventEnrollment => parts.push(CONDITIONS),
+        ObjectClass::Journal => parts.push(JOURNALS),
+        ObjectClass::Domain => parts.push(DOMAINS),
+        ObjectClass::ProgramInvocation => parts.push(PROGRAMS),
+        ObjectClass::ScatteredAccess
+        | ObjectClass::NamedType
+        | ObjectClass::EventAction
+        | ObjectClass::OperatorStation => {}
+    }
+}
+
+/// The parts from which names of a class are listed in a scope.
+fn listing(scope: &ObjectScope, class: ObjectClass, clients: u32) -> Parts
+    requires few { clients ≤ 64 }
+    ensures { result ≡ placed clients (listing scope.now class) }
+{
+    let mut parts = Parts::new();
+    match (scope, class) {
+        (ObjectScope::Domain(_), ObjectClass::Domain) => parts.push(DOMAINS),
+        (ObjectScope::Domain(_), _) => {
+            parts.push(DOMAINS);
+            push_class(&mut parts, clients, class);
+        }
+        _ => push_class(&mut parts, clients, class),
+    }
+    parts
+}
+
+/// The parts of the tables that a request uses, by its words, with so many clients.
+pub(crate) fn request_asks(asked: &Request, clients: u32) -> Parts
+    requires few { clients ≤ 64 }
+    ensures { result ≡ placed clients (request_asks asked.now) }
+{
+    match asked {
+        Request::GetNameList(asked) => listing(&asked.scope, asked.class, clients),
+        Request::Status(_) | Request::Identify => Parts::new(),
+    }
+}
+
+/// The parts of the tables that a request uses beside those, by what they show.
+pub(crate) fn request_more(part: &ClientPart, asked: &Request, clients: u32) -> Parts
+    requires few { clients ≤ 64 }
+    ensures { result ≡ placed clients (request_more no_tables part.now.row asked.now) }
+{
+    let _asks = part;
+    let _clients = clients;
+    match asked {
+        Request::GetNameList(_) | Request::Status(_) | Request::Identify => Parts::new(),
+    }
+}

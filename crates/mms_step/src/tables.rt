@@ -1,0 +1,33 @@
+//! The numbers of the parts of tables.
+
+ghost use Rattle.std.specs.Prelude.{◌≡◌, ◌+◌, ◌≤◌};
+ghost use Rattle.mms_step.specs.Partition.{semaphores_place};
+
+/// The clock.
+pub(crate) const CLOCK: u8 = 0;
+
+/// Variables and their lists.
+pub(crate) const VARIABLES: u8 = 1;
+
+/// Domains and uploads.
+pub(crate) const DOMAINS: u8 = 2;
+
+/// Program invocations.
+pub(crate) const PROGRAMS: u8 = 3;
+
+/// Event conditions and enrolments.
+pub(crate) const CONDITIONS: u8 = 4;
+
+/// Journals.
+pub(crate) const JOURNALS: u8 = 5;
+
+/// The number of the semaphores' part, which stands behind those of so many clients.
+pub(crate) fn semaphores(clients: u32) -> u8
+    requires { clients ≤ 64 }
+    ensures { result ≡ semaphores_place clients }
+{
+    6 + clients as u8
+}
+
+/// The part of client c is this one and c.
+pub(crate) const BEFORE_CLIENTS: u32 = 5;
