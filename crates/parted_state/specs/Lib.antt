@@ -4,3 +4,5 @@ pub mod DeviceLaws
 pub mod Lists
 pub mod Served
 pub mod ServedLaws
+pub mod Shop
+pub mod ShopLaws
