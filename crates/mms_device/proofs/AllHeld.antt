@@ -55,7 +55,7 @@ serves hand new event all sound may stepped same =
     let after = step (state_in hand) event in
     let is = still_holds_all hand new after all (stepped (state_in hand) (is_of_its_state hand all)) same in
     let shown = state_after new after is in
-    record { all = holds_all_after new after is; sound = subst IsSound (sym shown) (step_sound (state_in hand) event sound may); state = shown }
+    record { all = holds_all_after new after is; sound = subst IsSound (sym shown) (step_sound (state_in hand) event sound); state = shown }
 
 pub none_needed : (hand : List (Option Part)) (event : CellEvent) → HoldsAll hand → IsAmong (length (state_in hand).clients) event → need event hand ≡ []
 none_needed hand event all among = ap (λ (h : List (Option Part)). need event h) all ∙ nothing_needed (state_in hand) event among

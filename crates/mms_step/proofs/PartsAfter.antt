@@ -17,7 +17,7 @@ use Rattle.parted_state.specs.Served as parted
 use Rattle.parted_state.specs.ServedLaws as served
 use Rattle.mms_step.specs.declared.part.Part.{Part}
 use Rattle.mms_step.specs.declared.part.Part.TheVariants.{Clock, Variables, Domains, Programs, Conditions, Journals, Semaphores}
-use Rattle.mms_step.specs.State.{State, start, device_of, first_rows, IsSound}
+use Rattle.mms_step.specs.State.{State, start, device_of, first_rows, IsSound, HasDate}
 use Rattle.mms_step.specs.Tables.{Tables}
 use Rattle.mms_step.specs.Effects.{Effect, felt, felt_all, tell}
 use Rattle.mms_step.specs.Association.{Verdict, Takes, verdict, loss_told}
@@ -201,28 +201,33 @@ length-start config = length-map (clients_to config.clients) (λ c. new_row c (d
 
 pub start_sound : (config : Config) → IsConfig config → IsSound (start config)
 start_sound config is =
-    let counted = length-start config in
-    record { some = omega (arith, counted, is.some_client); few = omega (arith, counted, is.few_clients); dated = omega (arith, is.dated) }
+    let counted = length-start config in record { some = omega (arith, counted, is.some_client); few = omega (arith, counted, is.few_clients) }
 
-pub step_sound : (s : State) (event : CellEvent) → IsSound s → MayCome s event → IsSound (step s event)
-step_sound s (Heard client octets) sound may =
-    let same = step_sized s (Heard client octets) in
-    let now = step_still s client octets in
-    let before = sound.dated in
-    record { some = omega (arith, same, sound.some); few = omega (arith, same, sound.few); dated = omega (arith, now, before) }
-step_sound s (Lost client) sound may =
-    let same = step_sized s (Lost client) in record { some = omega (arith, same, sound.some); few = omega (arith, same, sound.few); dated = sound.dated }
-step_sound s (Tick ms) sound may = record { some = sound.some; few = sound.few; dated = may.time }
-step_sound s (Ends name) sound may = sound
-step_sound s (Drain client) sound may =
-    let same = step_sized s (Drain client) in record { some = omega (arith, same, sound.some); few = omega (arith, same, sound.few); dated = sound.dated }
+pub step_sound : (s : State) (event : CellEvent) → IsSound s → IsSound (step s event)
+step_sound s event sound = let same = step_sized s event in record { some = omega (arith, same, sound.some); few = omega (arith, same, sound.few) }
 
-sound_along : (s : State) (history : List CellEvent) → IsSound s → MayFollow s history → IsSound (fold step s history)
-sound_along s [] sound may = sound
-sound_along s (event ∷ rest) sound may = sound_along (step s event) rest (step_sound s event sound may.0) may.1
+sound_along : (s : State) (history : List CellEvent) → IsSound s → IsSound (fold step s history)
+sound_along s [] sound = sound
+sound_along s (event ∷ rest) sound = sound_along (step s event) rest (step_sound s event sound)
 
-pub replay_sound : (config : Config) (history : List CellEvent) → IsConfig config → MayFollow (start config) history → IsSound (replay config history)
-replay_sound config history is may = sound_along (start config) history (start_sound config is) may
+pub replay_sound : (config : Config) (history : List CellEvent) → IsConfig config → IsSound (replay config history)
+replay_sound config history is = sound_along (start config) history (start_sound config is)
+
+-- ---- and what holds where time ends no later than the last moment
+
+step_dated : (s : State) (event : CellEvent) → HasDate s → MayCome s event → HasDate (step s event)
+step_dated s (Heard client octets) dated may = let still = step_still s client octets in omega (arith, still, dated)
+step_dated s (Lost client) dated may = dated
+step_dated s (Tick ms) dated may = may.time
+step_dated s (Ends name) dated may = dated
+step_dated s (Drain client) dated may = dated
+
+dated_along : (s : State) (history : List CellEvent) → HasDate s → MayFollow s history → HasDate (fold step s history)
+dated_along s [] dated may = dated
+dated_along s (event ∷ rest) dated may = dated_along (step s event) rest (step_dated s event dated may.0) may.1
+
+pub replay_dated : (config : Config) (history : List CellEvent) → IsConfig config → MayFollow (start config) history → HasDate (replay config history)
+replay_dated config history is may = dated_along (start config) history (let d = is.dated in omega (arith, d)) may
 
 -- one client more at the start
 pub start_more : (config : Config) (n : ℕ)

@@ -28,8 +28,11 @@ start config = record { now = config.start.0; clients = first_rows config config
 abbrev pub last_moment : ℕ
 last_moment = 5662310399999
 
--- what holds of each state of the device: it has 1 to 64 clients, and six octets name its moment
+-- what holds of each state of the device: it has 1 to 64 clients
 pub record IsSound (s : State) : Type 0 where
   pub some : 1 ≤ length s.clients
   pub few : length s.clients ≤ 64
-  pub dated : s.now ≤ last_moment
+
+-- six octets name its moment, which the ticks of all callers together keep and no caller alone can tell
+abbrev pub HasDate : State → Type 0
+HasDate s = s.now ≤ last_moment

@@ -5,12 +5,12 @@ use mms_types::CellEvent;
 use part_table::Object;
 
 /// The device, cut into its parts. Its events are those of the clients and of the cell itself; the caller that may make an event is
-/// the one with the number of the event's actor.
+/// the one with the number of the event's actor; so no client has the number 0, which is the cell's.
 pub struct Cell;
 
 impl Object for Cell {
     ghost use Rattle.std.specs.Prelude.{◌≡◌, [], length};
-    ghost use Rattle.mms_types.specs.Actors.{actor_of};
+    ghost use Rattle.mms_types.specs.Actors.{actor_of, IsAmong};
     ghost use Rattle.mms_step.specs.Needs.{need};
     ghost use Rattle.mms_step.specs.After.{after, parts_after};
     ghost use Rattle.mms_step.specs.AfterLaws.{after_holds_the_same, after_is_laid_over};
@@ -25,7 +25,7 @@ impl Object for Cell {
 
     ghost after = { after };
 
-    ghost may_make = { λ caller event. actor_of event ≡ caller };
+    ghost may_make = { λ caller event. (actor_of event ≡ caller) × IsAmong caller event };
 
     ghost same_parts = { λ event hand parts of enough. after_holds_the_same event hand };
 

@@ -7,7 +7,7 @@ ghost use Rattle.part_table.specs.Held.{held_at, IsHandOf};
 ghost use Rattle.cell_config.specs.declared.config.Config.{Config};
 ghost use Rattle.cell_config.specs.Said.{IsConfig};
 ghost use Rattle.mms_step.specs.declared.part.Part.{Part};
-ghost use Rattle.mms_step.specs.State.{State, IsSound, start};
+ghost use Rattle.mms_step.specs.State.{State, HasDate, IsSound, start};
 ghost use Rattle.mms_step.specs.Step.{step, replay, MayFollow};
 ghost use Rattle.mms_step.specs.Partition.{parts_of};
 ghost use Rattle.mms_step.specs.Needs.{need, shown, is_held};
@@ -28,10 +28,11 @@ pub fn a_step_is_of_the_held_parts()
         → ((other : ℕ) → is_held hand other ≡ true → is_held larger other ≡ true) → Contains (shown event hand) place → Contains (shown event larger) place }
 {}
 
-/// Every state is sound that the device reaches from its start by events that may come: its clients are as many as they were, and its moment is one that six
-/// octets name.
+/// Every state is sound that the device reaches from its start: its clients are as many as they were. Where the events are some that may come, its moment is one
+/// that six octets name.
 pub fn each_state_is_sound()
-    ensures { (config : Config) (history : List CellEvent) → IsConfig config → MayFollow (start config) history → IsSound (replay config history) }
+    ensures sound { (config : Config) (history : List CellEvent) → IsConfig config → IsSound (replay config history) }
+    ensures dated { (config : Config) (history : List CellEvent) → IsConfig config → MayFollow (start config) history → HasDate (replay config history) }
 {}
 
 /// Where all parts of a state are held, no event that may come needs more.
