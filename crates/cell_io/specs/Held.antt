@@ -1,5 +1,5 @@
 -- What a reader of lines holds.
-use Rattle.std.specs.Prelude.{◌≡◌, ℕ, ◌+◌, ◌≤◌, true, false, Bool, if◌then◌else◌, List, [], length, Some}
+use Rattle.std.specs.Prelude.{◌≡◌, ℕ, ◌+◌, true, false, Bool, if◌then◌else◌, List, [], length, Some}
 use Rattle.std.specs.Io.KnownBytes.{Consumes, IsAtEnd, prepend_known}
 use Rattle.std.specs.declared.option.Option.{Option}
 use Rattle.cell_io.specs.Lines.{has_feed}

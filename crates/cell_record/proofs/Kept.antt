@@ -1,4 +1,5 @@
 -- What is kept of a line is enough to tell what it says.
+use Rattle.cell_config.specs.declared.config.Config.{Config}
 use Rattle.std.proofs.Common.{◌≡◌, ℕ, ◌+◌, ◌-◌, ◌<◌, ◌≤◌, Bool, true, false, List, [], ◌∷◌, length, take, refl, sym, ap, ◌∙◌, arith, length-append, Some, None, Err, nat_le, nat_lt, nat_eq, if◌then◌else◌}
 use Rattle.std.proofs.lemmas.Bool.Decides.{nat_tests}
 use Rattle.std.proofs.lemmas.List.{take_all, length-take-le}
@@ -54,8 +55,8 @@ other_size (x ∷ xs) (y ∷ ys) h = grind (arith, nat_tests, common_steps, othe
 pub kept_same : (line want : List ℕ) → length want < 196608 → same (content (kept_of line)) want ≡ same (content line) want
 kept_same line want s = kept (λ l. same (content l) want) false line (nat_le (length line) 196612) refl (λ l h. other_size (content l) want (omega (arith, s, long_content l h)))
 
-pub kept_said : (clients : ℕ) (line : List ℕ) → said_of clients (content (kept_of line)) ≡ said_of clients (content line)
-kept_said clients line = kept (λ l. said_of clients (content l)) (Err bad.Long) line (nat_le (length line) 196612) refl (λ l h. rw (long_is l h) refl)
+pub kept_said : (config : Config) (line : List ℕ) → said_of config (content (kept_of line)) ≡ said_of config (content line)
+kept_said config line = kept (λ l. said_of config (content l)) (Err bad.Long) line (nat_le (length line) 196612) refl (λ l h. rw (long_is l h) refl)
 
 pub kept_by : (size : ℕ) (line : List ℕ) → size_by size (kept_of line) ≡ size_by size line
 kept_by size line = kept (size_by size) size line (nat_le (length line) 196612) refl (λ l h. rw (long_is l h) refl)

@@ -108,9 +108,9 @@ heard_text c os = append_assoc (decimal c) (32 ∷ []) (upper os)
 at_most : (low high n : ℕ) → between low high n ≡ true → n ≤ high
 at_most low high n h = let t = (both (nat_le low n) (nat_le n high) h).1 in grind (arith, nat_tests, t)
 
-event_lacks : (clients : ℕ) (e : CellEvent) → clients < 2 ^ 64 → IsRecorded clients e → Lacks 10 (event_text e)
-event_lacks n (Heard c os) s h = subst (Lacks 10) (sym (heard_text c os)) (lacks-append 10 (decimal c) (32 ∷ upper os) (number_lacks 10 c (omega arith) (omega (arith, s, at_most 1 n c h.0))) ((λ e. omega (arith, e)), octets_lack 10 os (omega arith)))
-event_lacks n (Lost c) s h = lacks-append 10 (codes "lost ") (decimal c) ((λ e. omega (arith, e)), ((λ e. omega (arith, e)), ((λ e. omega (arith, e)), ((λ e. omega (arith, e)), ((λ e. omega (arith, e)), tt))))) (number_lacks 10 c (omega arith) (omega (arith, s, at_most 1 n c h)))
+event_lacks : (config : Config) (e : CellEvent) → config.clients < 2 ^ 64 → IsRecorded config e → Lacks 10 (event_text e)
+event_lacks n (Heard c os) s h = subst (Lacks 10) (sym (heard_text c os)) (lacks-append 10 (decimal c) (32 ∷ upper os) (number_lacks 10 c (omega arith) (omega (arith, s, at_most 1 n.clients c h.0))) ((λ e. omega (arith, e)), octets_lack 10 os (omega arith)))
+event_lacks n (Lost c) s h = lacks-append 10 (codes "lost ") (decimal c) ((λ e. omega (arith, e)), ((λ e. omega (arith, e)), ((λ e. omega (arith, e)), ((λ e. omega (arith, e)), ((λ e. omega (arith, e)), tt))))) (number_lacks 10 c (omega arith) (omega (arith, s, at_most 1 n.clients c h)))
 event_lacks n (Tick ms) s h = lacks-append 10 (codes "tick ") (decimal ms) ((λ e. omega (arith, e)), ((λ e. omega (arith, e)), ((λ e. omega (arith, e)), ((λ e. omega (arith, e)), ((λ e. omega (arith, e)), tt))))) (number_lacks 10 ms (omega arith) (omega (arith, at_most 1 3600000 ms h)))
 event_lacks n (Ends name) s h = lacks-append 10 (codes "ends ") name ((λ e. omega (arith, e)), ((λ e. omega (arith, e)), ((λ e. omega (arith, e)), ((λ e. omega (arith, e)), ((λ e. omega (arith, e)), tt))))) (name_lacks name h)
 event_lacks n (Drain c) s h = absurd h
@@ -119,27 +119,27 @@ abbrev first : List ℕ → ℕ
 first text = get_or text 0 0
 
 -- equal texts are of equal events
-event_one : (n : ℕ) (e f : CellEvent) → n < 2 ^ 64 → IsRecorded n e → IsRecorded n f → event_text e ≡ event_text f → e ≡ f
+event_one : (n : Config) (e f : CellEvent) → n.clients < 2 ^ 64 → IsRecorded n e → IsRecorded n f → event_text e ≡ event_text f → e ≡ f
 event_one n (Heard c os) (Heard d ps) s h g e =
-    let c_small : c < 2 ^ 64 = omega (arith, s, at_most 1 n c h.0) in
-    let d_small : d < 2 ^ 64 = omega (arith, s, at_most 1 n d g.0) in
+    let c_small : c < 2 ^ 64 = omega (arith, s, at_most 1 n.clients c h.0) in
+    let d_small : d < 2 ^ 64 = omega (arith, s, at_most 1 n.clients d g.0) in
     let t = cut 32 (decimal c) (decimal d) (upper os) (upper ps) (number_lacks 32 c (omega arith) c_small) (number_lacks 32 d (omega arith) d_small) (sym (heard_text c os) ∙ e ∙ heard_text d ps) in
     ap (λ (k : ℕ). Heard k os) (decimal_injective c d c_small d_small t.0) ∙ ap (λ (l : List ℕ). Heard d l) (octets_one os ps t.1)
-event_one n (Heard c os) (Lost d) s h g e = absurd (omega (arith, number_first c (32 ∷ upper os) (omega (arith, s, at_most 1 n c h.0)), ap first (sym (heard_text c os) ∙ e)))
-event_one n (Heard c os) (Tick d) s h g e = absurd (omega (arith, number_first c (32 ∷ upper os) (omega (arith, s, at_most 1 n c h.0)), ap first (sym (heard_text c os) ∙ e)))
-event_one n (Heard c os) (Ends d) s h g e = absurd (omega (arith, number_first c (32 ∷ upper os) (omega (arith, s, at_most 1 n c h.0)), ap first (sym (heard_text c os) ∙ e)))
+event_one n (Heard c os) (Lost d) s h g e = absurd (omega (arith, number_first c (32 ∷ upper os) (omega (arith, s, at_most 1 n.clients c h.0)), ap first (sym (heard_text c os) ∙ e)))
+event_one n (Heard c os) (Tick d) s h g e = absurd (omega (arith, number_first c (32 ∷ upper os) (omega (arith, s, at_most 1 n.clients c h.0)), ap first (sym (heard_text c os) ∙ e)))
+event_one n (Heard c os) (Ends d) s h g e = absurd (omega (arith, number_first c (32 ∷ upper os) (omega (arith, s, at_most 1 n.clients c h.0)), ap first (sym (heard_text c os) ∙ e)))
 event_one n (Heard c os) (Drain d) s h g e = absurd g
-event_one n (Lost c) (Heard d ps) s h g e = absurd (omega (arith, number_first d (32 ∷ upper ps) (omega (arith, s, at_most 1 n d g.0)), ap first (e ∙ heard_text d ps)))
-event_one n (Lost c) (Lost d) s h g e = ap Lost (decimal_injective c d (omega (arith, s, at_most 1 n c h)) (omega (arith, s, at_most 1 n d g)) (ap (drop 5) e))
+event_one n (Lost c) (Heard d ps) s h g e = absurd (omega (arith, number_first d (32 ∷ upper ps) (omega (arith, s, at_most 1 n.clients d g.0)), ap first (e ∙ heard_text d ps)))
+event_one n (Lost c) (Lost d) s h g e = ap Lost (decimal_injective c d (omega (arith, s, at_most 1 n.clients c h)) (omega (arith, s, at_most 1 n.clients d g)) (ap (drop 5) e))
 event_one n (Lost c) (Tick d) s h g e = absurd (omega (arith, ap first e))
 event_one n (Lost c) (Ends d) s h g e = absurd (omega (arith, ap first e))
 event_one n (Lost c) (Drain d) s h g e = absurd g
-event_one n (Tick c) (Heard d ps) s h g e = absurd (omega (arith, number_first d (32 ∷ upper ps) (omega (arith, s, at_most 1 n d g.0)), ap first (e ∙ heard_text d ps)))
+event_one n (Tick c) (Heard d ps) s h g e = absurd (omega (arith, number_first d (32 ∷ upper ps) (omega (arith, s, at_most 1 n.clients d g.0)), ap first (e ∙ heard_text d ps)))
 event_one n (Tick c) (Lost d) s h g e = absurd (omega (arith, ap first e))
 event_one n (Tick c) (Tick d) s h g e = ap Tick (decimal_injective c d (omega (arith, at_most 1 3600000 c h)) (omega (arith, at_most 1 3600000 d g)) (ap (drop 5) e))
 event_one n (Tick c) (Ends d) s h g e = absurd (omega (arith, ap first e))
 event_one n (Tick c) (Drain d) s h g e = absurd g
-event_one n (Ends c) (Heard d ps) s h g e = absurd (omega (arith, number_first d (32 ∷ upper ps) (omega (arith, s, at_most 1 n d g.0)), ap first (e ∙ heard_text d ps)))
+event_one n (Ends c) (Heard d ps) s h g e = absurd (omega (arith, number_first d (32 ∷ upper ps) (omega (arith, s, at_most 1 n.clients d g.0)), ap first (e ∙ heard_text d ps)))
 event_one n (Ends c) (Lost d) s h g e = absurd (omega (arith, ap first e))
 event_one n (Ends c) (Tick d) s h g e = absurd (omega (arith, ap first e))
 event_one n (Ends c) (Ends d) s h g e = ap Ends (ap (drop 5) e)
@@ -151,14 +151,14 @@ event_one n (Drain c) f s h g e = absurd h
 line_form : (number text : List ℕ) → ((number ++ 32 ∷ []) ++ text) ++ 10 ∷ [] ≡ number ++ 32 ∷ (text ++ 10 ∷ [])
 line_form number text = append_assoc (number ++ 32 ∷ []) text (10 ∷ []) ∙ append_assoc number (32 ∷ []) (text ++ 10 ∷ [])
 
-printed : (n place : ℕ) (e : CellEvent) → IsRecorded n e → placed_line place e ≡ decimal place ++ 32 ∷ (event_text e ++ 10 ∷ [])
+printed : (n : Config) (place : ℕ) (e : CellEvent) → IsRecorded n e → placed_line place e ≡ decimal place ++ 32 ∷ (event_text e ++ 10 ∷ [])
 printed n place (Heard c os) h = line_form (decimal place) (event_text (Heard c os))
 printed n place (Lost c) h = line_form (decimal place) (event_text (Lost c))
 printed n place (Tick ms) h = line_form (decimal place) (event_text (Tick ms))
 printed n place (Ends name) h = line_form (decimal place) (event_text (Ends name))
 printed n place (Drain c) h = absurd h
 
-line_first : (n place : ℕ) (e : CellEvent) (lines rest : List ℕ) → IsRecorded n e → (placed_line place e ++ lines) ++ rest ≡ decimal place ++ 32 ∷ (event_text e ++ 10 ∷ (lines ++ rest))
+line_first : (n : Config) (place : ℕ) (e : CellEvent) (lines rest : List ℕ) → IsRecorded n e → (placed_line place e ++ lines) ++ rest ≡ decimal place ++ 32 ∷ (event_text e ++ 10 ∷ (lines ++ rest))
 line_first n place e lines rest h =
     rw (printed n place e h)
     (append_assoc (decimal place ++ 32 ∷ (event_text e ++ 10 ∷ [])) lines rest ∙ append_assoc (decimal place) (32 ∷ (event_text e ++ 10 ∷ [])) (lines ++ rest)
@@ -167,7 +167,7 @@ line_first n place e lines rest h =
 abbrev lines_from : ℕ → List CellEvent → List ℕ
 lines_from place body = flat_map served_line (placed_from place body)
 
-lines_one : (n place : ℕ) (xs ys : List CellEvent) (rs ss : List ℕ) → n < 2 ^ 64 → Each (IsRecorded n) xs → Each (IsRecorded n) ys → length xs ≡ length ys → lines_from place xs ++ rs ≡ lines_from place ys ++ ss → (xs ≡ ys) × (rs ≡ ss)
+lines_one : (n : Config) (place : ℕ) (xs ys : List CellEvent) (rs ss : List ℕ) → n.clients < 2 ^ 64 → Each (IsRecorded n) xs → Each (IsRecorded n) ys → length xs ≡ length ys → lines_from place xs ++ rs ≡ lines_from place ys ++ ss → (xs ≡ ys) × (rs ≡ ss)
 lines_one n place [] [] rs ss s h g l e = (refl, e)
 lines_one n place [] (y ∷ ys) rs ss s h g l e = absurd (omega (arith, l))
 lines_one n place (x ∷ xs) [] rs ss s h g l e = absurd (omega (arith, l))
@@ -180,51 +180,51 @@ lines_one n place (x ∷ xs) (y ∷ ys) rs ss s h g l e =
 
 -- ---- what a recording's phases hold
 
-abbrev IsSaid : ℕ → Result Said BadWord → Type 0
-IsSaid clients (Ok said) = MayHappen clients said
-IsSaid clients (Err word) = Unit {0}
+abbrev IsSaid : Config → Result Said BadWord → Type 0
+IsSaid config (Ok said) = MayHappen config said
+IsSaid config (Err word) = Unit {0}
 
-either : (n : ℕ) (b : Bool) (x y : Result Said BadWord) → (b ≡ true → IsSaid n x) → (b ≡ false → IsSaid n y) → IsSaid n (if b then x else y)
+either : (n : Config) (b : Bool) (x y : Result Said BadWord) → (b ≡ true → IsSaid n x) → (b ≡ false → IsSaid n y) → IsSaid n (if b then x else y)
 either n true x y h g = h refl
 either n false x y h g = g refl
 
-heard_said : (n : ℕ) (c : Option ℕ) (os : Option (List ℕ)) → IsSaid n (heard_of n c os)
+heard_said : (n : Config) (c : Option ℕ) (os : Option (List ℕ)) → IsSaid n (heard_of n c os)
 heard_said n None os = tt
 heard_said n (Some c) None = tt
-heard_said n (Some c) (Some os) = either n (between 1 65000 (length os)) _ _ (λ l. either n (between 1 n c) _ _ (λ k. (k, l)) (λ _. tt)) (λ _. tt)
+heard_said n (Some c) (Some os) = either n (between 1 65000 (length os)) _ _ (λ l. either n (between 1 n.clients c) _ _ (λ k. (k, l)) (λ _. tt)) (λ _. tt)
 
-lost_said : (n : ℕ) (c : Option ℕ) → IsSaid n (lost_of n c)
+lost_said : (n : Config) (c : Option ℕ) → IsSaid n (lost_of n c)
 lost_said n None = tt
-lost_said n (Some c) = either n (between 1 n c) _ _ (λ k. k) (λ _. tt)
+lost_said n (Some c) = either n (between 1 n.clients c) _ _ (λ k. k) (λ _. tt)
 
-tick_said : (n : ℕ) (ms : Option ℕ) → IsSaid n (tick_of ms)
+tick_said : (n : Config) (ms : Option ℕ) → IsSaid n (tick_of ms)
 tick_said n None = tt
 tick_said n (Some ms) = either n (between 1 3600000 ms) _ _ (λ k. k) (λ _. tt)
 
-worded_said : (n : ℕ) (line word argument : List ℕ) → IsSaid n (worded n line word argument)
+worded_said : (n : Config) (line word argument : List ℕ) → IsSaid n (worded n line word argument)
 worded_said n line word argument =
     either n (same line (codes "phase")) _ _ (λ _. tt)
     (λ _. either n (same word (codes "lost")) _ _ (λ _. lost_said n (number_of argument))
     (λ _. either n (same word (codes "tick")) _ _ (λ _. tick_said n (number_of argument))
     (λ _. either n (same word (codes "ends")) _ _ (λ _. either n (is_identifier One argument) _ _ (λ k. k) (λ _. tt)) (λ _. tt))))
 
-line_said : (n : ℕ) (line : List ℕ) → IsSaid n (said_of n line)
+line_said : (n : Config) (line : List ℕ) → IsSaid n (said_of n line)
 line_said n line =
     let t = trim line in
     either n (nat_lt 196608 (length line)) _ _ (λ _. tt)
     (λ _. either n (begins_with_digit t) _ _ (λ _. heard_said n (number_of (word_of t)) (pairs_of (argument_of t)))
     (λ _. either n (is_remark t) _ _ (λ _. tt) (λ _. worded_said n t (word_of t) (argument_of t))))
 
-onto_recorded : (n : ℕ) (e : CellEvent) (phases : List (List CellEvent)) → IsRecorded n e → Each (Each (IsRecorded n)) phases → Each (Each (IsRecorded n)) (onto e phases)
+onto_recorded : (n : Config) (e : CellEvent) (phases : List (List CellEvent)) → IsRecorded n e → Each (Each (IsRecorded n)) phases → Each (Each (IsRecorded n)) (onto e phases)
 onto_recorded n e [] h g = g
 onto_recorded n e (p ∷ ps) h g = ((h, g.0), g.1)
 
-said_more : (n : ℕ) (s : Said) (more : List Said) → MayHappen n s → Each (Each (IsRecorded n)) (phases_of more) → Each (Each (IsRecorded n)) (phases_of (s ∷ more))
+said_more : (n : Config) (s : Said) (more : List Said) → MayHappen n s → Each (Each (IsRecorded n)) (phases_of more) → Each (Each (IsRecorded n)) (phases_of (s ∷ more))
 said_more n Nothing more h g = g
 said_more n Phase more h g = (tt, g)
 said_more n (Happens e) more h g = onto_recorded n e (phases_of more) h g
 
-phases_recorded : (n : ℕ) (lines : List (List ℕ)) (said : List Said) → Says n lines said → Each (Each (IsRecorded n)) (phases_of said)
+phases_recorded : (n : Config) (lines : List (List ℕ)) (said : List Said) → Says n lines said → Each (Each (IsRecorded n)) (phases_of said)
 phases_recorded n [] [] h = (tt, tt)
 phases_recorded n [] (s ∷ more) h = absurd h
 phases_recorded n (l ∷ ls) [] h = absurd h
@@ -235,7 +235,7 @@ phases_recorded n (l ∷ ls) (s ∷ more) h = said_more n s more (subst (IsSaid 
 regrouped : (a b c d : List ℕ) → (a ++ (b ++ c)) ++ d ≡ a ++ (b ++ (c ++ d))
 regrouped a b c d = append_assoc a (b ++ c) d ∙ ap (λ (l : List ℕ). a ++ l) (append_assoc b c d)
 
-from_one : (said : List CellEvent → ℕ → List What) (n m number : ℕ) (before : List CellEvent) (phases xs ys : List (List CellEvent)) → m < 2 ^ 64 → Each (Each (IsRecorded m)) phases → Interleaves xs phases → Interleaves ys phases
+from_one : (said : List CellEvent → ℕ → List What) (n : ℕ) (m : Config) (number : ℕ) (before : List CellEvent) (phases xs ys : List (List CellEvent)) → m.clients < 2 ^ 64 → Each (Each (IsRecorded m)) phases → Interleaves xs phases → Interleaves ys phases
     → report_from said n number before xs ≡ report_from said n number before ys → xs ≡ ys
 from_one said n m number before [] [] [] s a i j e = refl
 from_one said n m number before [] [] (y ∷ ys) s a i j e = absurd j
@@ -258,4 +258,4 @@ pub one_history : (said : List CellEvent → ℕ → List What) (text : List ℕ
 one_history said text configured phases bodies others r i j e =
     let n = configured.clients in
     let few = (configuration_holds (text_of r.setup) configured r.rules r.says).few_clients in
-    from_one said n n 1 [] phases bodies others (omega (arith, few)) (subst (Each (Each (IsRecorded n))) (sym r.split) (phases_recorded n r.body r.said r.each)) i j e
+    from_one said n configured 1 [] phases bodies others (omega (arith, few)) (subst (Each (Each (IsRecorded configured))) (sym r.split) (phases_recorded configured r.body r.said r.each)) i j e

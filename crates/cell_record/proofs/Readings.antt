@@ -1,4 +1,5 @@
 -- Readings and openings, one after the other.
+use Rattle.cell_config.specs.declared.config.Config.{Config}
 use Rattle.std.proofs.Common.{◌≡◌, ℕ, zero, suc, ◌+◌, List, [], ◌∷◌, ◌++◌, length, refl, sym, ap, ◌∙◌, subst, arith, append_assoc, append-nil, length-append, Some, None, IfSome}
 use Rattle.std.proofs.lemmas.List.Elements.{All-append}
 use Rattle.std.specs.List.{All}
@@ -72,12 +73,12 @@ same_events a b c es p q = then a b c (with_events es) (λ r. r) (with_events es
 pub same_next : (a b c : Option Reading) (es : List CellEvent) (e : CellEvent) → Becomes a (with_events es) b → Becomes b (with_event e) c → Becomes a (with_events (es ++ e ∷ [])) c
 same_next a b c es e p q = then a b c (with_events es) (with_event e) (with_events (es ++ e ∷ [])) (λ r. event_after es e r) p q
 
-one_recorded : (clients : ℕ) (e : CellEvent) → IsRecorded clients e → All (IsRecorded clients) (e ∷ [])
-one_recorded clients e p zero d h = p
-one_recorded clients e p (suc k) d h = absurd (omega (arith, h))
+one_recorded : (config : Config) (e : CellEvent) → IsRecorded config e → All (IsRecorded config) (e ∷ [])
+one_recorded config e p zero d h = p
+one_recorded config e p (suc k) d h = absurd (omega (arith, h))
 
-pub recorded_more : (clients : ℕ) (xs ys : List CellEvent) (e : CellEvent) → ys ≡ xs ++ e ∷ [] → All (IsRecorded clients) xs → IsRecorded clients e → All (IsRecorded clients) ys
-recorded_more clients xs ys e h p q = subst (All (IsRecorded clients)) (sym h) (All-append (IsRecorded clients) xs (e ∷ []) p (one_recorded clients e q))
+pub recorded_more : (config : Config) (xs ys : List CellEvent) (e : CellEvent) → ys ≡ xs ++ e ∷ [] → All (IsRecorded config) xs → IsRecorded config e → All (IsRecorded config) ys
+recorded_more config xs ys e h p q = subst (All (IsRecorded config)) (sym h) (All-append (IsRecorded config) xs (e ∷ []) p (one_recorded config e q))
 
 pub size_more : (xs ys : List CellEvent) (e : CellEvent) (c d : Counts) → ys ≡ xs ++ e ∷ [] → length xs ≡ c.events → d ≡ counted c e → length ys ≡ d.events
 size_more xs ys e c d h s m = ap length h ∙ length-append xs (e ∷ []) ∙ ap (λ (n : ℕ). n + 1) s ∙ sym (ap (λ (x : Counts). x.events) m)

@@ -1,4 +1,5 @@
 -- What one line makes of what is said of the lines ahead.
+use Rattle.cell_config.specs.declared.config.Config.{Config}
 use Rattle.std.proofs.Common.{◌≡◌, ℕ, ◌+◌, ◌-◌, ◌<◌, ◌≤◌, true, false, List, [], ◌∷◌, ◌++◌, length, codes, refl, sym, ap, ◌∙◌, arith, Some, None, IfSome, Ok, Err}
 use Rattle.std.proofs.lemmas.Bool.Decides.{nat_tests}
 use Rattle.std.specs.Option.{option_map}
@@ -135,25 +136,25 @@ much_setup text p l rest f = rw f refl
 
 -- ---- an event line
 
-pub says : (clients : ℕ) (c d : Counts) (p : Place) (line l : List ℕ) (rest : List (List ℕ)) (s : Said) → said_of clients (content line) ≡ Ok s → d ≡ moved c s → None ≡ refusal_of (p.lines + 1) d s
-    → line ≡ kept_of l → fits p l ≡ true → phases clients c (l ∷ rest) p ≡ makes s (phases clients d rest (behind p l))
-says clients c d p line l rest s e m n k f =
-    let is : said_of clients (content l) ≡ Ok s = sym (kept_said clients l) ∙ ap (λ (x : List ℕ). said_of clients (content x)) (sym k) ∙ e in
+pub says : (config : Config) (c d : Counts) (p : Place) (line l : List ℕ) (rest : List (List ℕ)) (s : Said) → said_of config (content line) ≡ Ok s → d ≡ moved c s → None ≡ refusal_of (p.lines + 1) d s
+    → line ≡ kept_of l → fits p l ≡ true → phases config c (l ∷ rest) p ≡ makes s (phases config d rest (behind p l))
+says config c d p line l rest s e m n k f =
+    let is : said_of config (content l) ≡ Ok s = sym (kept_said config l) ∙ ap (λ (x : List ℕ). said_of config (content x)) (sym k) ∙ e in
     let none : refusal_of (p.lines + 1) (moved c s) s ≡ None = ap (λ (x : Counts). refusal_of (p.lines + 1) x s) (sym m) ∙ sym n in
     rw (f, is, none, m) refl
 
-pub says_much : (clients : ℕ) (c d : Counts) (p : Place) (line l : List ℕ) (rest : List (List ℕ)) (s : Said) (x : RecordError) → said_of clients (content line) ≡ Ok s → d ≡ moved c s → Some x ≡ refusal_of (p.lines + 1) d s
-    → line ≡ kept_of l → fits p l ≡ true → phases clients c (l ∷ rest) p ≡ refused x
-says_much clients c d p line l rest s x e m n k f =
-    let is : said_of clients (content l) ≡ Ok s = sym (kept_said clients l) ∙ ap (λ (x : List ℕ). said_of clients (content x)) (sym k) ∙ e in
+pub says_much : (config : Config) (c d : Counts) (p : Place) (line l : List ℕ) (rest : List (List ℕ)) (s : Said) (x : RecordError) → said_of config (content line) ≡ Ok s → d ≡ moved c s → Some x ≡ refusal_of (p.lines + 1) d s
+    → line ≡ kept_of l → fits p l ≡ true → phases config c (l ∷ rest) p ≡ refused x
+says_much config c d p line l rest s x e m n k f =
+    let is : said_of config (content l) ≡ Ok s = sym (kept_said config l) ∙ ap (λ (x : List ℕ). said_of config (content x)) (sym k) ∙ e in
     let there : refusal_of (p.lines + 1) (moved c s) s ≡ Some x = ap (λ (y : Counts). refusal_of (p.lines + 1) y s) (sym m) ∙ sym n in
     rw (f, is, there) refl
 
-pub says_bad : (clients : ℕ) (c : Counts) (p : Place) (line l : List ℕ) (rest : List (List ℕ)) (word : BadWord) → said_of clients (content line) ≡ Err word
-    → line ≡ kept_of l → fits p l ≡ true → phases clients c (l ∷ rest) p ≡ refused (Bad (p.lines + 1) word)
-says_bad clients c p line l rest word e k f =
-    let is : said_of clients (content l) ≡ Err word = sym (kept_said clients l) ∙ ap (λ (x : List ℕ). said_of clients (content x)) (sym k) ∙ e in
+pub says_bad : (config : Config) (c : Counts) (p : Place) (line l : List ℕ) (rest : List (List ℕ)) (word : BadWord) → said_of config (content line) ≡ Err word
+    → line ≡ kept_of l → fits p l ≡ true → phases config c (l ∷ rest) p ≡ refused (Bad (p.lines + 1) word)
+says_bad config c p line l rest word e k f =
+    let is : said_of config (content l) ≡ Err word = sym (kept_said config l) ∙ ap (λ (x : List ℕ). said_of config (content x)) (sym k) ∙ e in
     rw (f, is) refl
 
-pub much_says : (clients : ℕ) (c : Counts) (p : Place) (l : List ℕ) (rest : List (List ℕ)) → fits p l ≡ false → phases clients c (l ∷ rest) p ≡ refused (TooMuch (p.lines + 1))
-much_says clients c p l rest f = rw f refl
+pub much_says : (config : Config) (c : Counts) (p : Place) (l : List ℕ) (rest : List (List ℕ)) → fits p l ≡ false → phases config c (l ∷ rest) p ≡ refused (TooMuch (p.lines + 1))
+much_says config c p l rest f = rw f refl

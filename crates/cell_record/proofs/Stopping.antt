@@ -1,5 +1,5 @@
 -- What was read when the source failed, line by line.
-use Rattle.std.proofs.Common.{◌≡◌, ℕ, ◌+◌, ◌<◌, ◌≤◌, Bool, true, false, List, [], ◌∷◌, ◌++◌, length, refl, sym, ap, ◌∙◌, subst, arith, append_assoc, append-nil, length-append, Some, None, IfSome, Err}
+use Rattle.std.proofs.Common.{◌≡◌, ℕ, ◌+◌, ◌≤◌, Bool, true, false, List, [], ◌∷◌, ◌++◌, length, refl, sym, ap, ◌∙◌, subst, arith, append_assoc, length-append, Some, None, IfSome, Err}
 use Rattle.std.proofs.lemmas.Bool.Decides.{nat_tests}
 use Rattle.std.specs.Io.KnownBytes.{Consumes}
 use Rattle.std.specs.declared.option.Option.{Option}
@@ -140,25 +140,25 @@ leads_more f g k es fs i a b c p q s left left' left'' e x y = leads_then f g k 
 
 -- ---- a recording that is being read
 
-rest_told : (s : Progress) (c : Counts) (lines : List (List ℕ)) (q : Place) → s.over ≡ false → s.refusal ≡ None → c ≡ fresh s.moment → rest_in s lines q ≡ phases s.config.clients c lines q
+rest_told : (s : Progress) (c : Counts) (lines : List (List ℕ)) (q : Place) → s.over ≡ false → s.refusal ≡ None → c ≡ fresh s.moment → rest_in s lines q ≡ phases s.config c lines q
 rest_told s c lines q o r m = rw (o, r, m) refl
 
-rest_after : (s t : Progress) (last : Bool) (lines : List (List ℕ)) (q : Place) → t.refusal ≡ None → t.config ≡ s.config → t.over ≡ last → after_phase s.config.clients last t.moment lines q ≡ rest_in t lines q
+rest_after : (s t : Progress) (last : Bool) (lines : List (List ℕ)) (q : Place) → t.refusal ≡ None → t.config ≡ s.config → t.over ≡ last → after_phase s.config last t.moment lines q ≡ rest_in t lines q
 rest_after s t last lines q r c o = rw (r, o, c) refl
 
-pub read_stops : (s : Progress) (c : Counts) (left last : Option (List ℕ)) → s.over ≡ false → s.refusal ≡ None → c ≡ fresh s.moment → StopsInPhase (phases s.config.clients c) s.held (place_of s) left last
+pub read_stops : (s : Progress) (c : Counts) (left last : Option (List ℕ)) → s.over ≡ false → s.refusal ≡ None → c ≡ fresh s.moment → StopsInPhase (phases s.config c) s.held (place_of s) left last
     → StopsInPhase (rest_in s) s.held (place_of s) left last
 read_stops s c left last o r m k =
-    let same = leads_told (rest_in s) (phases s.config.clients c) s.held (place_of s) left (λ lines q. rest_told s c lines q o r m) in
+    let same = leads_told (rest_in s) (phases s.config c) s.held (place_of s) left (λ lines q. rest_told s c lines q o r m) in
     record { end = k.end; events = k.events; most = k.most; stops = same last k.end (record { phases = k.events ∷ []; refusal = None }) k.stops }
 
 pub read_leads : (s t : Progress) (c : Counts) (es : List CellEvent) (last : Bool) (left left' : Option (List ℕ)) → s.over ≡ false → s.refusal ≡ None → c ≡ fresh s.moment
     → t.refusal ≡ None → t.config ≡ s.config → t.over ≡ last
-    → Leads (phases s.config.clients c) s.held (place_of s) left (with_phase es) (after_phase s.config.clients last t.moment) t.held (place_of t) left'
+    → Leads (phases s.config c) s.held (place_of s) left (with_phase es) (after_phase s.config last t.moment) t.held (place_of t) left'
     → Leads (rest_in s) s.held (place_of s) left (with_phase es) (rest_in t) t.held (place_of t) left'
 read_leads s t c es last left left' o r m u config over x =
-    let first = leads_told (rest_in s) (phases s.config.clients c) s.held (place_of s) left (λ lines q. rest_told s c lines q o r m) in
-    let then = leads_told (after_phase s.config.clients last t.moment) (rest_in t) t.held (place_of t) left' (λ lines q. rest_after s t last lines q u config over) in
+    let first = leads_told (rest_in s) (phases s.config c) s.held (place_of s) left (λ lines q. rest_told s c lines q o r m) in
+    let then = leads_told (after_phase s.config last t.moment) (rest_in t) t.held (place_of t) left' (λ lines q. rest_after s t last lines q u config over) in
     λ stop end k z. first stop end (with_phase es k) (x stop end k (then stop end k z))
 
 -- ---- a whole text
@@ -194,7 +194,7 @@ cut_in_opening held p (Some x) last o e f later s =
 
 -- what is said behind the line `end` of a configuration
 abbrev phases_in : Config → List (List ℕ) → Place → Reading
-phases_in config lines s = reading_of config.clients lines s (fresh config.start.0)
+phases_in config lines s = reading_of config lines s (fresh config.start.0)
 
 ahead_told : (now : Held) (y : List ℕ) → now.ended ≡ false → ahead now (Some y) ≡ Some (now.octets ++ y)
 ahead_told now y e = rw e refl

@@ -85,8 +85,8 @@ no_excess line c a b m =
     let octets : nat_lt 67108864 c.octets ≡ false = grind (arith, nat_tests, b) in
     rw (past, events, octets) refl
 
-reads : (clients : ℕ) (lines : List (List ℕ)) (p : Place) (c : Counts) (ss : List Said) → Says clients lines ss → AreFew c.events c.octets (phases_of ss) → c.moment + all_ms (phases_of ss) ≤ 5662310399999 → p.octets + total lines ≤ 4294967296
-    → reading_of clients lines p c ≡ record { phases = phases_of ss; refusal = None }
+reads : (config : Config) (lines : List (List ℕ)) (p : Place) (c : Counts) (ss : List Said) → Says config lines ss → AreFew c.events c.octets (phases_of ss) → c.moment + all_ms (phases_of ss) ≤ 5662310399999 → p.octets + total lines ≤ 4294967296
+    → reading_of config lines p c ≡ record { phases = phases_of ss; refusal = None }
 reads n [] p c [] h f m t = refl
 reads n [] p c (s ∷ ss) h f m t = absurd h
 reads n (l ∷ ls) p c [] h f m t = absurd h
@@ -148,7 +148,7 @@ recording_is_read text config phases r =
     let opening : opening_of_text text ≡ opened config r.body o =
     ap (λ (ls : List (List ℕ)). opening_of ls p) r.lines
     ∙ rw (fit p r.header (omega (arith, whole)), header, fit (behind p r.header) r.config (omega (arith, whole)), named) setup in
-    let body = reads config.clients r.body o (fresh config.start.0) r.said r.each (subst (AreFew 0 0) r.split r.few) (omega (arith, r.clock, ap all_ms r.split)) (omega (arith, whole, octets_after r.setup r.body r.last q)) in
+    let body = reads config r.body o (fresh config.start.0) r.said r.each (subst (AreFew 0 0) r.split r.few) (omega (arith, r.clock, ap all_ms r.split)) (omega (arith, whole, octets_after r.setup r.body r.last q)) in
     (ap config_in opening, ap after_opening opening ∙ body ∙ ap (λ (ps : List (List CellEvent)). record { phases = ps; refusal = None }) (sym r.split))
 
 -- ---- a text that is read is a recording: its event lines
@@ -157,9 +157,9 @@ few-onto : (n o : ℕ) (e : CellEvent) (ps : List (List CellEvent)) → AreFew (
 few-onto n o e [] h = tt
 few-onto n o e (p ∷ ps) h = (omega (arith, h.0), omega (arith, h.1), h.2)
 
-pub record IsRead (clients octets : ℕ) (c : Counts) (lines : List (List ℕ)) (phases : List (List CellEvent)) : Type 0 where
+pub record IsRead (config : Config) (octets : ℕ) (c : Counts) (lines : List (List ℕ)) (phases : List (List CellEvent)) : Type 0 where
   pub said : List Said
-  pub each : Says clients lines said
+  pub each : Says config lines said
   pub split : phases ≡ phases_of said
   pub few : AreFew c.events c.octets phases
   pub clock : c.moment + all_ms phases ≤ 5662310399999
@@ -193,7 +193,7 @@ onto_ms : (e : CellEvent) (ps : List (List CellEvent)) (m : ℕ) → m + ms_in e
 onto_ms e [] m h k = omega (arith, h)
 onto_ms e (p ∷ ps) m h k = omega (arith, k)
 
-read_line : (n : ℕ) (l : List ℕ) (ls : List (List ℕ)) (p : Place) (c : Counts) (phases : List (List CellEvent)) (rest : Counts → Reading) (s : Result Said BadWord) → (c.events ≤ 16384) × (c.octets ≤ 67108864) × (c.moment ≤ 5662310399999)
+read_line : (n : Config) (l : List ℕ) (ls : List (List ℕ)) (p : Place) (c : Counts) (phases : List (List CellEvent)) (rest : Counts → Reading) (s : Result Said BadWord) → (c.events ≤ 16384) × (c.octets ≤ 67108864) × (c.moment ≤ 5662310399999)
     → said_of n (content l) ≡ s
     → ((d : Counts) (ps : List (List CellEvent)) → (d.events ≤ 16384) × (d.octets ≤ 67108864) × (d.moment ≤ 5662310399999) → rest d ≡ record { phases = ps; refusal = None } → IsRead n (p.octets + length l) d ls ps)
     → with_said (p.lines + 1) c s rest ≡ record { phases = phases; refusal = None } → IsRead n p.octets c (l ∷ ls) phases
@@ -228,7 +228,7 @@ read_line n l ls p c phases rest (Ok (Happens x)) m e ih h =
       size = omega (arith, i.size);
     }
 
-read : (n : ℕ) (lines : List (List ℕ)) (p : Place) (c : Counts) (phases : List (List CellEvent)) → (c.events ≤ 16384) × (c.octets ≤ 67108864) × (c.moment ≤ 5662310399999) → p.octets ≤ 4294967296 → reading_of n lines p c ≡ record { phases = phases; refusal = None }
+read : (n : Config) (lines : List (List ℕ)) (p : Place) (c : Counts) (phases : List (List CellEvent)) → (c.events ≤ 16384) × (c.octets ≤ 67108864) × (c.moment ≤ 5662310399999) → p.octets ≤ 4294967296 → reading_of n lines p c ≡ record { phases = phases; refusal = None }
     → IsRead n p.octets c lines phases
 read n [] p c phases m o h = let ps = ap (λ (r : Reading). r.phases) h in
     record {
@@ -355,18 +355,18 @@ read_expected want word next (l ∷ ls) p o h =
     record { line = l; rest = ls; lines_are = refl; is = (same_text (content l) want).0 s.0; next_is = s.1 }
 
 was_opened : (x : Opening) (config : Config) (phases : List (List CellEvent)) → config_in x ≡ Some config → after_opening x ≡ record { phases = phases; refusal = None }
-    → (o : Opened) × (x ≡ Ok o) × (o.config ≡ config) × (reading_of o.config.clients o.rest o.place (fresh o.config.start.0) ≡ record { phases = phases; refusal = None })
+    → (o : Opened) × (x ≡ Ok o) × (o.config ≡ config) × (reading_of o.config o.rest o.place (fresh o.config.start.0) ≡ record { phases = phases; refusal = None })
 was_opened (Err e) config phases c h = let k = ap (λ (r : Reading). r.refusal) h in cc
 was_opened (Ok o) config phases c h = (o, refl, cc, h)
 
-is_recording : (text : List ℕ) (phases : List (List CellEvent)) (o : Opened) → opening_of_text text ≡ Ok o → reading_of o.config.clients o.rest o.place (fresh o.config.start.0) ≡ record { phases = phases; refusal = None } → ReadsRecording text o.config phases
+is_recording : (text : List ℕ) (phases : List (List CellEvent)) (o : Opened) → opening_of_text text ≡ Ok o → reading_of o.config o.rest o.place (fresh o.config.start.0) ≡ record { phases = phases; refusal = None } → ReadsRecording text o.config phases
 is_recording text phases o x h =
     let p = front in
     let a = read_expected (codes "mms-recording 1") bad.Header (expected (codes "config") bad.Config (λ rest q. setup_of rest q [])) (lines_of text) p o x in
     let b = read_expected (codes "config") bad.Config (λ rest q. setup_of rest q []) a.rest (behind p a.line) o a.next_is in
     let s = read_setup b.rest (behind (behind p a.line) b.line) [] o (omega arith) b.next_is in
     let dated = (configuration_holds (text_of s.setup) o.config s.rules s.says).dated in
-    let i = read o.config.clients o.rest o.place (fresh o.config.start.0) phases (omega arith, omega arith, omega (arith, dated)) s.most h in
+    let i = read o.config o.rest o.place (fresh o.config.start.0) phases (omega arith, omega arith, omega (arith, dated)) s.most h in
     let whole : lines_of text ≡ a.line ∷ b.line ∷ (s.setup ++ s.last ∷ o.rest) = a.lines_are ∙ ap (λ (r : List (List ℕ)). a.line ∷ r) (b.lines_are ∙ ap (λ (r : List (List ℕ)). b.line ∷ r) s.lines_are) in
     record {
       header = a.line;

@@ -1,4 +1,5 @@
 -- What an event line says (this profile's choice).
+use Rattle.cell_config.specs.declared.config.Config.{Config}
 use Rattle.std.specs.Prelude.{ℕ, ◌≡◌, true, Bool, if◌then◌else◌, List, length, codes, Result, Ok, Err, Some, None, nat_lt, nat_eq}
 use Rattle.std.specs.Cmp.Lexicographic.{pointwise}
 use Rattle.std.specs.declared.option.Option.{Option}
@@ -18,18 +19,18 @@ abbrev pub same : List ℕ → List ℕ → Bool
 same line word = pointwise nat_eq line word
 
 -- `<client> <hex>` with 1 to 65,000 octets
-abbrev pub heard_of : ℕ → Option ℕ → Option (List ℕ) → Result Said BadWord
-heard_of clients None octets = Err bad.Hex
-heard_of clients (Some client) None = Err bad.Hex
-heard_of clients (Some client) (Some octets) =
+abbrev pub heard_of : Config → Option ℕ → Option (List ℕ) → Result Said BadWord
+heard_of config None octets = Err bad.Hex
+heard_of config (Some client) None = Err bad.Hex
+heard_of config (Some client) (Some octets) =
     if between 1 65000 (length octets)
-    then (if between 1 clients client then Ok (Happens (Heard client octets)) else Err bad.Client)
+    then (if between 1 config.clients client then Ok (Happens (Heard client octets)) else Err bad.Client)
     else Err bad.Hex
 
 -- `lost <client>`
-abbrev pub lost_of : ℕ → Option ℕ → Result Said BadWord
-lost_of clients None = Err bad.Event
-lost_of clients (Some client) = if between 1 clients client then Ok (Happens (Lost client)) else Err bad.Client
+abbrev pub lost_of : Config → Option ℕ → Result Said BadWord
+lost_of config None = Err bad.Event
+lost_of config (Some client) = if between 1 config.clients client then Ok (Happens (Lost client)) else Err bad.Client
 
 -- `tick <ms>` with 1 to 3,600,000 milliseconds
 abbrev pub tick_of : Option ℕ → Result Said BadWord
@@ -41,39 +42,39 @@ abbrev pub ends_of : List ℕ → Result Said BadWord
 ends_of name = if is_identifier One name then Ok (Happens (Ends name)) else Err bad.Event
 
 -- a line that begins with no digit, by its first word and what follows
-abbrev pub worded : ℕ → List ℕ → List ℕ → List ℕ → Result Said BadWord
-worded clients line word argument =
+abbrev pub worded : Config → List ℕ → List ℕ → List ℕ → Result Said BadWord
+worded config line word argument =
     if same line (codes "phase") then Ok Phase
-    else if same word (codes "lost") then lost_of clients (number_of argument)
+    else if same word (codes "lost") then lost_of config (number_of argument)
     else if same word (codes "tick") then tick_of (number_of argument)
     else if same word (codes "ends") then ends_of argument
     else Err bad.Event
 
 -- what a line says that has no blanks at its ends
-abbrev pub trimmed_says : ℕ → List ℕ → Result Said BadWord
-trimmed_says clients line =
-    if begins_with_digit line then heard_of clients (number_of (word_of line)) (pairs_of (argument_of line))
+abbrev pub trimmed_says : Config → List ℕ → Result Said BadWord
+trimmed_says config line =
+    if begins_with_digit line then heard_of config (number_of (word_of line)) (pairs_of (argument_of line))
     else if is_remark line then Ok Nothing
-    else worded clients line (word_of line) (argument_of line)
+    else worded config line (word_of line) (argument_of line)
 
 -- what the content of an event line says, or the first rule that it breaks
-abbrev pub said_of : ℕ → List ℕ → Result Said BadWord
-said_of clients line = if nat_lt 196608 (length line) then Err bad.Long else trimmed_says clients (trim line)
+abbrev pub said_of : Config → List ℕ → Result Said BadWord
+said_of config line = if nat_lt 196608 (length line) then Err bad.Long else trimmed_says config (trim line)
 
 -- want of memory, or the rule that the line breaks
 abbrev pub IsCause : Result Said BadWord → LineError → Type 0
 IsCause r Memory = Unit {0}
 IsCause r (Bad word) = r ≡ Err word
 
--- an event that a recording of so many clients has
-abbrev pub IsRecorded : ℕ → CellEvent → Type 0
-IsRecorded clients (Heard client octets) = (between 1 clients client ≡ true) × (between 1 65000 (length octets) ≡ true)
-IsRecorded clients (Lost client) = between 1 clients client ≡ true
-IsRecorded clients (Tick ms) = between 1 3600000 ms ≡ true
-IsRecorded clients (Ends name) = is_identifier One name ≡ true
-IsRecorded clients (Drain client) = ⊥
+-- an event that a recording with this configuration has
+abbrev pub IsRecorded : Config → CellEvent → Type 0
+IsRecorded config (Heard client octets) = (between 1 config.clients client ≡ true) × (between 1 65000 (length octets) ≡ true)
+IsRecorded config (Lost client) = between 1 config.clients client ≡ true
+IsRecorded config (Tick ms) = between 1 3600000 ms ≡ true
+IsRecorded config (Ends name) = is_identifier One name ≡ true
+IsRecorded config (Drain client) = ⊥
 
-abbrev pub MayHappen : ℕ → Said → Type 0
-MayHappen clients Nothing = Unit {0}
-MayHappen clients Phase = Unit {0}
-MayHappen clients (Happens event) = IsRecorded clients event
+abbrev pub MayHappen : Config → Said → Type 0
+MayHappen config Nothing = Unit {0}
+MayHappen config Phase = Unit {0}
+MayHappen config (Happens event) = IsRecorded config event

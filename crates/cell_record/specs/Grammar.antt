@@ -23,10 +23,10 @@ text_of [] = []
 text_of (line ∷ lines) = in_text line ++ text_of lines
 
 -- each event line says this
-abbrev pub Says : ℕ → List (List ℕ) → List Said → Type 0
-Says clients [] [] = Unit {0}
-Says clients (line ∷ lines) (said ∷ more) = (said_of clients (content line) ≡ Ok said) × Says clients lines more
-Says clients lines said = ⊥
+abbrev pub Says : Config → List (List ℕ) → List Said → Type 0
+Says config [] [] = Unit {0}
+Says config (line ∷ lines) (said ∷ more) = (said_of config (content line) ≡ Ok said) × Says config lines more
+Says config lines said = ⊥
 
 -- a line `phase` stands between two phases
 abbrev pub phases_of : List Said → List (List CellEvent)
@@ -71,7 +71,7 @@ pub record ReadsRecording (text : List ℕ) (configured : Config) (phases : List
   pub rules : least_broken (text_of setup) ≡ None
   pub says : option_map config_of (document_of (text_of setup)) ≡ Some configured
   pub is_end : content last ≡ codes "end"
-  pub each : Says configured.clients body said
+  pub each : Says configured body said
   pub split : phases ≡ phases_of said
   pub few : AreFew 0 0 phases
   pub clock : configured.start.0 + all_ms phases ≤ 5662310399999

@@ -1,9 +1,10 @@
 -- The lines of a text with their numbers.
+use Rattle.cell_config.specs.declared.config.Config.{Config}
 use Rattle.std.specs.Prelude.{◌≡◌, ℕ, ◌+◌, ◌<◌, ◌≤◌, List, [], length, Some, IfSome}
 use Rattle.std.specs.Option.{option_map}
 use Rattle.std.specs.declared.option.Option.{Option}
-use Rattle.cell_io.specs.Lines.{lines_of, first_line, after_line, kept_of, has_feed}
-use Rattle.std.specs.Io.KnownBytes.{Consumes, IsAtEnd}
+use Rattle.cell_io.specs.Lines.{lines_of, first_line, after_line, kept_of}
+use Rattle.std.specs.Io.KnownBytes.{Consumes}
 use Rattle.cell_io.specs.Held.{Held, ahead}
 use Rattle.cell_record.specs.Recording.{Place, Opening, Reading, reading_of, setup_of, fresh, ended}
 use Rattle.cell_record.specs.declared.counts.Counts.{Counts}
@@ -41,13 +42,13 @@ at f n left = option_map (λ text. f (lines_of text) (place_at n)) (ahead n.held
 abbrev pub setup : List ℕ → List (List ℕ) → Place → Opening
 setup text lines p = setup_of lines p text
 
--- the event lines, for so many clients and with so much of the phase before them
-abbrev pub phases : ℕ → Counts → List (List ℕ) → Place → Reading
-phases clients c lines p = reading_of clients lines p c
+-- the event lines, under a configuration and with so much of the phase before them
+abbrev pub phases : Config → Counts → List (List ℕ) → Place → Reading
+phases config c lines p = reading_of config lines p c
 
 -- the lines after a phase, of which there is none after the last
-abbrev pub after_phase : ℕ → Bool → ℕ → List (List ℕ) → Place → Reading
-after_phase clients last moment lines p = if last then ended else reading_of clients lines p (fresh moment)
+abbrev pub after_phase : Config → Bool → ℕ → List (List ℕ) → Place → Reading
+after_phase config last moment lines p = if last then ended else reading_of config lines p (fresh moment)
 
 -- no more than a phase has, and no later than a time names
 abbrev pub IsWithin : Counts → Type 0

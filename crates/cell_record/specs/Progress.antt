@@ -29,11 +29,11 @@ rest_by None over r = if over then ended else r
 
 -- what a recording still says of these lines, from a place on
 abbrev pub rest_in : Progress → List (List ℕ) → Place → Reading
-rest_in p lines q = rest_by p.refusal p.over (reading_of p.config.clients lines q (fresh p.moment))
+rest_in p lines q = rest_by p.refusal p.over (reading_of p.config lines q (fresh p.moment))
 
 -- what a recording still says, where so much is left in the source
 abbrev pub rest_of : Progress → Option (List ℕ) → Option Reading
-rest_of p left = option_map (λ text. rest_by p.refusal p.over (reading_of p.config.clients (lines_of text) (place_of p) (fresh p.moment))) (ahead p.held left)
+rest_of p left = option_map (λ text. rest_by p.refusal p.over (reading_of p.config (lines_of text) (place_of p) (fresh p.moment))) (ahead p.held left)
 
 -- where it is told, the one is what `f` makes of the other
 abbrev pub Becomes : {T : Type 0} → Option T → (T → T) → Option T → Type 0

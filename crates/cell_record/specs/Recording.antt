@@ -124,12 +124,12 @@ abbrev pub with_said : ℕ → Counts → Result Said BadWord → (Counts → Re
 with_said line c (Err word) rest = refused (Bad line word)
 with_said line c (Ok said) rest = unless (refusal_of line (moved c said) said) (makes said (rest (moved c said)))
 
--- what event lines say to so many clients from a place on, with so much of the phase before them
-abbrev pub reading_of : ℕ → List (List ℕ) → Place → Counts → Reading
-reading_of clients [] p c = whole
-reading_of clients (line ∷ rest) p c =
+-- what event lines say under a configuration from a place on, with so much of the phase before them
+abbrev pub reading_of : Config → List (List ℕ) → Place → Counts → Reading
+reading_of config [] p c = whole
+reading_of config (line ∷ rest) p c =
     if fits p line
-    then with_said (p.lines + 1) c (said_of clients (content line)) (λ d. reading_of clients rest (behind p line) d)
+    then with_said (p.lines + 1) c (said_of config (content line)) (λ d. reading_of config rest (behind p line) d)
     else refused (TooMuch (p.lines + 1))
 
 -- ---- the lines before them
@@ -221,7 +221,7 @@ config_of_text text = config_in (opening_of_text text)
 -- the phases of a text that was opened, for the clients of its configuration and from its moment on
 abbrev pub after_opening : Opening → Reading
 after_opening (Err e) = refused e
-after_opening (Ok o) = reading_of o.config.clients o.rest o.place (fresh o.config.start.0)
+after_opening (Ok o) = reading_of o.config o.rest o.place (fresh o.config.start.0)
 
 -- what a whole text says
 abbrev pub reading_of_text : List ℕ → Reading

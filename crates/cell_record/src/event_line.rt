@@ -8,6 +8,7 @@ use crate::BadWord;
 use crate::digits::{number, pairs};
 use crate::said::{LineError, Said};
 use crate::words::{begins_with_digit, first_word, is_remark, trim};
+use cell_config::Config;
 use mms_types::{CellEvent, Edition, Identifier, Octets, Unnamed};
 use std::alloc::Global;
 
@@ -18,10 +19,10 @@ const MOST_IN_PDU: usize = 65_000;
 const MOST_IN_TICK: u32 = 3_600_000;
 
 /// That a client sent octets.
-fn heard(clients: u32, client: Option<u32>, octets: Option<Octets>) -> Result<Said, LineError>
-    ensures says { IfOk result (λ s. heard_of clients client octets ≡ Ok s) }
-    ensures bad { IfErr result (λ e. IsCause (heard_of clients client octets) e) }
-    ensures may { IfOk result (MayHappen clients) }
+fn heard(config: &Config, client: Option<u32>, octets: Option<Octets>) -> Result<Said, LineError>
+    ensures says { IfOk result (λ s. heard_of config.now client octets ≡ Ok s) }
+    ensures bad { IfErr result (λ e. IsCause (heard_of config.now client octets) e) }
+    ensures may { IfOk result (MayHappen config.now) }
 {
     let (Some(client), Some(octets)) = (client, octets) else {
         return Err(LineError::Bad(BadWord::Hex));
@@ -29,32 +30,32 @@ fn heard(clients: u32, client: Option<u32>, octets: Option<Octets>) -> Result<Sa
     if octets.is_empty() || octets.len() > MOST_IN_PDU {
         return Err(LineError::Bad(BadWord::Hex));
     }
-    if client < 1 || client > clients {
+    if client < 1 || client > config.clients {
         return Err(LineError::Bad(BadWord::Client));
     }
     Ok(Said::Happens(CellEvent::Heard { client, octets }))
 }
 
 /// That a client's association was lost.
-fn lost(clients: u32, client: Option<u32>) -> Result<Said, LineError>
-    ensures says { IfOk result (λ s. lost_of clients client ≡ Ok s) }
-    ensures bad { IfErr result (λ e. IsCause (lost_of clients client) e) }
-    ensures may { IfOk result (MayHappen clients) }
+fn lost(config: &Config, client: Option<u32>) -> Result<Said, LineError>
+    ensures says { IfOk result (λ s. lost_of config.now client ≡ Ok s) }
+    ensures bad { IfErr result (λ e. IsCause (lost_of config.now client) e) }
+    ensures may { IfOk result (MayHappen config.now) }
 {
     let Some(client) = client else {
         return Err(LineError::Bad(BadWord::Event));
     };
-    if client < 1 || client > clients {
+    if client < 1 || client > config.clients {
         return Err(LineError::Bad(BadWord::Client));
     }
     Ok(Said::Happens(CellEvent::Lost { client }))
 }
 
 /// That time went by.
-fn tick(clients: u32, ms: Option<u32>) -> Result<Said, LineError>
+fn tick(config: &Config, ms: Option<u32>) -> Result<Said, LineError>
     ensures says { IfOk result (λ s. tick_of ms ≡ Ok s) }
     ensures bad { IfErr result (λ e. IsCause (tick_of ms) e) }
-    ensures may { IfOk result (MayHappen clients) }
+    ensures may { IfOk result (MayHappen config.now) }
 {
     let Some(ms) = ms else {
         return Err(LineError::Bad(BadWord::Event));
@@ -66,10 +67,10 @@ fn tick(clients: u32, ms: Option<u32>) -> Result<Said, LineError>
 }
 
 /// That a program invocation came to its end.
-fn ends(alloc: Global, clients: u32, name: &[u8]) -> Result<Said, LineError>
+fn ends(alloc: Global, config: &Config, name: &[u8]) -> Result<Said, LineError>
     ensures says { IfOk result (λ s. ends_of name.now ≡ Ok s) }
     ensures bad { IfErr result (λ e. IsCause (ends_of name.now) e) }
-    ensures may { IfOk result (MayHappen clients) }
+    ensures may { IfOk result (MayHappen config.now) }
 {
     match Identifier::read(alloc, name, Edition::One) {
         Ok(name) => Ok(Said::Happens(CellEvent::Ends { name })),
@@ -79,23 +80,23 @@ fn ends(alloc: Global, clients: u32, name: &[u8]) -> Result<Said, LineError>
 }
 
 /// What a line says by its first word.
-fn by_word(alloc: Global, clients: u32, line: &[u8]) -> Result<Said, LineError>
-    ensures says { IfOk result (λ s. worded clients line.now (word_of line.now) (argument_of line.now) ≡ Ok s) }
-    ensures bad { IfErr result (λ e. IsCause (worded clients line.now (word_of line.now) (argument_of line.now)) e) }
-    ensures may { IfOk result (MayHappen clients) }
+fn by_word(alloc: Global, config: &Config, line: &[u8]) -> Result<Said, LineError>
+    ensures says { IfOk result (λ s. worded config.now line.now (word_of line.now) (argument_of line.now) ≡ Ok s) }
+    ensures bad { IfErr result (λ e. IsCause (worded config.now line.now (word_of line.now) (argument_of line.now)) e) }
+    ensures may { IfOk result (MayHappen config.now) }
 {
     if line == b"phase".as_slice() {
         return Ok(Said::Phase);
     }
     let parted = first_word(line);
     if parted.word == b"lost".as_slice() {
-        return lost(clients, number(parted.argument));
+        return lost(config, number(parted.argument));
     }
     if parted.word == b"tick".as_slice() {
-        return tick(clients, number(parted.argument));
+        return tick(config, number(parted.argument));
     }
     if parted.word == b"ends".as_slice() {
-        return ends(alloc, clients, parted.argument);
+        return ends(alloc, config, parted.argument);
     }
     Err(LineError::Bad(BadWord::Event))
 }
@@ -103,53 +104,53 @@ fn by_word(alloc: Global, clients: u32, line: &[u8]) -> Result<Said, LineError>
 /// What a line says that begins with a digit.
 fn by_client(
     alloc: Global,
-    clients: u32,
+    config: &Config,
     line: &[u8],
     buffer: &mut Vec<u8>,
 ) -> Result<Said, LineError>
-    ensures says { IfOk result (λ s. heard_of clients (number_of (word_of line.now)) (pairs_of (argument_of line.now)) ≡ Ok s) }
-    ensures bad { IfErr result (λ e. IsCause (heard_of clients (number_of (word_of line.now)) (pairs_of (argument_of line.now))) e) }
-    ensures may { IfOk result (MayHappen clients) }
+    ensures says { IfOk result (λ s. heard_of config.now (number_of (word_of line.now)) (pairs_of (argument_of line.now)) ≡ Ok s) }
+    ensures bad { IfErr result (λ e. IsCause (heard_of config.now (number_of (word_of line.now)) (pairs_of (argument_of line.now))) e) }
+    ensures may { IfOk result (MayHappen config.now) }
 {
     let parted = first_word(line);
     let octets = pairs(alloc, parted.argument, buffer)?;
-    heard(clients, number(parted.word), octets)
+    heard(config, number(parted.word), octets)
 }
 
 /// What a line says that has no blanks at its ends.
 fn trimmed(
     alloc: Global,
-    clients: u32,
+    config: &Config,
     line: &[u8],
     buffer: &mut Vec<u8>,
 ) -> Result<Said, LineError>
-    ensures says { IfOk result (λ s. trimmed_says clients line.now ≡ Ok s) }
-    ensures bad { IfErr result (λ e. IsCause (trimmed_says clients line.now) e) }
-    ensures may { IfOk result (MayHappen clients) }
+    ensures says { IfOk result (λ s. trimmed_says config.now line.now ≡ Ok s) }
+    ensures bad { IfErr result (λ e. IsCause (trimmed_says config.now line.now) e) }
+    ensures may { IfOk result (MayHappen config.now) }
 {
     if begins_with_digit(line) {
-        return by_client(alloc, clients, line, buffer);
+        return by_client(alloc, config, line, buffer);
     }
     if is_remark(line) {
         return Ok(Said::Nothing);
     }
-    by_word(alloc, clients, line)
+    by_word(alloc, config, line)
 }
 
-/// What the content of an event line says, where there are so many clients. The buffer is kept from
+/// What the content of an event line says, under a configuration. The buffer is kept from
 /// line to line; what it holds is of no account.
 pub fn said(
     alloc: Global,
-    clients: u32,
+    config: &Config,
     line: &[u8],
     buffer: &mut Vec<u8>,
 ) -> Result<Said, LineError>
-    ensures says { IfOk result (λ s. said_of clients line.now ≡ Ok s) }
-    ensures bad { IfErr result (λ e. IsCause (said_of clients line.now) e) }
-    ensures may { IfOk result (MayHappen clients) }
+    ensures says { IfOk result (λ s. said_of config.now line.now ≡ Ok s) }
+    ensures bad { IfErr result (λ e. IsCause (said_of config.now line.now) e) }
+    ensures may { IfOk result (MayHappen config.now) }
 {
     if line.len() > MOST_IN_LINE {
         return Err(LineError::Bad(BadWord::Long));
     }
-    trimmed(alloc, clients, trim(line), buffer)
+    trimmed(alloc, config, trim(line), buffer)
 }

@@ -15,6 +15,7 @@ use crate::counts::Counts;
 use crate::event_line::said;
 use crate::numbered::NumberedLines;
 use crate::said::{LineError, Said};
+use cell_config::Config;
 use cell_io::{MOST, Source};
 use mms_types::Events;
 use std::alloc::Global;
@@ -31,24 +32,24 @@ pub struct Piece {
 fn next_said<S: Source>(
     alloc: Global,
     lines: &mut NumberedLines,
-    clients: u32,
+    config: &Config,
     counts: &mut Counts,
     buffer: &mut Vec<u8>,
     input: &mut S,
 ) -> Result<Option<Said>, RecordError>
     requires { IsWithin counts.old }
     ensures says { IfOk result (λ o. MatchOption o
-        (IfSome (at (phases clients counts.old) lines.old (S.left input.old)) (λ r. (r ≡ whole) × (at (phases clients counts.old) lines.new (S.left input.new) ≡ Some r)))
-        (λ s. Becomes (at (phases clients counts.old) lines.old (S.left input.old)) (makes s) (at (phases clients counts.new) lines.new (S.left input.new)))) }
-    ensures leads { IfOk result (λ o. MatchOption o ⊤ (λ s. Leads (phases clients counts.old) lines.old.held (place_at lines.old) (S.left input.old) (makes s)
-        (phases clients counts.new) lines.new.held (place_at lines.new) (S.left input.new))) }
-    ensures may { IfOk result (λ o. MatchOption o ⊤ (MayHappen clients)) }
+        (IfSome (at (phases config.now counts.old) lines.old (S.left input.old)) (λ r. (r ≡ whole) × (at (phases config.now counts.old) lines.new (S.left input.new) ≡ Some r)))
+        (λ s. Becomes (at (phases config.now counts.old) lines.old (S.left input.old)) (makes s) (at (phases config.now counts.new) lines.new (S.left input.new)))) }
+    ensures leads { IfOk result (λ o. MatchOption o ⊤ (λ s. Leads (phases config.now counts.old) lines.old.held (place_at lines.old) (S.left input.old) (makes s)
+        (phases config.now counts.new) lines.new.held (place_at lines.new) (S.left input.new))) }
+    ensures may { IfOk result (λ o. MatchOption o ⊤ (MayHappen config.now)) }
     ensures counts { IfOk result (λ o. MatchOption o (counts.new ≡ counts.old) (λ s. counts.new ≡ moved counts.old s)) }
     ensures within { IfOk result (λ _. IsWithin counts.new) }
     ensures over { IfOk result (λ o. MatchOption o (lines.new.held.ended ≡ true) (λ _. ⊤)) }
-    ensures refused { IfErr result (λ e. IsStated e → IfSome (at (phases clients counts.old) lines.old (S.left input.old)) (λ r. r ≡ refused e)) }
+    ensures refused { IfErr result (λ e. IsStated e → IfSome (at (phases config.now counts.old) lines.old (S.left input.old)) (λ r. r ≡ refused e)) }
     ensures fault { IfErr result (λ e. e ≡ RecordError.ReadFault → Rose (S.faults input.old) (S.faults input.new)) }
-    ensures stops { IfErr result (λ e. e ≡ RecordError.ReadFault → StopsInPhase (phases clients counts.old) lines.old.held (place_at lines.old) (S.left input.old) (S.left input.new)) }
+    ensures stops { IfErr result (λ e. e ≡ RecordError.ReadFault → StopsInPhase (phases config.now counts.old) lines.old.held (place_at lines.old) (S.left input.old) (S.left input.new)) }
     ensures seen { IsEndSeen lines.old.held (S.left input.old) → IsEndSeen lines.new.held (S.left input.new) }
     ensures grows { IfOk result (λ o. MatchOption o ⊤ (λ _. lines.old.held.given < lines.new.held.given)) }
     ensures order { lines.old.held.given ≤ lines.new.held.given }
@@ -61,7 +62,7 @@ fn next_said<S: Source>(
     if !lines.next(input)? {
         return Ok(None);
     }
-    match said(alloc, clients, lines.content(), buffer) {
+    match said(alloc, config, lines.content(), buffer) {
         Ok(said) => match counts.count(number, &said) {
             None => Ok(Some(said)),
             Some(refusal) => Err(refusal),
@@ -75,25 +76,25 @@ fn next_said<S: Source>(
 pub fn read_phase<S: Source>(
     alloc: Global,
     lines: &mut NumberedLines,
-    clients: u32,
+    config: &Config,
     counts: &mut Counts,
     buffer: &mut Vec<u8>,
     input: &mut S,
 ) -> Result<Piece, RecordError>
     requires within { IsWithin counts.old }
     requires begins { counts.old.events ≡ 0 }
-    ensures phase { IfOk result (λ p. Becomes (at (phases clients counts.old) lines.old (S.left input.old)) (with_phase p.events)
-        (at (after_phase clients p.last counts.new.moment) lines.new (S.left input.new))) }
-    ensures leads { IfOk result (λ p. Leads (phases clients counts.old) lines.old.held (place_at lines.old) (S.left input.old) (with_phase p.events)
-        (after_phase clients p.last counts.new.moment) lines.new.held (place_at lines.new) (S.left input.new)) }
-    ensures recorded { IfOk result (λ p. All (IsRecorded clients) p.events) }
+    ensures phase { IfOk result (λ p. Becomes (at (phases config.now counts.old) lines.old (S.left input.old)) (with_phase p.events)
+        (at (after_phase config.now p.last counts.new.moment) lines.new (S.left input.new))) }
+    ensures leads { IfOk result (λ p. Leads (phases config.now counts.old) lines.old.held (place_at lines.old) (S.left input.old) (with_phase p.events)
+        (after_phase config.now p.last counts.new.moment) lines.new.held (place_at lines.new) (S.left input.new)) }
+    ensures recorded { IfOk result (λ p. All (IsRecorded config.now) p.events) }
     ensures few { IfOk result (λ p. length p.events ≤ 16384) }
     ensures within { IfOk result (λ _. IsWithin counts.new) }
     ensures moment { IfOk result (λ p. counts.new.moment ≡ counts.old.moment + phase_ms p.events) }
     ensures over { IfOk result (λ p. p.last ≡ true → lines.new.held.ended ≡ true) }
-    ensures refused { IfErr result (λ e. IsStated e → IfSome (at (phases clients counts.old) lines.old (S.left input.old)) (λ r. r ≡ refused e)) }
+    ensures refused { IfErr result (λ e. IsStated e → IfSome (at (phases config.now counts.old) lines.old (S.left input.old)) (λ r. r ≡ refused e)) }
     ensures fault { IfErr result (λ e. e ≡ RecordError.ReadFault → Rose (S.faults input.old) (S.faults input.new)) }
-    ensures stops { IfErr result (λ e. e ≡ RecordError.ReadFault → StopsInPhase (phases clients counts.old) lines.old.held (place_at lines.old) (S.left input.old) (S.left input.new)) }
+    ensures stops { IfErr result (λ e. e ≡ RecordError.ReadFault → StopsInPhase (phases config.now counts.old) lines.old.held (place_at lines.old) (S.left input.old) (S.left input.new)) }
     ensures seen { IsEndSeen lines.old.held (S.left input.old) → IsEndSeen lines.new.held (S.left input.new) }
     ensures grows { IfOk result (λ p. p.last ≡ false → lines.old.held.given < lines.new.held.given) }
     ensures order { lines.old.held.given ≤ lines.new.held.given }
@@ -103,7 +104,7 @@ pub fn read_phase<S: Source>(
     let mut events = Events::new(alloc);
     let _given = lines.given();
     for _turn in 0..MOST + 1 {
-        match next_said(alloc, lines, clients, counts, buffer, input)? {
+        match next_said(alloc, lines, config, counts, buffer, input)? {
             Some(Said::Nothing) => continue,
             Some(Said::Phase) => {
                 return Ok(Piece {

@@ -133,7 +133,7 @@ impl Recording {
             (rest_in self.new) self.new.held (place_of self.new) (S.left input.new))) }
         ensures unread { IfOk result (λ o. MatchOption o (input.new ≡ input.old) (λ _. ⊤)) }
         ensures number { IfOk result (λ o. MatchOption o ⊤ (λ p. (p.number ≡ self.old.number + 1) × (self.new.number ≡ p.number) × (p.number < 2 ^ 32))) }
-        ensures recorded { IfOk result (λ o. MatchOption o ⊤ (λ p. All (IsRecorded self.new.config.clients) p.events)) }
+        ensures recorded { IfOk result (λ o. MatchOption o ⊤ (λ p. All (IsRecorded self.new.config) p.events)) }
         ensures few { IfOk result (λ o. MatchOption o ⊤ (λ p. length p.events ≤ 16384)) }
 
         // The moment goes on with the phase's ticks, and never passes the last one.
@@ -181,7 +181,7 @@ impl Recording {
         requires open { self.old.over ≡ false }
         requires unrefused { self.old.refusal ≡ None }
         ensures phase { IfOk result (λ es. Becomes (rest_of self.old (S.left input.old)) (with_phase es) (rest_of self.new (S.left input.new))) }
-        ensures recorded { IfOk result (λ es. All (IsRecorded self.old.config.clients) es) }
+        ensures recorded { IfOk result (λ es. All (IsRecorded self.old.config) es) }
         ensures few { IfOk result (λ es. length es ≤ 16384) }
         ensures moment { IfOk result (λ es. self.new.moment ≡ self.old.moment + phase_ms es) }
         ensures over { OnOk result (self.new.over ≡ true → self.new.held.ended ≡ true) }
@@ -201,7 +201,7 @@ impl Recording {
         let piece = read_phase(
             alloc,
             &mut self.lines,
-            self.config.clients,
+            &self.config,
             &mut counts,
             &mut self.buffer,
             input,

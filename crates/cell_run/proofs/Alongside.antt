@@ -1,6 +1,5 @@
 -- The device along events.
 use Rattle.std.proofs.Common.{◌≡◌, ℕ, zero, suc, ◌+◌, ◌-◌, ◌≤◌, ◌<◌, ◌&&◌, Bool, true, false, List, [], ◌∷◌, ◌++◌, fold, length, take, drop, get_or, nat_le, refl, sym, ap, ◌∙◌, subst, arith, append-nil, append_assoc, length-append}
-use Rattle.std.specs.List.{All}
 use Rattle.std.proofs.lemmas.Bool.Decides.{nat_tests}
 use Rattle.std.proofs.lemmas.List.{take_more, take-append-drop, map-append}
 use Rattle.mms_types.specs.Actors.{clients_to, IsAmong}
@@ -19,7 +18,7 @@ use Rattle.cell_record.specs.Recording.{ms_in}
 use Rattle.cell_record.specs.Grammar.{phase_ms}
 use Rattle.cell_record.specs.History.{drains}
 use Rattle.cell_record.specs.Report.{taken, placed_from, phase_text}
-use Rattle.cell_run.specs.Along.{along, taken_along, phase_told}
+use Rattle.cell_run.specs.Along.{AreRecorded, along, taken_along, phase_told}
 
 -- ---- one event
 
@@ -43,9 +42,9 @@ in_range low high n e = both (nat_le low n) (nat_le n high) refl refl e
     both true false p q e = absurd (cc e)
     both false b p q e = absurd (cc e)
 
-among_recorded : (n : ℕ) (e : CellEvent) → IsRecorded n e → IsAmong n e
-among_recorded n (Heard client octets) h = in_range 1 n client h.0
-among_recorded n (Lost client) h = in_range 1 n client h
+among_recorded : (config : Config) (e : CellEvent) → IsRecorded config e → IsAmong config.clients e
+among_recorded n (Heard client octets) h = in_range 1 n.clients client h.0
+among_recorded n (Lost client) h = in_range 1 n.clients client h
 among_recorded n (Tick ms) h = tt
 among_recorded n (Ends name) h = tt
 among_recorded n (Drain client) h = absurd h
@@ -70,10 +69,10 @@ ms_front : (es : List CellEvent) (i : ℕ) → phase_ms (take i es) ≤ phase_ms
 ms_front es i = let all = ap phase_ms (sym (take-append-drop i es)) ∙ phase_ms-append (take i es) (drop i es) in omega (arith, all)
 
 -- an event of a phase may come in its turn
-pub may_come : (d : Served) (n now : ℕ) (es : List CellEvent) (i : ℕ) (e : CellEvent) → All (IsRecorded n) es → i < length es → e ≡ get_or es i e
+pub may_come : (d : Served) (n now : ℕ) (es : List CellEvent) (i : ℕ) (e : CellEvent) → AreRecorded n es → i < length es → e ≡ get_or es i e
     → length d.state.clients ≡ n → d.state.now ≡ now + phase_ms (take i es) → now + phase_ms es ≤ last_moment → MayCome d.state e
 may_come d n now es i e all there is sized at time = record {
-  among = subst (λ (m : ℕ). IsAmong m e) (sym sized) (among_recorded n e (subst (IsRecorded n) (sym is) (all i e there)));
+  among = subst (λ (m : ℕ). IsAmong m e) (sym (sized ∙ all.same)) (among_recorded all.config e (subst (IsRecorded all.config) (sym is) (all.each i e there)));
   time = in_time d.state.now (ms_in e) e (omega arith) (
       let more = ms_more es i e there in let front = ms_front es (i + 1) in let here = ap ms_in is in omega (arith, more, front, at, time, here));
 }

@@ -1,18 +1,16 @@
 -- The device of one thread serves phases as they are recorded.
-use Rattle.std.proofs.Common.{◌≡◌, ℕ, ◌+◌, ◌≤◌, List, [], ◌∷◌, ◌++◌, length, sym, ap, ◌∙◌, subst, arith, length-append, Result, Ok, Err, OnOk, IfOk}
-use Rattle.std.specs.List.{All}
+use Rattle.std.proofs.Common.{◌≡◌, ℕ, ◌+◌, ◌≤◌, List, [], ◌∷◌, ◌++◌, length, sym, ap, ◌∙◌, arith, length-append, Result, Ok, Err, OnOk, IfOk}
 use Rattle.mms_types.specs.Actors.{clients_to}
 use Rattle.mms_types.specs.declared.event.What.{What}
 use Rattle.mms_types.specs.declared.event.CellEvent.{CellEvent}
 use Rattle.mms_types.specs.declared.memory.Memory.{Memory}
 use Rattle.cell_config.specs.declared.config.Config.{Config}
 use Rattle.mms_device.specs.Served.{Served, device_after}
-use Rattle.cell_record.specs.EventLine.{IsRecorded}
 use Rattle.cell_record.specs.Grammar.{phase_ms}
 use Rattle.cell_record.specs.History.{drains, history}
 use Rattle.cell_record.specs.Report.{phase_text, placed_from}
 use Rattle.cell_record.specs.declared.told.Told.{Told}
-use Rattle.cell_run.specs.Along.{along, phase_told, taken_along}
+use Rattle.cell_run.specs.Along.{AreRecorded, along, phase_told, taken_along}
 use Rattle.cell_run.specs.Serving.{HasReplayed, MayServe, ServesPhase}
 use Rattle.cell_run.proofs.Alongside.{after_sized, after-append, phase_now, phase_count, told_after}
 use Rattle.cell_run.proofs.Fronts.{history-snoc}
@@ -21,8 +19,8 @@ use Rattle.cell_run.proofs.Phases.{all_ms-append}
 sized : (d : Served) (config : Config) (phases bodies : List (List CellEvent)) → HasReplayed d config phases bodies → length d.state.clients ≡ config.clients
 sized d config phases bodies h = ap (λ (x : Served). length x.state.clients) h.along ∙ after_sized config (history config.clients bodies)
 
-pub may_recorded : (d : Served) (events : List CellEvent) → MayServe (HasReplayed d) events → All (IsRecorded (length d.state.clients)) events
-may_recorded d events m = subst (λ (n : ℕ). All (IsRecorded n) events) (sym (sized d m.config m.phases m.bodies m.served)) m.next.recorded
+pub may_recorded : (d : Served) (events : List CellEvent) → MayServe (HasReplayed d) events → AreRecorded (length d.state.clients) events
+may_recorded d events m = record { config = m.config; same = sized d m.config m.phases m.bodies m.served; each = m.next.recorded }
 
 pub replayed : (d new : Served) (number : ℕ) (events : List CellEvent) (r : Result Told Memory) → length events ≤ 16384 → IfOk r (λ t. t.number ≡ number) → IfOk r (λ t. t.served ≡ placed_from (d.count + 1) events)
     → IfOk r (λ t. t.outputs ≡ taken_along (along d events) (clients_to (length d.state.clients))) → OnOk r (new ≡ along d (events ++ drains (clients_to (length d.state.clients))))

@@ -1,9 +1,12 @@
 -- A phase as the device serves it, and the text that it makes: the words of clauses inside the crate.
-use Rattle.std.specs.Prelude.{ℕ, ◌+◌, List, [], ◌∷◌, fold, length}
+use Rattle.std.specs.Prelude.{◌≡◌, ℕ, ◌+◌, List, [], ◌∷◌, fold, length}
 use Rattle.mms_types.specs.Actors.{clients_to}
 use Rattle.mms_types.specs.declared.event.What.{What}
 use Rattle.mms_types.specs.declared.event.CellEvent.{CellEvent}
 use Rattle.mms_types.specs.declared.event.CellEvent.TheVariants.{Drain}
+use Rattle.std.specs.List.{All}
+use Rattle.cell_config.specs.declared.config.Config.{Config}
+use Rattle.cell_record.specs.EventLine.{IsRecorded}
 use Rattle.mms_step.specs.Step.{outbox_of}
 use Rattle.mms_device.specs.Served.{Served, served}
 use Rattle.cell_record.specs.Report.{placed_from, phase_text}
@@ -21,3 +24,9 @@ taken_along device (c ∷ cs) = outbox_of device.state c ∷ taken_along (served
 abbrev pub phase_told : Served → ℕ → List CellEvent → List ℕ
 phase_told device number body =
     phase_text number (placed_from (device.count + 1) body) (taken_along (along device body) (clients_to (length device.state.clients)))
+
+-- events that a recording of so many clients has
+pub record AreRecorded (clients : ℕ) (events : List CellEvent) : Type 0 where
+  pub config : Config
+  pub same : clients ≡ config.clients
+  pub each : All (IsRecorded config) events

@@ -29,7 +29,7 @@ body_text config number before body = phase_text number (placed_from (length bef
 
 -- events that a recording may have as its next phase
 pub record IsNext (config : Config) (phases : List (List CellEvent)) (events : List CellEvent) : Type 0 where
-  pub recorded : All (IsRecorded config.clients) events
+  pub recorded : All (IsRecorded config) events
   pub clock : config.start.0 + all_ms phases + phase_ms events ≤ 5662310399999
   pub few : length events ≤ 16384
   pub many : length phases < 2 ^ 32

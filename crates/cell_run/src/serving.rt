@@ -11,7 +11,7 @@ ghost use Rattle.cell_record.specs.EventLine.{IsRecorded};
 ghost use Rattle.cell_record.specs.Grammar.{phase_ms};
 ghost use Rattle.cell_record.specs.History.{drains};
 ghost use Rattle.cell_record.specs.Report.{placed_from};
-ghost use Rattle.cell_run.specs.Along.{along, phase_told, taken_along};
+ghost use Rattle.cell_run.specs.Along.{AreRecorded, along, phase_told, taken_along};
 
 use crate::server::Server;
 use cell_record::{ClientOutputs, Phase, PlacedEvents, Told};
@@ -22,7 +22,7 @@ use std::alloc::Global;
 /// Serves events, one after the other.
 #[tactic(auto, using(crate::proofs::Alongside::one_more))]
 fn serve_events(alloc: Global, device: &mut Whole, events: &[CellEvent]) -> Result<(), Memory>
-    requires recorded { All (IsRecorded (length device.old.state.clients)) events.now }
+    requires recorded { AreRecorded (length device.old.state.clients) events.now }
     requires time { device.old.state.now + phase_ms events.now ≤ last_moment }
     requires few { device.old.count + length events.now < 2 ^ 57 - 1 }
     ensures { OnOk result (device.new ≡ along device.old events.now) }
@@ -51,7 +51,7 @@ fn drain_clients(alloc: Global, device: &mut Whole) -> Result<ClientOutputs, Mem
 
 /// Serves a phase: what there is to tell of it.
 fn serve_whole(alloc: Global, device: &mut Whole, phase: Phase) -> Result<Told, Memory>
-    requires recorded { All (IsRecorded (length device.old.state.clients)) phase.events }
+    requires recorded { AreRecorded (length device.old.state.clients) phase.events }
     requires time { device.old.state.now + phase_ms phase.events ≤ last_moment }
     requires few { device.old.count + length phase.events + 64 < 2 ^ 57 - 1 }
     ensures number { IfOk result (λ told. told.number ≡ phase.number) }

@@ -3,7 +3,7 @@ use Rattle.cell_record.specs.declared.counts.Counts.{Counts}
 use Rattle.cell_record.proofs.Readings.{with_events, event_after, phase_after, part_then, same_events, same_next, recorded_more, size_more, moment_more}
 use Rattle.std.proofs.lemmas.Result.{err_from_is_err_and}
 use Rattle.cell_record.specs.Recording.{with_event, with_phase}
-use Rattle.cell_record.proofs.Stopping.{leads_more, leads_begin, leads_then, leads_nowhere, phase_then}
+use Rattle.cell_record.proofs.Stopping.{leads_more, leads_then, leads_nowhere, phase_then}
 use Rattle.cell_record.proofs.phase_lines.read_phase.Goals as goal
 
 pub loop-turn-preserved-in-Some-Nothing : goal.loop-turn-preserved-in-Some-Nothing
@@ -27,7 +27,7 @@ loop-turn-preserved g c = record {
   leads = rw c.in_ok-push-in-Some-Happens.ensures.appended (leads_more _ _ _ c.loop-turn.events (c.loop-turn.events ++ c.in-Some-Happens.event ∷ []) (with_event c.in-Some-Happens.event) _ _ _ _ _ _ _ _ _ (event_after c.loop-turn.events c.in-Some-Happens.event)
       c.loop-turn.invariant.leads (rw (c.in-Some-Happens.is, c.in-Some-Happens.field-0-is) at c.in_ok-next_said.ensures.leads));
   seen = λ first. c.next_said.ensures.seen (c.loop-turn.invariant.seen first);
-  recorded = recorded_more c.args.clients c.loop-turn.events _ c.in-Some-Happens.event c.in_ok-push-in-Some-Happens.ensures.appended c.loop-turn.invariant.recorded (rw (c.in-Some-Happens.is, c.in-Some-Happens.field-0-is) at c.in_ok-next_said.ensures.may);
+  recorded = recorded_more c.args.config.now c.loop-turn.events _ c.in-Some-Happens.event c.in_ok-push-in-Some-Happens.ensures.appended c.loop-turn.invariant.recorded (rw (c.in-Some-Happens.is, c.in-Some-Happens.field-0-is) at c.in_ok-next_said.ensures.may);
   size = size_more c.loop-turn.events _ c.in-Some-Happens.event c.loop-turn.counts _ c.in_ok-push-in-Some-Happens.ensures.appended c.loop-turn.invariant.size (rw (c.in-Some-Happens.is, c.in-Some-Happens.field-0-is) at c.in_ok-next_said.ensures.counts);
   within = c.in_ok-next_said.ensures.within;
   moment = moment_more c.loop-turn.events _ c.in-Some-Happens.event c.loop-turn.counts _ c.args.counts.now.moment c.in_ok-push-in-Some-Happens.ensures.appended c.loop-turn.invariant.moment (rw (c.in-Some-Happens.is, c.in-Some-Happens.field-0-is) at c.in_ok-next_said.ensures.counts);

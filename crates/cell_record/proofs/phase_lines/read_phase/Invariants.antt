@@ -11,11 +11,11 @@ use Rattle.cell_record.proofs.phase_lines.read_phase.Given as goal
 
 abbrev pub invariant-loop-turn : goal.invariant-loop-turn
 invariant-loop-turn g l = record {
-  rest : Becomes (at (phases l.clients l.initial.counts) l.initial.lines (g.S.Source.left l.initial.input)) (with_events l.events) (at (phases l.clients l.counts) l.lines (g.S.Source.left l.input));
-  leads : Leads (phases l.clients l.initial.counts) l.initial.lines.held (place_at l.initial.lines) (g.S.Source.left l.initial.input) (with_events l.events)
-      (phases l.clients l.counts) l.lines.held (place_at l.lines) (g.S.Source.left l.input);
+  rest : Becomes (at (phases l.config l.initial.counts) l.initial.lines (g.S.Source.left l.initial.input)) (with_events l.events) (at (phases l.config l.counts) l.lines (g.S.Source.left l.input));
+  leads : Leads (phases l.config l.initial.counts) l.initial.lines.held (place_at l.initial.lines) (g.S.Source.left l.initial.input) (with_events l.events)
+      (phases l.config l.counts) l.lines.held (place_at l.lines) (g.S.Source.left l.input);
   seen : IsEndSeen l.initial.lines.held (g.S.Source.left l.initial.input) → IsEndSeen l.lines.held (g.S.Source.left l.input);
-  recorded : All (IsRecorded l.clients) l.events;
+  recorded : All (IsRecorded l.config) l.events;
   size : length l.events ≡ l.counts.events;
   within : IsWithin l.counts;
   moment : l.counts.moment ≡ l.initial.counts.moment + phase_ms l.events;

@@ -1,4 +1,4 @@
-use Rattle.std.proofs.Common.{◌≡◌, ℕ, ap, ap₂}
+use Rattle.std.proofs.Common.{◌≡◌, ℕ, ap₂}
 use Rattle.std.proofs.lemmas.Result.{err_from_is_err_and}
 use Rattle.cell_record.specs.Recording.{Place, front}
 use Rattle.cell_record.specs.Numbered.{place_at}

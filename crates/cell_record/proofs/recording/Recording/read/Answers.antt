@@ -1,4 +1,4 @@
-use Rattle.std.proofs.Common.{◌≡◌, ◌+◌, ◌∙◌, ap, subst, refl}
+use Rattle.std.proofs.Common.{◌+◌, ◌∙◌, ap, subst, refl}
 use Rattle.std.proofs.lemmas.Result.{err_from_is_err_and}
 use Rattle.cell_record.specs.Recording.{with_phase}
 use Rattle.cell_record.specs.Progress.{Progress, place_of, rest_in}
