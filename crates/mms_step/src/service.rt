@@ -9,8 +9,8 @@ use crate::places::Parts;
 use crate::tables::{CONDITIONS, DOMAINS, JOURNALS, PROGRAMS, VARIABLES, semaphores};
 use association::ClientPart;
 use mms_types::{
-    Answer, GetNameListAnswer, Identifiers, IdentifyAnswer, Memory, ObjectClass, ObjectScope, Request,
-    ServiceError, StatusAnswer,
+    Answer, GetNameListAnswer, Identifiers, IdentifyAnswer, Memory, ObjectClass, ObjectScope,
+    Request, ServiceError, StatusAnswer,
 };
 use std::alloc::Global;
 
