@@ -11,16 +11,18 @@ ghost use Rattle.mms_pdu.specs.Pdus.{pdu_value, pdu_octets};
 ghost use Rattle.mms_pdu.specs.Hearing.{whole_pdus, heard};
 ghost use Rattle.mms_pdu.specs.Asking.{IsAsking};
 
-/// Octets of the form of a PDU that a client may send and that is kept whole are heard as what they say, and what is heard as such a
-/// PDU is of its form. All other PDUs that are heard are a reject, under the number 4, and those of which nothing is kept.
+/// Octets of the form of a PDU that a client may send and that is kept whole are heard as what they say, and what is
+/// heard as such a PDU is of its form. All other PDUs that are heard are a reject, under the number 4, and those of
+/// which nothing is kept.
 pub fn hears_each_form()
     ensures heard { (lengths : Lengths) (edition : Edition) (c : List ℕ) (v : Value) → InForm lengths (choice (whole_pdus edition)) c v → heard lengths edition c ≡ Ok v }
     ensures only { (lengths : Lengths) (edition : Edition) (c : List ℕ) (n : ℕ) (w : Value) → ((i : ℕ) → slice_index c i < 256) → n ≢ 4
         → heard lengths edition c ≡ Ok (chosen n w) → InForm lengths (choice (whole_pdus edition)) c (chosen n w) }
 {}
 
-/// Of each edition, a confirmed-Request without modifiers, a cancel-Request, an initiate-Request and a conclude-Request have one spelling each, which is
-/// heard as what was spelled and as nothing else. None of these spellings begins another.
+/// Of each edition, a confirmed-Request without modifiers, a cancel-Request, an initiate-Request and a
+/// conclude-Request have one spelling each, which is heard as what was spelled and as nothing else. None of these
+/// spellings begins another.
 pub fn spells_each_asking()
     ensures heard { (lengths : Lengths) (edition : Edition) (p : Pdu) → IsAsking edition p → length (pdu_octets p) < 2 ^ 64 → heard lengths edition (pdu_octets p) ≡ Ok (pdu_value p) }
     ensures only { (lengths : Lengths) (edition : Edition) (p q : Pdu) → IsAsking edition p → length (pdu_octets p) < 2 ^ 64 → heard lengths edition (pdu_octets p) ≡ Ok (pdu_value q) → p ≡ q }

@@ -145,9 +145,9 @@ fn whole(alloc: Global, octets: &[u8], edition: Edition) -> Result<Pdu, Refusal>
     }
 }
 
-/// The PDU that a client's octets are (ISO 9506-2, MMSpdu), and how deep the data and the type of a request nest. Each refusal comes
-/// exactly where it is the first that applies, in the order of the variants of `Refusal`. Names of a request, and
-/// names and texts of an answer, are copied.
+/// The PDU that a client's octets are (ISO 9506-2, MMSpdu), and how deep the data and the type of a request nest.
+/// Each refusal comes exactly where it is the first that applies, in the order of the variants of `Refusal`. Names of
+/// a request, and names and texts of an answer, are copied.
 #[tactic(auto, using(crate::proofs::HeardAgain::pdu_again))]
 pub fn read_pdu(alloc: Global, octets: &[u8], edition: Edition) -> Result<Read, Refusal>
     ensures heard { Hears (λ r. pdu_value r.pdu) result (heard (lengths_of edition) edition octets.now) }

@@ -32,8 +32,8 @@ pub enum Refusal {
     Memory,
 }
 
-/// The reject that tells the refusal to the client (ISO 9506-2, RejectPDU), with the invokeID of a request that is refused. Want of
-/// memory is told to nobody, and answered as such.
+/// The reject that tells the refusal to the client (ISO 9506-2, RejectPDU), with the invokeID of a request that is
+/// refused. Want of memory is told to nobody, and answered as such.
 pub fn reject_for(refusal: Refusal) -> Result<Reject, Memory>
     ensures { result ≡ reject_of refusal }
 {

@@ -75,8 +75,8 @@ fn put(out: &mut Writer, pdu: &Pdu) -> Result<(), Full>
     }
 }
 
-/// Appends the one spelling of the PDU, one element (ISO 9506-2, MMSpdu). What was only heard is never sent, and nothing is appended. Where memory is
-/// wanting, nothing is changed.
+/// Appends the one spelling of the PDU, one element (ISO 9506-2, MMSpdu). What was only heard is never sent, and
+/// nothing is appended. Where memory is wanting, nothing is changed.
 pub fn put_pdu(out: &mut Writer, pdu: &Pdu) -> Result<(), Memory>
     ensures ok { OnOk result (out.new ≡ out.old ++ pdu_octets pdu.now) }
     ensures err { OnErr result (out.new ≡ out.old) }

@@ -11,7 +11,8 @@ use std::marker::Model;
 /// How many octets are kept in the value itself, without an allocation: most requests and answers are as short.
 const SHORT: usize = 16;
 
-/// Octets that are kept, as a PDU or a text: up to 16 in the value itself, and more in an allocation. Contracts see the list of them.
+/// Octets that are kept, as a PDU or a text: up to 16 in the value itself, and more in an allocation. Contracts see
+/// the list of them.
 #[derive(Debug, Drop)]
 pub struct Octets {
     held: SmallVec<u8, SHORT>,

@@ -3,7 +3,8 @@ use crate::{
     InitiateAnswer, ServiceError, Status, StatusAnswer,
 };
 
-/// What a client asks of the server (ISO 9506-2, ConfirmedServiceRequest): a variant for each service, with its argument.
+/// What a client asks of the server (ISO 9506-2, ConfirmedServiceRequest): a variant for each service, with its
+/// argument.
 #[derive(Debug, PartialEq, Eq, Drop)]
 pub enum Request {
     /// The state of the device.
@@ -14,7 +15,8 @@ pub enum Request {
     Identify,
 }
 
-/// What the server answers to a request (ISO 9506-2, ConfirmedServiceResponse): a variant for each service, with what it answers.
+/// What the server answers to a request (ISO 9506-2, ConfirmedServiceResponse): a variant for each service, with what
+/// it answers.
 #[derive(Debug, PartialEq, Eq, Drop)]
 pub enum Answer {
     /// The state of the device.

@@ -37,7 +37,8 @@ pub struct CancelError {
     pub error: ServiceError,
 }
 
-/// The errors that the server answers, without more of the refusal; `errors_have_their_numbers` tells class and code of each.
+/// The errors that the server answers, without more of the refusal; `errors_have_their_numbers` tells class and code
+/// of each.
 impl ServiceError {
     /// Class vmd-state: the transfer of a domain went wrong.
     pub const DOMAIN_TRANSFER_PROBLEM: ServiceError = ServiceError {

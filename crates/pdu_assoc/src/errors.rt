@@ -112,7 +112,8 @@ impl Chosen for StateKinds {
     ghost sound = { λ _. states_sound };
 }
 
-/// The form of a ServiceError, as initiate-Error and conclude-Error hold it; additionalCode and additionalDescription are read, and not kept.
+/// The form of a ServiceError, as initiate-Error and conclude-Error hold it; additionalCode and additionalDescription
+/// are read, and not kept.
 pub struct ServiceErrors;
 
 impl Formed for ServiceErrors {

@@ -54,8 +54,8 @@ fn reject(alloc: Global, contents: &[u8], edition: Edition) -> Result<Option<u32
     }
 }
 
-/// The invokeID of a reject that a client sent, where the first element is a [0] with a number of 32 bits. Malformed exactly where the
-/// contents are not whole elements.
+/// The invokeID of a reject that a client sent, where the first element is a [0] with a number of 32 bits. Malformed
+/// exactly where the contents are not whole elements.
 pub fn read_heard_reject(
     alloc: Global,
     contents: &[u8],

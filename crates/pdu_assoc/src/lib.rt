@@ -1,5 +1,5 @@
-//! The forms of the association's PDUs and of Status, GetNameList and Identify, both ways (ISO 9506-2): each is a type for `pdu_names::read_form`,
-//! `write_form` and `spells_each`.
+//! The forms of the association's PDUs and of Status, GetNameList and Identify, both ways (ISO 9506-2): each is a
+//! type for `pdu_names::read_form`, `write_form` and `spells_each`.
 #![tactic(auto)]
 
 mod errors;

@@ -1,5 +1,5 @@
-//! Forms of contents as types, with all that is said of every form, and the forms that the crates of PDUs share: leaves, identifiers and names
-//! of objects (ISO 9506-2, Identifier and ObjectName).
+//! Forms of contents as types, with all that is said of every form, and the forms that the crates of PDUs share:
+//! leaves, identifiers and names of objects (ISO 9506-2, Identifier and ObjectName).
 #![tactic(auto)]
 
 mod edition;

@@ -61,7 +61,8 @@ pub trait Chosen {
     /// Reading needs no memory.
     ghost needs_no_memory: { Bool };
 
-    /// What the element is. Malformed or TooDeep exactly where the choice's reading is, and Memory where memory runs out.
+    /// What the element is. Malformed or TooDeep exactly where the choice's reading is, and Memory where memory runs
+    /// out.
     fn of(alloc: Global, element: Element<'_>, edition: Edition) -> Result<Self::Item, Unread>
         ensures exact { Gives arms.value result (alternatives (lengths_of edition) (arms.alternatives edition) (part element.entry)) }
         ensures no_memory { IsTrue needs_no_memory → NeedsNoMemory result };

@@ -13,8 +13,8 @@ use ber_forms::{Unread, settle};
 use mms_types::{Edition, Memory};
 use std::alloc::Global;
 
-/// What the contents say. Malformed exactly where they are not of the form, and TooDeep exactly where all before some part is of its form and
-/// that part nests too deep, unless memory runs out.
+/// What the contents say. Malformed exactly where they are not of the form, and TooDeep exactly where all before some
+/// part is of its form and that part nests too deep, unless memory runs out.
 pub fn read_form<F: Formed>(
     alloc: Global,
     contents: &[u8],
