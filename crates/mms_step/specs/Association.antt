@@ -139,7 +139,7 @@ conclusion_told = sends pdu.ConcludeResponse ∷ Closes ∷ []
 
 -- a request that waits is cancelled
 abbrev pub cancel_told : ℕ → List Effect
-cancel_told invoke = Answers invoke ∷ sends (pdu.CancelResponse invoke) ∷ sends (pdu.ConfirmedError (record { invoke = invoke; modifier = None; error = cancel_error })) ∷ []
+cancel_told invoke = Answers invoke ∷ sends (pdu.CancelResponse invoke) ∷ sends (confirmed_error invoke cancel_error) ∷ []
 
 abbrev pub abort_told : List Effect
 abort_told = Sends Abort ∷ Closes ∷ []

@@ -14,7 +14,7 @@ use Rattle.mms_pdu.specs.Pdus.{pdu_octets}
 use Rattle.association.specs.Client.{ClientRow}
 use Rattle.mms_step.specs.Effects.{Effect}
 use Rattle.mms_step.specs.Tables.{Tables, variables_table, domains_table, programs_table, conditions_table, journals_table, semaphores_table}
-use Rattle.mms_step.specs.Association.{sends, missing_error, other_error}
+use Rattle.mms_step.specs.Association.{sends, confirmed_error, missing_error, other_error}
 
 -- what a request does that is not refused: the tables after it, its answer or none yet, and what else is told to whom
 pub record Outcome : Type 0 where
@@ -90,7 +90,7 @@ is_done size invoke (Some refusal) told = false
 is_done size invoke None told = fits size invoke told
 
 abbrev pub refuses : ℕ → ServiceError → Effect
-refuses invoke refusal = sends (pdu.ConfirmedError (record { invoke = invoke; modifier = None; error = refusal }))
+refuses invoke refusal = sends (confirmed_error invoke refusal)
 
 -- an answer that there is
 abbrev pub answer_told : ℕ → Option Answer → List Effect
