@@ -4,3 +4,4 @@ pub mod FormOf
 pub mod HeardAgain
 pub mod Causes
 pub mod FirstCause
+mod Worked

@@ -1,0 +1,31 @@
+-- Worked examples of PDUs that no service sends yet: octets typed from ITU-T X.690 and ISO 9506-2.
+use Rattle.std.specs.Prelude.{◌≡◌, List, [], ◌∷◌, map, Some, None}
+use Rattle.std.proofs.Common.{refl}
+use Rattle.mms_types.specs.declared.pdu.Pdu.TheVariants as pdu
+use Rattle.mms_types.specs.declared.pdu.RejectReason.TheVariants.{InvalidInvokeId}
+use Rattle.mms_types.specs.declared.service_error.ServiceError.{ServiceError}
+use Rattle.mms_types.specs.Errors.{cancel, further_communication_required}
+use Rattle.ber_core.specs.Spelling.{digits, identifier_octets, length_octets, element_octets}
+use Rattle.pdu_assoc.specs.ServiceErrors.{numbered}
+use Rattle.mms_pdu.specs.Services.{requests, answers}
+use Rattle.mms_pdu.specs.Pdus.{pdu_octets}
+
+-- a function answers each row of a table with its second column
+abbrev Answers : {A B : Type 0} → (A → B) → List (A × B) → Type 0
+Answers f table = map (λ row. f row.0) table ≡ map (λ row. row.1) table
+
+-- a service is refused where the state of an invocation hinders it: the class service, object-state-conflict, and what is told besides, that a stop met a stopped one
+abbrev stopped : ServiceError
+stopped = record { class = 4; code = 2; info = Some (record { kind = 2; state = 2 }) }
+
+sent : Answers pdu_octets (
+    (pdu.ConfirmedError (record { invoke = 2; modifier = None; error = cancel }), 162 ∷ 10 ∷ 128 ∷ 1 ∷ 2 ∷ 162 ∷ 5 ∷ 160 ∷ 3 ∷ 133 ∷ 1 ∷ 3 ∷ []) ∷ (
+      pdu.ConfirmedError (record { invoke = 5; modifier = None; error = stopped }),
+      162 ∷ 15 ∷ 128 ∷ 1 ∷ 5 ∷ 162 ∷ 10 ∷ 160 ∷ 3 ∷ 132 ∷ 1 ∷ 2 ∷ 163 ∷ 3 ∷ 130 ∷ 1 ∷ 2 ∷ [],
+    ) ∷
+    (pdu.Reject (record { invoke = Some 2; reason = InvalidInvokeId }), 164 ∷ 6 ∷ 128 ∷ 1 ∷ 2 ∷ 129 ∷ 1 ∷ 3 ∷ []) ∷
+    (pdu.CancelResponse 2, 134 ∷ 1 ∷ 2 ∷ []) ∷
+    (pdu.ConcludeError further_communication_required, 173 ∷ 5 ∷ 160 ∷ 3 ∷ 137 ∷ 1 ∷ 1 ∷ []) ∷
+    [])
+unfolding requests answers numbered element_octets identifier_octets length_octets digits
+sent = refl
