@@ -2,6 +2,7 @@
 use Rattle.std.specs.Prelude.{◌≡◌, ℕ, ℤ, pos, negsuc, ◌≤◌, ⊤, IsTrue, Option, None, Some, Result, Ok, Err}
 use Rattle.toml.specs.Data.{Members}
 use Rattle.mms_types.specs.Moments.{milliseconds, IsDated}
+use Rattle.mms_types.specs.declared.identifier.Edition.{Edition}
 use Rattle.cell_config.specs.declared.config.Config.{Config}
 use Rattle.cell_config.specs.declared.config.BadConfig.{BadConfig}
 use Rattle.cell_config.specs.declared.config.BadConfig.TheVariants.{Rule, Memory}
@@ -12,9 +13,10 @@ abbrev pub number_of : ℤ → ℕ
 number_of (pos n) = n
 number_of (negsuc n) = 0
 
--- what the document says, each part by its key
-abbrev pub config_of : Members → Config
-config_of document = record {
+-- what the document says in an edition, each part by its key
+abbrev pub config_of : Edition → Members → Config
+config_of edition document = record {
+  edition = edition;
   clients = number_of (clients_of document);
   start = record { 0 = milliseconds (number_of (day_of document)) (number_of (ms_of document)) };
   vendor = vendor_of document;

@@ -1,12 +1,14 @@
 ghost use Rattle.std.specs.Prelude.{◌≡◌};
 ghost use Rattle.cell_config.specs.declared.config.BadConfig.TheVariants.{Memory as OutOfMemory};
 
-use mms_types::{Memory, Moment, Octets};
+use mms_types::{Edition, Memory, Moment, Octets};
 use thiserror::Error;
 
 /// What a configuration says of a cell.
 #[derive(Debug, PartialEq, Eq, Drop)]
 pub struct Config {
+    /// The edition that it is of.
+    pub edition: Edition,
     /// How many clients there are, from 1 to 64: their numbers are 1 to this one.
     pub clients: u32,
     /// The moment at which the cell starts, at most the last millisecond of day 65,535.

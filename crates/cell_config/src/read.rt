@@ -67,9 +67,9 @@ fn breaks_keys(table: &Table) -> bool
     false
 }
 
-/// The configuration that the document tells.
-fn config(alloc: Global, document: &Table) -> Result<Config, BadConfig>
-    ensures config { IfOk result (λ config. config ≡ config_of (table_view document.now)) }
+/// The configuration that the document tells in an edition.
+fn config(alloc: Global, document: &Table, edition: Edition) -> Result<Config, BadConfig>
+    ensures config { IfOk result (λ config. config ≡ config_of edition (table_view document.now)) }
     ensures valid { IfOk result IsConfig }
     ensures rule { TellsRule result (least_broken_of (table_view document.now)) }
 {
@@ -83,6 +83,7 @@ fn config(alloc: Global, document: &Table) -> Result<Config, BadConfig>
         return Err(BadConfig::Rule(3));
     };
     Ok(Config {
+        edition,
         clients: numbers.clients,
         start: numbers.start,
         vendor: Octets::from_slice(alloc, texts.vendor.as_bytes())?,
@@ -91,14 +92,14 @@ fn config(alloc: Global, document: &Table) -> Result<Config, BadConfig>
     })
 }
 
-/// The configuration that a text tells. A text that breaks a rule gives `Rule` with the least one that it
-/// breaks; what breaks none gives the configuration, or want of memory. Every key may be left out. No rule
-/// depends on the edition so far.
-pub fn read_config(alloc: Global, text: &[u8], _edition: Edition) -> Result<Config, BadConfig>
-    ensures config { IfOk result (λ config. option_map config_of (document_of text.now) ≡ Some config) }
+/// The configuration that a text tells in an edition. A text that breaks a rule gives `Rule` with the least one
+/// that it breaks; what breaks none gives the configuration, or want of memory. Every key may be left out. No
+/// rule depends on the edition so far.
+pub fn read_config(alloc: Global, text: &[u8], edition: Edition) -> Result<Config, BadConfig>
+    ensures config { IfOk result (λ config. option_map (config_of edition) (document_of text.now) ≡ Some config) }
     ensures valid { IfOk result IsConfig }
     ensures rule { TellsRule result (least_broken text.now) }
 {
     let document = document(alloc, text)?;
-    config(alloc, &document)
+    config(alloc, &document, edition)
 }

@@ -10,8 +10,8 @@ use Rattle.std.specs.List.{list_all}
 use Rattle.std.specs.Str.Parse.{AllDigits, IsNumeral}
 use Rattle.std.specs.declared.option.Option.{Option}
 use Rattle.cell_io.specs.Hex.{upper, upper_digit}
-use Rattle.mms_types.specs.Spelling.{is_name_octet, is_identifier, is_spelled, begins_with_digit as begins}
-use Rattle.mms_types.specs.declared.identifier.Edition.TheVariants.{One}
+use Rattle.mms_types.specs.Spelling.{is_name_octet, longest, is_identifier, is_spelled, begins_with_digit as begins}
+use Rattle.mms_types.specs.declared.identifier.Edition.{Edition}
 use Rattle.mms_types.specs.declared.event.What.{What}
 use Rattle.mms_types.specs.declared.event.CellEvent.{CellEvent}
 use Rattle.mms_types.specs.declared.event.CellEvent.TheVariants.{Heard, Lost, Tick, Ends, Drain}
@@ -95,9 +95,9 @@ name_octets_lack (x ∷ xs) h =
     let t = both (is_name_octet x) (list_all is_name_octet xs) h in
     ((λ e. let feed : is_name_octet 10 ≡ true = subst (λ (n : ℕ). is_name_octet n ≡ true) e t.0 in cc), name_octets_lack xs t.1)
 
-name_lacks : (name : List ℕ) → is_identifier One name ≡ true → Lacks 10 name
-name_lacks name h =
-    let spelled = (both (nat_lt 0 (length name) && nat_le (length name) 32) (is_spelled name) h).1 in
+name_lacks : (edition : Edition) (name : List ℕ) → is_identifier edition name ≡ true → Lacks 10 name
+name_lacks edition name h =
+    let spelled = (both (nat_lt 0 (length name) && nat_le (length name) (longest edition)) (is_spelled name) h).1 in
     name_octets_lack name (both (not (begins name)) (list_all is_name_octet name) spelled).1
 
 -- ---- the text of an event
@@ -112,7 +112,7 @@ event_lacks : (config : Config) (e : CellEvent) → config.clients < 2 ^ 64 → 
 event_lacks n (Heard c os) s h = subst (Lacks 10) (sym (heard_text c os)) (lacks-append 10 (decimal c) (32 ∷ upper os) (number_lacks 10 c (omega arith) (omega (arith, s, at_most 1 n.clients c h.0))) ((λ e. omega (arith, e)), octets_lack 10 os (omega arith)))
 event_lacks n (Lost c) s h = lacks-append 10 (codes "lost ") (decimal c) ((λ e. omega (arith, e)), ((λ e. omega (arith, e)), ((λ e. omega (arith, e)), ((λ e. omega (arith, e)), ((λ e. omega (arith, e)), tt))))) (number_lacks 10 c (omega arith) (omega (arith, s, at_most 1 n.clients c h)))
 event_lacks n (Tick ms) s h = lacks-append 10 (codes "tick ") (decimal ms) ((λ e. omega (arith, e)), ((λ e. omega (arith, e)), ((λ e. omega (arith, e)), ((λ e. omega (arith, e)), ((λ e. omega (arith, e)), tt))))) (number_lacks 10 ms (omega arith) (omega (arith, at_most 1 3600000 ms h)))
-event_lacks n (Ends name) s h = lacks-append 10 (codes "ends ") name ((λ e. omega (arith, e)), ((λ e. omega (arith, e)), ((λ e. omega (arith, e)), ((λ e. omega (arith, e)), ((λ e. omega (arith, e)), tt))))) (name_lacks name h)
+event_lacks n (Ends name) s h = lacks-append 10 (codes "ends ") name ((λ e. omega (arith, e)), ((λ e. omega (arith, e)), ((λ e. omega (arith, e)), ((λ e. omega (arith, e)), ((λ e. omega (arith, e)), tt))))) (name_lacks n.edition name h)
 event_lacks n (Drain c) s h = absurd h
 
 abbrev first : List ℕ → ℕ
@@ -206,7 +206,7 @@ worded_said n line word argument =
     either n (same line (codes "phase")) _ _ (λ _. tt)
     (λ _. either n (same word (codes "lost")) _ _ (λ _. lost_said n (number_of argument))
     (λ _. either n (same word (codes "tick")) _ _ (λ _. tick_said n (number_of argument))
-    (λ _. either n (same word (codes "ends")) _ _ (λ _. either n (is_identifier One argument) _ _ (λ k. k) (λ _. tt)) (λ _. tt))))
+    (λ _. either n (same word (codes "ends")) _ _ (λ _. either n (is_identifier n.edition argument) _ _ (λ k. k) (λ _. tt)) (λ _. tt))))
 
 line_said : (n : Config) (line : List ℕ) → IsSaid n (said_of n line)
 line_said n line =
@@ -257,5 +257,5 @@ pub one_history : (said : List CellEvent → ℕ → List What) (text : List ℕ
     → report said configured.clients bodies ≡ report said configured.clients others → bodies ≡ others
 one_history said text configured phases bodies others r i j e =
     let n = configured.clients in
-    let few = (configuration_holds (text_of r.setup) configured r.rules r.says).few_clients in
+    let few = (configuration_holds configured.edition (text_of r.setup) configured r.rules r.says).few_clients in
     from_one said n configured 1 [] phases bodies others (omega (arith, few)) (subst (Each (Each (IsRecorded configured))) (sym r.split) (phases_recorded configured r.body r.said r.each)) i j e

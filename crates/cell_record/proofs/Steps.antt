@@ -1,6 +1,8 @@
 -- What one line makes of what is said of the lines ahead.
 use Rattle.cell_config.specs.declared.config.Config.{Config}
-use Rattle.std.proofs.Common.{◌≡◌, ℕ, ◌+◌, ◌-◌, ◌<◌, ◌≤◌, true, false, List, [], ◌∷◌, ◌++◌, length, codes, refl, sym, ap, ◌∙◌, arith, Some, None, IfSome, Ok, Err}
+use Rattle.mms_types.specs.declared.identifier.Edition.{Edition}
+use Rattle.mms_types.specs.declared.identifier.Edition.TheVariants.{One}
+use Rattle.std.proofs.Common.{◌≡◌, ℕ, ◌+◌, ◌-◌, ◌<◌, ◌≤◌, Bool, true, false, if◌then◌else◌, List, [], ◌∷◌, ◌++◌, length, codes, refl, sym, ap, ◌∙◌, arith, Some, None, IfSome, Ok, Err}
 use Rattle.std.proofs.lemmas.Bool.Decides.{nat_tests}
 use Rattle.std.specs.Option.{option_map}
 use Rattle.std.specs.declared.option.Option.{Option}
@@ -8,7 +10,7 @@ use Rattle.cell_io.specs.Lines.{lines_of, first_line, after_line, kept_of}
 use Rattle.cell_io.proofs.Texts.{lines_first}
 use Rattle.cell_record.specs.Words.{content}
 use Rattle.cell_record.specs.EventLine.{same, said_of}
-use Rattle.cell_record.specs.Recording.{Place, Opening, behind, fits, expected, in_text, size_by, size_in_text, setup_word, configured, refusal_of, moved, makes, refused}
+use Rattle.cell_record.specs.Recording.{Place, Opening, behind, fits, header_of, headed, under, expected, in_text, size_by, size_in_text, setup_word, configured, refusal_of, moved, makes, refused}
 use Rattle.cell_record.specs.Numbered.{Gives, EndsThere, setup, phases}
 use Rattle.cell_record.specs.Progress.{Becomes}
 use Rattle.cell_record.specs.declared.said.Said.{Said}
@@ -100,10 +102,25 @@ unwanted want word next p line l rest s e k f =
 pub much_wanted : (want : List ℕ) (word : BadWord) (next : List (List ℕ) → Place → Opening) (p : Place) (l : List ℕ) (rest : List (List ℕ)) → fits p l ≡ false → expected want word next (l ∷ rest) p ≡ Err (TooMuch (p.lines + 1))
 much_wanted want word next p l rest f = rw f refl
 
+-- ---- the header
+
+kept_header : (line l : List ℕ) → line ≡ kept_of l → header_of (content l) ≡ header_of (content line)
+kept_header line l k =
+    let is : same (content l) (codes "mms-recording 1") ≡ same (content line) (codes "mms-recording 1") = sym (kept_same l (codes "mms-recording 1") (omega arith)) ∙ ap (λ (x : List ℕ). same (content x) (codes "mms-recording 1")) (sym k) in
+    ap (λ (b : Bool). if b then Some One else None) is
+
+pub is_headed : (next : Edition → List (List ℕ) → Place → Opening) (p : Place) (line l : List ℕ) (rest : List (List ℕ)) (edition : Option Edition) → header_of (content line) ≡ edition
+    → line ≡ kept_of l → fits p l ≡ true → headed next (l ∷ rest) p ≡ under edition next rest (p.lines + 1) (behind p l)
+is_headed next p line l rest edition e k f =
+    rw f (ap (λ (o : Option Edition). under o next rest (p.lines + 1) (behind p l)) (kept_header line l k ∙ e))
+
+pub much_headed : (next : Edition → List (List ℕ) → Place → Opening) (p : Place) (l : List ℕ) (rest : List (List ℕ)) → fits p l ≡ false → headed next (l ∷ rest) p ≡ Err (TooMuch (p.lines + 1))
+much_headed next p l rest f = rw f refl
+
 -- ---- a line of the configuration
 
-pub at_end : (text : List ℕ) (p : Place) (line l : List ℕ) (rest : List (List ℕ)) → same (content line) (codes "end") ≡ true → line ≡ kept_of l → fits p l ≡ true → setup text (l ∷ rest) p ≡ configured text rest (behind p l)
-at_end text p line l rest e k f =
+pub at_end : (edition : Edition) (text : List ℕ) (p : Place) (line l : List ℕ) (rest : List (List ℕ)) → same (content line) (codes "end") ≡ true → line ≡ kept_of l → fits p l ≡ true → setup edition text (l ∷ rest) p ≡ configured edition text rest (behind p l)
+at_end edition text p line l rest e k f =
     let is : same (content l) (codes "end") ≡ true = sym (kept_same l (codes "end") (omega arith)) ∙ ap (λ (x : List ℕ). same (content x) (codes "end")) (sym k) ∙ e in
     rw (f, is) refl
 
@@ -116,23 +133,23 @@ word_is : (size whole : ℕ) (p : Place) (given : ℕ) (line l : List ℕ) → l
 word_is size whole p given line l k g w =
     sym (ap (λ (x : List ℕ). setup_word (size + size_by whole line) x) k ∙ kept_word (size + size_by whole line) l ∙ ap (λ (n : ℕ). setup_word n l) (total_is size whole p given line l k g w))
 
-pub not_end : (text : List ℕ) (whole : ℕ) (p : Place) (given : ℕ) (line l : List ℕ) (rest : List (List ℕ)) → same (content line) (codes "end") ≡ false → None ≡ setup_word (length text + size_by whole line) line → whole ≡ given - p.octets
-    → line ≡ kept_of l → given ≡ p.octets + length l → fits p l ≡ true → setup text (l ∷ rest) p ≡ setup (text ++ in_text line) rest (behind p l)
-not_end text whole p given line l rest e s w k g f =
+pub not_end : (edition : Edition) (text : List ℕ) (whole : ℕ) (p : Place) (given : ℕ) (line l : List ℕ) (rest : List (List ℕ)) → same (content line) (codes "end") ≡ false → None ≡ setup_word (length text + size_by whole line) line → whole ≡ given - p.octets
+    → line ≡ kept_of l → given ≡ p.octets + length l → fits p l ≡ true → setup edition text (l ∷ rest) p ≡ setup edition (text ++ in_text line) rest (behind p l)
+not_end edition text whole p given line l rest e s w k g f =
     let is : same (content l) (codes "end") ≡ false = sym (kept_same l (codes "end") (omega arith)) ∙ ap (λ (x : List ℕ). same (content x) (codes "end")) (sym k) ∙ e in
     let none : setup_word (length text + size_in_text l) l ≡ None = word_is (length text) whole p given line l k g w ∙ sym s in
     let added : in_text line ≡ in_text l = ap in_text k ∙ kept_text l (no_word (length text + size_in_text l) l none).1 in
-    rw (f, is, none) (ap (λ (x : List ℕ). setup (text ++ x) rest (behind p l)) (sym added))
+    rw (f, is, none) (ap (λ (x : List ℕ). setup edition (text ++ x) rest (behind p l)) (sym added))
 
-pub bad_setup : (text : List ℕ) (whole : ℕ) (p : Place) (given : ℕ) (line l : List ℕ) (rest : List (List ℕ)) (word : BadWord) → same (content line) (codes "end") ≡ false → Some word ≡ setup_word (length text + size_by whole line) line → whole ≡ given - p.octets
-    → line ≡ kept_of l → given ≡ p.octets + length l → fits p l ≡ true → setup text (l ∷ rest) p ≡ Err (Bad (p.lines + 1) word)
-bad_setup text whole p given line l rest word e s w k g f =
+pub bad_setup : (edition : Edition) (text : List ℕ) (whole : ℕ) (p : Place) (given : ℕ) (line l : List ℕ) (rest : List (List ℕ)) (word : BadWord) → same (content line) (codes "end") ≡ false → Some word ≡ setup_word (length text + size_by whole line) line → whole ≡ given - p.octets
+    → line ≡ kept_of l → given ≡ p.octets + length l → fits p l ≡ true → setup edition text (l ∷ rest) p ≡ Err (Bad (p.lines + 1) word)
+bad_setup edition text whole p given line l rest word e s w k g f =
     let is : same (content l) (codes "end") ≡ false = sym (kept_same l (codes "end") (omega arith)) ∙ ap (λ (x : List ℕ). same (content x) (codes "end")) (sym k) ∙ e in
     let there : setup_word (length text + size_in_text l) l ≡ Some word = word_is (length text) whole p given line l k g w ∙ sym s in
     rw (f, is, there) refl
 
-pub much_setup : (text : List ℕ) (p : Place) (l : List ℕ) (rest : List (List ℕ)) → fits p l ≡ false → setup text (l ∷ rest) p ≡ Err (TooMuch (p.lines + 1))
-much_setup text p l rest f = rw f refl
+pub much_setup : (edition : Edition) (text : List ℕ) (p : Place) (l : List ℕ) (rest : List (List ℕ)) → fits p l ≡ false → setup edition text (l ∷ rest) p ≡ Err (TooMuch (p.lines + 1))
+much_setup edition text p l rest f = rw f refl
 
 -- ---- an event line
 

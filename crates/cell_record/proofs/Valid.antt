@@ -8,12 +8,13 @@ use Rattle.cell_io.specs.Lines.{lines_of, onto_first}
 use Rattle.mms_types.specs.declared.event.CellEvent.{CellEvent}
 use Rattle.std.specs.Option.{option_map}
 use Rattle.cell_config.specs.declared.config.Config.{Config}
+use Rattle.mms_types.specs.declared.identifier.Edition.{Edition}
 use Rattle.cell_config.specs.Rules.{document_of, least_broken}
 use Rattle.cell_config.specs.Said.{config_of}
-use Rattle.cell_config.proofs.Holding.{configuration_holds}
+use Rattle.cell_config.proofs.Holding.{configuration_holds, edition_of}
 use Rattle.cell_record.specs.Words.{content}
 use Rattle.cell_record.specs.EventLine.{same, said_of}
-use Rattle.cell_record.specs.Recording.{Place, Reading, Opened, Opening, behind, front, fits, refused, onto, with_event, with_phase, fresh, counted, is_past, excess, unless, with_said, reading_of, expected, in_text, size_in_text, setup_word, unless_word, opened, opened_unless, configured, config_in, config_of_text, setup_of, opening_of, after_opening, reading_of_text, opening_of_text, ms_in, octets_in}
+use Rattle.cell_record.specs.Recording.{Place, Reading, Opened, Opening, behind, front, fits, refused, onto, with_event, with_phase, fresh, counted, is_past, excess, unless, with_said, reading_of, header_of, headed, under, setup_in, expected, in_text, size_in_text, setup_word, unless_word, opened, opened_unless, configured, config_in, config_of_text, setup_of, opening_of, after_opening, reading_of_text, opening_of_text, ms_in, octets_in}
 use Rattle.cell_record.specs.Grammar.{AreShort, text_of, Says, phases_of, all_ms, AreFew, ReadsRecording}
 use Rattle.cell_record.specs.declared.said.Said.{Said}
 use Rattle.cell_record.specs.declared.said.Said.TheVariants.{Nothing, Phase, Happens}
@@ -26,7 +27,7 @@ use Rattle.cell_record.proofs.Kept.{no_word, short_size}
 
 -- ---- texts and sizes
 
-same_text : (xs ys : List ℕ) → (pointwise nat_eq xs ys ≡ true) ↔ (xs ≡ ys)
+pub same_text : (xs ys : List ℕ) → (pointwise nat_eq xs ys ≡ true) ↔ (xs ≡ ys)
 same_text [] [] = (λ e. refl, λ e. refl)
 same_text [] (y ∷ ys) = (λ e. cc, λ e. cc)
 same_text (x ∷ xs) [] = (λ e. cc, λ e. cc)
@@ -40,7 +41,7 @@ total-onto : (b : ℕ) (ls : List (List ℕ)) → total (onto_first b ls) ≡ 1 
 total-onto b [] = refl
 total-onto b (l ∷ ls) = omega arith
 
-total_is : (text : List ℕ) → total (lines_of text) ≡ length text
+pub total_is : (text : List ℕ) → total (lines_of text) ≡ length text
 total_is [] = refl
 total_is (b ∷ bs) = grind (arith, nat_tests, common_steps, total_is bs, total-onto b (lines_of bs))
 
@@ -60,7 +61,7 @@ onto_some : (e : CellEvent) (ps : List (List CellEvent)) → 0 < length ps → 0
 onto_some e [] s = absurd (omega (arith, s))
 onto_some e (p ∷ ps) s = omega arith
 
-some_phase : (ss : List Said) → 0 < length (phases_of ss)
+pub some_phase : (ss : List Said) → 0 < length (phases_of ss)
 some_phase [] = omega arith
 some_phase (Nothing ∷ ss) = some_phase ss
 some_phase (Phase ∷ ss) = omega arith
@@ -114,23 +115,23 @@ no_end l h = decide (same (content l) (codes "end")) (same (content l) (codes "e
 more_text : (text : List ℕ) (l : List ℕ) (ls : List (List ℕ)) → (text ++ in_text l) ++ text_of ls ≡ text ++ text_of (l ∷ ls)
 more_text text l ls = append_assoc text (in_text l) (text_of ls)
 
-reads_setup : (setup body : List (List ℕ)) (last : List ℕ) (p : Place) (text : List ℕ) → AreShort setup → content last ≡ codes "end" → length (text ++ text_of setup) ≤ 1048576 → p.octets + total (setup ++ last ∷ body) ≤ 4294967296
-    → setup_of (setup ++ last ∷ body) p text ≡ configured (text ++ text_of setup) body (behind (place_after p setup) last)
-reads_setup [] body last p text h e s t =
+reads_setup : (edition : Edition) (setup body : List (List ℕ)) (last : List ℕ) (p : Place) (text : List ℕ) → AreShort setup → content last ≡ codes "end" → length (text ++ text_of setup) ≤ 1048576 → p.octets + total (setup ++ last ∷ body) ≤ 4294967296
+    → setup_of edition (setup ++ last ∷ body) p text ≡ configured edition (text ++ text_of setup) body (behind (place_after p setup) last)
+reads_setup edition [] body last p text h e s t =
     let is : same (content last) (codes "end") ≡ true = (same_text (content last) (codes "end")).1 e in
-    rw (fit p last (omega (arith, t)), is) (ap (λ (x : List ℕ). configured x body (behind p last)) (sym (append-nil text)))
-reads_setup (l ∷ ls) body last p text h e s t =
+    rw (fit p last (omega (arith, t)), is) (ap (λ (x : List ℕ). configured edition x body (behind p last)) (sym (append-nil text)))
+reads_setup edition (l ∷ ls) body last p text h e s t =
     let more = more_text text l ls in
     let size = short_size (length l) l h.0 in
     let sum = length-append (text ++ in_text l) (text_of ls) in
     let one = length-append text (in_text l) in
     let within : length text + size_in_text l ≤ 1048576 = omega (arith, s, ap length more, sum, one, size) in
     let few : nat_lt 1048576 (length text + size_in_text l) ≡ false = grind (arith, nat_tests, within) in
-    let rest = reads_setup ls body last (behind p l) (text ++ in_text l) h.2 e (omega (arith, s, ap length more)) (omega (arith, t)) in
-    rw (fit p l (omega (arith, t)), no_end l h.1, few, h.0) (rest ∙ ap (λ (x : List ℕ). configured x body (behind (place_after (behind p l) ls) last)) more)
+    let rest = reads_setup edition ls body last (behind p l) (text ++ in_text l) h.2 e (omega (arith, s, ap length more)) (omega (arith, t)) in
+    rw (fit p l (omega (arith, t)), no_end l h.1, few, h.0) (rest ∙ ap (λ (x : List ℕ). configured edition x body (behind (place_after (behind p l) ls) last)) more)
 
-configured_is : (text : List ℕ) (config : Config) (lines : List (List ℕ)) (p : Place) → least_broken text ≡ None → option_map config_of (document_of text) ≡ Some config → configured text lines p ≡ opened config lines p
-configured_is text config lines p r s = rw (r, s) refl
+configured_is : (edition : Edition) (text : List ℕ) (config : Config) (lines : List (List ℕ)) (p : Place) → least_broken text ≡ None → option_map (config_of edition) (document_of text) ≡ Some config → configured edition text lines p ≡ opened config lines p
+configured_is edition text config lines p r s = rw (r, s) refl
 
 octets_after : (setup body : List (List ℕ)) (last : List ℕ) (p : Place) → (behind (place_after p setup) last).octets + total body ≡ p.octets + total (setup ++ last ∷ body)
 octets_after [] body last p = omega arith
@@ -142,12 +143,11 @@ recording_is_read text config phases r =
     let q = behind (behind p r.header) r.config in
     let o = behind (place_after q r.setup) r.last in
     let whole : length r.header + (length r.config + total (r.setup ++ r.last ∷ r.body)) ≤ 4294967296 = omega (arith, ap total (sym r.lines), total_is text, r.size) in
-    let header : same (content r.header) (codes "mms-recording 1") ≡ true = (same_text (content r.header) (codes "mms-recording 1")).1 r.is_header in
     let named : same (content r.config) (codes "config") ≡ true = (same_text (content r.config) (codes "config")).1 r.is_config in
-    let setup = reads_setup r.setup r.body r.last q [] r.short r.is_end r.small (omega (arith, whole)) ∙ configured_is (text_of r.setup) config r.body o r.rules r.says in
+    let setup = reads_setup config.edition r.setup r.body r.last q [] r.short r.is_end r.small (omega (arith, whole)) ∙ configured_is config.edition (text_of r.setup) config r.body o r.rules r.says in
     let opening : opening_of_text text ≡ opened config r.body o =
     ap (λ (ls : List (List ℕ)). opening_of ls p) r.lines
-    ∙ rw (fit p r.header (omega (arith, whole)), header, fit (behind p r.header) r.config (omega (arith, whole)), named) setup in
+    ∙ rw (fit p r.header (omega (arith, whole)), r.is_header, fit (behind p r.header) r.config (omega (arith, whole)), named) setup in
     let body = reads config r.body o (fresh config.start.0) r.said r.each (subst (AreFew 0 0) r.split r.few) (omega (arith, r.clock, ap all_ms r.split)) (omega (arith, whole, octets_after r.setup r.body r.last q)) in
     (ap config_in opening, ap after_opening opening ∙ body ∙ ap (λ (ps : List (List CellEvent)). record { phases = ps; refusal = None }) (sym r.split))
 
@@ -254,7 +254,7 @@ word_ok : (line : ℕ) (w : Option BadWord) (r : Opening) (o : Opened) → unles
 word_ok line None r o h = (refl, h)
 word_ok line (Some w) r o h = cc
 
-pub record IsSetup (lines : List (List ℕ)) (p : Place) (text : List ℕ) (o : Opened) : Type 0 where
+pub record IsSetup (edition : Edition) (lines : List (List ℕ)) (p : Place) (text : List ℕ) (o : Opened) : Type 0 where
   pub setup : List (List ℕ)
   pub last : List ℕ
   pub lines_are : lines ≡ setup ++ last ∷ o.rest
@@ -262,13 +262,13 @@ pub record IsSetup (lines : List (List ℕ)) (p : Place) (text : List ℕ) (o : 
   pub small : length (text ++ text_of setup) ≤ 1048576
   pub is_end : content last ≡ codes "end"
   pub rules : least_broken (text ++ text_of setup) ≡ None
-  pub says : option_map config_of (document_of (text ++ text_of setup)) ≡ Some o.config
+  pub says : option_map (config_of edition) (document_of (text ++ text_of setup)) ≡ Some o.config
   pub octets : o.place.octets + total o.rest ≡ p.octets + total lines
   pub most : o.place.octets ≤ 4294967296
 
-pub record IsConfigured (text : List ℕ) (lines : List (List ℕ)) (p : Place) (o : Opened) : Type 0 where
+pub record IsConfigured (edition : Edition) (text : List ℕ) (lines : List (List ℕ)) (p : Place) (o : Opened) : Type 0 where
   pub rules : least_broken text ≡ None
-  pub says : option_map config_of (document_of text) ≡ Some o.config
+  pub says : option_map (config_of edition) (document_of text) ≡ Some o.config
   pub rest : lines ≡ o.rest
   pub place : p ≡ o.place
 
@@ -284,10 +284,10 @@ abbrev place_in : Opening → Place
 place_in (Ok o) = o.place
 place_in (Err e) = front
 
-is_configured : (text : List ℕ) (lines : List (List ℕ)) (p : Place) (o : Opened) → configured text lines p ≡ Ok o → IsConfigured text lines p o
-is_configured text lines p o h = by_rule (least_broken text) (option_map config_of (document_of text)) refl refl h
+is_configured : (edition : Edition) (text : List ℕ) (lines : List (List ℕ)) (p : Place) (o : Opened) → configured edition text lines p ≡ Ok o → IsConfigured edition text lines p o
+is_configured edition text lines p o h = by_rule (least_broken text) (option_map (config_of edition) (document_of text)) refl refl h
   where
-    by_rule : (rule : Option ℕ) (config : Option Config) → least_broken text ≡ rule → option_map config_of (document_of text) ≡ config → opened_unless rule config lines p ≡ Ok o → IsConfigured text lines p o
+    by_rule : (rule : Option ℕ) (config : Option Config) → least_broken text ≡ rule → option_map (config_of edition) (document_of text) ≡ config → opened_unless rule config lines p ≡ Ok o → IsConfigured edition text lines p o
     by_rule (Some rule) config r s e = cc
     by_rule None None r s e = cc
     by_rule None (Some config) r s e =
@@ -298,16 +298,16 @@ is_configured text lines p o h = by_rule (least_broken text) (option_map config_
           place = ap place_in e;
         }
 
-read_setup : (lines : List (List ℕ)) (p : Place) (text : List ℕ) (o : Opened) → length text ≤ 1048576 → setup_of lines p text ≡ Ok o → IsSetup lines p text o
-read_setup [] p text o s h = cc
-read_setup (l ∷ ls) p text o s h =
-    let f = if_ok (fits p l) (if same (content l) (codes "end") then configured text ls (behind p l) else unless_word (p.lines + 1) (setup_word (length text + size_in_text l) l) (setup_of ls (behind p l) (text ++ in_text l))) (TooMuch (p.lines + 1)) o h in
-    decided (λ n e. read_setup ls (behind p l) (text ++ in_text l) o n e) (same (content l) (codes "end")) refl (fit_is p l f.0) f.1
+read_setup : (edition : Edition) (lines : List (List ℕ)) (p : Place) (text : List ℕ) (o : Opened) → length text ≤ 1048576 → setup_of edition lines p text ≡ Ok o → IsSetup edition lines p text o
+read_setup edition [] p text o s h = cc
+read_setup edition (l ∷ ls) p text o s h =
+    let f = if_ok (fits p l) (if same (content l) (codes "end") then configured edition text ls (behind p l) else unless_word (p.lines + 1) (setup_word (length text + size_in_text l) l) (setup_of edition ls (behind p l) (text ++ in_text l))) (TooMuch (p.lines + 1)) o h in
+    decided (λ n e. read_setup edition ls (behind p l) (text ++ in_text l) o n e) (same (content l) (codes "end")) refl (fit_is p l f.0) f.1
   where
-    decided : (length (text ++ in_text l) ≤ 1048576 → setup_of ls (behind p l) (text ++ in_text l) ≡ Ok o → IsSetup ls (behind p l) (text ++ in_text l) o) → (b : Bool) → same (content l) (codes "end") ≡ b → p.octets + length l ≤ 4294967296
-        → (if b then configured text ls (behind p l) else unless_word (p.lines + 1) (setup_word (length text + size_in_text l) l) (setup_of ls (behind p l) (text ++ in_text l))) ≡ Ok o → IsSetup (l ∷ ls) p text o
+    decided : (length (text ++ in_text l) ≤ 1048576 → setup_of edition ls (behind p l) (text ++ in_text l) ≡ Ok o → IsSetup edition ls (behind p l) (text ++ in_text l) o) → (b : Bool) → same (content l) (codes "end") ≡ b → p.octets + length l ≤ 4294967296
+        → (if b then configured edition text ls (behind p l) else unless_word (p.lines + 1) (setup_word (length text + size_in_text l) l) (setup_of edition ls (behind p l) (text ++ in_text l))) ≡ Ok o → IsSetup edition (l ∷ ls) p text o
     decided ih true e f k =
-        let x = is_configured text ls (behind p l) o k in
+        let x = is_configured edition text ls (behind p l) o k in
         let none = append-nil text in
         record {
           setup = [];
@@ -317,12 +317,12 @@ read_setup (l ∷ ls) p text o s h =
           small = omega (arith, s, ap length none);
           is_end = (same_text (content l) (codes "end")).0 e;
           rules = ap least_broken none ∙ x.rules;
-          says = ap (λ (t : List ℕ). option_map config_of (document_of t)) none ∙ x.says;
+          says = ap (λ (t : List ℕ). option_map (config_of edition) (document_of t)) none ∙ x.says;
           octets = let a = ap (λ (q : Place). q.octets) x.place in let b = ap total x.rest in omega (arith, a, b);
           most = let a = ap (λ (q : Place). q.octets) x.place in omega (arith, a, f);
         }
     decided ih false e f k =
-        let w = word_ok (p.lines + 1) (setup_word (length text + size_in_text l) l) (setup_of ls (behind p l) (text ++ in_text l)) o k in
+        let w = word_ok (p.lines + 1) (setup_word (length text + size_in_text l) l) (setup_of edition ls (behind p l) (text ++ in_text l)) o k in
         let t = no_word (length text + size_in_text l) l w.0 in
         let n : length (text ++ in_text l) ≤ 1048576 = omega (arith, t.0, length-append text (in_text l), short_size (length l) l t.1) in
         let i = ih n w.1 in
@@ -335,7 +335,7 @@ read_setup (l ∷ ls) p text o s h =
           small = omega (arith, i.small, ap length more);
           is_end = i.is_end;
           rules = ap least_broken (sym more) ∙ i.rules;
-          says = ap (λ (t : List ℕ). option_map config_of (document_of t)) (sym more) ∙ i.says;
+          says = ap (λ (t : List ℕ). option_map (config_of edition) (document_of t)) (sym more) ∙ i.says;
           octets = omega (arith, i.octets);
           most = i.most;
         }
@@ -354,6 +354,24 @@ read_expected want word next (l ∷ ls) p o h =
     let s = if_ok (same (content l) want) (next ls (behind p l)) (Bad (p.lines + 1) word) o f.1 in
     record { line = l; rest = ls; lines_are = refl; is = (same_text (content l) want).0 s.0; next_is = s.1 }
 
+pub record IsHeaded (next : Edition → List (List ℕ) → Place → Opening) (lines : List (List ℕ)) (p : Place) (o : Opened) : Type 0 where
+  pub line : List ℕ
+  pub rest : List (List ℕ)
+  pub edition : Edition
+  pub lines_are : lines ≡ line ∷ rest
+  pub is : header_of (content line) ≡ Some edition
+  pub next_is : next edition rest (behind p line) ≡ Ok o
+
+read_headed : (next : Edition → List (List ℕ) → Place → Opening) (lines : List (List ℕ)) (p : Place) (o : Opened) → headed next lines p ≡ Ok o → IsHeaded next lines p o
+read_headed next [] p o h = cc
+read_headed next (l ∷ ls) p o h =
+    let f = if_ok (fits p l) (under (header_of (content l)) next ls (p.lines + 1) (behind p l)) (TooMuch (p.lines + 1)) o h in
+    by_edition (header_of (content l)) refl f.1
+  where
+    by_edition : (edition : Option Edition) → header_of (content l) ≡ edition → under edition next ls (p.lines + 1) (behind p l) ≡ Ok o → IsHeaded next (l ∷ ls) p o
+    by_edition None e k = cc
+    by_edition (Some edition) e k = record { line = l; rest = ls; edition = edition; lines_are = refl; is = e; next_is = k }
+
 was_opened : (x : Opening) (config : Config) (phases : List (List CellEvent)) → config_in x ≡ Some config → after_opening x ≡ record { phases = phases; refusal = None }
     → (o : Opened) × (x ≡ Ok o) × (o.config ≡ config) × (reading_of o.config o.rest o.place (fresh o.config.start.0) ≡ record { phases = phases; refusal = None })
 was_opened (Err e) config phases c h = let k = ap (λ (r : Reading). r.refusal) h in cc
@@ -362,10 +380,11 @@ was_opened (Ok o) config phases c h = (o, refl, cc, h)
 is_recording : (text : List ℕ) (phases : List (List CellEvent)) (o : Opened) → opening_of_text text ≡ Ok o → reading_of o.config o.rest o.place (fresh o.config.start.0) ≡ record { phases = phases; refusal = None } → ReadsRecording text o.config phases
 is_recording text phases o x h =
     let p = front in
-    let a = read_expected (codes "mms-recording 1") bad.Header (expected (codes "config") bad.Config (λ rest q. setup_of rest q [])) (lines_of text) p o x in
-    let b = read_expected (codes "config") bad.Config (λ rest q. setup_of rest q []) a.rest (behind p a.line) o a.next_is in
-    let s = read_setup b.rest (behind (behind p a.line) b.line) [] o (omega arith) b.next_is in
-    let dated = (configuration_holds (text_of s.setup) o.config s.rules s.says).dated in
+    let a = read_headed setup_in (lines_of text) p o x in
+    let b = read_expected (codes "config") bad.Config (λ rest q. setup_of a.edition rest q []) a.rest (behind p a.line) o a.next_is in
+    let s = read_setup a.edition b.rest (behind (behind p a.line) b.line) [] o (omega arith) b.next_is in
+    let dated = (configuration_holds a.edition (text_of s.setup) o.config s.rules s.says).dated in
+    let edition = edition_of a.edition (document_of (text_of s.setup)) o.config s.says in
     let i = read o.config o.rest o.place (fresh o.config.start.0) phases (omega arith, omega arith, omega (arith, dated)) s.most h in
     let whole : lines_of text ≡ a.line ∷ b.line ∷ (s.setup ++ s.last ∷ o.rest) = a.lines_are ∙ ap (λ (r : List (List ℕ)). a.line ∷ r) (b.lines_are ∙ ap (λ (r : List (List ℕ)). b.line ∷ r) s.lines_are) in
     record {
@@ -376,12 +395,12 @@ is_recording text phases o x h =
       body = o.rest;
       said = i.said;
       lines = whole;
-      is_header = a.is;
+      is_header = a.is ∙ ap Some edition;
       is_config = b.is;
       short = s.short;
       small = s.small;
       rules = s.rules;
-      says = s.says;
+      says = subst (λ (e : Edition). option_map (config_of e) (document_of (text_of s.setup)) ≡ Some o.config) edition s.says;
       is_end = s.is_end;
       each = i.each;
       split = i.split;

@@ -4,7 +4,6 @@ use Rattle.std.specs.Prelude.{ℕ, ◌≡◌, true, Bool, if◌then◌else◌, L
 use Rattle.std.specs.Cmp.Lexicographic.{pointwise}
 use Rattle.std.specs.declared.option.Option.{Option}
 use Rattle.mms_types.specs.Spelling.{is_identifier}
-use Rattle.mms_types.specs.declared.identifier.Edition.TheVariants.{One}
 use Rattle.mms_types.specs.declared.event.CellEvent.{CellEvent}
 use Rattle.mms_types.specs.declared.event.CellEvent.TheVariants.{Heard, Lost, Tick, Ends, Drain}
 use Rattle.cell_record.specs.Words.{between, trim, word_of, argument_of, is_remark, begins_with_digit, number_of, pairs_of}
@@ -38,8 +37,8 @@ tick_of None = Err bad.Event
 tick_of (Some ms) = if between 1 3600000 ms then Ok (Happens (Tick ms)) else Err bad.Event
 
 -- `ends <name>` with an Identifier
-abbrev pub ends_of : List ℕ → Result Said BadWord
-ends_of name = if is_identifier One name then Ok (Happens (Ends name)) else Err bad.Event
+abbrev pub ends_of : Config → List ℕ → Result Said BadWord
+ends_of config name = if is_identifier config.edition name then Ok (Happens (Ends name)) else Err bad.Event
 
 -- a line that begins with no digit, by its first word and what follows
 abbrev pub worded : Config → List ℕ → List ℕ → List ℕ → Result Said BadWord
@@ -47,7 +46,7 @@ worded config line word argument =
     if same line (codes "phase") then Ok Phase
     else if same word (codes "lost") then lost_of config (number_of argument)
     else if same word (codes "tick") then tick_of (number_of argument)
-    else if same word (codes "ends") then ends_of argument
+    else if same word (codes "ends") then ends_of config argument
     else Err bad.Event
 
 -- what a line says that has no blanks at its ends
@@ -71,7 +70,7 @@ abbrev pub IsRecorded : Config → CellEvent → Type 0
 IsRecorded config (Heard client octets) = (between 1 config.clients client ≡ true) × (between 1 65000 (length octets) ≡ true)
 IsRecorded config (Lost client) = between 1 config.clients client ≡ true
 IsRecorded config (Tick ms) = between 1 3600000 ms ≡ true
-IsRecorded config (Ends name) = is_identifier One name ≡ true
+IsRecorded config (Ends name) = is_identifier config.edition name ≡ true
 IsRecorded config (Drain client) = ⊥
 
 abbrev pub MayHappen : Config → Said → Type 0

@@ -8,7 +8,7 @@ use Rattle.cell_config.specs.Rules.{document_of, least_broken}
 use Rattle.cell_config.specs.Said.{config_of}
 use Rattle.cell_record.specs.Words.{content, is_long}
 use Rattle.cell_record.specs.EventLine.{said_of}
-use Rattle.cell_record.specs.Recording.{in_text, onto, ms_in, octets_in}
+use Rattle.cell_record.specs.Recording.{header_of, in_text, onto, ms_in, octets_in}
 use Rattle.cell_record.specs.declared.said.Said.{Said}
 use Rattle.cell_record.specs.declared.said.Said.TheVariants.{Nothing, Phase, Happens}
 
@@ -64,12 +64,12 @@ pub record ReadsRecording (text : List ℕ) (configured : Config) (phases : List
   pub body : List (List ℕ)
   pub said : List Said
   pub lines : lines_of text ≡ header ∷ config ∷ (setup ++ last ∷ body)
-  pub is_header : content header ≡ codes "mms-recording 1"
+  pub is_header : header_of (content header) ≡ Some configured.edition
   pub is_config : content config ≡ codes "config"
   pub short : AreShort setup
   pub small : length (text_of setup) ≤ 1048576
   pub rules : least_broken (text_of setup) ≡ None
-  pub says : option_map config_of (document_of (text_of setup)) ≡ Some configured
+  pub says : option_map (config_of configured.edition) (document_of (text_of setup)) ≡ Some configured
   pub is_end : content last ≡ codes "end"
   pub each : Says configured body said
   pub split : phases ≡ phases_of said

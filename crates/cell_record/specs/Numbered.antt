@@ -1,5 +1,6 @@
 -- The lines of a text with their numbers.
 use Rattle.cell_config.specs.declared.config.Config.{Config}
+use Rattle.mms_types.specs.declared.identifier.Edition.{Edition}
 use Rattle.std.specs.Prelude.{◌≡◌, ℕ, ◌+◌, ◌<◌, ◌≤◌, List, [], length, Some, IfSome}
 use Rattle.std.specs.Option.{option_map}
 use Rattle.std.specs.declared.option.Option.{Option}
@@ -39,8 +40,8 @@ abbrev pub at : {T : Type 0} → (List (List ℕ) → Place → T) → Numbered 
 at f n left = option_map (λ text. f (lines_of text) (place_at n)) (ahead n.held left)
 
 -- the configuration's lines, behind those that have this text
-abbrev pub setup : List ℕ → List (List ℕ) → Place → Opening
-setup text lines p = setup_of lines p text
+abbrev pub setup : Edition → List ℕ → List (List ℕ) → Place → Opening
+setup edition text lines p = setup_of edition lines p text
 
 -- the event lines, under a configuration and with so much of the phase before them
 abbrev pub phases : Config → Counts → List (List ℕ) → Place → Reading

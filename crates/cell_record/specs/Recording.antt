@@ -5,6 +5,8 @@ use Rattle.std.specs.declared.option.Option.{Option}
 use Rattle.cell_io.specs.Lines.{lines_of}
 use Rattle.mms_types.specs.declared.event.CellEvent.{CellEvent}
 use Rattle.mms_types.specs.declared.event.CellEvent.TheVariants.{Heard, Lost, Tick, Ends, Drain}
+use Rattle.mms_types.specs.declared.identifier.Edition.{Edition}
+use Rattle.mms_types.specs.declared.identifier.Edition.TheVariants.{One}
 use Rattle.cell_config.specs.declared.config.Config.{Config}
 use Rattle.cell_config.specs.Rules.{document_of, least_broken}
 use Rattle.cell_config.specs.Said.{config_of}
@@ -151,6 +153,15 @@ expected want word next (line ∷ rest) p =
     then (if same (content line) want then next rest (behind p line) else Err (Bad (p.lines + 1) word))
     else Err (TooMuch (p.lines + 1))
 
+-- the edition of which the recording is that begins with this line
+abbrev pub header_of : List ℕ → Option Edition
+header_of line = if same line (codes "mms-recording 1") then Some One else None
+
+-- what stands behind a header of that edition
+abbrev pub under : Option Edition → (Edition → List (List ℕ) → Place → Opening) → List (List ℕ) → ℕ → Place → Opening
+under None next rest line p = Err (Bad line bad.Header)
+under (Some edition) next rest line p = next edition rest p
+
 -- what a line adds to the configuration's text: its content and one line feed
 abbrev pub in_text : List ℕ → List ℕ
 in_text line = content line ++ 10 ∷ []
@@ -184,22 +195,32 @@ opened_unless None None lines p = Err (BadConfig 0)
 opened_unless None (Some config) lines p = opened config lines p
 
 -- the line `end` was read, behind a configuration's text
-abbrev pub configured : List ℕ → List (List ℕ) → Place → Opening
-configured text = opened_unless (least_broken text) (option_map config_of (document_of text))
+abbrev pub configured : Edition → List ℕ → List (List ℕ) → Place → Opening
+configured edition text = opened_unless (least_broken text) (option_map (config_of edition) (document_of text))
 
 -- the configuration's lines, up to the line `end`, behind those that have this text
-abbrev pub setup_of : List (List ℕ) → Place → List ℕ → Opening
-setup_of [] p text = Err (Bad (p.lines + 1) bad.Config)
-setup_of (line ∷ rest) p text =
+abbrev pub setup_of : Edition → List (List ℕ) → Place → List ℕ → Opening
+setup_of edition [] p text = Err (Bad (p.lines + 1) bad.Config)
+setup_of edition (line ∷ rest) p text =
     if fits p line
     then (if same (content line) (codes "end")
-    then configured text rest (behind p line)
-    else unless_word (p.lines + 1) (setup_word (length text + size_in_text line) line) (setup_of rest (behind p line) (text ++ in_text line)))
+    then configured edition text rest (behind p line)
+    else unless_word (p.lines + 1) (setup_word (length text + size_in_text line) line) (setup_of edition rest (behind p line) (text ++ in_text line)))
     else Err (TooMuch (p.lines + 1))
 
--- the header, the line `config`, and the configuration's lines up to `end`
+-- the header in line 1, and what stands behind it
+abbrev pub headed : (Edition → List (List ℕ) → Place → Opening) → List (List ℕ) → Place → Opening
+headed next [] p = Err (Bad (p.lines + 1) bad.Header)
+headed next (line ∷ rest) p =
+    if fits p line then under (header_of (content line)) next rest (p.lines + 1) (behind p line) else Err (TooMuch (p.lines + 1))
+
+-- the line `config`, and the configuration's lines up to `end`
+abbrev pub setup_in : Edition → List (List ℕ) → Place → Opening
+setup_in edition = expected (codes "config") bad.Config (λ rest p. setup_of edition rest p [])
+
+-- all lines up to `end`
 abbrev pub opening_of : List (List ℕ) → Place → Opening
-opening_of lines p = expected (codes "mms-recording 1") bad.Header (expected (codes "config") bad.Config (λ rest q. setup_of rest q [])) lines p
+opening_of = headed setup_in
 
 -- ---- the whole text
 

@@ -9,7 +9,7 @@ use crate::digits::{number, pairs};
 use crate::said::{LineError, Said};
 use crate::words::{begins_with_digit, first_word, is_remark, trim};
 use cell_config::Config;
-use mms_types::{CellEvent, Edition, Identifier, Octets, Unnamed};
+use mms_types::{CellEvent, Identifier, Octets, Unnamed};
 use std::alloc::Global;
 
 const MOST_IN_LINE: usize = 196_608;
@@ -68,11 +68,11 @@ fn tick(config: &Config, ms: Option<u32>) -> Result<Said, LineError>
 
 /// That a program invocation came to its end.
 fn ends(alloc: Global, config: &Config, name: &[u8]) -> Result<Said, LineError>
-    ensures says { IfOk result (λ s. ends_of name.now ≡ Ok s) }
-    ensures bad { IfErr result (λ e. IsCause (ends_of name.now) e) }
+    ensures says { IfOk result (λ s. ends_of config.now name.now ≡ Ok s) }
+    ensures bad { IfErr result (λ e. IsCause (ends_of config.now name.now) e) }
     ensures may { IfOk result (MayHappen config.now) }
 {
-    match Identifier::read(alloc, name, Edition::One) {
+    match Identifier::read(alloc, name, config.edition) {
         Ok(name) => Ok(Said::Happens(CellEvent::Ends { name })),
         Err(Unnamed::Bad(_)) => Err(LineError::Bad(BadWord::Event)),
         Err(Unnamed::Memory) => Err(LineError::Memory),

@@ -5,7 +5,8 @@ ghost use Rattle.cell_io.specs.Faults.{Rose};
 ghost use Rattle.cell_io.specs.Held.{IsEndSeen};
 ghost use Rattle.cell_config.specs.Said.{IsConfig};
 ghost use Rattle.cell_record.specs.Words.{is_long};
-ghost use Rattle.cell_record.specs.Recording.{Place, Opening, expected, in_text, size_by, setup_word, opened, configured, opening_of};
+ghost use Rattle.mms_types.specs.declared.identifier.Edition.{Edition};
+ghost use Rattle.cell_record.specs.Recording.{Place, Opening, header_of, headed, expected, in_text, size_by, setup_word, opened, configured, opening_of};
 ghost use Rattle.cell_record.specs.Numbered.{IsPart, at, place_at, setup};
 ghost use Rattle.cell_record.specs.Stops.{Leads, StopsOpening};
 ghost use Rattle.cell_record.specs.Progress.{Becomes, IsStated};
@@ -21,6 +22,44 @@ use std::alloc::Global;
 const MOST_IN_LINE: usize = 196_608;
 
 const MOST_IN_TEXT: u64 = 1_048_576;
+
+/// The edition of which the recording is that begins with this line.
+fn edition_of(line: &[u8]) -> Option<Edition>
+    ensures { result ≡ header_of line.now }
+{
+    if line == b"mms-recording 1".as_slice() {
+        Some(Edition::One)
+    } else {
+        None
+    }
+}
+
+/// Reads the header, and gives the edition of the recording.
+fn read_header<S: Source>(lines: &mut NumberedLines, input: &mut S) -> Result<Edition, RecordError>
+    ensures there { IfOk result (λ edition. (next : Edition → List (List ℕ) → Place → Opening) → Becomes (at (headed next) lines.old (S.left input.old)) (λ r. r)
+        (at (next edition) lines.new (S.left input.new))) }
+    ensures leads { IfOk result (λ edition. (next : Edition → List (List ℕ) → Place → Opening) → Leads (headed next) lines.old.held (place_at lines.old) (S.left input.old) (λ r. r)
+        (next edition) lines.new.held (place_at lines.new) (S.left input.new)) }
+    ensures refused { IfErr result (λ e. IsStated e → (next : Edition → List (List ℕ) → Place → Opening) → IfSome (at (headed next) lines.old (S.left input.old)) (λ r. r ≡ Err e)) }
+    ensures fault { IfErr result (λ e. e ≡ RecordError.ReadFault → Rose (S.faults input.old) (S.faults input.new)) }
+    ensures stops { IfErr result (λ e. e ≡ RecordError.ReadFault → (next : Edition → List (List ℕ) → Place → Opening)
+        → StopsOpening (headed next) lines.old.held (place_at lines.old) (S.left input.old) (S.left input.new)) }
+    ensures grows { OnOk result (lines.old.held.given < lines.new.held.given) }
+    ensures seen { IsEndSeen lines.old.held (S.left input.old) → IsEndSeen lines.new.held (S.left input.new) }
+    ensures left { IsPart (S.left input.old) (S.left input.new) }
+    ensures later { S.faults input.old ≤ S.faults input.new }
+{
+    let line = lines.count() + 1;
+    let word = BadWord::Header;
+    let _given = lines.given();
+    if !lines.next(input)? {
+        return Err(RecordError::Bad { line, word });
+    }
+    match edition_of(lines.content()) {
+        Some(edition) => Ok(edition),
+        None => Err(RecordError::Bad { line, word }),
+    }
+}
 
 /// Reads the next line, which is to be this one, or else is refused by the word.
 fn expect<S: Source>(
@@ -101,18 +140,18 @@ fn read_setup_line<S: Source>(
     text: &mut Vec<u8>,
 ) -> Result<bool, RecordError>
     requires { length text.old.items ≤ 1048576 }
-    ensures more { IfOk result (λ end. end ≡ false → Becomes (at (setup text.old.items) lines.old (S.left input.old)) (λ r. r)
-        (at (setup text.new.items) lines.new (S.left input.new))) }
-    ensures end { IfOk result (λ end. end ≡ true → Becomes (at (setup text.old.items) lines.old (S.left input.old)) (λ r. r)
-        (at (configured text.new.items) lines.new (S.left input.new))) }
-    ensures leads { IfOk result (λ end. end ≡ false → Leads (setup text.old.items) lines.old.held (place_at lines.old) (S.left input.old) (λ r. r)
-        (setup text.new.items) lines.new.held (place_at lines.new) (S.left input.new)) }
-    ensures last { IfOk result (λ end. end ≡ true → Leads (setup text.old.items) lines.old.held (place_at lines.old) (S.left input.old) (λ r. r)
-        (configured text.new.items) lines.new.held (place_at lines.new) (S.left input.new)) }
+    ensures more { IfOk result (λ end. end ≡ false → (edition : Edition) → Becomes (at (setup edition text.old.items) lines.old (S.left input.old)) (λ r. r)
+        (at (setup edition text.new.items) lines.new (S.left input.new))) }
+    ensures end { IfOk result (λ end. end ≡ true → (edition : Edition) → Becomes (at (setup edition text.old.items) lines.old (S.left input.old)) (λ r. r)
+        (at (configured edition text.new.items) lines.new (S.left input.new))) }
+    ensures leads { IfOk result (λ end. end ≡ false → (edition : Edition) → Leads (setup edition text.old.items) lines.old.held (place_at lines.old) (S.left input.old) (λ r. r)
+        (setup edition text.new.items) lines.new.held (place_at lines.new) (S.left input.new)) }
+    ensures last { IfOk result (λ end. end ≡ true → (edition : Edition) → Leads (setup edition text.old.items) lines.old.held (place_at lines.old) (S.left input.old) (λ r. r)
+        (configured edition text.new.items) lines.new.held (place_at lines.new) (S.left input.new)) }
     ensures size { OnOk result (length text.new.items ≤ 1048576) }
-    ensures refused { IfErr result (λ e. IsStated e → IfSome (at (setup text.old.items) lines.old (S.left input.old)) (λ r. r ≡ Err e)) }
+    ensures refused { IfErr result (λ e. IsStated e → (edition : Edition) → IfSome (at (setup edition text.old.items) lines.old (S.left input.old)) (λ r. r ≡ Err e)) }
     ensures fault { IfErr result (λ e. e ≡ RecordError.ReadFault → Rose (S.faults input.old) (S.faults input.new)) }
-    ensures stops { IfErr result (λ e. e ≡ RecordError.ReadFault → StopsOpening (setup text.old.items) lines.old.held (place_at lines.old) (S.left input.old) (S.left input.new)) }
+    ensures stops { IfErr result (λ e. e ≡ RecordError.ReadFault → (edition : Edition) → StopsOpening (setup edition text.old.items) lines.old.held (place_at lines.old) (S.left input.old) (S.left input.new)) }
     ensures grows { OnOk result (lines.old.held.given < lines.new.held.given) }
     ensures seen { IsEndSeen lines.old.held (S.left input.old) → IsEndSeen lines.new.held (S.left input.new) }
     ensures most { lines.new.held.given ≤ 4294967296 }
@@ -146,11 +185,11 @@ fn read_setup<S: Source>(
     lines: &mut NumberedLines,
     input: &mut S,
 ) -> Result<Vec<u8>, RecordError>
-    ensures text { IfOk result (λ text. Becomes (at (setup []) lines.old (S.left input.old)) (λ r. r) (at (configured text.items) lines.new (S.left input.new))) }
-    ensures leads { IfOk result (λ text. Leads (setup []) lines.old.held (place_at lines.old) (S.left input.old) (λ r. r) (configured text.items) lines.new.held (place_at lines.new) (S.left input.new)) }
-    ensures refused { IfErr result (λ e. IsStated e → IfSome (at (setup []) lines.old (S.left input.old)) (λ r. r ≡ Err e)) }
+    ensures text { IfOk result (λ text. (edition : Edition) → Becomes (at (setup edition []) lines.old (S.left input.old)) (λ r. r) (at (configured edition text.items) lines.new (S.left input.new))) }
+    ensures leads { IfOk result (λ text. (edition : Edition) → Leads (setup edition []) lines.old.held (place_at lines.old) (S.left input.old) (λ r. r) (configured edition text.items) lines.new.held (place_at lines.new) (S.left input.new)) }
+    ensures refused { IfErr result (λ e. IsStated e → (edition : Edition) → IfSome (at (setup edition []) lines.old (S.left input.old)) (λ r. r ≡ Err e)) }
     ensures fault { IfErr result (λ e. e ≡ RecordError.ReadFault → Rose (S.faults input.old) (S.faults input.new)) }
-    ensures stops { IfErr result (λ e. e ≡ RecordError.ReadFault → StopsOpening (setup []) lines.old.held (place_at lines.old) (S.left input.old) (S.left input.new)) }
+    ensures stops { IfErr result (λ e. e ≡ RecordError.ReadFault → (edition : Edition) → StopsOpening (setup edition []) lines.old.held (place_at lines.old) (S.left input.old) (S.left input.new)) }
     ensures grows { OnOk result (lines.old.held.given < lines.new.held.given) }
     ensures seen { IsEndSeen lines.old.held (S.left input.old) → IsEndSeen lines.new.held (S.left input.new) }
     ensures left { IsPart (S.left input.old) (S.left input.new) }
@@ -166,14 +205,14 @@ fn read_setup<S: Source>(
     unreachable!()
 }
 
-/// The configuration that the text of its lines tells.
-fn read_text(alloc: Global, text: &[u8]) -> Result<Config, RecordError>
-    ensures config { IfOk result (λ config. (lines : List (List ℕ)) (p : Place) → configured text.now lines p ≡ opened config lines p) }
+/// The configuration that the text of its lines tells in an edition.
+fn read_text(alloc: Global, text: &[u8], edition: Edition) -> Result<Config, RecordError>
+    ensures config { IfOk result (λ config. (lines : List (List ℕ)) (p : Place) → configured edition text.now lines p ≡ opened config lines p) }
     ensures valid { IfOk result IsConfig }
-    ensures rule { IfErr result (λ e. IsStated e → (lines : List (List ℕ)) (p : Place) → configured text.now lines p ≡ Err e) }
+    ensures rule { IfErr result (λ e. IsStated e → (lines : List (List ℕ)) (p : Place) → configured edition text.now lines p ≡ Err e) }
     ensures known { IfErr result (λ e. e ≡ RecordError.ReadFault → ⊥) }
 {
-    match read_config(alloc, text, Edition::One) {
+    match read_config(alloc, text, edition) {
         Ok(config) => Ok(config),
         Err(BadConfig::Rule(rule)) => Err(RecordError::BadConfig { rule }),
         Err(BadConfig::Memory) => Err(RecordError::Memory),
@@ -197,8 +236,8 @@ pub fn read_opening<S: Source>(
     ensures left { IsPart (S.left input.old) (S.left input.new) }
     ensures later { S.faults input.old ≤ S.faults input.new }
 {
-    expect(lines, input, b"mms-recording 1", BadWord::Header)?;
+    let edition = read_header(lines, input)?;
     expect(lines, input, b"config", BadWord::Config)?;
     let text = read_setup(alloc, lines, input)?;
-    read_text(alloc, &text)
+    read_text(alloc, &text, edition)
 }

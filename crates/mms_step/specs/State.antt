@@ -1,7 +1,6 @@
 -- The state of the device: plain lists of rows and the moment (ISO 9506-1, the virtual manufacturing device).
 use Rattle.std.specs.Prelude.{ℕ, ◌≤◌, List, map, length}
 use Rattle.mms_types.specs.Actors.{clients_to}
-use Rattle.mms_types.specs.declared.identifier.Edition.TheVariants.{One}
 use Rattle.association.specs.Client.{ClientRow, new_row}
 use Rattle.association.specs.declared.constants.Constants.{Constants}
 use Rattle.cell_config.specs.declared.config.Config.{Config}
@@ -14,7 +13,7 @@ pub record State : Type 0 where
 
 -- what never changes of a configured device: its edition, and the three texts that it answers to Identify (ISO 9506-2, Identify)
 abbrev pub device_of : Config → Constants
-device_of config = record { edition = One; vendor = config.vendor; model = config.model; revision = config.revision }
+device_of config = record { edition = config.edition; vendor = config.vendor; model = config.model; revision = config.revision }
 
 -- the rows of clients 1 to n at the start: no association is open, nothing waits and nothing is to be sent
 abbrev pub first_rows : Config → ℕ → List ClientRow

@@ -9,7 +9,7 @@ ghost use Rattle.mms_step.specs.Partition.{parts_of};
 use crate::{Client, Clock, Part};
 use association::Constants;
 use cell_config::Config;
-use mms_types::{Edition, Memory};
+use mms_types::Memory;
 use std::alloc::Global;
 
 /// What never changes of the device.
@@ -17,7 +17,7 @@ fn device(alloc: Global, config: &Config) -> Result<Constants, Memory>
     ensures { IfOk result (λ constants. constants ≡ device_of config.now) }
 {
     Ok(Constants {
-        edition: Edition::One,
+        edition: config.edition,
         vendor: config.vendor.copy(alloc)?,
         model: config.model.copy(alloc)?,
         revision: config.revision.copy(alloc)?,

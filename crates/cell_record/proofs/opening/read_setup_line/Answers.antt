@@ -14,22 +14,22 @@ use Rattle.cell_record.proofs.opening.read_setup_line.Goals as goal
 pub returns-in_err-next-clause-refused : goal.returns-in_err-next-clause-refused
 returns-in_err-next-clause-refused g c =
     let r = err_from_is_err_and c.from_residual.result c.from_residual.ensures.1 in
-    rw (r.1, r.2) (λ s.
+    rw (r.1, r.2) (λ s edition.
     let m = c.in_err-next.ensures.too_much s in
     let p = place_at c.args.lines.now in
-    rw m.0 (much (setup c.args.text.now.items) (Err (TooMuch (p.lines + 1))) (ahead c.args.lines.now.held (g.S.Source.left c.args.input.now)) p (omega (arith, c.given-before.ensures.given, c.given-before.ensures.most)) m.1
-    (λ l rest f. much_setup c.args.text.now.items p l rest f)))
+    rw m.0 (much (setup edition c.args.text.now.items) (Err (TooMuch (p.lines + 1))) (ahead c.args.lines.now.held (g.S.Source.left c.args.input.now)) p (omega (arith, c.given-before.ensures.given, c.given-before.ensures.most)) m.1
+    (λ l rest f. much_setup edition c.args.text.now.items p l rest f)))
 
 pub returns-then-is-clause-end : goal.returns-then-is-clause-end
-returns-then-is-clause-end g c = λ _.
+returns-then-is-clause-end g c = λ _ edition.
     let p = place_at c.args.lines.now in
     let e : same (content c.next.new.self.line) (codes "end") ≡ true = sym c.if-is.ensures in
-    rw (c.in_ok-next.ensures.count c.if-not-branch.false) (there (setup c.args.text.now.items) (configured c.args.text.now.items) (λ r. r) (ahead c.args.lines.now.held (g.S.Source.left c.args.input.now))
+    rw (c.in_ok-next.ensures.count c.if-not-branch.false) (there (setup edition c.args.text.now.items) (configured edition c.args.text.now.items) (λ r. r) (ahead c.args.lines.now.held (g.S.Source.left c.args.input.now))
     (ahead c.next.new.self.held (g.S.Source.left c.next.new.input)) c.next.new.self.line p c.next.new.self.held.given c.next.ensures.most (c.in_ok-next.ensures.gives c.if-not-branch.false)
-    (λ l rest k n f. at_end c.args.text.now.items p c.next.new.self.line l rest e k f))
+    (λ l rest k n f. at_end edition c.args.text.now.items p c.next.new.self.line l rest e k f))
 
 pub returns-in-Some-clause-refused : goal.returns-in-Some-clause-refused
-returns-in-Some-clause-refused g c = λ _.
+returns-in-Some-clause-refused g c = λ _ edition.
     let p = place_at c.args.lines.now in
     let text = c.args.text.now.items in
     let line = c.next.new.self.line in
@@ -38,12 +38,12 @@ returns-in-Some-clause-refused g c = λ _.
     let len : c.len.result ≡ length text = omega (arith, c.len.ensures, c.args.text.now.ok) in
     let size : c.size_in_text.result ≡ size_by whole line = c.size_in_text.ensures.size ∙ ap (size_by whole) c.line.ensures in
     let word : Some c.in-Some.word ≡ setup_word (length text + size_by whole line) line = c.in-Some.ensures ∙ ap (λ (n : ℕ). setup_word (n + c.size_in_text.result) c.line-2.result.now) len ∙ ap (λ (n : ℕ). setup_word (length text + n) c.line-2.result.now) size ∙ ap (setup_word (length text + size_by whole line)) c.line-2.ensures in
-    rw c.count-number.ensures.count (is (setup text) (Err (Bad (p.lines + 1) c.in-Some.word)) (ahead c.args.lines.now.held (g.S.Source.left c.args.input.now))
+    rw c.count-number.ensures.count (is (setup edition text) (Err (Bad (p.lines + 1) c.in-Some.word)) (ahead c.args.lines.now.held (g.S.Source.left c.args.input.now))
     (ahead c.next.new.self.held (g.S.Source.left c.next.new.input)) line p c.next.new.self.held.given c.next.ensures.most (c.in_ok-next.ensures.gives c.if-not-branch.false)
-    (λ l rest k n f. bad_setup text whole p c.next.new.self.held.given line l rest c.in-Some.word e word (omega (arith, c.given.ensures.given, c.given-before.ensures.given)) k n f))
+    (λ l rest k n f. bad_setup edition text whole p c.next.new.self.held.given line l rest c.in-Some.word e word (omega (arith, c.given.ensures.given, c.given-before.ensures.given)) k n f))
 
 pub returns-clause-more : goal.returns-clause-more
-returns-clause-more g c = λ _.
+returns-clause-more g c = λ _ edition.
     let p = place_at c.args.lines.now in
     let text = c.args.text.now.items in
     let line = c.next.new.self.line in
@@ -53,27 +53,27 @@ returns-clause-more g c = λ _.
     let size : c.size_in_text.result ≡ size_by whole line = c.size_in_text.ensures.size ∙ ap (size_by whole) c.line.ensures in
     let none : None ≡ setup_word (length text + size_by whole line) line = c.in-None.ensures ∙ ap (λ (n : ℕ). setup_word (n + c.size_in_text.result) c.line-2.result.now) len ∙ ap (λ (n : ℕ). setup_word (length text + n) c.line-2.result.now) size ∙ ap (setup_word (length text + size_by whole line)) c.line-2.ensures in
     let added : c.add_line.new.text.items ≡ text ++ in_text line = c.in_ok-add_line.ensures.text ∙ ap (λ (x : List ℕ). text ++ in_text x) c.line-3.ensures in
-    rw (c.in_ok-next.ensures.count c.if-not-branch.false, added) (there (setup text) (setup (text ++ in_text line)) (λ r. r) (ahead c.args.lines.now.held (g.S.Source.left c.args.input.now))
+    rw (c.in_ok-next.ensures.count c.if-not-branch.false, added) (there (setup edition text) (setup edition (text ++ in_text line)) (λ r. r) (ahead c.args.lines.now.held (g.S.Source.left c.args.input.now))
     (ahead c.next.new.self.held (g.S.Source.left c.next.new.input)) line p c.next.new.self.held.given c.next.ensures.most (c.in_ok-next.ensures.gives c.if-not-branch.false)
-    (λ l rest k n f. not_end text whole p c.next.new.self.held.given line l rest e none (omega (arith, c.given.ensures.given, c.given-before.ensures.given)) k n f))
+    (λ l rest k n f. not_end edition text whole p c.next.new.self.held.given line l rest e none (omega (arith, c.given.ensures.given, c.given-before.ensures.given)) k n f))
 
 pub returns-in_err-next-clause-stops : goal.returns-in_err-next-clause-stops
 returns-in_err-next-clause-stops g c =
     let r = err_from_is_err_and c.from_residual.result c.from_residual.ensures.1 in
-    rw (r.1, r.2) (λ s.
-    opening_stops (setup c.args.text.now.items) c.args.lines.now.held (g.S.Source.left c.args.input.now) (g.S.Source.left c.next.new.input) c.next.new.self.held.given c.args.lines.now.lines bad.Config c.next.ensures.most refl
+    rw (r.1, r.2) (λ s edition.
+    opening_stops (setup edition c.args.text.now.items) c.args.lines.now.held (g.S.Source.left c.args.input.now) (g.S.Source.left c.next.new.input) c.next.new.self.held.given c.args.lines.now.lines bad.Config c.next.ensures.most refl
     (c.in_err-next.ensures.stops s))
 
 pub returns-then-is-clause-last : goal.returns-then-is-clause-last
-returns-then-is-clause-last g c = λ _.
+returns-then-is-clause-last g c = λ _ edition.
     let p = place_at c.args.lines.now in
     let e : same (content c.next.new.self.line) (codes "end") ≡ true = sym c.if-is.ensures in
-    rw (c.in_ok-next.ensures.count c.if-not-branch.false) (leads_there (setup c.args.text.now.items) (configured c.args.text.now.items) (λ r. r) c.args.lines.now.held c.next.new.self.held (g.S.Source.left c.args.input.now) (g.S.Source.left c.next.new.input)
+    rw (c.in_ok-next.ensures.count c.if-not-branch.false) (leads_there (setup edition c.args.text.now.items) (configured edition c.args.text.now.items) (λ r. r) c.args.lines.now.held c.next.new.self.held (g.S.Source.left c.args.input.now) (g.S.Source.left c.next.new.input)
     c.next.new.self.line p (c.in_ok-next.ensures.unended c.if-not-branch.false) c.next.ensures.most (c.in_ok-next.ensures.gives c.if-not-branch.false) (c.in_ok-next.ensures.feed c.if-not-branch.false)
-    (λ l rest k n f. at_end c.args.text.now.items p c.next.new.self.line l rest e k f))
+    (λ l rest k n f. at_end edition c.args.text.now.items p c.next.new.self.line l rest e k f))
 
 pub returns-clause-leads : goal.returns-clause-leads
-returns-clause-leads g c = λ _.
+returns-clause-leads g c = λ _ edition.
     let p = place_at c.args.lines.now in
     let text = c.args.text.now.items in
     let line = c.next.new.self.line in
@@ -83,6 +83,6 @@ returns-clause-leads g c = λ _.
     let size : c.size_in_text.result ≡ size_by whole line = c.size_in_text.ensures.size ∙ ap (size_by whole) c.line.ensures in
     let none : None ≡ setup_word (length text + size_by whole line) line = c.in-None.ensures ∙ ap (λ (n : ℕ). setup_word (n + c.size_in_text.result) c.line-2.result.now) len ∙ ap (λ (n : ℕ). setup_word (length text + n) c.line-2.result.now) size ∙ ap (setup_word (length text + size_by whole line)) c.line-2.ensures in
     let added : c.add_line.new.text.items ≡ text ++ in_text line = c.in_ok-add_line.ensures.text ∙ ap (λ (x : List ℕ). text ++ in_text x) c.line-3.ensures in
-    rw (c.in_ok-next.ensures.count c.if-not-branch.false, added) (leads_there (setup text) (setup (text ++ in_text line)) (λ r. r) c.args.lines.now.held c.next.new.self.held (g.S.Source.left c.args.input.now) (g.S.Source.left c.next.new.input)
+    rw (c.in_ok-next.ensures.count c.if-not-branch.false, added) (leads_there (setup edition text) (setup edition (text ++ in_text line)) (λ r. r) c.args.lines.now.held c.next.new.self.held (g.S.Source.left c.args.input.now) (g.S.Source.left c.next.new.input)
     line p (c.in_ok-next.ensures.unended c.if-not-branch.false) c.next.ensures.most (c.in_ok-next.ensures.gives c.if-not-branch.false) (c.in_ok-next.ensures.feed c.if-not-branch.false)
-    (λ l rest k n f. not_end text whole p c.next.new.self.held.given line l rest e none (omega (arith, c.given.ensures.given, c.given-before.ensures.given)) k n f))
+    (λ l rest k n f. not_end edition text whole p c.next.new.self.held.given line l rest e none (omega (arith, c.given.ensures.given, c.given-before.ensures.given)) k n f))

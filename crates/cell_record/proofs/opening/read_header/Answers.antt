@@ -1,0 +1,51 @@
+use Rattle.std.proofs.Common.{◌≡◌, ◌+◌, refl, sym, ap, ◌∙◌, Some, None, Err, arith}
+use Rattle.std.proofs.lemmas.Result.{err_from_is_err_and}
+use Rattle.cell_io.specs.Held.{ahead}
+use Rattle.cell_record.specs.Words.{content}
+use Rattle.cell_record.specs.Recording.{header_of, headed}
+use Rattle.cell_record.specs.Numbered.{place_at}
+use Rattle.cell_record.specs.declared.refusal.BadWord.TheVariants as bad
+use Rattle.cell_record.specs.declared.refusal.RecordError.TheVariants.{Bad, TooMuch}
+use Rattle.cell_record.proofs.Stopping.{leads_there, opening_stops}
+use Rattle.cell_record.proofs.Steps.{there, is, much, is_headed, much_headed}
+use Rattle.cell_record.proofs.opening.read_header.Goals as goal
+
+pub returns-in_err-next-clause-refused : goal.returns-in_err-next-clause-refused
+returns-in_err-next-clause-refused g c =
+    let r = err_from_is_err_and c.from_residual.result c.from_residual.ensures.1 in
+    rw (r.1, r.2) (λ s next.
+    let m = c.in_err-next.ensures.too_much s in
+    let p = place_at c.args.lines.now in
+    rw m.0 (much (headed next) (Err (TooMuch (p.lines + 1))) (ahead c.args.lines.now.held (g.S.Source.left c.args.input.now)) p (omega (arith, c.given-given.ensures.given, c.given-given.ensures.most)) m.1
+    (λ l rest f. much_headed next p l rest f)))
+
+pub returns-in-Some-clause-there : goal.returns-in-Some-clause-there
+returns-in-Some-clause-there g c = λ next.
+    let p = place_at c.args.lines.now in
+    let e : header_of (content c.next.new.self.line) ≡ Some c.in-Some.edition = ap header_of (sym c.content.ensures) ∙ sym c.in-Some.ensures in
+    rw (c.in_ok-next.ensures.count c.if-not-branch.false) (there (headed next) (next c.in-Some.edition) (λ r. r) (ahead c.args.lines.now.held (g.S.Source.left c.args.input.now))
+    (ahead c.next.new.self.held (g.S.Source.left c.next.new.input)) c.next.new.self.line p c.next.new.self.held.given c.next.ensures.most (c.in_ok-next.ensures.gives c.if-not-branch.false)
+    (λ l rest k n f. is_headed next p c.next.new.self.line l rest (Some c.in-Some.edition) e k f))
+
+pub returns-in-None-clause-refused : goal.returns-in-None-clause-refused
+returns-in-None-clause-refused g c = λ _ next.
+    let p = place_at c.args.lines.now in
+    let e : header_of (content c.next.new.self.line) ≡ None = ap header_of (sym c.content.ensures) ∙ sym c.in-None.ensures in
+    rw c.count-line.ensures.count (is (headed next) (Err (Bad (p.lines + 1) bad.Header)) (ahead c.args.lines.now.held (g.S.Source.left c.args.input.now))
+    (ahead c.next.new.self.held (g.S.Source.left c.next.new.input)) c.next.new.self.line p c.next.new.self.held.given c.next.ensures.most (c.in_ok-next.ensures.gives c.if-not-branch.false)
+    (λ l rest k n f. is_headed next p c.next.new.self.line l rest None e k f))
+
+pub returns-in-Some-clause-leads : goal.returns-in-Some-clause-leads
+returns-in-Some-clause-leads g c = λ next.
+    let p = place_at c.args.lines.now in
+    let e : header_of (content c.next.new.self.line) ≡ Some c.in-Some.edition = ap header_of (sym c.content.ensures) ∙ sym c.in-Some.ensures in
+    rw (c.in_ok-next.ensures.count c.if-not-branch.false) (leads_there (headed next) (next c.in-Some.edition) (λ r. r) c.args.lines.now.held c.next.new.self.held (g.S.Source.left c.args.input.now) (g.S.Source.left c.next.new.input)
+    c.next.new.self.line p (c.in_ok-next.ensures.unended c.if-not-branch.false) c.next.ensures.most (c.in_ok-next.ensures.gives c.if-not-branch.false) (c.in_ok-next.ensures.feed c.if-not-branch.false)
+    (λ l rest k n f. is_headed next p c.next.new.self.line l rest (Some c.in-Some.edition) e k f))
+
+pub returns-in_err-next-clause-stops : goal.returns-in_err-next-clause-stops
+returns-in_err-next-clause-stops g c =
+    let r = err_from_is_err_and c.from_residual.result c.from_residual.ensures.1 in
+    rw (r.1, r.2) (λ s next.
+    opening_stops (headed next) c.args.lines.now.held (g.S.Source.left c.args.input.now) (g.S.Source.left c.next.new.input) c.next.new.self.held.given c.args.lines.now.lines bad.Header c.next.ensures.most refl
+    (c.in_err-next.ensures.stops s))
