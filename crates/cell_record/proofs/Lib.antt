@@ -11,3 +11,5 @@ pub mod Valid
 pub mod Bodies
 pub mod OneHistory
 pub mod Placing
+pub mod LineCauses
+pub mod FirstRefused

@@ -8,3 +8,4 @@ pub mod History
 pub mod Report
 pub mod Grammar
 pub mod Placed
+pub mod Refused

@@ -8,18 +8,32 @@ ghost use Rattle.mms_types.specs.declared.event.What.{What};
 ghost use Rattle.cell_record.specs.History.{Interleaves};
 ghost use Rattle.cell_record.specs.Recording.{reading_of_text, config_of_text};
 ghost use Rattle.cell_record.specs.Report.{report};
+ghost use Rattle.cell_record.specs.Refused.{IsRefused};
+ghost use Rattle.cell_record.specs.declared.refusal.RecordError.{RecordError};
 
 /// The texts that are recordings are those that are read, line by line, with nothing that refuses
 /// them, and they say the same configuration and the same phases.
 pub fn recordings_are_read()
     ensures { (text : List ℕ) (configured : Config) (phases : List (List CellEvent))
-        → (ReadsRecording text configured phases ↔ ((config_of_text text ≡ Some configured) × (reading_of_text text ≡ record { phases = phases; refusal = None }))) }
+        → (ReadsRecording text configured phases ↔
+        ((config_of_text text ≡ Some configured) ×
+        (reading_of_text text ≡ record { phases = phases; refusal = None }))) }
+{}
+
+/// A text is read up to the first of its lines that is refused, or to one that is missing behind them,
+/// and what is told is the first cause that holds there: both ways, of all texts and refusals.
+pub fn refusals_are_the_first()
+    ensures { (text : List ℕ) (e : RecordError) →
+        (((reading_of_text text).refusal ≡ Some e) ↔ IsRefused text e) }
 {}
 
 /// Whatever the clients are sent, two lists of bodies that serve the phases of one recording and have
 /// the same report are the same: the history in which a recording was served stands in its report.
 pub fn a_report_has_one_history()
-    ensures { (said : List CellEvent → ℕ → List What) (text : List ℕ) (configured : Config) (phases bodies others : List (List CellEvent))
-        → ReadsRecording text configured phases → Interleaves bodies phases → Interleaves others phases
-        → report said configured.clients bodies ≡ report said configured.clients others → bodies ≡ others }
+    ensures { (said : List CellEvent → ℕ → List What) (text : List ℕ) (configured : Config)
+        (phases bodies others : List (List CellEvent))
+        → ReadsRecording text configured phases → Interleaves bodies phases
+        → Interleaves others phases
+        → report said configured.clients bodies ≡ report said configured.clients others
+        → bodies ≡ others }
 {}

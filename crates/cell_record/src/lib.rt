@@ -16,7 +16,7 @@ mod told;
 mod words;
 
 pub use cell_io::WriteError;
-pub use laws::{a_report_has_one_history, recordings_are_read};
+pub use laws::{a_report_has_one_history, recordings_are_read, refusals_are_the_first};
 pub use recording::{Phase, Recording};
 pub use refusal::{BadWord, RecordError};
 pub use report::write_phase;

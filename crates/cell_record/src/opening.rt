@@ -36,16 +36,24 @@ fn edition_of(line: &[u8]) -> Option<Edition>
 
 /// Reads the header, and gives the edition of the recording.
 fn read_header<S: Source>(lines: &mut NumberedLines, input: &mut S) -> Result<Edition, RecordError>
-    ensures there { IfOk result (λ edition. (next : Edition → List (List ℕ) → Place → Opening) → Becomes (at (headed next) lines.old (S.left input.old)) (λ r. r)
+    ensures there { IfOk result (λ edition. (next : Edition → List (List ℕ) → Place → Opening)
+        → Becomes (at (headed next) lines.old (S.left input.old)) (λ r. r)
         (at (next edition) lines.new (S.left input.new))) }
-    ensures leads { IfOk result (λ edition. (next : Edition → List (List ℕ) → Place → Opening) → Leads (headed next) lines.old.held (place_at lines.old) (S.left input.old) (λ r. r)
+    ensures leads { IfOk result (λ edition. (next : Edition → List (List ℕ) → Place → Opening)
+        → Leads (headed next) lines.old.held (place_at lines.old) (S.left input.old) (λ r. r)
         (next edition) lines.new.held (place_at lines.new) (S.left input.new)) }
-    ensures refused { IfErr result (λ e. IsStated e → (next : Edition → List (List ℕ) → Place → Opening) → IfSome (at (headed next) lines.old (S.left input.old)) (λ r. r ≡ Err e)) }
-    ensures fault { IfErr result (λ e. e ≡ RecordError.ReadFault → Rose (S.faults input.old) (S.faults input.new)) }
-    ensures stops { IfErr result (λ e. e ≡ RecordError.ReadFault → (next : Edition → List (List ℕ) → Place → Opening)
-        → StopsOpening (headed next) lines.old.held (place_at lines.old) (S.left input.old) (S.left input.new)) }
+    ensures refused { IfErr result (λ e. IsStated e →
+        (next : Edition → List (List ℕ) → Place → Opening) → IfSome
+        (at (headed next) lines.old (S.left input.old)) (λ r. r ≡ Err e)) }
+    ensures fault { IfErr result (λ e. e ≡ RecordError.ReadFault → Rose (S.faults input.old)
+        (S.faults input.new)) }
+    ensures stops { IfErr result (λ e. e ≡ RecordError.ReadFault →
+        (next : Edition → List (List ℕ) → Place → Opening)
+        → StopsOpening (headed next) lines.old.held (place_at lines.old) (S.left input.old)
+        (S.left input.new)) }
     ensures grows { OnOk result (lines.old.held.given < lines.new.held.given) }
-    ensures seen { IsEndSeen lines.old.held (S.left input.old) → IsEndSeen lines.new.held (S.left input.new) }
+    ensures seen { IsEndSeen lines.old.held (S.left input.old) → IsEndSeen lines.new.held
+        (S.left input.new) }
     ensures left { IsPart (S.left input.old) (S.left input.new) }
     ensures later { S.faults input.old ≤ S.faults input.new }
 {
@@ -69,16 +77,24 @@ fn expect<S: Source>(
     word: BadWord,
 ) -> Result<(), RecordError>
     requires short { length want.now < 196608 }
-    ensures there { OnOk result ((next : List (List ℕ) → Place → Opening) → Becomes (at (expected want.now word next) lines.old (S.left input.old)) (λ r. r)
+    ensures there { OnOk result ((next : List (List ℕ) → Place → Opening) → Becomes
+        (at (expected want.now word next) lines.old (S.left input.old)) (λ r. r)
         (at next lines.new (S.left input.new))) }
-    ensures leads { OnOk result ((next : List (List ℕ) → Place → Opening) → Leads (expected want.now word next) lines.old.held (place_at lines.old) (S.left input.old) (λ r. r)
+    ensures leads { OnOk result ((next : List (List ℕ) → Place → Opening) → Leads
+        (expected want.now word next) lines.old.held (place_at lines.old) (S.left input.old)
+        (λ r. r)
         next lines.new.held (place_at lines.new) (S.left input.new)) }
-    ensures refused { IfErr result (λ e. IsStated e → (next : List (List ℕ) → Place → Opening) → IfSome (at (expected want.now word next) lines.old (S.left input.old)) (λ r. r ≡ Err e)) }
-    ensures fault { IfErr result (λ e. e ≡ RecordError.ReadFault → Rose (S.faults input.old) (S.faults input.new)) }
-    ensures stops { IfErr result (λ e. e ≡ RecordError.ReadFault → (next : List (List ℕ) → Place → Opening)
-        → StopsOpening (expected want.now word next) lines.old.held (place_at lines.old) (S.left input.old) (S.left input.new)) }
+    ensures refused { IfErr result (λ e. IsStated e → (next : List (List ℕ) → Place → Opening)
+        → IfSome (at (expected want.now word next) lines.old (S.left input.old)) (λ r. r ≡ Err e)) }
+    ensures fault { IfErr result (λ e. e ≡ RecordError.ReadFault → Rose (S.faults input.old)
+        (S.faults input.new)) }
+    ensures stops { IfErr result (λ e. e ≡ RecordError.ReadFault →
+        (next : List (List ℕ) → Place → Opening)
+        → StopsOpening (expected want.now word next) lines.old.held (place_at lines.old)
+        (S.left input.old) (S.left input.new)) }
     ensures grows { OnOk result (lines.old.held.given < lines.new.held.given) }
-    ensures seen { IsEndSeen lines.old.held (S.left input.old) → IsEndSeen lines.new.held (S.left input.new) }
+    ensures seen { IsEndSeen lines.old.held (S.left input.old) → IsEndSeen lines.new.held
+        (S.left input.new) }
     ensures left { IsPart (S.left input.old) (S.left input.new) }
     ensures later { S.faults input.old ≤ S.faults input.new }
 {
@@ -140,20 +156,31 @@ fn read_setup_line<S: Source>(
     text: &mut Vec<u8>,
 ) -> Result<bool, RecordError>
     requires { length text.old.items ≤ 1048576 }
-    ensures more { IfOk result (λ end. end ≡ false → (edition : Edition) → Becomes (at (setup edition text.old.items) lines.old (S.left input.old)) (λ r. r)
+    ensures more { IfOk result (λ end. end ≡ false → (edition : Edition) → Becomes
+        (at (setup edition text.old.items) lines.old (S.left input.old)) (λ r. r)
         (at (setup edition text.new.items) lines.new (S.left input.new))) }
-    ensures end { IfOk result (λ end. end ≡ true → (edition : Edition) → Becomes (at (setup edition text.old.items) lines.old (S.left input.old)) (λ r. r)
+    ensures end { IfOk result (λ end. end ≡ true → (edition : Edition) → Becomes
+        (at (setup edition text.old.items) lines.old (S.left input.old)) (λ r. r)
         (at (configured edition text.new.items) lines.new (S.left input.new))) }
-    ensures leads { IfOk result (λ end. end ≡ false → (edition : Edition) → Leads (setup edition text.old.items) lines.old.held (place_at lines.old) (S.left input.old) (λ r. r)
+    ensures leads { IfOk result (λ end. end ≡ false → (edition : Edition) → Leads
+        (setup edition text.old.items) lines.old.held (place_at lines.old) (S.left input.old)
+        (λ r. r)
         (setup edition text.new.items) lines.new.held (place_at lines.new) (S.left input.new)) }
-    ensures last { IfOk result (λ end. end ≡ true → (edition : Edition) → Leads (setup edition text.old.items) lines.old.held (place_at lines.old) (S.left input.old) (λ r. r)
+    ensures last { IfOk result (λ end. end ≡ true → (edition : Edition) → Leads
+        (setup edition text.old.items) lines.old.held (place_at lines.old) (S.left input.old)
+        (λ r. r)
         (configured edition text.new.items) lines.new.held (place_at lines.new) (S.left input.new)) }
     ensures size { OnOk result (length text.new.items ≤ 1048576) }
-    ensures refused { IfErr result (λ e. IsStated e → (edition : Edition) → IfSome (at (setup edition text.old.items) lines.old (S.left input.old)) (λ r. r ≡ Err e)) }
-    ensures fault { IfErr result (λ e. e ≡ RecordError.ReadFault → Rose (S.faults input.old) (S.faults input.new)) }
-    ensures stops { IfErr result (λ e. e ≡ RecordError.ReadFault → (edition : Edition) → StopsOpening (setup edition text.old.items) lines.old.held (place_at lines.old) (S.left input.old) (S.left input.new)) }
+    ensures refused { IfErr result (λ e. IsStated e → (edition : Edition) → IfSome
+        (at (setup edition text.old.items) lines.old (S.left input.old)) (λ r. r ≡ Err e)) }
+    ensures fault { IfErr result (λ e. e ≡ RecordError.ReadFault → Rose (S.faults input.old)
+        (S.faults input.new)) }
+    ensures stops { IfErr result (λ e. e ≡ RecordError.ReadFault → (edition : Edition)
+        → StopsOpening (setup edition text.old.items) lines.old.held (place_at lines.old)
+        (S.left input.old) (S.left input.new)) }
     ensures grows { OnOk result (lines.old.held.given < lines.new.held.given) }
-    ensures seen { IsEndSeen lines.old.held (S.left input.old) → IsEndSeen lines.new.held (S.left input.new) }
+    ensures seen { IsEndSeen lines.old.held (S.left input.old) → IsEndSeen lines.new.held
+        (S.left input.new) }
     ensures most { lines.new.held.given ≤ 4294967296 }
     ensures left { IsPart (S.left input.old) (S.left input.new) }
     ensures later { S.faults input.old ≤ S.faults input.new }
@@ -185,13 +212,22 @@ fn read_setup<S: Source>(
     lines: &mut NumberedLines,
     input: &mut S,
 ) -> Result<Vec<u8>, RecordError>
-    ensures text { IfOk result (λ text. (edition : Edition) → Becomes (at (setup edition []) lines.old (S.left input.old)) (λ r. r) (at (configured edition text.items) lines.new (S.left input.new))) }
-    ensures leads { IfOk result (λ text. (edition : Edition) → Leads (setup edition []) lines.old.held (place_at lines.old) (S.left input.old) (λ r. r) (configured edition text.items) lines.new.held (place_at lines.new) (S.left input.new)) }
-    ensures refused { IfErr result (λ e. IsStated e → (edition : Edition) → IfSome (at (setup edition []) lines.old (S.left input.old)) (λ r. r ≡ Err e)) }
-    ensures fault { IfErr result (λ e. e ≡ RecordError.ReadFault → Rose (S.faults input.old) (S.faults input.new)) }
-    ensures stops { IfErr result (λ e. e ≡ RecordError.ReadFault → (edition : Edition) → StopsOpening (setup edition []) lines.old.held (place_at lines.old) (S.left input.old) (S.left input.new)) }
+    ensures text { IfOk result (λ text. (edition : Edition) → Becomes
+        (at (setup edition []) lines.old (S.left input.old)) (λ r. r)
+        (at (configured edition text.items) lines.new (S.left input.new))) }
+    ensures leads { IfOk result (λ text. (edition : Edition) → Leads
+        (setup edition []) lines.old.held (place_at lines.old) (S.left input.old) (λ r. r)
+        (configured edition text.items) lines.new.held (place_at lines.new) (S.left input.new)) }
+    ensures refused { IfErr result (λ e. IsStated e → (edition : Edition) → IfSome
+        (at (setup edition []) lines.old (S.left input.old)) (λ r. r ≡ Err e)) }
+    ensures fault { IfErr result (λ e. e ≡ RecordError.ReadFault → Rose (S.faults input.old)
+        (S.faults input.new)) }
+    ensures stops { IfErr result (λ e. e ≡ RecordError.ReadFault → (edition : Edition)
+        → StopsOpening (setup edition []) lines.old.held (place_at lines.old) (S.left input.old)
+        (S.left input.new)) }
     ensures grows { OnOk result (lines.old.held.given < lines.new.held.given) }
-    ensures seen { IsEndSeen lines.old.held (S.left input.old) → IsEndSeen lines.new.held (S.left input.new) }
+    ensures seen { IsEndSeen lines.old.held (S.left input.old) → IsEndSeen lines.new.held
+        (S.left input.new) }
     ensures left { IsPart (S.left input.old) (S.left input.new) }
     ensures later { S.faults input.old ≤ S.faults input.new }
 {
@@ -207,9 +243,11 @@ fn read_setup<S: Source>(
 
 /// The configuration that the text of its lines tells in an edition.
 fn read_text(alloc: Global, text: &[u8], edition: Edition) -> Result<Config, RecordError>
-    ensures config { IfOk result (λ config. (lines : List (List ℕ)) (p : Place) → configured edition text.now lines p ≡ opened config lines p) }
+    ensures config { IfOk result (λ config. (lines : List (List ℕ)) (p : Place)
+        → configured edition text.now lines p ≡ opened config lines p) }
     ensures valid { IfOk result IsConfig }
-    ensures rule { IfErr result (λ e. IsStated e → (lines : List (List ℕ)) (p : Place) → configured edition text.now lines p ≡ Err e) }
+    ensures rule { IfErr result (λ e. IsStated e → (lines : List (List ℕ)) (p : Place)
+        → configured edition text.now lines p ≡ Err e) }
     ensures known { IfErr result (λ e. e ≡ RecordError.ReadFault → ⊥) }
 {
     match read_config(alloc, text, edition) {
@@ -225,13 +263,21 @@ pub fn read_opening<S: Source>(
     lines: &mut NumberedLines,
     input: &mut S,
 ) -> Result<Config, RecordError>
-    ensures opens { IfOk result (λ config. Becomes (at opening_of lines.old (S.left input.old)) (λ r. r) (at (opened config) lines.new (S.left input.new))) }
-    ensures leads { IfOk result (λ config. Leads opening_of lines.old.held (place_at lines.old) (S.left input.old) (λ r. r) (opened config) lines.new.held (place_at lines.new) (S.left input.new)) }
+    ensures opens { IfOk result (λ config. Becomes (at opening_of lines.old (S.left input.old))
+        (λ r. r) (at (opened config) lines.new (S.left input.new))) }
+    ensures leads { IfOk result (λ config. Leads opening_of lines.old.held (place_at lines.old)
+        (S.left input.old) (λ r. r) (opened config) lines.new.held (place_at lines.new)
+        (S.left input.new)) }
     ensures valid { IfOk result IsConfig }
-    ensures refused { IfErr result (λ e. IsStated e → IfSome (at opening_of lines.old (S.left input.old)) (λ r. r ≡ Err e)) }
-    ensures fault { IfErr result (λ e. e ≡ RecordError.ReadFault → Rose (S.faults input.old) (S.faults input.new)) }
-    ensures stops { IfErr result (λ e. e ≡ RecordError.ReadFault → StopsOpening opening_of lines.old.held (place_at lines.old) (S.left input.old) (S.left input.new)) }
-    ensures seen { IsEndSeen lines.old.held (S.left input.old) → IsEndSeen lines.new.held (S.left input.new) }
+    ensures refused { IfErr result (λ e. IsStated e → IfSome
+        (at opening_of lines.old (S.left input.old)) (λ r. r ≡ Err e)) }
+    ensures fault { IfErr result (λ e. e ≡ RecordError.ReadFault → Rose (S.faults input.old)
+        (S.faults input.new)) }
+    ensures stops { IfErr result (λ e. e ≡ RecordError.ReadFault
+        → StopsOpening opening_of lines.old.held (place_at lines.old) (S.left input.old)
+        (S.left input.new)) }
+    ensures seen { IsEndSeen lines.old.held (S.left input.old) → IsEndSeen lines.new.held
+        (S.left input.new) }
     ensures grows { OnOk result (lines.old.held.given + 3 ≤ lines.new.held.given) }
     ensures left { IsPart (S.left input.old) (S.left input.new) }
     ensures later { S.faults input.old ≤ S.faults input.new }
