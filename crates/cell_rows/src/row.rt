@@ -5,7 +5,7 @@ use std::alloc::Global;
 
 /// A run of the command, and the status and the report that it must have.
 #[derive(Drop)]
-pub struct Row {
+pub(crate) struct Row {
     /// The file that it stands in, and the line on which it begins, from 1.
     pub file: String,
     pub line: usize,
@@ -43,7 +43,7 @@ impl Row {
     }
 
     /// A recording that is replayed to its end, and its report.
-    pub fn example(
+    pub(crate) fn example(
         alloc: Global,
         file: String,
         recording: Vec<u8>,
@@ -57,7 +57,7 @@ impl Row {
     }
 
     /// A row of a line `= <words> | read <k> fails | write <k> fails | room <n>`, given without its `= `.
-    pub fn headed(alloc: Global, file: &str, line: usize, head: &str) -> Result<Row> {
+    pub(crate) fn headed(alloc: Global, file: &str, line: usize, head: &str) -> Result<Row> {
         let mut row = Row::new(alloc, String::from_str(alloc, file)?, line);
         let mut parts = head.split('|');
         for word in parts.next().unwrap_or("").split_whitespace() {

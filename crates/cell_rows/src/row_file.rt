@@ -7,7 +7,7 @@ use anyhow::{Context, Result, bail};
 use std::alloc::Global;
 
 /// The part of a file that its lines are of.
-#[derive(Clone, Copy, PartialEq, Eq)]
+#[derive(Clone, Copy)]
 enum Place {
     /// Before a row: what it shows, in plain words.
     Title,
@@ -26,7 +26,7 @@ struct Reading<'a> {
 }
 
 /// Puts the rows of a file's text behind `rows`.
-pub fn rows_of(
+pub(crate) fn rows_of(
     alloc: Global,
     file: &str,
     content: &str,
@@ -88,7 +88,7 @@ impl Reading<'_> {
             row.status = status.parse::<u8>()?;
             return Ok(Place::Report);
         }
-        if line.starts_with("=#") || (self.place == Place::Steps && line.is_empty()) {
+        if line.starts_with("=#") || (matches!(self.place, Place::Steps) && line.is_empty()) {
             end_row(alloc, rows, self.place)?;
             return Ok(Place::Title);
         }

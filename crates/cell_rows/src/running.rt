@@ -11,7 +11,7 @@ use std::thread::Threads;
 
 /// Where a run differs from its row.
 #[derive(Drop)]
-pub enum Difference {
+pub(crate) enum Difference {
     /// Another status.
     Status {
         wanted: u8,
@@ -44,7 +44,7 @@ impl fmt::Display for Difference {
 }
 
 /// Runs a row, and answers where what comes of it first differs, if it does.
-pub fn first_difference<R: Threads + Wait + Sync>(
+pub(crate) fn first_difference<R: Threads + Wait + Sync>(
     rt: &R,
     alloc: Global,
     row: &Row,
@@ -73,27 +73,25 @@ pub fn first_difference<R: Threads + Wait + Sync>(
 
 /// The first line in which two reports differ.
 fn first_line_apart(alloc: Global, wanted: &[u8], given: &[u8]) -> Result<Difference> {
-    let mut wanted_lines = wanted.split(|octet| *octet == b'\n');
+    let wanted = String::from_utf8_lossy(alloc, wanted)?;
+    let given = String::from_utf8_lossy(alloc, given)?;
+    let mut wanted_lines = wanted.split('\n');
     let mut line = 0usize;
-    for given_line in given.split(|octet| *octet == b'\n') {
+    for given_line in given.split('\n') {
         line = line.saturating_add(1);
         match wanted_lines.next() {
             Some(wanted_line) if wanted_line == given_line => {}
-            wanted_line => return apart(alloc, line, wanted_line.unwrap_or(b""), given_line),
+            wanted_line => return apart(alloc, line, wanted_line.unwrap_or(""), given_line),
         }
     }
-    apart(
-        alloc,
-        line.saturating_add(1),
-        wanted_lines.next().unwrap_or(b""),
-        b"",
-    )
+    line = line.saturating_add(1);
+    apart(alloc, line, wanted_lines.next().unwrap_or(""), "")
 }
 
-fn apart(alloc: Global, line: usize, wanted: &[u8], given: &[u8]) -> Result<Difference> {
+fn apart(alloc: Global, line: usize, wanted: &str, given: &str) -> Result<Difference> {
     Ok(Difference::Report {
         line,
-        wanted: String::from_utf8_lossy(alloc, wanted)?,
-        given: String::from_utf8_lossy(alloc, given)?,
+        wanted: String::from_str(alloc, wanted)?,
+        given: String::from_str(alloc, given)?,
     })
 }

@@ -12,7 +12,7 @@ struct Shorthand {
 
 /// Texts under names, which rows cite as `<NAME>`.
 #[derive(Drop)]
-pub struct Shorthands {
+pub(crate) struct Shorthands {
     list: Vec<Shorthand>,
 }
 
@@ -34,24 +34,24 @@ impl<'a> Frame<'a> {
             Some(text) => (text, false),
             None => (line, true),
         };
-        let (times, text) = match text
-            .strip_prefix("<*")
-            .and_then(|rest| rest.split_once('>'))
-        {
-            Some((times, text)) => (times.parse::<u32>()?, text),
-            None => (1, text),
-        };
-        Ok(Frame {
-            times,
+        let mut frame = Frame {
+            times: 1,
             text,
             is_ended,
-        })
+        };
+        if let Some(rest) = text.strip_prefix("<*") {
+            if let Some((times, text)) = rest.split_once('>') {
+                frame.times = times.parse::<u32>()?;
+                frame.text = text;
+            }
+        }
+        Ok(frame)
     }
 }
 
 impl Shorthands {
     /// The texts of a file: each is what stands between its line `= NAME` and the next such line.
-    pub fn read(alloc: Global, content: &str) -> Result<Shorthands> {
+    pub(crate) fn read(alloc: Global, content: &str) -> Result<Shorthands> {
         let mut list: Vec<Shorthand> = Vec::new(alloc);
         for line in content.lines() {
             if let Some(name) = line.strip_prefix("= ") {
@@ -71,14 +71,16 @@ impl Shorthands {
 
     /// The text under a name.
     fn get(&self, name: &str) -> Option<&str> {
-        self.list
-            .iter()
-            .find(|it| it.name.as_str() == name)
-            .map(|it| it.text.as_str())
+        for shorthand in &self.list {
+            if shorthand.name.as_str() == name {
+                return Some(shorthand.text.as_str());
+            }
+        }
+        None
     }
 
     /// Puts a line behind `out`, as often as it stands, with what its marks stand for.
-    pub fn put_line(&self, alloc: Global, line: &str, out: &mut Vec<u8>) -> Result<()> {
+    pub(crate) fn put_line(&self, alloc: Global, line: &str, out: &mut Vec<u8>) -> Result<()> {
         let frame = Frame::of(line)?;
         for turn in 0..frame.times {
             self.put_text(alloc, frame.text, turn.saturating_add(1), out)?;

@@ -20,7 +20,7 @@ struct Step {
 
 /// The steps of a row.
 #[derive(Drop)]
-pub struct Steps {
+pub(crate) struct Steps {
     /// The lines of the configuration, each with its line feed.
     config: String,
     /// How many clients it has.
@@ -29,8 +29,8 @@ pub struct Steps {
 }
 
 /// Which steps share a phase.
-#[derive(Clone, Copy, PartialEq, Eq)]
-pub enum Phases {
+#[derive(Clone, Copy)]
+pub(crate) enum Phases {
     /// All of them.
     One,
     /// None.
@@ -39,7 +39,7 @@ pub enum Phases {
 
 impl Steps {
     /// The steps of these lines: those of the configuration, a line `end`, and then the steps.
-    pub fn read(alloc: Global, text: &str) -> Result<Steps> {
+    pub(crate) fn read(alloc: Global, text: &str) -> Result<Steps> {
         let mut steps = Steps {
             config: String::new(alloc),
             clients: 4,
@@ -70,12 +70,12 @@ impl Steps {
     }
 
     /// The recording of the steps.
-    pub fn recording(&self, alloc: Global, phases: Phases) -> Result<Vec<u8>, AllocError> {
+    pub(crate) fn recording(&self, alloc: Global, phases: Phases) -> Result<Vec<u8>, AllocError> {
         let mut text = Vec::from_slice(alloc, b"mms-recording 1\nconfig\n")?;
         text.extend_from_slice(self.config.as_bytes())?;
         text.extend_from_slice(b"end\n")?;
         for (index, step) in self.steps.iter().enumerate() {
-            if index > 0 && phases == Phases::OneAStep {
+            if index > 0 && matches!(phases, Phases::OneAStep) {
                 text.extend_from_slice(b"phase\n")?;
             }
             text.extend_from_slice(step.event.as_bytes())?;
@@ -85,7 +85,7 @@ impl Steps {
     }
 
     /// The report of the steps.
-    pub fn report(&self, alloc: Global, phases: Phases) -> Result<Vec<u8>> {
+    pub(crate) fn report(&self, alloc: Global, phases: Phases) -> Result<Vec<u8>> {
         let mut text = String::new(alloc);
         let size = match phases {
             Phases::One => self.steps.len().max(1),
@@ -111,7 +111,10 @@ impl Steps {
 fn put_section(text: &mut String, phase: &[Step], client: u32) -> Result<(), AllocError> {
     let mut is_headed = false;
     for step in phase {
-        for output in step.outputs.iter().filter(|it| it.client == client) {
+        for output in &step.outputs {
+            if output.client != client {
+                continue;
+            }
             if !is_headed {
                 writeln!(text, "client {client}")?;
                 is_headed = true;
@@ -128,7 +131,10 @@ impl Step {
     fn read(alloc: Global, line: &str) -> Result<Step> {
         let (event, sent) = line.split_once(" -> ").unwrap_or((line, ""));
         let mut outputs = Vec::new(alloc);
-        for output in sent.split(", ").filter(|it| !it.is_empty()) {
+        for output in sent.split(", ") {
+            if output.is_empty() {
+                continue;
+            }
             let (client, text) = match output.split_once(": ") {
                 Some((client, text)) => (client, text),
                 None => (event.split(' ').next().unwrap_or(""), output),
