@@ -1,4 +1,4 @@
-ghost use Rattle.std.specs.Prelude.{◌≡◌, ◌+◌, [], ◌++◌, ◌≤◌, decimal, take, vec_len, IfOk, OnOk, OnErr};
+ghost use Rattle.std.specs.Prelude.{◌≡◌, ◌+◌, [], ◌++◌, ◌≤◌, ◌<◌, length, decimal, take, vec_len, IfOk, OnOk, OnErr};
 ghost use Rattle.std.specs.Io.KnownBytes.{Appends};
 ghost use Rattle.cell_io.specs.Faults.{HasCause};
 ghost use Rattle.cell_io.specs.Hex.{upper};
@@ -112,9 +112,11 @@ impl Text {
         Ok(())
     }
 
-    /// Writes what waits, where it is a piece or more. After `Failed` a prefix of it may have been written.
+    /// Writes what waits, where it is a piece or more, so that less than a piece waits afterwards. After `Failed` a prefix
+    /// of it may have been written.
     pub fn pass<K: Sink>(&mut self, out: &mut K) -> Result<(), Failed>
         ensures whole { OnOk result (AppendsBefore (K.held out.old) (K.held out.new) self.new self.old) }
+        ensures few { OnOk result (length self.new < 16384) }
         ensures part { OnErr result (AppendsPrefix (K.held out.old) (K.held out.new) self.old) }
         ensures cause { HasCause (K.faults out.old) (K.faults out.new) result }
     {

@@ -54,7 +54,8 @@ fn nibble(octet: u8) -> u8
 }
 
 /// Decodes so many pairs of digits without spaces: false where an octet is no digit, and then what
-/// `to` has is of no account.
+/// `to` has is of no account. It is a function of its own in the program too, so that its loop has the registers for itself.
+#[inline(never)]
 fn decode(text: &[u8], count: usize, to: &mut [u8]) -> bool
     requires pairs { length text.now ≡ 2 * count }
     requires room { count ≤ length to.old }
