@@ -2,6 +2,7 @@
 //! and takes no proof; docs/ROWS.md says how they are written.
 #![tactic(auto)]
 
+mod number;
 mod row;
 mod row_file;
 mod running;
@@ -30,7 +31,12 @@ fn files_of(rt: &HostRuntime, folder: &str, ending: &str) -> Result<Vec<String>>
 }
 
 /// Puts the rows of a file behind `rows`.
-fn put_rows(rt: &HostRuntime, file: &str, texts: &Shorthands, rows: &mut Vec<Row>) -> Result<()> {
+fn put_rows(
+    rt: &HostRuntime,
+    file: &str,
+    texts: Shorthands<'_>,
+    rows: &mut Vec<Row>,
+) -> Result<()> {
     let content = fs::read_to_string(rt, file).context(format_args!("reading {file}"))?;
     rows_of(rt.alloc(), file, &content, texts, rows).context(format_args!("in {file}"))
 }
@@ -47,10 +53,10 @@ fn example(rt: &HostRuntime, name: &str) -> Result<Row> {
 /// All rows: those of the files `*.rows`, and the examples.
 fn all_rows(rt: &HostRuntime) -> Result<Vec<Row>> {
     let content = fs::read_to_string(rt, "shorthands").context("reading shorthands")?;
-    let texts = Shorthands::read(rt.alloc(), &content)?;
+    let texts = Shorthands::of(&content);
     let mut rows = Vec::new(rt.alloc());
     for file in files_of(rt, ".", ".rows")? {
-        put_rows(rt, &file, &texts, &mut rows)?;
+        put_rows(rt, &file, texts, &mut rows)?;
     }
     for name in files_of(rt, "examples", ".mms")? {
         rows.push(example(rt, &name)?)?;

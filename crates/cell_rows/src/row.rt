@@ -1,7 +1,18 @@
 //! One row: what is run, and what must come of it.
 
+use crate::number::number as number_of;
 use anyhow::{Result, bail};
 use std::alloc::Global;
+
+/// What the source and the sink refuse.
+#[derive(Drop)]
+pub(crate) struct Limits {
+    /// The reads and the writes that fail, by their numbers from 1.
+    pub failing_reads: Vec<u64>,
+    pub failing_writes: Vec<u64>,
+    /// How many octets the sink has room for.
+    pub room: usize,
+}
 
 /// A run of the command, and the status and the report that it must have.
 #[derive(Drop)]
@@ -11,15 +22,12 @@ pub(crate) struct Row {
     pub line: usize,
     /// The words of the command.
     pub words: Vec<String>,
-    /// The reads and the writes that fail, by their numbers from 1.
-    pub failing_reads: Vec<u64>,
-    pub failing_writes: Vec<u64>,
-    /// How many octets the sink has room for.
-    pub room: usize,
+    /// Which calls fail, and the room.
+    pub limits: Limits,
     /// What the source gives.
     pub recording: Vec<u8>,
     /// The status that is wanted, and what must be written.
-    pub status: u8,
+    pub status: u32,
     pub report: Vec<u8>,
 }
 
@@ -33,9 +41,11 @@ impl Row {
             file,
             line,
             words: Vec::new(alloc),
-            failing_reads: Vec::new(alloc),
-            failing_writes: Vec::new(alloc),
-            room: ROOM,
+            limits: Limits {
+                failing_reads: Vec::new(alloc),
+                failing_writes: Vec::new(alloc),
+                room: ROOM,
+            },
             recording: Vec::new(alloc),
             status: 0,
             report: Vec::new(alloc),
@@ -58,24 +68,32 @@ impl Row {
 
     /// A row of a line `= <words> | read <k> fails | write <k> fails | room <n>`, given without its `= `.
     pub(crate) fn headed(alloc: Global, file: &str, line: usize, head: &str) -> Result<Row> {
-        let mut row = Row::new(alloc, String::from_str(alloc, file)?, line);
+        let mut words = Vec::new(alloc);
+        let mut limits = Limits {
+            failing_reads: Vec::new(alloc),
+            failing_writes: Vec::new(alloc),
+            room: ROOM,
+        };
         let mut parts = head.split('|');
         for word in parts.next().unwrap_or("").split_whitespace() {
-            row.words.push(String::from_str(alloc, word)?)?;
+            words.push(String::from_str(alloc, word)?)?;
         }
         for part in parts {
-            row.limit(part.trim())?;
+            limits.take(part.trim())?;
         }
+        let mut row = Row::new(alloc, String::from_str(alloc, file)?, line);
+        row.words = words;
+        row.limits = limits;
         Ok(row)
     }
+}
 
+impl Limits {
     /// Takes in which call fails, or the room.
-    fn limit(&mut self, part: &str) -> Result<()> {
-        let Some((kind, number)) = part.strip_suffix(" fails").unwrap_or(part).split_once(' ')
-        else {
-            bail!("no limit is {part:?}");
-        };
-        let number = number.parse::<u32>()?;
+    fn take(&mut self, part: &str) -> Result<()> {
+        let call = part.strip_suffix(" fails").unwrap_or(part);
+        let (kind, number) = call.split_once(' ').unwrap_or((call, ""));
+        let number = number_of(number)?;
         match kind {
             "read" => self.failing_reads.push(u64::from(number))?,
             "write" => self.failing_writes.push(u64::from(number))?,

@@ -1,5 +1,6 @@
 //! A file of rows.
 
+use crate::number::number;
 use crate::row::Row;
 use crate::shorthand::Shorthands;
 use crate::steps::{Phases, Steps};
@@ -21,7 +22,7 @@ enum Place {
 #[derive(Clone, Copy)]
 struct Reading<'a> {
     file: &'a str,
-    texts: &'a Shorthands,
+    texts: Shorthands<'a>,
     place: Place,
 }
 
@@ -30,7 +31,7 @@ pub(crate) fn rows_of(
     alloc: Global,
     file: &str,
     content: &str,
-    texts: &Shorthands,
+    texts: Shorthands<'_>,
     rows: &mut Vec<Row>,
 ) -> Result<()> {
     let mut reading = Reading {
@@ -62,7 +63,7 @@ fn end_row(alloc: Global, rows: &mut Vec<Row>, place: Place) -> Result<()> {
 /// Puts the two recordings of a row by steps behind `rows`.
 fn put_both(alloc: Global, rows: &mut Vec<Row>, row: &Row) -> Result<()> {
     let text = String::from_utf8_lossy(alloc, &row.recording)?;
-    let steps = Steps::read(alloc, &text)?;
+    let steps = Steps::of(&text)?;
     for phases in [Phases::One, Phases::OneAStep] {
         let mut both = Row::headed(alloc, &row.file, row.line, "replay")?;
         both.recording = steps.recording(alloc, phases)?;
@@ -78,14 +79,14 @@ impl Reading<'_> {
         &self,
         alloc: Global,
         rows: &mut Vec<Row>,
-        number: usize,
+        at: usize,
         line: &str,
     ) -> Result<Place> {
         if let Some(status) = line.strip_prefix("= status ") {
             let (Place::Recording, Some(row)) = (self.place, rows.last_mut()) else {
                 bail!("a status stands behind no recording");
             };
-            row.status = status.parse::<u8>()?;
+            row.status = number(status)?;
             return Ok(Place::Report);
         }
         if line.starts_with("=#") || (matches!(self.place, Place::Steps) && line.is_empty()) {
@@ -94,7 +95,7 @@ impl Reading<'_> {
         }
         if let Some(head) = line.strip_prefix("=") {
             end_row(alloc, rows, self.place)?;
-            rows.push(Row::headed(alloc, self.file, number, head)?)?;
+            rows.push(Row::headed(alloc, self.file, at, head)?)?;
             return Ok(if head == " steps" {
                 Place::Steps
             } else {

@@ -14,8 +14,8 @@ use std::thread::Threads;
 pub(crate) enum Difference {
     /// Another status.
     Status {
-        wanted: u8,
-        given: u8,
+        wanted: u32,
+        given: u32,
     },
     /// A line of the report, from 1: what was wanted, and what was written.
     Report {
@@ -51,14 +51,14 @@ pub(crate) fn first_difference<R: Threads + Wait + Sync>(
 ) -> Result<Option<Difference>> {
     let mut source = MemorySource::new(
         Vec::from_slice(alloc, &row.recording)?,
-        Vec::from_slice(alloc, &row.failing_reads)?,
+        Vec::from_slice(alloc, &row.limits.failing_reads)?,
     );
     let mut sink = MemorySink::new(
         alloc,
-        row.room,
-        Vec::from_slice(alloc, &row.failing_writes)?,
+        row.limits.room,
+        Vec::from_slice(alloc, &row.limits.failing_writes)?,
     )?;
-    let given = run_cell(rt, alloc, &row.words, &mut source, &mut sink, &Open);
+    let given = u32::from(run_cell(rt, alloc, &row.words, &mut source, &mut sink, &Open));
     if sink.holds() != row.report.as_slice() {
         return Ok(Some(first_line_apart(alloc, &row.report, sink.holds())?));
     }

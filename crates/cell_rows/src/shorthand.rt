@@ -1,19 +1,13 @@
 //! Marks in the lines of rows: texts under names, octets, and repetitions.
 
+use crate::number::{number, octet};
 use anyhow::{Context, Result, bail};
 use std::alloc::{AllocError, Global};
 
-/// A text under a name.
-#[derive(Drop)]
-struct Shorthand {
-    name: String,
-    text: String,
-}
-
-/// Texts under names, which rows cite as `<NAME>`.
-#[derive(Drop)]
-pub(crate) struct Shorthands {
-    list: Vec<Shorthand>,
+/// Texts under names, which rows cite as `<NAME>`: each is what stands between its line `= NAME` and the next such line.
+#[derive(Clone, Copy)]
+pub(crate) struct Shorthands<'a> {
+    content: &'a str,
 }
 
 /// How a line begins and ends.
@@ -41,7 +35,7 @@ impl<'a> Frame<'a> {
         };
         if let Some(rest) = text.strip_prefix("<*") {
             if let Some((times, text)) = rest.split_once('>') {
-                frame.times = times.parse::<u32>()?;
+                frame.times = number(times)?;
                 frame.text = text;
             }
         }
@@ -49,31 +43,18 @@ impl<'a> Frame<'a> {
     }
 }
 
-impl Shorthands {
-    /// The texts of a file: each is what stands between its line `= NAME` and the next such line.
-    pub(crate) fn read(alloc: Global, content: &str) -> Result<Shorthands> {
-        let mut list: Vec<Shorthand> = Vec::new(alloc);
-        for line in content.lines() {
-            if let Some(name) = line.strip_prefix("= ") {
-                list.push(Shorthand {
-                    name: String::from_str(alloc, name)?,
-                    text: String::new(alloc),
-                })?;
-            } else if let Some(last) = list.last_mut() {
-                if !last.text.is_empty() {
-                    last.text.push('\n')?;
-                }
-                last.text.push_str(line)?;
-            }
-        }
-        Ok(Shorthands { list })
+impl<'a> Shorthands<'a> {
+    /// The texts of a file.
+    pub(crate) fn of(content: &'a str) -> Shorthands<'a> {
+        Shorthands { content }
     }
 
     /// The text under a name.
-    fn get(&self, name: &str) -> Option<&str> {
-        for shorthand in &self.list {
-            if shorthand.name.as_str() == name {
-                return Some(shorthand.text.as_str());
+    fn get(&self, name: &str) -> Option<&'a str> {
+        for piece in self.content.split("\n= ") {
+            let (head, text) = piece.split_once('\n').unwrap_or((piece, ""));
+            if head == name {
+                return Some(text.strip_suffix('\n').unwrap_or(text));
             }
         }
         None
@@ -113,10 +94,13 @@ impl Shorthands {
 /// Puts the octet that two digits, or two digits, `*` and a number of times, stand for.
 fn put_octets(mark: &str, out: &mut Vec<u8>) -> Result<()> {
     let (digits, times) = match mark.split_once('*') {
-        Some((digits, times)) => (digits, times.parse::<u32>()?),
+        Some((digits, times)) => (digits, number(times)?),
         None => (mark, 1),
     };
-    put_many(u8::from_str_radix(digits, 16)?, times as usize, out)?;
+    let Some(octet) = octet(digits) else {
+        bail!("no octet is {digits:?}");
+    };
+    put_many(octet, times as usize, out)?;
     Ok(())
 }
 

@@ -1,31 +1,19 @@
 //! Rows by steps: event lines with what each makes the device send. Each such row is run twice, with all steps in one
 //! phase and with each step in a phase of its own.
 
+use crate::number::{number, put_line, put_number};
 use anyhow::{Result, bail};
 use std::alloc::{AllocError, Global};
 
-/// An output that a step causes, as the report has it.
-#[derive(Drop)]
-struct Output {
-    client: u32,
-    text: String,
-}
-
-/// An event line, and what it makes the device send, in order.
-#[derive(Drop)]
-struct Step {
-    event: String,
-    outputs: Vec<Output>,
-}
-
-/// The steps of a row.
-#[derive(Drop)]
-pub(crate) struct Steps {
-    /// The lines of the configuration, each with its line feed.
-    config: String,
+/// The lines of a row by steps.
+#[derive(Clone, Copy)]
+pub(crate) struct Steps<'a> {
+    /// The lines of the configuration.
+    config: &'a str,
     /// How many clients it has.
     clients: u32,
-    steps: Vec<Step>,
+    /// The steps, a line `<event line> -> <outputs>` each.
+    lines: &'a str,
 }
 
 /// Which steps share a phase.
@@ -37,116 +25,138 @@ pub(crate) enum Phases {
     OneAStep,
 }
 
-impl Steps {
-    /// The steps of these lines: those of the configuration, a line `end`, and then the steps.
-    pub(crate) fn read(alloc: Global, text: &str) -> Result<Steps> {
-        let mut steps = Steps {
-            config: String::new(alloc),
-            clients: 4,
-            steps: Vec::new(alloc),
-        };
-        let mut lines = text.lines();
-        loop {
-            match lines.next() {
-                None => bail!("no line is `end`"),
-                Some("end") => break,
-                Some(line) => steps.configure(line)?,
-            }
-        }
-        for line in lines {
-            steps.steps.push(Step::read(alloc, line)?)?;
-        }
-        Ok(steps)
+/// The number of the phase of a step.
+fn phase_of(phases: Phases, step: usize) -> usize {
+    match phases {
+        Phases::One => 0,
+        Phases::OneAStep => step,
     }
+}
 
-    /// Takes a line of the configuration.
-    fn configure(&mut self, line: &str) -> Result<()> {
-        if let Some(number) = line.strip_prefix("clients = ") {
-            self.clients = number.parse::<u32>()?;
+/// The event line of a step, and what it makes the device send.
+fn parts_of(line: &str) -> (&str, &str) {
+    line.split_once(" -> ").unwrap_or((line, ""))
+}
+
+/// How many clients a configuration of these lines has.
+fn clients_of(config: &str) -> Result<u32> {
+    for line in config.lines() {
+        if let Some(clients) = line.strip_prefix("clients = ") {
+            return number(clients);
         }
-        self.config.push_str(line)?;
-        self.config.push('\n')?;
-        Ok(())
+    }
+    Ok(4)
+}
+
+impl<'a> Steps<'a> {
+    /// The steps of these lines: those of the configuration, a line `end`, and then the steps.
+    pub(crate) fn of(text: &'a str) -> Result<Steps<'a>> {
+        let (config, lines) = match text.strip_prefix("end\n") {
+            Some(lines) => ("", lines),
+            None => match text.split_once("\nend\n") {
+                Some(parts) => parts,
+                None => bail!("no line is `end`"),
+            },
+        };
+        let clients = clients_of(config)?;
+        Ok(Steps {
+            config,
+            clients,
+            lines,
+        })
     }
 
     /// The recording of the steps.
     pub(crate) fn recording(&self, alloc: Global, phases: Phases) -> Result<Vec<u8>, AllocError> {
-        let mut text = Vec::from_slice(alloc, b"mms-recording 1\nconfig\n")?;
-        text.extend_from_slice(self.config.as_bytes())?;
-        text.extend_from_slice(b"end\n")?;
-        for (index, step) in self.steps.iter().enumerate() {
-            if index > 0 && matches!(phases, Phases::OneAStep) {
-                text.extend_from_slice(b"phase\n")?;
-            }
-            text.extend_from_slice(step.event.as_bytes())?;
-            text.push(b'\n')?;
+        let mut text = String::from_str(alloc, "mms-recording 1\nconfig\n")?;
+        for line in self.config.lines() {
+            put_texts(&mut text, line, "")?;
         }
-        Ok(text)
+        text.push_str("end\n")?;
+        for (step, line) in self.lines.lines().enumerate() {
+            if phase_of(phases, step) > 0 {
+                text.push_str("phase\n")?;
+            }
+            put_texts(&mut text, parts_of(line).0, "")?;
+        }
+        Ok(text.into_bytes())
     }
 
     /// The report of the steps.
     pub(crate) fn report(&self, alloc: Global, phases: Phases) -> Result<Vec<u8>> {
         let mut text = String::new(alloc);
-        let size = match phases {
-            Phases::One => self.steps.len().max(1),
-            Phases::OneAStep => 1,
-        };
         let mut place = 1u64;
-        for (index, part) in self.steps.chunks(size).enumerate() {
-            writeln!(text, "phase {}", index.saturating_add(1))?;
-            for step in part {
-                writeln!(text, "{place} {}", step.event)?;
-                place = place.saturating_add(1);
+        let last = phase_of(phases, self.lines.lines().count().saturating_sub(1));
+        for phase in 0..=last {
+            put_line(alloc, &mut text, "phase ", (phase as u64).saturating_add(1))?;
+            for (step, line) in self.lines.lines().enumerate() {
+                if phase_of(phases, step) == phase {
+                    put_number(alloc, &mut text, place)?;
+                    put_texts(&mut text, " ", parts_of(line).0)?;
+                    place = place.saturating_add(1);
+                }
             }
             for client in 1..=self.clients {
-                put_section(&mut text, part, client)?;
+                self.put_section(alloc, &mut text, phases, phase, client)?;
             }
             place = place.saturating_add(u64::from(self.clients));
         }
         Ok(text.into_bytes())
     }
+
+    /// Puts what the steps of a phase make the device send to a client.
+    fn put_section(
+        &self,
+        alloc: Global,
+        text: &mut String,
+        phases: Phases,
+        phase: usize,
+        client: u32,
+    ) -> Result<()> {
+        let mut is_headed = false;
+        for (step, line) in self.lines.lines().enumerate() {
+            if phase_of(phases, step) == phase {
+                is_headed = put_outputs(alloc, text, line, client, is_headed)?;
+            }
+        }
+        Ok(())
+    }
 }
 
-/// Puts what the steps of a phase make the device send to a client.
-fn put_section(text: &mut String, phase: &[Step], client: u32) -> Result<(), AllocError> {
-    let mut is_headed = false;
-    for step in phase {
-        for output in &step.outputs {
-            if output.client != client {
-                continue;
-            }
+/// Puts what a step makes the device send to a client, `<output>, <client>: <output>`, and the head of the client's section
+/// before it, where that isn't there yet. Answers whether it is there then. An output that names no client is sent to the
+/// client of the event.
+fn put_outputs(
+    alloc: Global,
+    text: &mut String,
+    line: &str,
+    client: u32,
+    is_headed: bool,
+) -> Result<bool> {
+    let mut is_headed = is_headed;
+    let (event, sent) = parts_of(line);
+    for output in sent.split(", ") {
+        if output.is_empty() {
+            continue;
+        }
+        let (to, what) = match output.split_once(": ") {
+            Some(parts) => parts,
+            None => (event.split(' ').next().unwrap_or(""), output),
+        };
+        if number(to)? == client {
             if !is_headed {
-                writeln!(text, "client {client}")?;
+                put_line(alloc, text, "client ", u64::from(client))?;
                 is_headed = true;
             }
-            writeln!(text, "> {}", output.text)?;
+            put_texts(text, "> ", what)?;
         }
     }
-    Ok(())
+    Ok(is_headed)
 }
 
-impl Step {
-    /// The step of a line `<event line> -> <output>, <client>: <output>`. An output that names no client is sent to
-    /// the client of the event.
-    fn read(alloc: Global, line: &str) -> Result<Step> {
-        let (event, sent) = line.split_once(" -> ").unwrap_or((line, ""));
-        let mut outputs = Vec::new(alloc);
-        for output in sent.split(", ") {
-            if output.is_empty() {
-                continue;
-            }
-            let (client, text) = match output.split_once(": ") {
-                Some((client, text)) => (client, text),
-                None => (event.split(' ').next().unwrap_or(""), output),
-            };
-            outputs.push(Output {
-                client: client.parse::<u32>()?,
-                text: String::from_str(alloc, text)?,
-            })?;
-        }
-        Ok(Step {
-            event: String::from_str(alloc, event)?,
-            outputs,
-        })
-    }
+/// Puts a line of two texts behind a text.
+fn put_texts(text: &mut String, first: &str, second: &str) -> Result<(), AllocError> {
+    text.push_str(first)?;
+    text.push_str(second)?;
+    text.push('\n')
 }
