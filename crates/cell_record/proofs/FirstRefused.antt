@@ -1,7 +1,7 @@
 -- A text is read up to the first line that is refused.
-use Rattle.std.proofs.Common.{◌≡◌, ◌≢◌, ℕ, ◌+◌, ◌<◌, ◌≤◌, ◌⊎◌, inl, inr, ◌||◌, Bool, true, false, List, [], ◌∷◌, ◌++◌, length, codes, refl, sym, ap, subst, ◌∙◌, arith, append_assoc, append-nil, length-append, Some, None, Result, Ok, Err, nat_lt, if◌then◌else◌}
+use Rattle.std.proofs.Common.{◌≡◌, ℕ, ◌+◌, ◌<◌, ◌≤◌, ◌⊎◌, inl, inr, ◌||◌, Bool, true, false, List, [], ◌∷◌, ◌++◌, length, codes, refl, sym, ap, subst, ◌∙◌, arith, append_assoc, append-nil, length-append, Some, None, Result, Ok, Err, nat_lt, if◌then◌else◌}
 use Rattle.std.proofs.lemmas.Bool.Decides.{nat_tests}
-use Rattle.std.specs.Option.{option_map, option_map_or}
+use Rattle.std.specs.Option.{option_map}
 use Rattle.std.specs.declared.option.Option.{Option}
 use Rattle.cell_io.specs.Lines.{lines_of}
 use Rattle.mms_types.specs.declared.identifier.Edition.{Edition}
@@ -13,7 +13,7 @@ use Rattle.cell_config.specs.Said.{config_of}
 use Rattle.cell_config.proofs.Holding.{edition_of, configuration_there}
 use Rattle.cell_record.specs.Words.{content, is_long, trim}
 use Rattle.cell_record.specs.EventLine.{same, said_of, trimmed_says}
-use Rattle.cell_record.specs.Recording.{Place, Reading, Opened, Opening, behind, front, fits, refused, onto, makes, moved, refusal_of, fresh, counted, is_past, is_much, excess, unless, with_said, reading_of, header_of, under, headed, setup_in, expected, in_text, size_in_text, setup_word, unless_word, opened_unless, configured, setup_of, opening_of, after_opening, reading_of_text, opening_of_text, ms_in, octets_in}
+use Rattle.cell_record.specs.Recording.{Place, Reading, Opening, behind, front, fits, refused, onto, makes, moved, refusal_of, fresh, counted, excess, unless, with_said, reading_of, header_of, under, setup_in, in_text, size_in_text, setup_word, unless_word, opened_unless, configured, setup_of, opening_of, after_opening, reading_of_text, ms_in, octets_in}
 use Rattle.cell_record.specs.Grammar.{text_of, Says, phases_of, pdu_octets, phase_ms, all_ms}
 use Rattle.cell_record.specs.Refused.{octets_of, HaveNoEnd, InSetup, InEvents, last_phase, IsOver, LacksHeader, LacksConfig, LacksEnd, IsMuchSetup, IsLong, OfEventLine, HasNoForm, HasNoOctets, NamesNoClient, PassesTime, IsMuchPhase, BreaksRule, Holds, ◌else◌, told, Refuses, StandsBehind, NoneRefused, IsFirstRefusal, IsRefused}
 use Rattle.cell_record.specs.declared.said.Said.{Said}
@@ -23,7 +23,7 @@ use Rattle.cell_record.specs.declared.refusal.BadWord.{BadWord}
 use Rattle.cell_record.specs.declared.refusal.BadWord.TheVariants as bad
 use Rattle.cell_record.specs.declared.refusal.RecordError.{RecordError}
 use Rattle.cell_record.specs.declared.refusal.RecordError.TheVariants.{Bad, BadConfig, TooMuch}
-use Rattle.cell_record.proofs.Valid.{same_text, total_is, some_phase}
+use Rattle.cell_record.proofs.Valid.{same_text, some_phase}
 use Rattle.cell_record.proofs.LineCauses.{Line, line_is}
 
 true_false : true ≡ false → ⊥

@@ -1,5 +1,5 @@
 -- Which causes hold of an event line by itself.
-use Rattle.std.proofs.Common.{◌≡◌, ◌≢◌, ℕ, suc, ◌+◌, ◌≤◌, ◌⊎◌, inl, inr, ◌&&◌, Bool, true, false, List, [], ◌∷◌, length, take, get_or, codes, refl, sym, ap, subst, ◌∙◌, arith, Some, None, Result, Ok, Err, nat_le, nat_eq, if◌then◌else◌}
+use Rattle.std.proofs.Common.{◌≡◌, ℕ, suc, ◌+◌, ◌≤◌, inl, inr, ◌&&◌, Bool, true, false, List, [], ◌∷◌, length, take, get_or, codes, refl, sym, ap, subst, ◌∙◌, arith, Some, None, Result, Ok, Err, nat_eq, if◌then◌else◌}
 use Rattle.std.proofs.lemmas.Bool.Decides.{nat_tests}
 use Rattle.std.specs.List.{prefix_len, list_all}
 use Rattle.std.specs.declared.option.Option.{Option}
@@ -7,7 +7,7 @@ use Rattle.mms_types.specs.Spelling.{is_identifier}
 use Rattle.cell_config.specs.declared.config.Config.{Config}
 use Rattle.cell_record.specs.Words.{between, trim, word_of, argument_of, in_word, is_digit, is_remark, begins_with_digit, number_of, value_of, pairs_of}
 use Rattle.cell_record.specs.EventLine.{same, heard_of, lost_of, tick_of, ends_of, worded, trimmed_says}
-use Rattle.cell_record.specs.Refused.{IsHeard, IsLost, IsTick, IsEnds, IsWorded, Names, HasNoForm, HasNoOctets, NamesNoClient}
+use Rattle.cell_record.specs.Refused.{IsHeard, IsLost, IsTick, IsEnds, IsWorded, HasNoForm, HasNoOctets, NamesNoClient}
 use Rattle.mms_types.specs.declared.event.CellEvent.TheVariants.{Lost, Tick, Ends}
 use Rattle.cell_record.specs.declared.said.Said.{Said}
 use Rattle.cell_record.specs.declared.said.Said.TheVariants.{Nothing, Phase, Happens}

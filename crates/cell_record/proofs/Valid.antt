@@ -41,7 +41,7 @@ total-onto : (b : ℕ) (ls : List (List ℕ)) → total (onto_first b ls) ≡ 1 
 total-onto b [] = refl
 total-onto b (l ∷ ls) = omega arith
 
-pub total_is : (text : List ℕ) → total (lines_of text) ≡ length text
+total_is : (text : List ℕ) → total (lines_of text) ≡ length text
 total_is [] = refl
 total_is (b ∷ bs) = grind (arith, nat_tests, common_steps, total_is bs, total-onto b (lines_of bs))
 

@@ -1,9 +1,8 @@
-use Rattle.std.proofs.Common.{ℕ, List, [], codes, Err, sym, ap, ◌∙◌}
+use Rattle.std.proofs.Common.{ℕ, List, [], Err, sym, ap, ◌∙◌}
 use Rattle.std.proofs.lemmas.Result.{err_from_is_err_and, IfOk-weaker, IfErr-weaker}
 use Rattle.cell_io.specs.Held.{ahead}
 use Rattle.cell_record.specs.Recording.{setup_in, opened, configured}
 use Rattle.cell_record.specs.Numbered.{place_at, setup}
-use Rattle.cell_record.specs.declared.refusal.BadWord.TheVariants as bad
 use Rattle.cell_record.proofs.Stopping.{leads_same, leads_told, opening_then}
 use Rattle.cell_record.proofs.Steps.{same_told, all_told}
 use Rattle.cell_record.proofs.Readings.{same_same, same_is, part_then}
