@@ -12,4 +12,5 @@ pub mod Bodies
 pub mod OneHistory
 pub mod Placing
 pub mod LineCauses
+pub mod FirstCause
 pub mod FirstRefused
