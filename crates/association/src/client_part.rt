@@ -67,7 +67,12 @@ impl ClientPart {
     /// The part of a client of that number, with which there is no association. Nothing waits, and
     /// there is no room for anything.
     pub fn new(alloc: Global, client: u32, device: Constants) -> ClientPart
-        ensures { result ≡ record { row = new_row client device; output_room = 0; waiting_room = 0 } }
+        ensures { result ≡ record {
+          row = new_row client device;
+          output_room = 0;
+          waiting_room =
+              0;
+        } }
     {
         ClientPart {
             client,
@@ -183,7 +188,8 @@ impl ClientPart {
         requires room { 0 < self.old.waiting_room }
         requires new { is_waiting invoke self.old.row.waiting ≡ false }
         ensures { self.new ≡ record self.old {
-          row = row_with_waiting self.old.row (record { invoke = invoke; key = key; entry = entry });
+          row = row_with_waiting self.old.row
+              (record { invoke = invoke; key = key; entry = entry });
           waiting_room = self.old.waiting_room - 1;
         } }
     {

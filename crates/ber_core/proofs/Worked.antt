@@ -1,5 +1,5 @@
 -- Worked examples of the definitions: octets typed from ITU-T X.690, and octets that this profile refuses.
-use Rattle.std.specs.Prelude.{◌≡◌, ℕ, ℤ, pos, negsuc, Bool, true, false, List, [], ◌∷◌, map, Result, Ok, Err}
+use Rattle.std.specs.Prelude.{◌≡◌, ℕ, pos, negsuc, Bool, true, false, List, [], ◌∷◌, map, Result, Ok, Err}
 use Rattle.std.proofs.Common.{refl}
 use Rattle.ber_core.specs.declared.element.Tag.{Tag}
 use Rattle.ber_core.specs.declared.fault.BerError.{BerError}

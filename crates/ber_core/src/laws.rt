@@ -12,30 +12,41 @@ ghost use Rattle.ber_core.specs.Spelling.{element_octets, integer_octets};
 
 /// What is spelled is one element, of that tag and with those contents.
 pub fn spells_an_element()
-    ensures { (lengths : Lengths) (t : Tag) (c : List ℕ) → t.class < 4 → t.number < 16384 → length c < 2 ^ 64 → IsElement lengths (element_octets t c) (record { tag = t; contents = c }) }
+    ensures { (lengths : Lengths) (t : Tag) (c : List ℕ) → t.class < 4 → t.number < 16384
+        → length c < 2 ^ 64
+        → IsElement lengths (element_octets t c) (record { tag = t; contents = c }) }
 {}
 
 /// No element is spelled shorter.
 pub fn spells_the_shortest()
-    ensures element { (lengths : Lengths) (octets : List ℕ) (p : Part) → ((i : ℕ) → slice_index octets i < 256) → IsElement lengths octets p → length (element_octets p.tag p.contents) ≤ length octets }
-    ensures integer { (octets : List ℕ) (n : ℤ) → ((i : ℕ) → slice_index octets i < 256) → IsInteger octets n → length (integer_octets n) ≤ length octets }
+    ensures element { (lengths : Lengths) (octets : List ℕ) (p : Part)
+        → ((i : ℕ) → slice_index octets i < 256) → IsElement lengths octets p
+        → length (element_octets p.tag p.contents) ≤ length octets }
+    ensures integer { (octets : List ℕ) (n : ℤ) → ((i : ℕ) → slice_index octets i < 256)
+        → IsInteger octets n → length (integer_octets n) ≤ length octets }
 {}
 
 /// No element begins another.
 pub fn begins_no_other()
-    ensures { (lengths : Lengths) (a b x y : List ℕ) (p q : Part) → IsElement lengths a p → IsElement lengths b q → a ++ x ≡ b ++ y → a ≡ b }
+    ensures { (lengths : Lengths) (a b x y : List ℕ) (p q : Part) → IsElement lengths a p
+        → IsElement lengths b q → a ++ x ≡ b ++ y → a ≡ b }
 {}
 
 /// The octets of an element say one tag and one contents, and octets are cut into elements in one way.
 pub fn says_one_part()
-    ensures element { (lengths : Lengths) (octets : List ℕ) (p q : Part) → IsElement lengths octets p → IsElement lengths octets q → p ≡ q }
-    ensures cut { (lengths : Lengths) (octets : List ℕ) (ps qs : List Part) → IsCut lengths octets ps → IsCut lengths octets qs → ps ≡ qs }
+    ensures element { (lengths : Lengths) (octets : List ℕ) (p q : Part)
+        → IsElement lengths octets p → IsElement lengths octets q → p ≡ q }
+    ensures cut { (lengths : Lengths) (octets : List ℕ) (ps qs : List Part)
+        → IsCut lengths octets ps → IsCut lengths octets qs → ps ≡ qs }
 {}
 
 /// What is read as an element is one, and an element is read, whatever follows it.
 pub fn reads_the_element()
-    ensures read { (lengths : Lengths) (octets rest : List ℕ) (p : Part) → ((i : ℕ) → slice_index octets i < 256) → element_at lengths octets ≡ Ok (p, rest) → (taken : List ℕ) × IsElement lengths taken p × (octets ≡ taken ++ rest) }
-    ensures only { (lengths : Lengths) (octets rest : List ℕ) (p : Part) → IsElement lengths octets p → element_at lengths (octets ++ rest) ≡ Ok (p, rest) }
+    ensures read { (lengths : Lengths) (octets rest : List ℕ) (p : Part)
+        → ((i : ℕ) → slice_index octets i < 256) → element_at lengths octets ≡ Ok (p, rest)
+        → (taken : List ℕ) × IsElement lengths taken p × (octets ≡ taken ++ rest) }
+    ensures only { (lengths : Lengths) (octets rest : List ℕ) (p : Part)
+        → IsElement lengths octets p → element_at lengths (octets ++ rest) ≡ Ok (p, rest) }
 {}
 
 /// The spelling of a number of 64 bits is read as that number.
@@ -45,6 +56,8 @@ pub fn spells_the_number()
 
 /// Two numbers of one spelling are equal.
 pub fn says_one_number()
-    ensures contents { (octets : List ℕ) (m n : ℤ) → IsInteger octets m → IsInteger octets n → m ≡ n }
-    ensures spelling { (m n : ℤ) → FitsSigned w64 m → FitsSigned w64 n → integer_octets m ≡ integer_octets n → m ≡ n }
+    ensures contents { (octets : List ℕ) (m n : ℤ) → IsInteger octets m → IsInteger octets n
+        → m ≡ n }
+    ensures spelling { (m n : ℤ) → FitsSigned w64 m → FitsSigned w64 n
+        → integer_octets m ≡ integer_octets n → m ≡ n }
 {}

@@ -33,16 +33,19 @@ fn truth(contents: &[u8]) -> Result<bool, BerError>
 /// nothing follows.
 pub fn bits<'a>(contents: &'a [u8]) -> Result<Bits<'a>, BerError>
     ensures found { IfOk result (λ b. IsBits contents.now b.unused b.octets.now) }
-    ensures only { (unused : ℕ) (octets : List ℕ) → IsBits contents.now unused octets → IsOkAnd result (λ b. (b.unused ≡ unused) × (b.octets.now ≡ octets)) }
+    ensures only { (unused : ℕ) (octets : List ℕ) → IsBits contents.now unused octets
+        → IsOkAnd result (λ b. (b.unused ≡ unused) × (b.octets.now ≡ octets)) }
     ensures bad { IsErrOf result BerError.BadContents ↔ IsNoBits contents.now }
     ensures no_other { IfErr result (λ e. e ≡ BerError.BadContents) }
-    ensures exact { MatchResult result (λ b. bits_at contents.now ≡ Ok (b.unused, b.octets.now)) (λ e. bits_at contents.now ≡ Err e) }
+    ensures exact { MatchResult result (λ b. bits_at contents.now ≡ Ok (b.unused, b.octets.now))
+        (λ e. bits_at contents.now ≡ Err e) }
 {
     cut_bits(contents)
 }
 
 fn cut_bits<'a>(contents: &'a [u8]) -> Result<Bits<'a>, BerError>
-    ensures { MatchResult result (λ b. bits_at contents.now ≡ Ok (b.unused, b.octets.now)) (λ e. bits_at contents.now ≡ Err e) }
+    ensures { MatchResult result (λ b. bits_at contents.now ≡ Ok (b.unused, b.octets.now))
+        (λ e. bits_at contents.now ≡ Err e) }
 {
     match contents {
         [] => Err(BerError::BadContents),
@@ -74,7 +77,8 @@ fn cut_bits<'a>(contents: &'a [u8]) -> Result<Bits<'a>, BerError>
 pub fn integer(contents: &[u8]) -> Result<i64, BerError>
     ensures found { IfOk result (IsInteger contents.now) }
     ensures only { (n : ℤ) → IsInteger contents.now n → result ≡ Ok n }
-    ensures bad { IsErrOf result BerError.BadContents ↔ ((contents.now ≡ []) ⊎ (8 < length contents.now)) }
+    ensures bad { IsErrOf result BerError.BadContents
+        ↔ ((contents.now ≡ []) ⊎ (8 < length contents.now)) }
     ensures no_other { IfErr result (λ e. e ≡ BerError.BadContents) }
     ensures exact { result ≡ integer_at contents.now }
 {

@@ -28,7 +28,8 @@ impl<'a> Model for Reader<'a> {
 #[tactic(auto, unfolding(crate::specs::Reading::third_at))]
 fn third(a: u8, b: u8, rest: &[u8]) -> Result<(Tag, &[u8]), BerError>
     requires { 128 < b }
-    ensures exact { MatchResult result (λ x. third_at a b rest.now ≡ Ok (x.0, x.1.now)) (λ e. third_at a b rest.now ≡ Err e) }
+    ensures exact { MatchResult result (λ x. third_at a b rest.now ≡ Ok (x.0, x.1.now))
+        (λ e. third_at a b rest.now ≡ Err e) }
     ensures shorter { IfOk result (λ x. length x.1.now < length rest.now) }
 {
     match rest {
@@ -56,7 +57,8 @@ fn tag_of(a: u8, number: u32) -> Tag
 
 #[tactic(auto, unfolding(crate::specs::Reading::second_at))]
 fn second(a: u8, rest: &[u8]) -> Result<(Tag, &[u8]), BerError>
-    ensures exact { MatchResult result (λ x. second_at a rest.now ≡ Ok (x.0, x.1.now)) (λ e. second_at a rest.now ≡ Err e) }
+    ensures exact { MatchResult result (λ x. second_at a rest.now ≡ Ok (x.0, x.1.now))
+        (λ e. second_at a rest.now ≡ Err e) }
     ensures shorter { IfOk result (λ x. length x.1.now < length rest.now) }
 {
     match rest {
@@ -77,7 +79,8 @@ fn second(a: u8, rest: &[u8]) -> Result<(Tag, &[u8]), BerError>
 
 #[tactic(auto, unfolding(crate::specs::Reading::identifier_at))]
 fn identifier(bytes: &[u8]) -> Result<(Tag, &[u8]), BerError>
-    ensures exact { MatchResult result (λ x. identifier_at bytes.now ≡ Ok (x.0, x.1.now)) (λ e. identifier_at bytes.now ≡ Err e) }
+    ensures exact { MatchResult result (λ x. identifier_at bytes.now ≡ Ok (x.0, x.1.now))
+        (λ e. identifier_at bytes.now ≡ Err e) }
     ensures shorter { IfOk result (λ x. length x.1.now < length bytes.now) }
 {
     match bytes {
@@ -107,7 +110,8 @@ pub(crate) fn number(octets: &[u8]) -> u64
 
 #[tactic(auto, unfolding(crate::specs::Reading::long_length_at))]
 fn long_length(count: u8, rest: &[u8]) -> Result<(u64, &[u8]), BerError>
-    ensures exact { MatchResult result (λ x. long_length_at count rest.now ≡ Ok (x.0, x.1.now)) (λ e. long_length_at count rest.now ≡ Err e) }
+    ensures exact { MatchResult result (λ x. long_length_at count rest.now ≡ Ok (x.0, x.1.now))
+        (λ e. long_length_at count rest.now ≡ Err e) }
     ensures shorter { IfOk result (λ x. length x.1.now < length rest.now) }
 {
     if count == 0 || count > 8 {
@@ -123,7 +127,8 @@ fn long_length(count: u8, rest: &[u8]) -> Result<(u64, &[u8]), BerError>
 
 #[tactic(auto, unfolding(crate::specs::Reading::length_at))]
 fn length_of(bytes: &[u8]) -> Result<(u64, &[u8]), BerError>
-    ensures exact { MatchResult result (λ x. length_at bytes.now ≡ Ok (x.0, x.1.now)) (λ e. length_at bytes.now ≡ Err e) }
+    ensures exact { MatchResult result (λ x. length_at bytes.now ≡ Ok (x.0, x.1.now))
+        (λ e. length_at bytes.now ≡ Err e) }
     ensures shorter { IfOk result (λ x. length x.1.now < length bytes.now) }
 {
     match bytes {
@@ -140,7 +145,8 @@ fn length_of(bytes: &[u8]) -> Result<(u64, &[u8]), BerError>
 
 #[tactic(auto, unfolding(crate::specs::Reading::definite_at))]
 fn definite(bytes: &[u8]) -> Result<(Element<'_>, &[u8]), BerError>
-    ensures exact { MatchResult result (λ x. definite_at bytes.now ≡ Ok (part x.0, x.1.now)) (λ e. definite_at bytes.now ≡ Err e) }
+    ensures exact { MatchResult result (λ x. definite_at bytes.now ≡ Ok (part x.0, x.1.now))
+        (λ e. definite_at bytes.now ≡ Err e) }
     ensures shorter { IfOk result (λ x. length x.1.now < length bytes.now) }
 {
     let (tag, rest) = identifier(bytes)?;
@@ -153,7 +159,8 @@ fn definite(bytes: &[u8]) -> Result<(Element<'_>, &[u8]), BerError>
 }
 
 fn cut(lengths: Lengths, bytes: &[u8]) -> Result<(Element<'_>, &[u8]), BerError>
-    ensures exact { MatchResult result (λ x. element_at lengths bytes.now ≡ Ok (part x.0, x.1.now)) (λ e. element_at lengths bytes.now ≡ Err e) }
+    ensures exact { MatchResult result (λ x. element_at lengths bytes.now ≡ Ok (part x.0, x.1.now))
+        (λ e. element_at lengths bytes.now ≡ Err e) }
     ensures shorter { IfOk result (λ x. length x.1.now < length bytes.now) }
 {
     match lengths {
@@ -168,9 +175,11 @@ fn cut(lengths: Lengths, bytes: &[u8]) -> Result<(Element<'_>, &[u8]), BerError>
 /// octet is 80 or announces more than eight; and Short where the octets end within an element.
 pub fn first_element(lengths: Lengths, bytes: &[u8]) -> Result<(Element<'_>, &[u8]), BerError>
     // What is taken from the front is that element.
-    ensures found { IfOk result (λ x. (taken : List ℕ) × IsElement lengths taken (part x.0) × (bytes.now ≡ taken ++ x.1.now)) }
+    ensures found { IfOk result (λ x. (taken : List ℕ) × IsElement lengths taken (part x.0)
+        × (bytes.now ≡ taken ++ x.1.now)) }
     // An element in front is taken.
-    ensures only { (taken rest : List ℕ) (p : Part) → IsElement lengths taken p → bytes.now ≡ taken ++ rest → IsOkAnd result (λ x. (part x.0 ≡ p) × (x.1.now ≡ rest)) }
+    ensures only { (taken rest : List ℕ) (p : Part) → IsElement lengths taken p
+        → bytes.now ≡ taken ++ rest → IsOkAnd result (λ x. (part x.0 ≡ p) × (x.1.now ≡ rest)) }
 
     ensures bad_tag { IsErrOf result BerError.BadTag ↔ HasBadTag bytes.now }
     ensures bad_length { IsErrOf result BerError.BadLength ↔ HasBadLength lengths bytes.now }
@@ -178,7 +187,8 @@ pub fn first_element(lengths: Lengths, bytes: &[u8]) -> Result<(Element<'_>, &[u
     ensures no_other { IfErr result (λ e. e ≢ BerError.BadContents) }
 
     // The same, computed.
-    ensures exact { MatchResult result (λ x. element_at lengths bytes.now ≡ Ok (part x.0, x.1.now)) (λ e. element_at lengths bytes.now ≡ Err e) }
+    ensures exact { MatchResult result (λ x. element_at lengths bytes.now ≡ Ok (part x.0, x.1.now))
+        (λ e. element_at lengths bytes.now ≡ Err e) }
     ensures shorter { IfOk result (λ x. length x.1.now < length bytes.now) }
 {
     cut(lengths, bytes)
@@ -212,17 +222,24 @@ impl<'a> Reader<'a> {
     /// an element.
     pub fn next(&mut self) -> Result<Element<'a>, BerError>
         // What is taken from the front is that element.
-        ensures found { IfOk result (λ e. (taken : List ℕ) × IsElement self.old.lengths taken (part e) × (self.old.octets ≡ taken ++ self.new.octets)) }
+        ensures found { IfOk result (λ e. (taken : List ℕ)
+            × IsElement self.old.lengths taken (part e)
+            × (self.old.octets ≡ taken ++ self.new.octets)) }
         // An element in front is taken.
-        ensures only { (taken rest : List ℕ) (p : Part) → IsElement self.old.lengths taken p → self.old.octets ≡ taken ++ rest → IsOkAnd result (λ e. (part e ≡ p) × (self.new.octets ≡ rest)) }
+        ensures only { (taken rest : List ℕ) (p : Part) → IsElement self.old.lengths taken p
+            → self.old.octets ≡ taken ++ rest
+            → IsOkAnd result (λ e. (part e ≡ p) × (self.new.octets ≡ rest)) }
 
         ensures bad_tag { IsErrOf result BerError.BadTag ↔ HasBadTag self.old.octets }
-        ensures bad_length { IsErrOf result BerError.BadLength ↔ HasBadLength self.old.lengths self.old.octets }
+        ensures bad_length { IsErrOf result BerError.BadLength
+            ↔ HasBadLength self.old.lengths self.old.octets }
         ensures short { IsErrOf result BerError.Short ↔ EndsEarly self.old.lengths self.old.octets }
         ensures no_other { IfErr result (λ e. e ≢ BerError.BadContents) }
 
         // The same, computed.
-        ensures exact { MatchResult result (λ e. element_at self.old.lengths self.old.octets ≡ Ok (part e, self.new.octets)) (λ e. element_at self.old.lengths self.old.octets ≡ Err e) }
+        ensures exact { MatchResult result
+            (λ e. element_at self.old.lengths self.old.octets ≡ Ok (part e, self.new.octets))
+            (λ e. element_at self.old.lengths self.old.octets ≡ Err e) }
         ensures shorter { OnOk result (length self.new.octets < length self.old.octets) }
 
         ensures lengths { self.new.lengths ≡ self.old.lengths }

@@ -216,7 +216,8 @@ impl Writer {
         requires since { since ≤ length self.old }
         requires class { tag.class ≤ 3 }
         requires number { tag.number ≤ 16383 }
-        ensures ok { OnOk result (self.new ≡ take since self.old ++ element_octets tag (drop since self.old)) }
+        ensures ok { OnOk result (self.new
+            ≡ take since self.old ++ element_octets tag (drop since self.old)) }
         ensures err { OnErr result (self.new ≡ self.old) }
     {
         enclose_from(&mut self.bytes, since, tag)
@@ -236,7 +237,8 @@ impl Writer {
 fn append_element(bytes: &mut Vec<u8>, tag: Tag, contents: &[u8]) -> Result<(), Memory>
     requires class { tag.class < 4 }
     requires number { tag.number < 16384 }
-    ensures ok { OnOk result (bytes.new.items ≡ bytes.old.items ++ element_octets tag contents.now) }
+    ensures ok { OnOk result (bytes.new.items
+        ≡ bytes.old.items ++ element_octets tag contents.now) }
     ensures err { OnErr result (bytes.new.items ≡ bytes.old.items) }
 {
     if tag.number < 31 && contents.len() < 128 && has_room(bytes, contents.len() + 2) {
@@ -273,7 +275,8 @@ fn has_room(bytes: &Vec<u8>, more: usize) -> bool
 fn append_any(bytes: &mut Vec<u8>, tag: Tag, contents: &[u8]) -> Result<(), Memory>
     requires class { tag.class < 4 }
     requires number { tag.number < 16384 }
-    ensures ok { OnOk result (bytes.new.items ≡ bytes.old.items ++ element_octets tag contents.now) }
+    ensures ok { OnOk result (bytes.new.items
+        ≡ bytes.old.items ++ element_octets tag contents.now) }
     ensures err { OnErr result (bytes.new.items ≡ bytes.old.items) }
 {
     bytes.reserve(contents.len() + HEADER)?;
@@ -296,7 +299,8 @@ fn append_reserved(bytes: &mut Vec<u8>, octets: &[u8])
 fn append_integer(bytes: &mut Vec<u8>, tag: Tag, n: i64) -> Result<(), Memory>
     requires class { tag.class < 4 }
     requires number { tag.number < 16384 }
-    ensures ok { OnOk result (bytes.new.items ≡ bytes.old.items ++ element_octets tag (integer_octets n)) }
+    ensures ok { OnOk result (bytes.new.items
+        ≡ bytes.old.items ++ element_octets tag (integer_octets n)) }
     ensures err { OnErr result (bytes.new.items ≡ bytes.old.items) }
 {
     if tag.number < 31 && 0 <= n && n < 128 && has_room(bytes, 3) {
@@ -323,7 +327,8 @@ fn append_three(bytes: &mut Vec<u8>, first: u8, second: u8, third: u8)
 fn append_any_integer(bytes: &mut Vec<u8>, tag: Tag, n: i64) -> Result<(), Memory>
     requires class { tag.class < 4 }
     requires number { tag.number < 16384 }
-    ensures ok { OnOk result (bytes.new.items ≡ bytes.old.items ++ element_octets tag (integer_octets n)) }
+    ensures ok { OnOk result (bytes.new.items
+        ≡ bytes.old.items ++ element_octets tag (integer_octets n)) }
     ensures err { OnErr result (bytes.new.items ≡ bytes.old.items) }
 {
     bytes.reserve(HEADER)?;
@@ -349,7 +354,8 @@ fn append_number(bytes: &mut Vec<u8>, n: i64) -> Result<(), Memory>
 /// Appends how many octets a number has, and these.
 fn push_integer(bytes: &mut Vec<u8>, n: i64)
     requires room { vec_len bytes.old + 9 ≤ vec_capacity bytes.old }
-    ensures items { bytes.new.items ≡ bytes.old.items ++ length (integer_octets n) ∷ integer_octets n }
+    ensures items { bytes.new.items
+        ≡ bytes.old.items ++ length (integer_octets n) ∷ integer_octets n }
 {
     if n >= 0 {
         push_natural(bytes, n as u64);
@@ -370,7 +376,9 @@ fn push_natural(bytes: &mut Vec<u8>, n: u64)
 /// The same of a number below 0, whose complement is given.
 fn push_negative(bytes: &mut Vec<u8>, complement: u64)
     requires room { vec_len bytes.old + 9 ≤ vec_capacity bytes.old }
-    ensures items { bytes.new.items ≡ bytes.old.items ++ length (complements (digits 128 8 complement)) ∷ complements (digits 128 8 complement) }
+    ensures items { bytes.new.items
+        ≡ bytes.old.items ++ length (complements (digits 128 8 complement))
+        ∷ complements (digits 128 8 complement) }
 {
     bytes.push_reserved(width(128, 8, complement));
     push_complements(bytes, 8, complement);
@@ -381,7 +389,8 @@ fn enclose_from(bytes: &mut Vec<u8>, since: usize, tag: Tag) -> Result<(), Memor
     requires since { since ≤ vec_len bytes.old }
     requires class { tag.class < 4 }
     requires number { tag.number < 16384 }
-    ensures ok { OnOk result (bytes.new.items ≡ take since bytes.old.items ++ element_octets tag (drop since bytes.old.items)) }
+    ensures ok { OnOk result (bytes.new.items
+        ≡ take since bytes.old.items ++ element_octets tag (drop since bytes.old.items)) }
     ensures err { OnErr result (bytes.new.items ≡ bytes.old.items) }
 {
     let size = bytes.len() - since;
@@ -397,7 +406,8 @@ fn enclose_from(bytes: &mut Vec<u8>, since: usize, tag: Tag) -> Result<(), Memor
 fn insert_two(bytes: &mut Vec<u8>, at: usize, first: u8, second: u8)
     requires place { at ≤ vec_len bytes.old }
     requires room { vec_len bytes.old + 2 ≤ vec_capacity bytes.old }
-    ensures { bytes.new.items ≡ take at bytes.old.items ++ first ∷ second ∷ drop at bytes.old.items }
+    ensures { bytes.new.items ≡ take at bytes.old.items ++ first ∷ second
+        ∷ drop at bytes.old.items }
 {
     bytes.push_reserved(first);
     bytes.push_reserved(second);
@@ -469,7 +479,8 @@ fn enclose_any(bytes: &mut Vec<u8>, since: usize, tag: Tag) -> Result<(), Memory
     requires since { since ≤ vec_len bytes.old }
     requires class { tag.class < 4 }
     requires number { tag.number < 16384 }
-    ensures ok { OnOk result (bytes.new.items ≡ take since bytes.old.items ++ element_octets tag (drop since bytes.old.items)) }
+    ensures ok { OnOk result (bytes.new.items
+        ≡ take since bytes.old.items ++ element_octets tag (drop since bytes.old.items)) }
     ensures err { OnErr result (bytes.new.items ≡ bytes.old.items) }
 {
     let size = (bytes.len() - since) as u64;
@@ -524,8 +535,12 @@ fn open(bytes: &mut Vec<u8>, at: usize, more: usize)
 fn put_header(bytes: &mut Vec<u8>, at: usize, tag: Tag, size: u64)
     requires class { tag.class < 4 }
     requires number { tag.number < 16384 }
-    requires room { at + length (identifier_octets tag) + length (length_octets size) ≤ vec_len bytes.old }
-    ensures { bytes.new.items ≡ take at bytes.old.items ++ (identifier_octets tag ++ (length_octets size ++ drop (at + length (identifier_octets tag) + length (length_octets size)) bytes.old.items)) }
+    requires room { at + length (identifier_octets tag) + length (length_octets size)
+        ≤ vec_len bytes.old }
+    ensures { bytes.new.items ≡ take at bytes.old.items
+        ++ (identifier_octets tag ++ (length_octets size
+        ++ drop (at + length (identifier_octets tag) + length (length_octets size))
+        bytes.old.items)) }
 {
     let next = put_identifier(bytes, at, tag);
     let _end = put_length(bytes, next, size);

@@ -8,7 +8,7 @@ use Rattle.ber_core.specs.declared.element.Tag.{Tag}
 use Rattle.ber_core.specs.declared.fault.BerError.{BerError}
 use Rattle.ber_core.specs.Part.{Part}
 use Rattle.ber_core.specs.Element.{IsElement, IsCut}
-use Rattle.ber_core.specs.Leaf.{integer_at, boolean_at, bits_at, IsInteger, IsBoolean, IsBits}
+use Rattle.ber_core.specs.Leaf.{boolean_at, bits_at, IsInteger, IsBoolean, IsBits}
 use Rattle.ber_core.specs.Reading.{element_at}
 use Rattle.ber_core.proofs.Elements.{element_again, element_long}
 use Rattle.ber_core.proofs.Leaves.{integer_again}

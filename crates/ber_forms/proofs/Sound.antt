@@ -10,7 +10,7 @@ use Rattle.ber_core.specs.declared.fault.BerError.{BerError}
 use Rattle.ber_core.specs.declared.fault.BerError.TheVariants.{BadContents}
 use Rattle.ber_core.specs.Part.{Part}
 use Rattle.ber_core.specs.Element.{IsElement, IsCut}
-use Rattle.ber_core.specs.Leaf.{signed_of, integer_at, boolean_at, bits_at, IsInteger, IsBoolean, IsBits}
+use Rattle.ber_core.specs.Leaf.{integer_at, boolean_at, bits_at, IsInteger, IsBoolean, IsBits}
 use Rattle.ber_core.specs.Reading.{element_at}
 use Rattle.ber_core.proofs.Elements.{IsBytes, chosen as which, element_takes, one_element, element_long}
 use Rattle.ber_core.proofs.Leaves.{integer_takes}

@@ -83,7 +83,8 @@ fn first_octets<const N: usize>(bits: Bits<'_>) -> [u8; N]
 #[tactic(auto, unfolding(crate::specs::Bits::first_bits))]
 pub fn named_bits<const N: usize>(contents: &[u8], n: u32) -> Result<[u8; N], Unread>
     requires { N ≡ octets_for n }
-    ensures exact { Gives (λ octets. value.bits (unused_for n) octets) result (named_bits_value n contents.now) }
+    ensures exact { Gives (λ octets. value.bits (unused_for n) octets) result
+        (named_bits_value n contents.now) }
     ensures no_memory { NeedsNoMemory result }
 {
     let mut found = first_octets::<N>(sent(contents)?);

@@ -16,7 +16,8 @@ impl<'a> Cursor<'a> {
     /// A truth value under the context tag `number`.
     #[tactic(auto, unfolding(crate::specs::Reading::required_by))]
     pub fn required_boolean(&mut self, number: u32) -> Result<bool, Unread>
-        ensures exact { RequiredGives value.truth (form.context number form.boolean) self.old self.new result }
+        ensures exact { RequiredGives value.truth
+            (form.context number form.boolean) self.old self.new result }
         ensures kept { self.new.lengths ≡ self.old.lengths }
         ensures no_memory { NeedsNoMemory result }
     {
@@ -27,7 +28,8 @@ impl<'a> Cursor<'a> {
     /// A truth value under the context tag `number`, if it is there.
     #[tactic(auto, unfolding(crate::specs::Reading::optional_by))]
     pub fn optional_boolean(&mut self, number: u32) -> Result<Option<bool>, Unread>
-        ensures exact { OptionalGives value.truth (form.context number form.boolean) self.old self.new result }
+        ensures exact { OptionalGives value.truth
+            (form.context number form.boolean) self.old self.new result }
         ensures kept { self.new.lengths ≡ self.old.lengths }
         ensures no_memory { NeedsNoMemory result }
     {
@@ -40,7 +42,8 @@ impl<'a> Cursor<'a> {
     /// A truth value under the context tag `number`, and `default` where it is missing.
     #[tactic(auto, unfolding(crate::specs::Reading::defaulting))]
     pub fn defaulted_boolean(&mut self, number: u32, default: bool) -> Result<bool, Unread>
-        ensures exact { DefaultedGives value.truth (form.context number form.boolean) (value.truth default) self.old self.new result }
+        ensures exact { DefaultedGives value.truth (form.context number form.boolean)
+            (value.truth default) self.old self.new result }
         ensures kept { self.new.lengths ≡ self.old.lengths }
         ensures no_memory { NeedsNoMemory result }
     {
@@ -53,7 +56,8 @@ impl<'a> Cursor<'a> {
     /// NULL under the context tag `number`.
     #[tactic(auto, unfolding(crate::specs::Reading::required_by))]
     pub fn required_null(&mut self, number: u32) -> Result<(), Unread>
-        ensures exact { RequiredGives (λ _. value.nothing) (form.context number form.null) self.old self.new result }
+        ensures exact { RequiredGives (λ _. value.nothing)
+            (form.context number form.null) self.old self.new result }
         ensures kept { self.new.lengths ≡ self.old.lengths }
         ensures no_memory { NeedsNoMemory result }
     {
@@ -65,7 +69,8 @@ impl<'a> Cursor<'a> {
     #[tactic(auto, unfolding(crate::specs::Reading::required_by))]
     pub fn required_bit_string(&mut self, number: u32) -> Result<Bits<'a>, Unread>
         ensures few { IfOk result (λ b. b.unused ≤ 7) }
-        ensures exact { RequiredGives (λ b. value.bits b.unused (cleared b.unused b.octets.now)) (form.context number form.bit_string) self.old self.new result }
+        ensures exact { RequiredGives (λ b. value.bits b.unused (cleared b.unused b.octets.now))
+            (form.context number form.bit_string) self.old self.new result }
         ensures kept { self.new.lengths ≡ self.old.lengths }
         ensures no_memory { NeedsNoMemory result }
     {
@@ -76,7 +81,8 @@ impl<'a> Cursor<'a> {
     /// Octets under the context tag `number`, as they stand in the contents.
     #[tactic(auto, unfolding(crate::specs::Reading::required_by))]
     pub fn required_octets(&mut self, number: u32) -> Result<&'a [u8], Unread>
-        ensures exact { RequiredGives (λ s. value.text s.now) (form.context number (form.octet_string form.any_octets)) self.old self.new result }
+        ensures exact { RequiredGives (λ s. value.text s.now)
+            (form.context number (form.octet_string form.any_octets)) self.old self.new result }
         ensures kept { self.new.lengths ≡ self.old.lengths }
         ensures no_memory { NeedsNoMemory result }
     {
@@ -87,7 +93,8 @@ impl<'a> Cursor<'a> {
     /// Octets under the context tag `number`, if they are there.
     #[tactic(auto, unfolding(crate::specs::Reading::optional_by))]
     pub fn optional_octets(&mut self, number: u32) -> Result<Option<&'a [u8]>, Unread>
-        ensures exact { OptionalGives (λ s. value.text s.now) (form.context number (form.octet_string form.any_octets)) self.old self.new result }
+        ensures exact { OptionalGives (λ s. value.text s.now)
+            (form.context number (form.octet_string form.any_octets)) self.old self.new result }
         ensures kept { self.new.lengths ≡ self.old.lengths }
         ensures no_memory { NeedsNoMemory result }
     {
@@ -100,7 +107,8 @@ impl<'a> Cursor<'a> {
     /// A VisibleString under the context tag `number`. Malformed for an octet below 20 or above 7E.
     #[tactic(auto, unfolding(crate::specs::Reading::required_by))]
     pub fn required_visible(&mut self, number: u32) -> Result<&'a [u8], Unread>
-        ensures exact { RequiredGives (λ s. value.text s.now) (form.context number form.visible_string) self.old self.new result }
+        ensures exact { RequiredGives (λ s. value.text s.now)
+            (form.context number form.visible_string) self.old self.new result }
         ensures kept { self.new.lengths ≡ self.old.lengths }
         ensures no_memory { NeedsNoMemory result }
     {
@@ -111,7 +119,8 @@ impl<'a> Cursor<'a> {
     /// A VisibleString under the context tag `number`, if it is there.
     #[tactic(auto, unfolding(crate::specs::Reading::optional_by))]
     pub fn optional_visible(&mut self, number: u32) -> Result<Option<&'a [u8]>, Unread>
-        ensures exact { OptionalGives (λ s. value.text s.now) (form.context number form.visible_string) self.old self.new result }
+        ensures exact { OptionalGives (λ s. value.text s.now)
+            (form.context number form.visible_string) self.old self.new result }
         ensures kept { self.new.lengths ≡ self.old.lengths }
         ensures no_memory { NeedsNoMemory result }
     {

@@ -31,7 +31,8 @@ pub fn integer(contents: &[u8], low: i64, high: i64) -> Result<i64, Unread>
 
 /// A number of 8 bits with a sign.
 pub fn signed8(contents: &[u8]) -> Result<i8, Unread>
-    ensures exact { Gives (λ n. value.number n) result (number_value (negsuc 127) (pos 127) contents.now) }
+    ensures exact { Gives (λ n. value.number n) result
+        (number_value (negsuc 127) (pos 127) contents.now) }
     ensures no_memory { NeedsNoMemory result }
 {
     Ok(integer(contents, -128, 127)? as i8)
@@ -39,7 +40,8 @@ pub fn signed8(contents: &[u8]) -> Result<i8, Unread>
 
 /// A number of 16 bits with a sign.
 pub fn signed16(contents: &[u8]) -> Result<i16, Unread>
-    ensures exact { Gives (λ n. value.number n) result (number_value (negsuc 32767) (pos 32767) contents.now) }
+    ensures exact { Gives (λ n. value.number n) result
+        (number_value (negsuc 32767) (pos 32767) contents.now) }
     ensures no_memory { NeedsNoMemory result }
 {
     Ok(integer(contents, -32768, 32767)? as i16)
@@ -47,7 +49,8 @@ pub fn signed16(contents: &[u8]) -> Result<i16, Unread>
 
 /// A number of 32 bits with a sign.
 pub fn signed32(contents: &[u8]) -> Result<i32, Unread>
-    ensures exact { Gives (λ n. value.number n) result (number_value (negsuc 2147483647) (pos 2147483647) contents.now) }
+    ensures exact { Gives (λ n. value.number n) result
+        (number_value (negsuc 2147483647) (pos 2147483647) contents.now) }
     ensures no_memory { NeedsNoMemory result }
 {
     Ok(integer(contents, -2147483648, 2147483647)? as i32)
@@ -55,7 +58,8 @@ pub fn signed32(contents: &[u8]) -> Result<i32, Unread>
 
 /// A number of 8 bits without a sign.
 pub fn unsigned8(contents: &[u8]) -> Result<u8, Unread>
-    ensures exact { Gives (λ n. value.number (pos n)) result (number_value (pos 0) (pos 255) contents.now) }
+    ensures exact { Gives (λ n. value.number (pos n)) result
+        (number_value (pos 0) (pos 255) contents.now) }
     ensures no_memory { NeedsNoMemory result }
 {
     Ok(integer(contents, 0, 255)? as u8)
@@ -63,7 +67,8 @@ pub fn unsigned8(contents: &[u8]) -> Result<u8, Unread>
 
 /// A number of 8 bits without a sign, from `low` to `high`.
 pub fn unsigned8_in(contents: &[u8], low: u8, high: u8) -> Result<u8, Unread>
-    ensures exact { Gives (λ n. value.number (pos n)) result (number_value (pos low) (pos high) contents.now) }
+    ensures exact { Gives (λ n. value.number (pos n)) result
+        (number_value (pos low) (pos high) contents.now) }
     ensures low { IfOk result (λ n. low ≤ n) }
     ensures high { IfOk result (λ n. n ≤ high) }
     ensures no_memory { NeedsNoMemory result }
@@ -73,7 +78,8 @@ pub fn unsigned8_in(contents: &[u8], low: u8, high: u8) -> Result<u8, Unread>
 
 /// A number of 16 bits without a sign, from `low` to `high`.
 pub fn unsigned16_in(contents: &[u8], low: u16, high: u16) -> Result<u16, Unread>
-    ensures exact { Gives (λ n. value.number (pos n)) result (number_value (pos low) (pos high) contents.now) }
+    ensures exact { Gives (λ n. value.number (pos n)) result
+        (number_value (pos low) (pos high) contents.now) }
     ensures low { IfOk result (λ n. low ≤ n) }
     ensures high { IfOk result (λ n. n ≤ high) }
     ensures no_memory { NeedsNoMemory result }
@@ -83,7 +89,8 @@ pub fn unsigned16_in(contents: &[u8], low: u16, high: u16) -> Result<u16, Unread
 
 /// A number of 16 bits without a sign.
 pub fn unsigned16(contents: &[u8]) -> Result<u16, Unread>
-    ensures exact { Gives (λ n. value.number (pos n)) result (number_value (pos 0) (pos 65535) contents.now) }
+    ensures exact { Gives (λ n. value.number (pos n)) result
+        (number_value (pos 0) (pos 65535) contents.now) }
     ensures no_memory { NeedsNoMemory result }
 {
     Ok(integer(contents, 0, 65535)? as u16)
@@ -91,7 +98,8 @@ pub fn unsigned16(contents: &[u8]) -> Result<u16, Unread>
 
 /// A number of 32 bits without a sign.
 pub fn unsigned32(contents: &[u8]) -> Result<u32, Unread>
-    ensures exact { Gives (λ n. value.number (pos n)) result (number_value (pos 0) (pos 4294967295) contents.now) }
+    ensures exact { Gives (λ n. value.number (pos n)) result
+        (number_value (pos 0) (pos 4294967295) contents.now) }
     ensures no_memory { NeedsNoMemory result }
 {
     Ok(integer(contents, 0, 4294967295)? as u32)
@@ -127,7 +135,8 @@ pub fn null(contents: &[u8]) -> Result<(), Unread>
 #[tactic(auto, using(crate::proofs::NamedBits::few_unused), unfolding(crate::specs::Reading::bits_in))]
 pub fn bit_string(contents: &[u8]) -> Result<Bits<'_>, Unread>
     ensures few { IfOk result (λ b. b.unused ≤ 7) }
-    ensures exact { Gives (λ b. value.bits b.unused (cleared b.unused b.octets.now)) result (bits_value contents.now) }
+    ensures exact { Gives (λ b. value.bits b.unused (cleared b.unused b.octets.now)) result
+        (bits_value contents.now) }
     ensures no_memory { NeedsNoMemory result }
 {
     let Ok(found) = ber_core::bits(contents) else {

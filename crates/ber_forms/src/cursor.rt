@@ -37,7 +37,8 @@ pub fn has_tag(tag: Tag, want: Tag) -> bool
 #[tactic(auto, unfolding(crate::specs::Reading::next_at))]
 fn next(lengths: Lengths, octets: &[u8]) -> Result<Option<(Element<'_>, &[u8])>, Unread>
     ensures no_memory { NeedsNoMemory result }
-    ensures exact { Gives (λ o. option_map (λ x. (part x.0, x.1.now)) o) result (next_at lengths octets.now) }
+    ensures exact { Gives (λ o. option_map (λ x. (part x.0, x.1.now)) o) result
+        (next_at lengths octets.now) }
     ensures shorter { IfOk result (λ o. IfSome o (λ x. length x.1.now < length octets.now)) }
 {
     if octets.is_empty() {
@@ -77,7 +78,8 @@ impl<'a> Cursor<'a> {
     /// The next element. Malformed where none is whole there.
     #[tactic(auto, unfolding(crate::specs::Reading::part_at))]
     pub fn part(&mut self) -> Result<Element<'a>, Unread>
-        ensures exact { Gives (λ p. (part p, self.new.octets)) result (part_at self.old.lengths self.old.octets) }
+        ensures exact { Gives (λ p. (part p, self.new.octets)) result
+            (part_at self.old.lengths self.old.octets) }
         ensures kept { self.new.lengths ≡ self.old.lengths }
         ensures no_memory { NeedsNoMemory result }
         ensures shorter { OnOk result (length self.new.octets < length self.old.octets) }
@@ -95,7 +97,9 @@ impl<'a> Cursor<'a> {
     /// Malformed where something is left that no whole element begins.
     #[tactic(auto, unfolding(crate::specs::Reading::optional_part))]
     pub fn optional(&mut self, want: Tag) -> Result<Option<Element<'a>>, Unread>
-        ensures exact { Gives (λ o. (option_map part o, self.new.octets)) result (optional_part self.old.lengths (is_tag want.class want.constructed want.number) self.old.octets) }
+        ensures exact { Gives (λ o. (option_map part o, self.new.octets)) result
+            (optional_part self.old.lengths
+            (is_tag want.class want.constructed want.number) self.old.octets) }
         ensures kept { self.new.lengths ≡ self.old.lengths }
         ensures no_memory { NeedsNoMemory result }
     {
@@ -115,7 +119,9 @@ impl<'a> Cursor<'a> {
     /// The next element, which has this tag. Malformed where it has another, or none is whole there.
     #[tactic(auto, unfolding(crate::specs::Reading::required_part))]
     pub fn required(&mut self, want: Tag) -> Result<Element<'a>, Unread>
-        ensures exact { Gives (λ p. (part p, self.new.octets)) result (required_part self.old.lengths (is_tag want.class want.constructed want.number) self.old.octets) }
+        ensures exact { Gives (λ p. (part p, self.new.octets)) result
+            (required_part self.old.lengths
+            (is_tag want.class want.constructed want.number) self.old.octets) }
         ensures kept { self.new.lengths ≡ self.old.lengths }
         ensures no_memory { NeedsNoMemory result }
         ensures shorter { OnOk result (length self.new.octets < length self.old.octets) }

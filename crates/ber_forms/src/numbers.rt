@@ -16,7 +16,8 @@ impl<'a> Cursor<'a> {
     /// tag, there is none, or it says no such number.
     #[tactic(auto, unfolding(crate::specs::Reading::required_by))]
     pub fn required_integer(&mut self, number: u32, low: i64, high: i64) -> Result<i64, Unread>
-        ensures exact { RequiredGives value.number (form.context number (form.integer low high)) self.old self.new result }
+        ensures exact { RequiredGives value.number
+            (form.context number (form.integer low high)) self.old self.new result }
         ensures kept { self.new.lengths ≡ self.old.lengths }
         ensures no_memory { NeedsNoMemory result }
         ensures low { IfOk result (λ n. low ≤ℤ n) }
@@ -34,7 +35,8 @@ impl<'a> Cursor<'a> {
         low: i64,
         high: i64,
     ) -> Result<Option<i64>, Unread>
-        ensures exact { OptionalGives value.number (form.context number (form.integer low high)) self.old self.new result }
+        ensures exact { OptionalGives value.number
+            (form.context number (form.integer low high)) self.old self.new result }
         ensures kept { self.new.lengths ≡ self.old.lengths }
         ensures no_memory { NeedsNoMemory result }
         ensures low { IfOk result (λ o. IfSome o (λ n. low ≤ℤ n)) }
@@ -57,7 +59,8 @@ impl<'a> Cursor<'a> {
     ) -> Result<i64, Unread>
         requires low { low ≤ℤ default }
         requires high { default ≤ℤ high }
-        ensures exact { DefaultedGives value.number (form.context number (form.integer low high)) (value.number default) self.old self.new result }
+        ensures exact { DefaultedGives value.number (form.context number (form.integer low high))
+            (value.number default) self.old self.new result }
         ensures kept { self.new.lengths ≡ self.old.lengths }
         ensures no_memory { NeedsNoMemory result }
         ensures low { IfOk result (λ n. low ≤ℤ n) }
@@ -71,7 +74,8 @@ impl<'a> Cursor<'a> {
 
     /// A number of 8 bits with a sign under the context tag `number`.
     pub fn required_i8(&mut self, number: u32) -> Result<i8, Unread>
-        ensures exact { RequiredGives value.number (form.context number form.int8) self.old self.new result }
+        ensures exact { RequiredGives value.number
+            (form.context number form.int8) self.old self.new result }
         ensures kept { self.new.lengths ≡ self.old.lengths }
         ensures no_memory { NeedsNoMemory result }
     {
@@ -80,7 +84,8 @@ impl<'a> Cursor<'a> {
 
     /// A number of 16 bits with a sign under the context tag `number`.
     pub fn required_i16(&mut self, number: u32) -> Result<i16, Unread>
-        ensures exact { RequiredGives value.number (form.context number form.int16) self.old self.new result }
+        ensures exact { RequiredGives value.number
+            (form.context number form.int16) self.old self.new result }
         ensures kept { self.new.lengths ≡ self.old.lengths }
         ensures no_memory { NeedsNoMemory result }
     {
@@ -89,7 +94,8 @@ impl<'a> Cursor<'a> {
 
     /// A number of 32 bits with a sign under the context tag `number`.
     pub fn required_i32(&mut self, number: u32) -> Result<i32, Unread>
-        ensures exact { RequiredGives value.number (form.context number form.int32) self.old self.new result }
+        ensures exact { RequiredGives value.number
+            (form.context number form.int32) self.old self.new result }
         ensures kept { self.new.lengths ≡ self.old.lengths }
         ensures no_memory { NeedsNoMemory result }
     {
@@ -98,7 +104,8 @@ impl<'a> Cursor<'a> {
 
     /// A number of 8 bits without a sign under the context tag `number`.
     pub fn required_u8(&mut self, number: u32) -> Result<u8, Unread>
-        ensures exact { RequiredGives (λ n. value.number (pos n)) (form.context number form.unsigned8) self.old self.new result }
+        ensures exact { RequiredGives (λ n. value.number (pos n))
+            (form.context number form.unsigned8) self.old self.new result }
         ensures kept { self.new.lengths ≡ self.old.lengths }
         ensures no_memory { NeedsNoMemory result }
     {
@@ -108,7 +115,8 @@ impl<'a> Cursor<'a> {
     /// A number of 8 bits without a sign, from `low` to `high`, under the context tag `number`.
     #[tactic(auto, unfolding(crate::specs::Reading::required_by))]
     pub fn required_u8_in(&mut self, number: u32, low: u8, high: u8) -> Result<u8, Unread>
-        ensures exact { RequiredGives (λ n. value.number (pos n)) (form.context number (form.integer (pos low) (pos high))) self.old self.new result }
+        ensures exact { RequiredGives (λ n. value.number (pos n))
+            (form.context number (form.integer (pos low) (pos high))) self.old self.new result }
         ensures kept { self.new.lengths ≡ self.old.lengths }
         ensures no_memory { NeedsNoMemory result }
     {
@@ -125,7 +133,9 @@ impl<'a> Cursor<'a> {
         high: u8,
         default: u8,
     ) -> Result<u8, Unread>
-        ensures exact { DefaultedGives (λ n. value.number (pos n)) (form.context number (form.integer (pos low) (pos high))) (value.number (pos default)) self.old self.new result }
+        ensures exact { DefaultedGives
+            (λ n. value.number (pos n)) (form.context number (form.integer (pos low) (pos high)))
+            (value.number (pos default)) self.old self.new result }
         ensures kept { self.new.lengths ≡ self.old.lengths }
         ensures no_memory { NeedsNoMemory result }
     {
@@ -138,7 +148,8 @@ impl<'a> Cursor<'a> {
     /// A number of 16 bits without a sign, from `low` to `high`, under the context tag `number`.
     #[tactic(auto, unfolding(crate::specs::Reading::required_by))]
     pub fn required_u16_in(&mut self, number: u32, low: u16, high: u16) -> Result<u16, Unread>
-        ensures exact { RequiredGives (λ n. value.number (pos n)) (form.context number (form.integer (pos low) (pos high))) self.old self.new result }
+        ensures exact { RequiredGives (λ n. value.number (pos n))
+            (form.context number (form.integer (pos low) (pos high))) self.old self.new result }
         ensures kept { self.new.lengths ≡ self.old.lengths }
         ensures no_memory { NeedsNoMemory result }
     {
@@ -148,7 +159,8 @@ impl<'a> Cursor<'a> {
 
     /// A number of 16 bits without a sign under the context tag `number`.
     pub fn required_u16(&mut self, number: u32) -> Result<u16, Unread>
-        ensures exact { RequiredGives (λ n. value.number (pos n)) (form.context number form.unsigned16) self.old self.new result }
+        ensures exact { RequiredGives (λ n. value.number (pos n))
+            (form.context number form.unsigned16) self.old self.new result }
         ensures kept { self.new.lengths ≡ self.old.lengths }
         ensures no_memory { NeedsNoMemory result }
     {
@@ -157,7 +169,8 @@ impl<'a> Cursor<'a> {
 
     /// A number of 32 bits without a sign under the context tag `number`.
     pub fn required_u32(&mut self, number: u32) -> Result<u32, Unread>
-        ensures exact { RequiredGives (λ n. value.number (pos n)) (form.context number form.unsigned32) self.old self.new result }
+        ensures exact { RequiredGives (λ n. value.number (pos n))
+            (form.context number form.unsigned32) self.old self.new result }
         ensures kept { self.new.lengths ≡ self.old.lengths }
         ensures no_memory { NeedsNoMemory result }
     {
@@ -167,7 +180,8 @@ impl<'a> Cursor<'a> {
     /// A number of 32 bits without a sign under the universal tag of INTEGER.
     #[tactic(auto, unfolding(crate::specs::Reading::required_by))]
     pub fn required_universal_u32(&mut self) -> Result<u32, Unread>
-        ensures exact { RequiredGives (λ n. value.number (pos n)) (form.universal 2 form.unsigned32) self.old self.new result }
+        ensures exact { RequiredGives (λ n. value.number (pos n))
+            (form.universal 2 form.unsigned32) self.old self.new result }
         ensures kept { self.new.lengths ≡ self.old.lengths }
         ensures no_memory { NeedsNoMemory result }
     {
@@ -177,7 +191,8 @@ impl<'a> Cursor<'a> {
 
     /// A number of 8 bits with a sign under the context tag `number`, if it is there.
     pub fn optional_i8(&mut self, number: u32) -> Result<Option<i8>, Unread>
-        ensures exact { OptionalGives value.number (form.context number form.int8) self.old self.new result }
+        ensures exact { OptionalGives value.number
+            (form.context number form.int8) self.old self.new result }
         ensures kept { self.new.lengths ≡ self.old.lengths }
         ensures no_memory { NeedsNoMemory result }
     {
@@ -189,7 +204,8 @@ impl<'a> Cursor<'a> {
 
     /// A number of 16 bits with a sign under the context tag `number`, if it is there.
     pub fn optional_i16(&mut self, number: u32) -> Result<Option<i16>, Unread>
-        ensures exact { OptionalGives value.number (form.context number form.int16) self.old self.new result }
+        ensures exact { OptionalGives value.number
+            (form.context number form.int16) self.old self.new result }
         ensures kept { self.new.lengths ≡ self.old.lengths }
         ensures no_memory { NeedsNoMemory result }
     {
@@ -201,7 +217,8 @@ impl<'a> Cursor<'a> {
 
     /// A number of 32 bits with a sign under the context tag `number`, if it is there.
     pub fn optional_i32(&mut self, number: u32) -> Result<Option<i32>, Unread>
-        ensures exact { OptionalGives value.number (form.context number form.int32) self.old self.new result }
+        ensures exact { OptionalGives value.number
+            (form.context number form.int32) self.old self.new result }
         ensures kept { self.new.lengths ≡ self.old.lengths }
         ensures no_memory { NeedsNoMemory result }
     {
@@ -213,7 +230,8 @@ impl<'a> Cursor<'a> {
 
     /// A number of 8 bits without a sign under the context tag `number`, if it is there.
     pub fn optional_u8(&mut self, number: u32) -> Result<Option<u8>, Unread>
-        ensures exact { OptionalGives (λ n. value.number (pos n)) (form.context number form.unsigned8) self.old self.new result }
+        ensures exact { OptionalGives (λ n. value.number (pos n))
+            (form.context number form.unsigned8) self.old self.new result }
         ensures kept { self.new.lengths ≡ self.old.lengths }
         ensures no_memory { NeedsNoMemory result }
     {
@@ -225,7 +243,8 @@ impl<'a> Cursor<'a> {
 
     /// A number of 16 bits without a sign under the context tag `number`, if it is there.
     pub fn optional_u16(&mut self, number: u32) -> Result<Option<u16>, Unread>
-        ensures exact { OptionalGives (λ n. value.number (pos n)) (form.context number form.unsigned16) self.old self.new result }
+        ensures exact { OptionalGives (λ n. value.number (pos n))
+            (form.context number form.unsigned16) self.old self.new result }
         ensures kept { self.new.lengths ≡ self.old.lengths }
         ensures no_memory { NeedsNoMemory result }
     {
@@ -237,7 +256,8 @@ impl<'a> Cursor<'a> {
 
     /// A number of 32 bits without a sign under the context tag `number`, if it is there.
     pub fn optional_u32(&mut self, number: u32) -> Result<Option<u32>, Unread>
-        ensures exact { OptionalGives (λ n. value.number (pos n)) (form.context number form.unsigned32) self.old self.new result }
+        ensures exact { OptionalGives (λ n. value.number (pos n))
+            (form.context number form.unsigned32) self.old self.new result }
         ensures kept { self.new.lengths ≡ self.old.lengths }
         ensures no_memory { NeedsNoMemory result }
     {

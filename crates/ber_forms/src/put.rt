@@ -12,7 +12,8 @@ use ber_core::{Bits, Memory, Tag, Writer};
 /// A number under the context tag `number`.
 pub fn put_integer(out: &mut Writer, number: u32, n: i64) -> Result<(), Memory>
     requires { number < 16384 }
-    ensures ok { OnOk result (out.new ≡ out.old ++ member_octets (form.context number form.int64) (value.number n)) }
+    ensures ok { OnOk result (out.new
+        ≡ out.old ++ member_octets (form.context number form.int64) (value.number n)) }
     ensures err { OnErr result (out.new ≡ out.old) }
 {
     out.integer(Tag::primitive(number), n)
@@ -20,7 +21,8 @@ pub fn put_integer(out: &mut Writer, number: u32, n: i64) -> Result<(), Memory>
 
 /// A number under the universal tag of INTEGER.
 pub fn put_universal_integer(out: &mut Writer, n: i64) -> Result<(), Memory>
-    ensures ok { OnOk result (out.new ≡ out.old ++ member_octets (form.universal 2 form.int64) (value.number n)) }
+    ensures ok { OnOk result (out.new
+        ≡ out.old ++ member_octets (form.universal 2 form.int64) (value.number n)) }
     ensures err { OnErr result (out.new ≡ out.old) }
 {
     out.integer(
@@ -41,7 +43,9 @@ pub fn put_defaulted_integer(
     default: i64,
 ) -> Result<(), Memory>
     requires { number < 16384 }
-    ensures ok { OnOk result (out.new ≡ out.old ++ defaulted_octets (form.context number form.int64) (value.number default) (value.given (value.number n))) }
+    ensures ok { OnOk result (out.new
+        ≡ out.old ++ defaulted_octets (form.context number form.int64) (value.number default)
+        (value.given (value.number n))) }
     ensures err { OnErr result (out.new ≡ out.old) }
 {
     if n == default {
@@ -54,7 +58,9 @@ pub fn put_defaulted_integer(
 /// A number of 8 bits with a sign, if there is one.
 pub fn put_optional_i8(out: &mut Writer, number: u32, n: Option<i8>) -> Result<(), Memory>
     requires { number < 16384 }
-    ensures ok { OnOk result (out.new ≡ out.old ++ optional_octets (form.context number form.int8) (value.optionally value.number n)) }
+    ensures ok { OnOk result (out.new
+        ≡ out.old ++ optional_octets (form.context number form.int8)
+        (value.optionally value.number n)) }
     ensures err { OnErr result (out.new ≡ out.old) }
 {
     match n {
@@ -66,7 +72,9 @@ pub fn put_optional_i8(out: &mut Writer, number: u32, n: Option<i8>) -> Result<(
 /// A number of 16 bits with a sign, if there is one.
 pub fn put_optional_i16(out: &mut Writer, number: u32, n: Option<i16>) -> Result<(), Memory>
     requires { number < 16384 }
-    ensures ok { OnOk result (out.new ≡ out.old ++ optional_octets (form.context number form.int16) (value.optionally value.number n)) }
+    ensures ok { OnOk result (out.new
+        ≡ out.old ++ optional_octets (form.context number form.int16)
+        (value.optionally value.number n)) }
     ensures err { OnErr result (out.new ≡ out.old) }
 {
     match n {
@@ -78,7 +86,9 @@ pub fn put_optional_i16(out: &mut Writer, number: u32, n: Option<i16>) -> Result
 /// A number of 32 bits with a sign, if there is one.
 pub fn put_optional_i32(out: &mut Writer, number: u32, n: Option<i32>) -> Result<(), Memory>
     requires { number < 16384 }
-    ensures ok { OnOk result (out.new ≡ out.old ++ optional_octets (form.context number form.int32) (value.optionally value.number n)) }
+    ensures ok { OnOk result (out.new
+        ≡ out.old ++ optional_octets (form.context number form.int32)
+        (value.optionally value.number n)) }
     ensures err { OnErr result (out.new ≡ out.old) }
 {
     match n {
@@ -90,7 +100,9 @@ pub fn put_optional_i32(out: &mut Writer, number: u32, n: Option<i32>) -> Result
 /// A number of 8 bits without a sign, if there is one.
 pub fn put_optional_u8(out: &mut Writer, number: u32, n: Option<u8>) -> Result<(), Memory>
     requires { number < 16384 }
-    ensures ok { OnOk result (out.new ≡ out.old ++ optional_octets (form.context number form.unsigned8) (value.optionally (λ k. value.number (pos k)) n)) }
+    ensures ok { OnOk result (out.new
+        ≡ out.old ++ optional_octets (form.context number form.unsigned8)
+        (value.optionally (λ k. value.number (pos k)) n)) }
     ensures err { OnErr result (out.new ≡ out.old) }
 {
     match n {
@@ -102,7 +114,9 @@ pub fn put_optional_u8(out: &mut Writer, number: u32, n: Option<u8>) -> Result<(
 /// A number of 16 bits without a sign, if there is one.
 pub fn put_optional_u16(out: &mut Writer, number: u32, n: Option<u16>) -> Result<(), Memory>
     requires { number < 16384 }
-    ensures ok { OnOk result (out.new ≡ out.old ++ optional_octets (form.context number form.unsigned16) (value.optionally (λ k. value.number (pos k)) n)) }
+    ensures ok { OnOk result (out.new
+        ≡ out.old ++ optional_octets (form.context number form.unsigned16)
+        (value.optionally (λ k. value.number (pos k)) n)) }
     ensures err { OnErr result (out.new ≡ out.old) }
 {
     match n {
@@ -114,7 +128,9 @@ pub fn put_optional_u16(out: &mut Writer, number: u32, n: Option<u16>) -> Result
 /// A number of 32 bits without a sign, if there is one.
 pub fn put_optional_u32(out: &mut Writer, number: u32, n: Option<u32>) -> Result<(), Memory>
     requires { number < 16384 }
-    ensures ok { OnOk result (out.new ≡ out.old ++ optional_octets (form.context number form.unsigned32) (value.optionally (λ k. value.number (pos k)) n)) }
+    ensures ok { OnOk result (out.new
+        ≡ out.old ++ optional_octets (form.context number form.unsigned32)
+        (value.optionally (λ k. value.number (pos k)) n)) }
     ensures err { OnErr result (out.new ≡ out.old) }
 {
     match n {
@@ -126,7 +142,8 @@ pub fn put_optional_u32(out: &mut Writer, number: u32, n: Option<u32>) -> Result
 /// A truth value: TRUE is FF (ITU-T X.690, 11.1).
 pub fn put_boolean(out: &mut Writer, number: u32, b: bool) -> Result<(), Memory>
     requires { number < 16384 }
-    ensures ok { OnOk result (out.new ≡ out.old ++ member_octets (form.context number form.boolean) (value.truth b)) }
+    ensures ok { OnOk result (out.new
+        ≡ out.old ++ member_octets (form.context number form.boolean) (value.truth b)) }
     ensures err { OnErr result (out.new ≡ out.old) }
 {
     let octet = if b { 255 } else { 0 };
@@ -136,7 +153,9 @@ pub fn put_boolean(out: &mut Writer, number: u32, b: bool) -> Result<(), Memory>
 /// A truth value, if there is one.
 pub fn put_optional_boolean(out: &mut Writer, number: u32, b: Option<bool>) -> Result<(), Memory>
     requires { number < 16384 }
-    ensures ok { OnOk result (out.new ≡ out.old ++ optional_octets (form.context number form.boolean) (value.optionally value.truth b)) }
+    ensures ok { OnOk result (out.new
+        ≡ out.old ++ optional_octets (form.context number form.boolean)
+        (value.optionally value.truth b)) }
     ensures err { OnErr result (out.new ≡ out.old) }
 {
     match b {
@@ -153,7 +172,9 @@ pub fn put_defaulted_boolean(
     default: bool,
 ) -> Result<(), Memory>
     requires { number < 16384 }
-    ensures ok { OnOk result (out.new ≡ out.old ++ defaulted_octets (form.context number form.boolean) (value.truth default) (value.given (value.truth b))) }
+    ensures ok { OnOk result (out.new
+        ≡ out.old ++ defaulted_octets (form.context number form.boolean) (value.truth default)
+        (value.given (value.truth b))) }
     ensures err { OnErr result (out.new ≡ out.old) }
 {
     if b == default {
@@ -166,7 +187,8 @@ pub fn put_defaulted_boolean(
 /// NULL.
 pub fn put_null(out: &mut Writer, number: u32) -> Result<(), Memory>
     requires { number < 16384 }
-    ensures ok { OnOk result (out.new ≡ out.old ++ member_octets (form.context number form.null) value.nothing) }
+    ensures ok { OnOk result (out.new
+        ≡ out.old ++ member_octets (form.context number form.null) value.nothing) }
     ensures err { OnErr result (out.new ≡ out.old) }
 {
     out.element(Tag::primitive(number), &[])
@@ -175,7 +197,9 @@ pub fn put_null(out: &mut Writer, number: u32) -> Result<(), Memory>
 /// Octets, as an OCTET STRING or another string.
 pub fn put_octets(out: &mut Writer, number: u32, octets: &[u8]) -> Result<(), Memory>
     requires { number < 16384 }
-    ensures ok { OnOk result (out.new ≡ out.old ++ member_octets (form.context number (form.octet_string form.any_octets)) (value.text octets.now)) }
+    ensures ok { OnOk result (out.new
+        ≡ out.old ++ member_octets (form.context number (form.octet_string form.any_octets))
+        (value.text octets.now)) }
     ensures err { OnErr result (out.new ≡ out.old) }
 {
     out.element(Tag::primitive(number), octets)
@@ -188,7 +212,9 @@ pub fn put_optional_octets(
     octets: Option<&[u8]>,
 ) -> Result<(), Memory>
     requires { number < 16384 }
-    ensures ok { OnOk result (out.new ≡ out.old ++ optional_octets (form.context number (form.octet_string form.any_octets)) (value.optionally (λ s. value.text s.now) octets.entry)) }
+    ensures ok { OnOk result (out.new
+        ≡ out.old ++ optional_octets (form.context number (form.octet_string form.any_octets))
+        (value.optionally (λ s. value.text s.now) octets.entry)) }
     ensures err { OnErr result (out.new ≡ out.old) }
 {
     match octets {
@@ -211,7 +237,9 @@ fn put_bits(out: &mut Writer, bits: Bits<'_>) -> Result<(), Memory>
 #[tactic(auto, using(crate::proofs::Joined::writing))]
 pub fn put_bit_string(out: &mut Writer, number: u32, bits: Bits<'_>) -> Result<(), Memory>
     requires { number < 16384 }
-    ensures ok { OnOk result (out.new ≡ out.old ++ member_octets (form.context number form.bit_string) (value.bits bits.entry.unused bits.entry.octets.now)) }
+    ensures ok { OnOk result (out.new
+        ≡ out.old ++ member_octets (form.context number form.bit_string)
+        (value.bits bits.entry.unused bits.entry.octets.now)) }
     ensures err { OnErr result (out.new ≡ out.old) }
 {
     let since = out.len();
@@ -247,7 +275,8 @@ pub fn enclose(
     requires since { since ≤ length out.old }
     requires class { tag.class < 4 }
     requires number { tag.number < 16384 }
-    ensures ok { OnOk result (out.new ≡ take since out.old ++ element_octets tag (drop since out.old)) }
+    ensures ok { OnOk result (out.new
+        ≡ take since out.old ++ element_octets tag (drop since out.old)) }
     ensures written { OnOk result (written ≡ Ok tt) }
     ensures err { OnErr result (out.new ≡ take since out.old) }
 {

@@ -1,5 +1,5 @@
 -- PDUs by which a client asks: what is spelled is heard as what it says, and says nothing else.
-use Rattle.std.proofs.Common.{◌≡◌, ℕ, pos, ◌<◌, ◌^◌, Bool, true, false, List, ◌++◌, length, Result, Ok, refl, sym, ap, subst, ◌∙◌, arith}
+use Rattle.std.proofs.Common.{◌≡◌, ℕ, ◌<◌, ◌^◌, Bool, true, false, List, ◌++◌, length, Result, Ok, refl, sym, ap, subst, ◌∙◌}
 use Rattle.std.specs.Prelude.{IsTrue, ◌==◌, ◌||◌}
 use Rattle.ber_core.specs.declared.element.Lengths.{Lengths}
 use Rattle.ber_forms.specs.Value.{Value, chosen}

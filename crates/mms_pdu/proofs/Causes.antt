@@ -15,7 +15,7 @@ use Rattle.ber_forms.specs.Form.{Alternatives, choice, universal, unsigned32}
 use Rattle.ber_forms.specs.Reading.{◌>>=◌, is_tag, next_at, part_at, if_tag, optional_part, at_end, chosen_by, reading, alternatives, required_at}
 use Rattle.ber_forms.specs.InForm.{IsMember, IsAlternative}
 use Rattle.ber_forms.specs.TooDeep.{IsAlternativeTooDeep}
-use Rattle.ber_forms.proofs.Sound.{fine_is, bound, end_is, Cut, part_sound, next_sound, member_sound, alternatives_sound, bytes_right}
+use Rattle.ber_forms.proofs.Sound.{fine_is, bound, end_is, Cut, part_sound, next_sound, member_sound}
 use Rattle.ber_forms.proofs.Complete.{next_again, part_again, end_again, member_complete, reading_complete}
 use Rattle.ber_forms.proofs.Deep.{reading_deep}
 use Rattle.ber_forms.proofs.DeepAgain.{deep_again}

@@ -1,6 +1,6 @@
 -- The refusal that is told is that of the first cause that holds.
-use Rattle.std.proofs.Common.{◌≡◌, ◌≢◌, ℕ, ◌⊎◌, inl, inr, Bool, true, false, cond, eqb, List, Option, Some, None, Result, Ok, Err, refl, sym, ap, subst, ◌∙◌}
-use Rattle.std.specs.Prelude.{IsTrue, []}
+use Rattle.std.proofs.Common.{◌≡◌, ◌≢◌, ℕ, inl, inr, Bool, true, false, cond, eqb, List, Option, Some, None, Result, Ok, Err, refl, sym, ap, subst, ◌∙◌}
+use Rattle.std.specs.Prelude.{[]}
 use Rattle.ber_core.specs.declared.element.Lengths.{Lengths}
 use Rattle.ber_core.specs.Part.{Part}
 use Rattle.ber_core.specs.Element.{IsElement}
@@ -9,7 +9,7 @@ use Rattle.ber_forms.specs.Fault.{Fault}
 use Rattle.ber_forms.specs.Fault as fault
 use Rattle.ber_forms.specs.Value.{Value, nothing, text, chosen}
 use Rattle.ber_forms.specs.Form.{Form, Alternatives, no_other, or, choice}
-use Rattle.ber_forms.specs.Reading.{◌>>=◌, is_tag, is_constructed, has_tag, reading, alternatives}
+use Rattle.ber_forms.specs.Reading.{◌>>=◌, is_tag, has_tag, reading, alternatives}
 use Rattle.ber_forms.specs.ByNumber.{has_number, form_at, read_as}
 use Rattle.ber_forms.specs.InForm.{InForm, IsAlternative}
 use Rattle.ber_forms.proofs.Sound.{fine_is, alternatives_sound}

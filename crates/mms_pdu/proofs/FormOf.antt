@@ -7,7 +7,7 @@ use Rattle.ber_core.specs.Part.{Part}
 use Rattle.ber_core.proofs.Elements.{IsBytes}
 use Rattle.ber_forms.specs.Fault.{Fault}
 use Rattle.ber_forms.specs.Fault as fault
-use Rattle.ber_forms.specs.Value.{Value, nothing, number, chosen, parts, optionally, given, done, slot}
+use Rattle.ber_forms.specs.Value.{Value, nothing, number, chosen, parts, given, done, slot}
 use Rattle.ber_forms.specs.Form.{Form, Alternatives, choice, universal, unsigned32}
 use Rattle.ber_forms.specs.Reading.{◌>>=◌, is_tag, has_tag, next_at, part_at, if_tag, optional_part, at_end, chosen_by, reading, alternatives, required_at}
 use Rattle.ber_forms.specs.InForm.{InForm}

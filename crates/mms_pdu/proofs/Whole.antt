@@ -4,7 +4,6 @@ use Rattle.std.specs.Prelude.{nat_le}
 use Rattle.std.proofs.lemmas.Bool.{eqb-true, eq-eqb}
 use Rattle.ber_forms.specs.ByNumber.{has_number, form_at, read_as}
 use Rattle.ber_forms.proofs.Numbered.{tag_class, other_number, sound_distinct, by_number}
-use Rattle.ber_core.specs.declared.element.Tag.{Tag}
 use Rattle.ber_core.specs.declared.element.Lengths.{Lengths}
 use Rattle.ber_core.specs.Part.{Part}
 use Rattle.ber_forms.specs.Fault.{Fault}

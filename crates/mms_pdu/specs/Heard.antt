@@ -1,11 +1,11 @@
 -- The PDU that a client's octets are (ISO 9506-2, MMSpdu), or the first refusal that applies.
 use Rattle.std.specs.Prelude.{ℕ, List, Result, Ok, Err}
-use Rattle.ber_forms.specs.Value.{Value, nothing, chosen}
+use Rattle.ber_forms.specs.Value.{Value, chosen}
 use Rattle.mms_types.specs.declared.identifier.Edition.{Edition}
 use Rattle.mms_types.specs.declared.pdu.Pdu.{Pdu}
 use Rattle.mms_types.specs.declared.pdu.Pdu.TheVariants as pdu
 use Rattle.pdu_names.specs.Editions.{lengths_of}
-use Rattle.pdu_names.specs.Kinds.{Arms, or, made_of}
+use Rattle.pdu_names.specs.Kinds.{Arms, or}
 use Rattle.mms_pdu.specs.declared.refusal.Refusal.{Refusal}
 use Rattle.mms_pdu.specs.Pdus.{heard_reject, whole_arms}
 use Rattle.mms_pdu.specs.Hearing.{heard}

@@ -4,7 +4,6 @@ use Rattle.ber_forms.specs.Value.{Value, nothing, chosen}
 use Rattle.ber_forms.specs.Form as asn
 use Rattle.ber_forms.specs.Form.{Alternatives}
 use Rattle.ber_forms.specs.Spelling.{alternative_octets}
-use Rattle.mms_types.specs.declared.identifier.Edition.{Edition}
 use Rattle.mms_types.specs.declared.pdu.Request.{Request}
 use Rattle.mms_types.specs.declared.pdu.Answer.{Answer}
 use Rattle.mms_types.specs.declared.pdu.Pdu.{Pdu}

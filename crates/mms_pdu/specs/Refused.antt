@@ -2,7 +2,6 @@
 -- order is this profile's choice).
 use Rattle.std.specs.Prelude.{◌≡◌, ◌≢◌, ◌⊎◌, ℕ, pos, true, false, IsTrue, List, [], ◌∷◌, Result, Err}
 use Rattle.ber_core.specs.declared.element.Lengths.{Lengths}
-use Rattle.ber_core.specs.declared.element.Tag.{Tag}
 use Rattle.ber_core.specs.Part.{Part}
 use Rattle.ber_core.specs.Element.{IsElement, IsCut}
 use Rattle.ber_forms.specs.Value.{Value, number}

@@ -15,18 +15,26 @@ ghost use Rattle.mms_pdu.specs.Asking.{IsAsking};
 /// heard as such a PDU is of its form. All other PDUs that are heard are a reject, under the number 4, and those of
 /// which nothing is kept.
 pub fn hears_each_form()
-    ensures heard { (lengths : Lengths) (edition : Edition) (c : List ℕ) (v : Value) → InForm lengths (choice (whole_pdus edition)) c v → heard lengths edition c ≡ Ok v }
-    ensures only { (lengths : Lengths) (edition : Edition) (c : List ℕ) (n : ℕ) (w : Value) → ((i : ℕ) → slice_index c i < 256) → n ≢ 4
-        → heard lengths edition c ≡ Ok (chosen n w) → InForm lengths (choice (whole_pdus edition)) c (chosen n w) }
+    ensures heard { (lengths : Lengths) (edition : Edition) (c : List ℕ) (v : Value)
+        → InForm lengths (choice (whole_pdus edition)) c v → heard lengths edition c ≡ Ok v }
+    ensures only { (lengths : Lengths) (edition : Edition) (c : List ℕ) (n : ℕ) (w : Value)
+        → ((i : ℕ) → slice_index c i < 256) → n ≢ 4
+        → heard lengths edition c ≡ Ok (chosen n w)
+        → InForm lengths (choice (whole_pdus edition)) c (chosen n w) }
 {}
 
 /// Of each edition, a confirmed-Request without modifiers, a cancel-Request, an initiate-Request and a
 /// conclude-Request have one spelling each, which is heard as what was spelled and as nothing else. None of these
 /// spellings begins another.
 pub fn spells_each_asking()
-    ensures heard { (lengths : Lengths) (edition : Edition) (p : Pdu) → IsAsking edition p → length (pdu_octets p) < 2 ^ 64 → heard lengths edition (pdu_octets p) ≡ Ok (pdu_value p) }
-    ensures only { (lengths : Lengths) (edition : Edition) (p q : Pdu) → IsAsking edition p → length (pdu_octets p) < 2 ^ 64 → heard lengths edition (pdu_octets p) ≡ Ok (pdu_value q) → p ≡ q }
-    ensures one { (edition : Edition) (p q : Pdu) → IsAsking edition p → IsAsking edition q → length (pdu_octets p) < 2 ^ 64 → pdu_octets p ≡ pdu_octets q → p ≡ q }
-    ensures whole { (edition : Edition) (p q : Pdu) (a b : List ℕ) → IsAsking edition p → IsAsking edition q → length (pdu_octets p) < 2 ^ 64 → length (pdu_octets q) < 2 ^ 64
+    ensures heard { (lengths : Lengths) (edition : Edition) (p : Pdu) → IsAsking edition p
+        → length (pdu_octets p) < 2 ^ 64 → heard lengths edition (pdu_octets p) ≡ Ok (pdu_value p) }
+    ensures only { (lengths : Lengths) (edition : Edition) (p q : Pdu) → IsAsking edition p
+        → length (pdu_octets p) < 2 ^ 64 → heard lengths edition (pdu_octets p) ≡ Ok (pdu_value q)
+        → p ≡ q }
+    ensures one { (edition : Edition) (p q : Pdu) → IsAsking edition p → IsAsking edition q
+        → length (pdu_octets p) < 2 ^ 64 → pdu_octets p ≡ pdu_octets q → p ≡ q }
+    ensures whole { (edition : Edition) (p q : Pdu) (a b : List ℕ) → IsAsking edition p
+        → IsAsking edition q → length (pdu_octets p) < 2 ^ 64 → length (pdu_octets q) < 2 ^ 64
         → pdu_octets p ++ a ≡ pdu_octets q ++ b → pdu_octets p ≡ pdu_octets q }
 {}

@@ -29,7 +29,8 @@ pub struct Read {
 
 /// The PDU of the element, of a kind that is kept, but for confirmed-Request and reject.
 fn kept_pdu(alloc: Global, element: Element<'_>, edition: Edition) -> Result<Pdu, Unread>
-    ensures told { Gives pdu_value result (alternatives (lengths_of edition) (kept_pdus edition) (part element.entry)) }
+    ensures told { Gives pdu_value result
+        (alternatives (lengths_of edition) (kept_pdus edition) (part element.entry)) }
     ensures client { IfOk result IsHeard }
 {
     let Element { tag, contents } = element;
@@ -80,7 +81,9 @@ fn invalid(unread: Unread) -> Refusal
 
 /// What the contents of a confirmed-Request are.
 fn confirmed(alloc: Global, contents: &[u8], edition: Edition) -> Result<Pdu, Refusal>
-    ensures told { Hears pdu_value result (and_then (valid (asked_at (lengths_of edition) contents.now)) (request_told (lengths_of edition) edition)) }
+    ensures told { Hears pdu_value result
+        (and_then (valid (asked_at (lengths_of edition) contents.now))
+        (request_told (lengths_of edition) edition)) }
     ensures client { IfOk result IsHeard }
 {
     match asked(contents, edition) {
@@ -103,7 +106,8 @@ fn rejected(alloc: Global, contents: &[u8], edition: Edition) -> Result<Pdu, Ref
 
 /// What an element of another kind is.
 fn other(alloc: Global, element: Element<'_>, edition: Edition) -> Result<Pdu, Refusal>
-    ensures told { Hears pdu_value result (valid (alternatives (lengths_of edition) (kept_pdus edition) (part element.entry))) }
+    ensures told { Hears pdu_value result
+        (valid (alternatives (lengths_of edition) (kept_pdus edition) (part element.entry))) }
     ensures client { IfOk result IsHeard }
 {
     match kept_pdu(alloc, element, edition) {
@@ -115,7 +119,8 @@ fn other(alloc: Global, element: Element<'_>, edition: Edition) -> Result<Pdu, R
 /// What an element is.
 #[tactic(auto, unfolding(crate::specs::Hearing::part_told))]
 fn element(alloc: Global, element: Element<'_>, edition: Edition) -> Result<Pdu, Refusal>
-    ensures told { Hears pdu_value result (part_told (lengths_of edition) edition (part element.entry)) }
+    ensures told { Hears pdu_value result
+        (part_told (lengths_of edition) edition (part element.entry)) }
     ensures client { IfOk result IsHeard }
 {
     let tag = element.tag;
@@ -150,7 +155,8 @@ fn whole(alloc: Global, octets: &[u8], edition: Edition) -> Result<Pdu, Refusal>
 /// a request, and names and texts of an answer, are copied.
 #[tactic(auto, using(crate::proofs::HeardAgain::pdu_again))]
 pub fn read_pdu(alloc: Global, octets: &[u8], edition: Edition) -> Result<Read, Refusal>
-    ensures heard { Hears (λ r. pdu_value r.pdu) result (heard (lengths_of edition) edition octets.now) }
+    ensures heard { Hears (λ r. pdu_value r.pdu) result
+        (heard (lengths_of edition) edition octets.now) }
     ensures pdu { Hears (λ r. r.pdu) result (pdu_heard edition octets.now) }
     ensures refused { RefusesFirst (lengths_of edition) edition octets.now result }
     ensures client { IfOk result (λ r. IsHeard r.pdu) }

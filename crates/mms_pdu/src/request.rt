@@ -49,7 +49,8 @@ fn service(element: Element<'_>) -> Result<Element<'_>, Unread>
 /// What the contents of a confirmed-Request ask for: its invokeID, whether it has a list of modifiers, and the service.
 #[tactic(auto, unfolding(crate::specs::Hearing::asked_at))]
 pub(crate) fn asked(contents: &[u8], edition: Edition) -> Result<(u32, bool, Element<'_>), Unread>
-    ensures exact { Gives (λ a. asking a.0 a.1 (part a.2)) result (asked_at (lengths_of edition) contents.now) }
+    ensures exact { Gives (λ a. asking a.0 a.1 (part a.2)) result
+        (asked_at (lengths_of edition) contents.now) }
     ensures no_memory { NeedsNoMemory result }
 {
     let mut parts = cursor(edition, contents);
@@ -71,7 +72,9 @@ fn argument<F: Formed>(
     service: Element<'_>,
     edition: Edition,
 ) -> Result<F::Item, Refusal>
-    ensures { Hears (λ x. chosen service.entry.tag.number (F.kind.value x)) result (argued invoke (read_as (lengths_of edition) (part service.entry) (Some (F.kind.form edition)))) }
+    ensures { Hears (λ x. chosen service.entry.tag.number (F.kind.value x)) result
+        (argued invoke (read_as (lengths_of edition) (part service.entry)
+        (Some (F.kind.form edition)))) }
 {
     match read_as::<F>(alloc, service, edition) {
         Ok(found) => Ok(found),
@@ -89,7 +92,9 @@ fn served(
     service: Element<'_>,
     edition: Edition,
 ) -> Result<Request, Refusal>
-    ensures { Hears requests.value result (served (lengths_of edition) invoke (part service.entry) (form_at service.entry.tag.number (requests.alternatives edition))) }
+    ensures { Hears requests.value result
+        (served (lengths_of edition) invoke (part service.entry)
+        (form_at service.entry.tag.number (requests.alternatives edition))) }
 {
     match service.tag.number {
         0 => Ok(Request::Status(argument::<StatusRequest>(alloc, invoke, service, edition)?)),
@@ -113,7 +118,8 @@ pub(crate) fn request(
     service: Element<'_>,
     edition: Edition,
 ) -> Result<Pdu, Refusal>
-    ensures told { Hears pdu_value result (request_told (lengths_of edition) edition (asking invoke modified (part service.entry))) }
+    ensures told { Hears pdu_value result
+        (request_told (lengths_of edition) edition (asking invoke modified (part service.entry))) }
     ensures client { IfOk result IsHeard }
 {
     if modified {
@@ -126,7 +132,9 @@ pub(crate) fn request(
 /// Appends the service with its argument, or nothing where memory runs out.
 #[tactic(auto, unfolding(crate::specs::Services::requests))]
 pub(crate) fn put_argument(out: &mut Writer, request: &Request) -> Result<(), Full>
-    ensures ok { OnOk result (out.new ≡ out.old ++ alternative_octets (requests.alternatives widest) (requests.value request.now)) }
+    ensures ok { OnOk result (out.new
+        ≡ out.old ++ alternative_octets (requests.alternatives widest)
+        (requests.value request.now)) }
     ensures err { OnErr result (out.new ≡ out.old) }
 {
     match request {

@@ -19,7 +19,9 @@ use std::alloc::Global;
 /// The answer of the service of that number.
 #[tactic(auto, unfolding(crate::specs::Services::answers))]
 fn answered(alloc: Global, service: Element<'_>, edition: Edition) -> Result<Answer, Unread>
-    ensures { Gives answers.value result (read_as (lengths_of edition) (part service.entry) (form_at service.entry.tag.number (answers.alternatives edition))) }
+    ensures { Gives answers.value result
+        (read_as (lengths_of edition) (part service.entry)
+        (form_at service.entry.tag.number (answers.alternatives edition))) }
 {
     match service.tag.number {
         0 => Ok(Answer::Status(read_as::<StatusResponse>(alloc, service, edition)?)),

@@ -26,7 +26,9 @@ use std::alloc::Global;
 fn hear_from(alloc: Global, held: &mut Hand<Cell>, client: u32, octets: &[u8]) -> Result<(), Memory>
     requires small { client ≤ 64 }
     requires held { IsClient (held_at held.old (client_place client)) }
-    ensures heard { OnOk result (held.new ≡ change (option_map (on_client (λ row. row_heard row octets.now))) held.old (client_place client)) }
+    ensures heard { OnOk result (held.new
+        ≡ change (option_map (on_client (λ row. row_heard row octets.now))) held.old
+        (client_place client)) }
     ensures kept { OnErr result (held.new ≡ held.old) }
 {
     let place = BEFORE_CLIENTS + client;
@@ -45,7 +47,9 @@ fn hear_from(alloc: Global, held: &mut Hand<Cell>, client: u32, octets: &[u8]) -
 fn lose(held: &mut Hand<Cell>, client: u32)
     requires small { client ≤ 64 }
     requires held { IsClient (held_at held.old (client_place client)) }
-    ensures { held.new ≡ change (option_map (on_client (λ row. felt_all (loss_told row.association) row))) held.old (client_place client) }
+    ensures { held.new ≡ change (option_map
+        (on_client (λ row. felt_all (loss_told row.association) row))) held.old
+        (client_place client) }
 {
     let place = BEFORE_CLIENTS + client;
     let Some(mut part) = held.take(place) else {
@@ -79,9 +83,11 @@ pub fn drain(client: u32, held: &mut Hand<Cell>) -> Vec<What>
     requires small { client ≤ 64 }
     requires held { IsClient (held_at held.old (client_place client)) }
     ensures outputs { result.items ≡ outbox_held (held_at held.old (client_place client)) }
-    ensures emptied { held.new ≡ change (option_map (on_client drained_row)) held.old (client_place client) }
+    ensures emptied { held.new ≡ change (option_map (on_client drained_row)) held.old
+        (client_place client) }
     // Of a state that has that client, they are then the parts after the event.
-    ensures parts { (s : State) → IsHandOf held.old (parts_of s) → IsAmong (length s.clients) (Drain client) → held.new ≡ after (Drain client) held.old }
+    ensures parts { (s : State) → IsHandOf held.old (parts_of s)
+        → IsAmong (length s.clients) (Drain client) → held.new ≡ after (Drain client) held.old }
 {
     let place = BEFORE_CLIENTS + client;
     let Some(mut part) = held.take(place) else {
@@ -103,7 +109,8 @@ pub fn apply(alloc: Global, event: &CellEvent, held: &mut Hand<Cell>) -> Result<
     requires held { need event.now held.old ≡ [] }
     requires time { IsInTime (clock_in (held_at held.old 0)) event.now }
     // They are then parts of the state after the step, whichever state they were parts of.
-    ensures step { OnOk result ((s : State) → IsHandOf held.old (parts_of s) → IsHandOf held.new (parts_of (step s event.now))) }
+    ensures step { OnOk result ((s : State) → IsHandOf held.old (parts_of s)
+        → IsHandOf held.new (parts_of (step s event.now))) }
     ensures parts { OnOk result (held.new ≡ after event.now held.old) }
     ensures places { places_held held.new ≡ places_held held.old }
     ensures kept { OnErr result (held.new ≡ held.old) }

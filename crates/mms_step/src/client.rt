@@ -98,7 +98,8 @@ impl Client {
 
     /// Negotiates a proposal.
     fn negotiate(&mut self, alloc: Global, proposal: &Initiate) -> Result<(), Memory>
-        ensures negotiated { OnOk result (self.new ≡ settled (felt_all (negotiated (negotiation proposal.now)) self.old.row)) }
+        ensures negotiated { OnOk result
+            (self.new ≡ settled (felt_all (negotiated (negotiation proposal.now)) self.old.row)) }
         ensures kept { OnErr result (self.new ≡ self.old) }
     {
         match outcome_of(proposal) {
@@ -115,7 +116,8 @@ impl Client {
 
     /// Tells the client something.
     fn say(&mut self, alloc: Global, said: &Said<'_>) -> Result<(), Memory>
-        ensures told { OnOk result (self.new ≡ settled (felt_all (effects_of said.now) self.old.row)) }
+        ensures told { OnOk result (self.new
+            ≡ settled (felt_all (effects_of said.now) self.old.row)) }
         ensures kept { OnErr result (self.new ≡ self.old) }
     {
         match *said {
@@ -160,7 +162,8 @@ impl Client {
         invoke: u32,
         answer: Answer,
     ) -> Result<(), Memory>
-        ensures sent { OnOk result (self.new ≡ settled (felt_all (request_told size invoke None (Some answer)) self.old.row)) }
+        ensures sent { OnOk result (self.new
+            ≡ settled (felt_all (request_told size invoke None (Some answer)) self.old.row)) }
         ensures kept { OnErr result (self.new ≡ self.old) }
     {
         let response = Pdu::ConfirmedResponse { invoke, answer };
@@ -175,7 +178,8 @@ impl Client {
 
     /// Serves a confirmed request, or refuses it.
     fn serve(&mut self, alloc: Global, invoke: u32, asked: &Request) -> Result<(), Memory>
-        ensures served { OnOk result (self.new ≡ settled (row_after (Takes invoke asked.now) self.old.row)) }
+        ensures served { OnOk result (self.new
+            ≡ settled (row_after (Takes invoke asked.now) self.old.row)) }
         ensures kept { OnErr result (self.new ≡ self.old) }
     {
         if let Some(refusal) = cause(&self.part, asked) {
@@ -187,7 +191,8 @@ impl Client {
 
     /// Grants a conclusion: the client is lost.
     fn conclude(&mut self, alloc: Global) -> Result<(), Memory>
-        ensures concluded { OnOk result (self.new ≡ settled (felt_all conclusion_told self.old.row)) }
+        ensures concluded { OnOk result
+            (self.new ≡ settled (felt_all conclusion_told self.old.row)) }
         ensures kept { OnErr result (self.new ≡ self.old) }
     {
         self.send(alloc, &Pdu::ConcludeResponse)?;
@@ -197,7 +202,8 @@ impl Client {
 
     /// Cancels a request that waits.
     fn cancel(&mut self, alloc: Global, invoke: u32) -> Result<(), Memory>
-        ensures cancelled { OnOk result (self.new ≡ settled (felt_all (cancel_told invoke) self.old.row)) }
+        ensures cancelled { OnOk result
+            (self.new ≡ settled (felt_all (cancel_told invoke) self.old.row)) }
         ensures kept { OnErr result (self.new ≡ self.old) }
     {
         let cancelled = self.spelled(alloc, &Pdu::CancelResponse { invoke })?;
@@ -226,7 +232,8 @@ impl Client {
 
     /// Lets the client be told what its octets come to. Without memory all stays as it was.
     fn act(&mut self, alloc: Global, found: &Found<'_>) -> Result<(), Memory>
-        ensures heard { OnOk result (self.new ≡ settled (row_after (meant found.now) self.old.row)) }
+        ensures heard { OnOk result (self.new
+            ≡ settled (row_after (meant found.now) self.old.row)) }
         ensures kept { OnErr result (self.new ≡ self.old) }
     {
         match *found {

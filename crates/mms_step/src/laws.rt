@@ -17,25 +17,33 @@ ghost use Rattle.mms_step.specs.After.{parts_after};
 /// held parts alone determine what becomes of them, and every part that is not held stays as it is. With parts of one state, more held parts show at least
 /// as much.
 pub fn a_step_is_of_the_held_parts()
-    ensures parts { (s : State) (event : CellEvent) → IsAmong (length s.clients) event → parts_of (step s event) ≡ parts_after event (parts_of s) }
-    ensures determined { (s t : State) (hand : List (Option Part)) (event : CellEvent) (place : ℕ) → IsHandOf hand (parts_of s) → IsHandOf hand (parts_of t)
+    ensures parts { (s : State) (event : CellEvent) → IsAmong (length s.clients) event
+        → parts_of (step s event) ≡ parts_after event (parts_of s) }
+    ensures determined { (s t : State) (hand : List (Option Part)) (event : CellEvent) (place : ℕ)
+        → IsHandOf hand (parts_of s) → IsHandOf hand (parts_of t)
         → IsAmong (length s.clients) event → need event hand ≡ [] → is_held hand place ≡ true
         → slice_get (parts_of (step s event)) place ≡ slice_get (parts_of (step t event)) place }
-    ensures others { (s : State) (hand : List (Option Part)) (event : CellEvent) (place : ℕ) → IsHandOf hand (parts_of s)
+    ensures others { (s : State) (hand : List (Option Part)) (event : CellEvent) (place : ℕ)
+        → IsHandOf hand (parts_of s)
         → IsAmong (length s.clients) event → need event hand ≡ [] → held_at hand place ≡ None
         → slice_get (parts_of (step s event)) place ≡ slice_get (parts_of s) place }
-    ensures more { (s : State) (hand larger : List (Option Part)) (event : CellEvent) (place : ℕ) → IsHandOf hand (parts_of s) → IsHandOf larger (parts_of s)
-        → ((other : ℕ) → is_held hand other ≡ true → is_held larger other ≡ true) → Contains (shown event hand) place → Contains (shown event larger) place }
+    ensures more { (s : State) (hand larger : List (Option Part)) (event : CellEvent) (place : ℕ)
+        → IsHandOf hand (parts_of s) → IsHandOf larger (parts_of s)
+        → ((other : ℕ) → is_held hand other ≡ true → is_held larger other ≡ true)
+        → Contains (shown event hand) place → Contains (shown event larger) place }
 {}
 
 /// Every state is sound that the device reaches from its start: its clients are as many as they were. Where the events are some that may come, its moment is one
 /// that six octets name.
 pub fn each_state_is_sound()
-    ensures sound { (config : Config) (history : List CellEvent) → IsConfig config → IsSound (replay config history) }
-    ensures dated { (config : Config) (history : List CellEvent) → IsConfig config → MayFollow (start config) history → HasDate (replay config history) }
+    ensures sound { (config : Config) (history : List CellEvent) → IsConfig config
+        → IsSound (replay config history) }
+    ensures dated { (config : Config) (history : List CellEvent) → IsConfig config
+        → MayFollow (start config) history → HasDate (replay config history) }
 {}
 
 /// Where all parts of a state are held, no event that may come needs more.
 pub fn all_parts_are_enough()
-    ensures { (s : State) (event : CellEvent) → IsAmong (length s.clients) event → need event (map Some (parts_of s)) ≡ [] }
+    ensures { (s : State) (event : CellEvent) → IsAmong (length s.clients) event
+        → need event (map Some (parts_of s)) ≡ [] }
 {}

@@ -26,7 +26,8 @@ fn device(alloc: Global, config: &Config) -> Result<Constants, Memory>
 
 /// Appends a part.
 fn put(alloc: Global, parts: &mut Vec<Box<Part>>, part: Part) -> Result<(), Memory>
-    ensures { OnOk result (map box_value parts.new.items ≡ map box_value parts.old.items ++ part ∷ []) }
+    ensures { OnOk result (map box_value parts.new.items
+        ≡ map box_value parts.old.items ++ part ∷ []) }
 {
     parts.push(Box::new(alloc, part)?)?;
     Ok(())

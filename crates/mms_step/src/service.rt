@@ -37,7 +37,8 @@ pub(crate) fn cause(part: &ClientPart, asked: &Request) -> Option<ServiceError>
 
 /// The answer to a request that is not refused. No class has a name yet.
 pub(crate) fn answer_to(alloc: Global, part: &ClientPart, asked: &Request) -> Result<Answer, Memory>
-    ensures { IfOk result (λ answer. (effect no_tables part.now.row asked.now).answer ≡ Some answer) }
+    ensures { IfOk result (λ answer. (effect no_tables part.now.row asked.now).answer
+        ≡ Some answer) }
 {
     match asked {
         Request::Status(_) => Ok(Answer::Status(StatusAnswer {

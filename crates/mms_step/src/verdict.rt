@@ -59,7 +59,8 @@ pub(crate) enum Found<'a> {
 
 /// A request is rejected.
 fn rejected<'a>(invoke: u32, reason: RejectReason) -> Found<'a>
-    ensures { result ≡ Found.Tells (Said.Reject (record { invoke = Some invoke; reason = reason })) }
+    ensures { result ≡ Found.Tells
+        (Said.Reject (record { invoke = Some invoke; reason = reason })) }
 {
     Found::Tells(Said::Reject(Reject {
         invoke: Some(invoke),
@@ -90,7 +91,8 @@ fn asked<'a>(
     invoke: u32,
     request: &'a Request,
 ) -> Found<'a>
-    ensures { meant result ≡ requested (nat_lt values.now.nesting depth) part.now.row invoke request.now }
+    ensures { meant result ≡ requested
+        (nat_lt values.now.nesting depth) part.now.row invoke request.now }
 {
     if depth > values.nesting {
         return rejected(invoke, RejectReason::MaxRecursionExceeded);
@@ -133,7 +135,8 @@ fn open<'a>(
     read: &'a Result<Read, Refusal>,
 ) -> Result<Found<'a>, Memory>
     requires depth { IsDeep read.now }
-    ensures { IfOk result (λ found. meant found ≡ open_verdict values.now part.now.row (pdu_read read.now)) }
+    ensures { IfOk result (λ found. meant found
+        ≡ open_verdict values.now part.now.row (pdu_read read.now)) }
 {
     let read = match read {
         Err(refusal) => return Ok(Found::Tells(Said::Reject(reject_for(*refusal)?))),
@@ -162,7 +165,8 @@ pub(crate) fn verdict_of<'a>(
     read: &'a Result<Read, Refusal>,
 ) -> Result<Found<'a>, Memory>
     requires depth { IsDeep read.now }
-    ensures { IfOk result (λ found. meant found ≡ verdict_by part.now.row.association part.now.row (pdu_read read.now)) }
+    ensures { IfOk result (λ found. meant found
+        ≡ verdict_by part.now.row.association part.now.row (pdu_read read.now)) }
 {
     match part.negotiated() {
         None => Ok(idle(read)),

@@ -20,25 +20,31 @@ pub fn keys_stand_in_order(a: &Key, b: &Key)
 
 /// Each error that the server answers has the class and the code of the table.
 pub fn errors_have_their_numbers()
-    ensures domain_transfer_problem { ServiceError.DOMAIN_TRANSFER_PROBLEM ≡ errors.domain_transfer_problem }
+    ensures domain_transfer_problem { ServiceError.DOMAIN_TRANSFER_PROBLEM
+        ≡ errors.domain_transfer_problem }
     ensures object_undefined { ServiceError.OBJECT_UNDEFINED ≡ errors.object_undefined }
     ensures invalid_address { ServiceError.INVALID_ADDRESS ≡ errors.invalid_address }
     ensures type_inconsistent { ServiceError.TYPE_INCONSISTENT ≡ errors.type_inconsistent }
     ensures object_exists { ServiceError.OBJECT_EXISTS ≡ errors.object_exists }
-    ensures capability_unavailable { ServiceError.CAPABILITY_UNAVAILABLE ≡ errors.capability_unavailable }
+    ensures capability_unavailable { ServiceError.CAPABILITY_UNAVAILABLE
+        ≡ errors.capability_unavailable }
     ensures other { ServiceError.OTHER ≡ errors.other }
-    ensures object_state_conflict { ServiceError.OBJECT_STATE_CONFLICT ≡ errors.object_state_conflict }
-    ensures object_constraint_conflict { ServiceError.OBJECT_CONSTRAINT_CONFLICT ≡ errors.object_constraint_conflict }
+    ensures object_state_conflict { ServiceError.OBJECT_STATE_CONFLICT
+        ≡ errors.object_state_conflict }
+    ensures object_constraint_conflict { ServiceError.OBJECT_CONSTRAINT_CONFLICT
+        ≡ errors.object_constraint_conflict }
     ensures timeout { ServiceError.TIMEOUT ≡ errors.timeout }
     ensures cancel { ServiceError.CANCEL ≡ errors.cancel }
     ensures object_non_existent { ServiceError.OBJECT_NON_EXISTENT ≡ errors.object_non_existent }
     ensures object_access_denied { ServiceError.OBJECT_ACCESS_DENIED ≡ errors.object_access_denied }
     ensures version_incompatible { ServiceError.VERSION_INCOMPATIBLE ≡ errors.version_incompatible }
-    ensures max_segment_insufficient { ServiceError.MAX_SEGMENT_INSUFFICIENT ≡ errors.max_segment_insufficient }
+    ensures max_segment_insufficient { ServiceError.MAX_SEGMENT_INSUFFICIENT
+        ≡ errors.max_segment_insufficient }
     ensures calling_insufficient { ServiceError.CALLING_INSUFFICIENT ≡ errors.calling_insufficient }
     ensures called_insufficient { ServiceError.CALLED_INSUFFICIENT ≡ errors.called_insufficient }
     ensures nesting_insufficient { ServiceError.NESTING_INSUFFICIENT ≡ errors.nesting_insufficient }
-    ensures further_communication_required { ServiceError.FURTHER_COMMUNICATION_REQUIRED ≡ errors.further_communication_required }
+    ensures further_communication_required { ServiceError.FURTHER_COMMUNICATION_REQUIRED
+        ≡ errors.further_communication_required }
     ensures invoke_id_unknown { ServiceError.INVOKE_ID_UNKNOWN ≡ errors.invoke_id_unknown }
 {}
 
@@ -57,7 +63,8 @@ pub fn options_have_their_numbers()
     ensures unsolicited_status { ServiceOptions.UNSOLICITED_STATUS ≡ bits.unsolicited_status }
     ensures information_report { ServiceOptions.INFORMATION_REPORT ≡ bits.information_report }
     ensures event_notification { ServiceOptions.EVENT_NOTIFICATION ≡ bits.event_notification }
-    ensures attach_to_event_condition { ServiceOptions.ATTACH_TO_EVENT_CONDITION ≡ bits.attach_to_event_condition }
+    ensures attach_to_event_condition { ServiceOptions.ATTACH_TO_EVENT_CONDITION
+        ≡ bits.attach_to_event_condition }
     ensures attach_to_semaphore { ServiceOptions.ATTACH_TO_SEMAPHORE ≡ bits.attach_to_semaphore }
     ensures conclude { ServiceOptions.CONCLUDE ≡ bits.conclude }
     ensures cancel { ServiceOptions.CANCEL ≡ bits.cancel }

@@ -26,7 +26,8 @@ fn is_one_of(number: u32, first: u8, count: u8) -> bool
 
 /// The tag is a primitive context tag with one of these numbers.
 fn is_numbered(tag: Tag, first: u8, count: u8) -> bool
-    ensures { IsTrue result ↔ ((tag.class ≡ 2) × (tag.constructed ≡ false) × IsOneOf first count tag.number) }
+    ensures { IsTrue result ↔ ((tag.class ≡ 2) × (tag.constructed ≡ false)
+        × IsOneOf first count tag.number) }
 {
     tag.class == 2 && !tag.constructed && is_one_of(tag.number, first, count)
 }
@@ -39,7 +40,8 @@ fn numbered(
     count: u8,
 ) -> Result<(u8, u8), Unread>
     requires { first + count ≤ 255 }
-    ensures exact { Gives (λ x. code_value x.0 x.1) result (alternatives (lengths_of edition) (numbered first count unsigned8) (part element.entry)) }
+    ensures exact { Gives (λ x. code_value x.0 x.1) result
+        (alternatives (lengths_of edition) (numbered first count unsigned8) (part element.entry)) }
     ensures no_memory { NeedsNoMemory result }
 {
     let tag = element.tag;
@@ -59,7 +61,9 @@ fn put_numbered(
     code: u8,
 ) -> Result<(), Full>
     requires { first + count ≤ 255 }
-    ensures ok { OnOk result (out.new ≡ out.old ++ alternative_octets (numbered first count unsigned8) (code_value alternative code)) }
+    ensures ok { OnOk result (out.new
+        ≡ out.old ++ alternative_octets (numbered first count unsigned8)
+        (code_value alternative code)) }
     ensures err { OnErr result (out.new ≡ out.old) }
 {
     if is_one_of(u32::from(alternative), first, count) {

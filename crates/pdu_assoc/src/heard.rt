@@ -43,9 +43,11 @@ impl Formed for HeardErrors {
 }
 
 fn reject(alloc: Global, contents: &[u8], edition: Edition) -> Result<Option<u32>, Unread>
-    ensures exact { Gives (λ _. nothing) result (reading (lengths_of edition) heard_reject_form contents.now) }
+    ensures exact { Gives (λ _. nothing) result
+        (reading (lengths_of edition) heard_reject_form contents.now) }
     ensures no_memory { NeedsNoMemory result }
-    ensures invoke { IfOk result (λ invoke. invoke ≡ answered (reading (lengths_of edition) (heard_error.form edition) contents.now)) }
+    ensures invoke { IfOk result (λ invoke. invoke
+        ≡ answered (reading (lengths_of edition) (heard_error.form edition) contents.now)) }
 {
     cursor(edition, contents).elements()?;
     match HeardErrors::read(alloc, contents, edition) {
@@ -61,10 +63,13 @@ pub fn read_heard_reject(
     contents: &[u8],
     edition: Edition,
 ) -> Result<Option<u32>, Unread>
-    ensures exact { Gives (λ _. nothing) result (reading (lengths_of edition) heard_reject_form contents.now) }
-    ensures reads { Reads (lengths_of edition) heard_reject_form (λ _. nothing) contents.now result }
+    ensures exact { Gives (λ _. nothing) result
+        (reading (lengths_of edition) heard_reject_form contents.now) }
+    ensures reads { Reads (lengths_of edition) heard_reject_form
+        (λ _. nothing) contents.now result }
     ensures no_memory { NeedsNoMemory result }
-    ensures invoke { IfOk result (λ invoke. invoke ≡ answered (reading (lengths_of edition) (heard_error.form edition) contents.now)) }
+    ensures invoke { IfOk result (λ invoke. invoke
+        ≡ answered (reading (lengths_of edition) (heard_error.form edition) contents.now)) }
 {
     reject(alloc, contents, edition)
 }

@@ -1,5 +1,4 @@
 -- What holds of each kind.
-use Rattle.std.proofs.Common.{◌≡◌}
 use Rattle.std.specs.Prelude.{IsTrue}
 use Rattle.ber_forms.specs.Fits.{is_sound}
 use Rattle.mms_types.specs.declared.identifier.Edition.{Edition}

@@ -1,8 +1,8 @@
 -- A form that is sound, whose views fit it and tell what they are of, is lawful.
-use Rattle.std.proofs.Common.{Option, Some, None, List, [], ◌∷◌, map, refl, ◌≡◌, ℕ, ◌<◌, sym, ap, ap₂, ◌∙◌}
+use Rattle.std.proofs.Common.{◌≡◌, ℕ, ◌<◌, sym, ap, ◌∙◌}
 use Rattle.std.specs.Prelude.{IsTrue}
 use Rattle.std.proofs.lemmas.Bool.{lt-ltb}
-use Rattle.ber_forms.specs.Value.{Value, optionally, all_of}
+use Rattle.ber_forms.specs.Value.{Value}
 use Rattle.ber_forms.specs.Form.{Form, tagged}
 use Rattle.ber_forms.specs.Fits.{Fits, is_sound, sound_member}
 use Rattle.ber_forms.proofs.Spelled.{form_spelled}

@@ -1,9 +1,9 @@
 -- Forms that spell each value alike.
-use Rattle.std.proofs.Common.{◌≡◌, ℕ, Bool, true, false, cond, List, [], ◌++◌, refl, ap, ap₂, ◌∙◌}
+use Rattle.std.proofs.Common.{◌≡◌, ℕ, Bool, List, [], ◌++◌, refl, ap, ap₂, ◌∙◌}
 use Rattle.std.specs.Prelude.{if◌then◌else◌, ◌==◌}
 use Rattle.ber_core.specs.Spelling.{element_octets}
-use Rattle.ber_forms.specs.Value.{Value, Slot, Slots, nothing, truth, number, bits, text, chosen, parts, missing, given, done, slot}
-use Rattle.ber_forms.specs.Form.{Form, Member, Components, Alternatives, AtDefault, left_out, written, tagged, one_of, required, optional, defaulted, skipped, octet_string, sequence, choice, list_of, such_that, or}
+use Rattle.ber_forms.specs.Value.{Value, Slot, Slots, text, chosen, parts, missing, given, done, slot}
+use Rattle.ber_forms.specs.Form.{Form, Member, Components, Alternatives, AtDefault, left_out, written, tagged, required, optional, defaulted, skipped, octet_string, sequence, choice, list_of, such_that, or}
 use Rattle.ber_forms.specs.Reading.{is_constructed}
 use Rattle.ber_forms.specs.Spelling.{tag_of, spelling, member_octets, slot_octets, unless_default, default_octets, each_octets, is_default, component_octets, alternative_octets}
 

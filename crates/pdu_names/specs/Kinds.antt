@@ -1,6 +1,6 @@
 -- Kinds of values: each with its form in every edition, what a value of it says in the form, and what is said back. The words are those of
 -- ber_forms' forms: a component also names its field.
-use Rattle.std.specs.Prelude.{◌≡◌, ℕ, ℤ, pos, negsuc, Bool, true, List, [], Option, map, ◌==◌, if◌then◌else◌}
+use Rattle.std.specs.Prelude.{◌≡◌, ℕ, ℤ, pos, negsuc, Bool, List, Option, map, ◌==◌, if◌then◌else◌}
 use Rattle.std.proofs.Common.{refl, ap, ◌∙◌}
 use Rattle.ber_forms.specs.Value.{Value, Slot, Slots, nothing, truth, number, bits, text, chosen, parts, missing, given, done, slot, optionally, all_of}
 use Rattle.ber_forms.specs.Bits.{unused_for}

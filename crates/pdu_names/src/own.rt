@@ -64,12 +64,14 @@ pub trait Chosen {
     /// What the element is. Malformed or TooDeep exactly where the choice's reading is, and Memory where memory runs
     /// out.
     fn of(alloc: Global, element: Element<'_>, edition: Edition) -> Result<Self::Item, Unread>
-        ensures exact { Gives arms.value result (alternatives (lengths_of edition) (arms.alternatives edition) (part element.entry)) }
+        ensures exact { Gives arms.value result
+            (alternatives (lengths_of edition) (arms.alternatives edition) (part element.entry)) }
         ensures no_memory { IsTrue needs_no_memory → NeedsNoMemory result };
 
     /// Appends the element chosen, or nothing where memory runs out.
     fn put_chosen(out: &mut Writer, x: &Self::Item) -> Result<(), Full>
-        ensures ok { OnOk result (out.new ≡ out.old ++ alternative_octets (arms.alternatives widest) (arms.value x.now)) }
+        ensures ok { OnOk result (out.new
+            ≡ out.old ++ alternative_octets (arms.alternatives widest) (arms.value x.now)) }
         ensures err { OnErr result (out.new ≡ out.old) };
 
     ghost sound: { (edition : Edition) → IsTrue (sound_alternatives (arms.alternatives edition)) };
@@ -136,7 +138,8 @@ pub fn read_as<F: Formed>(
     element: Element<'_>,
     edition: Edition,
 ) -> Result<F::Item, Unread>
-    ensures exact { Gives (λ x. chosen element.entry.tag.number (F.kind.value x)) result (read_as (lengths_of edition) (part element.entry) (Some (F.kind.form edition))) }
+    ensures exact { Gives (λ x. chosen element.entry.tag.number (F.kind.value x)) result
+        (read_as (lengths_of edition) (part element.entry) (Some (F.kind.form edition))) }
     ensures no_memory { IsTrue F.needs_no_memory → NeedsNoMemory result }
 {
     let want = Tag {
@@ -157,7 +160,9 @@ pub fn read_each<T: Own>(
     contents: &[u8],
     edition: Edition,
 ) -> Result<Vec<T::Item>, Unread>
-    ensures { Gives (λ v. map T.item.value v.items) result (members_by (required_at (lengths_of edition) (T.item.member edition)) (length contents.now) contents.now) }
+    ensures { Gives (λ v. map T.item.value v.items) result
+        (members_by (required_at (lengths_of edition) (T.item.member edition))
+        (length contents.now) contents.now) }
 {
     let mut found = Vec::new(alloc);
     let mut parts = cursor(edition, contents);
@@ -170,7 +175,9 @@ pub fn read_each<T: Own>(
 /// Appends the members in order. Where memory runs out, some of them may be appended.
 #[tactic(auto, using(ber_forms::proofs::Joined::begins_more, ber_forms::proofs::Joined::begins_itself))]
 pub fn put_each<T: Own>(out: &mut Writer, items: &[T::Item]) -> Result<(), Full>
-    ensures ok { OnOk result (out.new ≡ out.old ++ each_octets (member_octets (T.item.member widest)) (all_of (map T.item.value items.now))) }
+    ensures ok { OnOk result (out.new
+        ≡ out.old ++ each_octets (member_octets (T.item.member widest))
+        (all_of (map T.item.value items.now))) }
     ensures begins { Begins out.old out.new }
 {
     for item in items {

@@ -65,7 +65,8 @@ pub fn put_optional<F: Formed>(
     x: Option<&F::Item>,
 ) -> Result<(), Full>
     requires { number < 16384 }
-    ensures ok { PutsIfThere (context number F.kind) (option_copied x.entry) out.old out.new result }
+    ensures ok { PutsIfThere (context number F.kind)
+        (option_copied x.entry) out.old out.new result }
     ensures err { OnErr result (out.new ≡ out.old) }
 {
     match x {

@@ -21,7 +21,8 @@ pub fn read_form<F: Formed>(
     edition: Edition,
 ) -> Result<F::Item, Unread>
     ensures exact { GivesContents F.kind edition contents.now result }
-    ensures reads { Reads (lengths_of edition) (F.kind.form edition) F.kind.value contents.now result }
+    ensures reads { Reads (lengths_of edition)
+        (F.kind.form edition) F.kind.value contents.now result }
     ensures no_memory { IsTrue F.needs_no_memory → NeedsNoMemory result }
 {
     F::read(alloc, contents, edition)
@@ -40,7 +41,8 @@ pub fn as_memory(written: Result<(), Full>) -> Result<(), Memory>
 /// Appends the one spelling, as contents, or nothing where memory runs out.
 #[tactic(auto, using(ber_forms::proofs::Joined::writing))]
 pub fn write_form<F: Formed>(out: &mut Writer, x: &F::Item) -> Result<(), Memory>
-    ensures ok { OnOk result (out.new ≡ out.old ++ spelling (F.kind.form widest) (F.kind.value x.now)) }
+    ensures ok { OnOk result (out.new
+        ≡ out.old ++ spelling (F.kind.form widest) (F.kind.value x.now)) }
     ensures err { OnErr result (out.new ≡ out.old) }
 {
     let since = out.len();

@@ -1,5 +1,4 @@
 use Rattle.std.proofs.Common.{map, length}
-use Rattle.mms_types.specs.declared.identifier.Edition.{Edition}
 use Rattle.pdu_names.specs.Editions.{lengths_of}
 use Rattle.ber_forms.proofs.Loop.{ReadSoFar}
 use Rattle.pdu_names.proofs.own.read_each.Given as goal
