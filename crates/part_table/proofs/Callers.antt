@@ -34,3 +34,20 @@ module _ {T E : Type 0} where
               ∙ ap {A = List (ℕ × E)} {B = Known T E} (λ s. record old { seen = s }) (sym seen),
           (starts.0, seen ∙ starts.1 ∙ ap (λ (p : Known T E). p.seen ++ starts.0) took),
         )
+
+  -- a part was not to be had, the history was seen, and all that was held was given back
+  pub given_after_loss : (old took saw given : Known T E) (parts : ℕ) (lost : List (ℕ × ℕ))
+      → took ≡ record old { lost = took.lost; taken = took.taken; hand = took.hand } → saw ≡ record took { seen = saw.seen }
+      → given ≡ record saw { taken = nothing parts; hand = nothing parts } → old.taken ≡ nothing parts → old.hand ≡ nothing parts → took.lost ≡ lost
+      → given ≡ record old { seen = given.seen; lost = lost }
+  given_after_loss old took saw given parts lost took_is saw_is given_is free free_hand lost_is =
+      let saw_all : saw ≡ record old { seen = saw.seen; lost = took.lost; taken = took.taken; hand = took.hand } =
+      saw_is ∙ ap {A = Known T E} {B = Known T E} (λ p. record p { seen = saw.seen }) took_is in
+      let all : given ≡ record old { seen = saw.seen; lost = took.lost; taken = nothing parts; hand = nothing parts } =
+      given_is ∙ ap {A = Known T E} {B = Known T E} (λ p. record p { taken = nothing parts; hand = nothing parts }) saw_all in
+      let seen : given.seen ≡ saw.seen = ap (λ (p : Known T E). p.seen) all in
+      all
+      ∙ ap {A = List (ℕ × E)} {B = Known T E} (λ h. record old { seen = h; lost = took.lost; taken = nothing parts; hand = nothing parts }) (sym seen)
+      ∙ ap {A = List (ℕ × ℕ)} {B = Known T E} (λ l. record old { seen = given.seen; lost = l; taken = nothing parts; hand = nothing parts }) lost_is
+      ∙ ap {A = List (Option T)} {B = Known T E} (λ t. record old { seen = given.seen; lost = lost; taken = t; hand = nothing parts }) (sym free)
+      ∙ ap {A = List (Option T)} {B = Known T E} (λ t. record old { seen = given.seen; lost = lost; hand = t }) (sym free_hand)

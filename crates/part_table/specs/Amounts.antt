@@ -1,7 +1,7 @@
 -- An example: an object whose parts are numbers, of which an event moves an amount from one to another. Where one of the two is odd, the amount goes to the third part, so that
 -- which parts an event touches depends on their numbers.
 use Rattle.std.specs.Prelude.{◌≡◌, ◌⊎◌, ℕ, ◌+◌, ◌-◌, ◌%◌, ◌^◌, Bool, true, false, not, ◌&&◌, ◌||◌, ◌==◌, nat_le, nat_lt, if◌then◌else◌, Option, Some, List, [], ◌∷◌, slice_index, slice_set, refl}
-use Rattle.std.proofs.Common.{sym, ap, ◌∙◌}
+use Rattle.std.proofs.Common.{sym, ap, ◌∙◌, inl, inr}
 use native.Mathlib.Decide.{ℕ_discrete}
 use Rattle.std.proofs.lemmas.Option.{get_or_from_slice_get}
 use Rattle.part_table.specs.declared.example.Move.{Move}
@@ -46,9 +46,15 @@ moved_in_hand move hand = transferred_in_hand hand move.from (target_in_hand mov
 abbrev pub holds_touched : Move → List (Option ℕ) → Type 0
 holds_touched move hand = IsHeld hand move.from × IsHeld hand move.to × IsHeld hand (target_in_hand move hand)
 
--- a part that a move may touch
-abbrev pub MayTouch : Move → ℕ → Type 0
-MayTouch move part = (part ≡ move.from) ⊎ ((part ≡ move.to) ⊎ (part ≡ 2))
+-- a part that a move touches, where the numbers are these: the two that it names, and the one to which the amount goes
+abbrev pub IsTouched : Move → List ℕ → ℕ → Type 0
+IsTouched move numbers part =
+    (part ≡ move.from) ⊎ ((part ≡ move.to) ⊎ (part ≡ target (slice_index numbers move.from) (slice_index numbers move.to) move.to))
+
+-- the same, as far as the numbers that are held show it
+abbrev pub IsShown : Move → List (Option ℕ) → ℕ → Type 0
+IsShown move hand part =
+    (part ≡ move.from) ⊎ ((part ≡ move.to) ⊎ (IsHeld hand move.from × IsHeld hand move.to × (part ≡ target_in_hand move hand)))
 
 -- these are passes of a table, none holding a part, in the order of their numbers from one on
 abbrev pub AreInOrder : {E : Type 0} → Opened ℕ → ℕ → List (Known ℕ E) → Type 0
@@ -100,6 +106,16 @@ transfer_is_laid_over hand numbers from to amount a b of same other =
     by : (c : Bool) (x y : ℕ) → (if c then slice_set (slice_set numbers from x) to y else numbers) ≡ laid_over (if c then slice_set (slice_set hand from (Some x)) to (Some y) else hand) numbers
     by true x y = two_laid hand numbers from to x y of
     by false x y = sym of.values
+
+-- a part that held numbers show to be touched is touched, whatever the others are
+pub shown_is_touched : (move : Move) (hand : List (Option ℕ)) (numbers : List ℕ) (part : ℕ) → IsHandOf hand numbers → IsShown move hand part
+    → IsTouched move numbers part
+shown_is_touched move hand numbers part of (inl named) = inl named
+shown_is_touched move hand numbers part of (inr (inl named)) = inr (inl named)
+shown_is_touched move hand numbers part of (inr (inr third)) =
+    inr (inr (third.2
+    ∙ ap (λ n. target n (number_at hand move.to) move.to) (sym (number_there hand numbers move.from of third.0))
+    ∙ ap (λ n. target (slice_index numbers move.from) n move.to) (sym (number_there hand numbers move.to of third.1))))
 
 pub move_is_laid_over : (move : Move) (hand : List (Option ℕ)) (numbers : List ℕ) → IsHandOf hand numbers → holds_touched move hand → moved move numbers ≡ laid_over (moved_in_hand move hand) numbers
 move_is_laid_over move hand numbers of touched =

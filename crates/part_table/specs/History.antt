@@ -26,6 +26,11 @@ module _ {E : Type 0} where
   abbrev pub places_of : ℕ → List (ℕ × E) → List ℕ
   places_of caller history = places_from 1 caller history
 
+  -- the events of a history that a caller made, in order
+  abbrev pub events_of : ℕ → List (ℕ × E) → List E
+  events_of caller [] = []
+  events_of caller (made ∷ history) = if made.0 == caller then made.1 ∷ events_of caller history else events_of caller history
+
   -- each place names a caller of a lower number, who may make its event
   abbrev pub IsMade : ℕ → (ℕ → E → Type 0) → List (ℕ × E) → Type 0
   IsMade callers may_make [] = Unit {0}

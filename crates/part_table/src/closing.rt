@@ -36,7 +36,8 @@ fn seat_of<O: Object>(pass: Pass<O>) -> PartSeat<O>
 fn join_all<O: Object>(table: &Slots<O>, mut passes: Vec<Pass<O>>) -> PartSeat<O>
     requires words { 0 < table.now.shared.table_id.words }
     requires some { 0 < length passes.items }
-    requires idle { (i : ℕ) (p : Known O.Part O.Event) → slice_get passes.items i ≡ Some p → (p.table.id ≡ table.now.shared.table_id) × ((part : ℕ) → held_at p.taken part ≡ None) }
+    requires idle { (i : ℕ) (p : Known O.Part O.Event) → slice_get passes.items i ≡ Some p
+        → (p.table.id ≡ table.now.shared.table_id) × ((part : ℕ) → held_at p.taken part ≡ None) }
     ensures table { result.table_id ≡ table.now.shared.table_id }
     ensures joined { HasJoined result.me passes.items }
 {
@@ -82,8 +83,11 @@ impl<O: Object> PartTable<O> {
         passes: Vec<Pass<O>>,
     ) -> Result<Vec<Box<O::Part>>, Unclosed<O>>
         requires all { AreAllIdle self passes.items }
-        ensures parts { IfOk result (λ parts. (history : List (ℕ × O.Event)) × IsLongest O.may_make self.callers passes.items history × (map box_value parts.items ≡ replayed O.step self.opening history)) }
-        ensures back { IfErr result (λ back. (back.table ≡ self) × (back.passes.items ≡ passes.items)) }
+        ensures parts { IfOk result (λ parts. (history : List (ℕ × O.Event))
+            × IsLongest O.may_make self.callers passes.items history
+            × (map box_value parts.items ≡ replayed O.step self.opening history)) }
+        ensures back { IfErr result (λ back. (back.table ≡ self)
+            × (back.passes.items ≡ passes.items)) }
     {
         let Ok(parts) = Vec::with_capacity(alloc, self.table.slot_count()) else {
             return Err(Unclosed {

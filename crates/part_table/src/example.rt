@@ -1,9 +1,9 @@
 //! An example of an object in parts, and of callers of its table. The parts are numbers, and an event
 //! moves an amount between two parts that it names. A part whose number is odd adds the third part
 //! to what the event touches, so that a caller learns what it has to take while it holds parts.
-ghost use Rattle.std.specs.Prelude.{◌≡◌, ◌≢◌, ◌+◌, ◌-◌, ◌^◌, ◌<◌, ◌≤◌, ◌++◌, ◌∷◌, ◌⊎◌, [], true, ℕ, List, None, Some, IfOk, IfErr, is_some, length, map, slice_get, slice_set};
+ghost use Rattle.std.specs.Prelude.{◌≡◌, ◌≢◌, ◌+◌, ◌-◌, ◌^◌, ◌<◌, ◌≤◌, ◌++◌, ◌∷◌, ◌⊎◌, [], true, ℕ, List, None, Some, IfOk, IfErr, OnErr, is_some, length, map, slice_get, slice_set};
 ghost use Rattle.std.specs.List.{range_with_len};
-ghost use Rattle.part_table.specs.Amounts.{MayTouch, can_move, holds_touched, moved, moved_in_hand, target};
+ghost use Rattle.part_table.specs.Amounts.{IsShown, IsTouched, can_move, holds_touched, moved, moved_in_hand, target, target_in_hand};
 ghost use Rattle.part_table.specs.Held.{held_at};
 ghost use Rattle.part_table.specs.History.{StartsWith, replayed};
 ghost use Rattle.part_table.specs.Known.{HoldsNothing, newcomer, nothing};
@@ -64,8 +64,10 @@ pub fn table_of(
     requires numbers { (1 ≤ length numbers.now) × (length numbers.now ≤ 256) }
     requires callers { (1 ≤ callers) × (callers ≤ 65) }
     requires quota { quota ≤ 2 ^ 40 }
-    ensures table { IfOk result (λ made. (made.0.opening ≡ numbers.now) × (made.0.callers ≡ callers) × (made.0.quota ≡ quota)) }
-    ensures passes { IfOk result (λ made. made.1.items ≡ map (newcomer made.0) (range_with_len 0 callers)) }
+    ensures table { IfOk result (λ made. (made.0.opening ≡ numbers.now) × (made.0.callers ≡ callers)
+        × (made.0.quota ≡ quota)) }
+    ensures passes { IfOk result (λ made. made.1.items
+        ≡ map (newcomer made.0) (range_with_len 0 callers)) }
 {
     let mut parts = Vec::with_capacity(alloc, numbers.len())?;
     for number in numbers {
@@ -84,9 +86,12 @@ pub fn visit(table: &PartTable<Amounts>, pass: &mut Pass<Amounts>, part: u32) ->
     requires hand { pass.old.hand ≡ pass.old.taken }
     requires part { part < length table.now.opening }
     requires free { held_at pass.old.taken part ≡ None }
-    ensures number { IfOk result (λ number. slice_get (replayed moved table.now.opening pass.new.seen) part ≡ Some number) }
-    ensures seen { IfOk result (λ _. (pass.new ≡ record pass.old { seen = pass.new.seen }) × StartsWith pass.new.seen pass.old.seen) }
-    ensures lost { IfErr result (λ held. (held.by ≢ pass.old.by) × (pass.new ≡ record pass.old { lost = pass.old.lost ++ (part, held.by) ∷ [] })) }
+    ensures number { IfOk result (λ number. slice_get
+        (replayed moved table.now.opening pass.new.seen) part ≡ Some number) }
+    ensures seen { IfOk result (λ _. (pass.new ≡ record pass.old { seen = pass.new.seen })
+        × StartsWith pass.new.seen pass.old.seen) }
+    ensures lost { IfErr result (λ held. (held.by ≢ pass.old.by)
+        × (pass.new ≡ record pass.old { lost = pass.old.lost ++ (part, held.by) ∷ [] })) }
 {
     a_pass_has_a_place_for_each_part(pass);
     table.try_take(pass, part)?;
@@ -106,11 +111,15 @@ pub fn take(table: &PartTable<Amounts>, pass: &mut Pass<Amounts>, part: u32) -> 
     requires table { pass.old.table ≡ table.now }
     requires hand { pass.old.hand ≡ pass.old.taken }
     requires part { part < length table.now.opening }
-    ensures held { IfOk result (λ _. (is_some (held_at pass.new.taken part) ≡ true) × (pass.new.lost ≡ pass.old.lost)) }
-    ensures lost { IfErr result (λ held. (held.by ≢ pass.old.by) × (pass.new ≡ record pass.old { lost = pass.old.lost ++ (part, held.by) ∷ [] })) }
-    ensures others { (i : ℕ) (x : ℕ) → held_at pass.old.taken i ≡ Some x → held_at pass.new.taken i ≡ Some x }
+    ensures held { IfOk result (λ _. (is_some (held_at pass.new.taken part) ≡ true)
+        × (pass.new.lost ≡ pass.old.lost)) }
+    ensures lost { IfErr result (λ held. (held.by ≢ pass.old.by)
+        × (pass.new ≡ record pass.old { lost = pass.old.lost ++ (part, held.by) ∷ [] })) }
+    ensures others { (i : ℕ) (x : ℕ) → held_at pass.old.taken i ≡ Some x
+        → held_at pass.new.taken i ≡ Some x }
     ensures hand { pass.new.hand ≡ pass.new.taken }
-    ensures kept { pass.new ≡ record pass.old { lost = pass.new.lost; taken = pass.new.taken; hand = pass.new.hand } }
+    ensures kept { pass.new ≡ record pass.old
+        { lost = pass.new.lost; taken = pass.new.taken; hand = pass.new.hand } }
 {
     if pass.hand().holds(part) {
         return Ok(());
@@ -191,11 +200,18 @@ fn take_target(
     requires parts { (2 < length table.now.opening) × (event.now.to < length table.now.opening) }
     requires source { is_some (held_at pass.old.taken event.now.from) ≡ true }
     requires named { is_some (held_at pass.old.taken event.now.to) ≡ true }
-    ensures touched { IfOk result (λ _. holds_touched event.now pass.new.taken × (pass.new.lost ≡ pass.old.lost)) }
-    ensures lost { IfErr result (λ held. (held.by ≢ pass.old.by) × ((part : ℕ) × MayTouch event.now part × (pass.new.lost ≡ pass.old.lost ++ (part, held.by) ∷ []))) }
-    ensures others { (i : ℕ) (x : ℕ) → held_at pass.old.taken i ≡ Some x → held_at pass.new.taken i ≡ Some x }
+    ensures touched { IfOk result (λ _. holds_touched event.now pass.new.taken
+        × (pass.new.lost ≡ pass.old.lost)) }
+    ensures lost { IfErr result (λ held. (held.by ≢ pass.old.by)
+        × (pass.new ≡ record pass.old {
+          lost = pass.old.lost
+              ++ (target_in_hand event.now pass.old.taken, held.by) ∷ [];
+        })) }
+    ensures others { (i : ℕ) (x : ℕ) → held_at pass.old.taken i ≡ Some x
+        → held_at pass.new.taken i ≡ Some x }
     ensures hand { pass.new.hand ≡ pass.new.taken }
-    ensures kept { pass.new ≡ record pass.old { lost = pass.new.lost; taken = pass.new.taken; hand = pass.new.hand } }
+    ensures kept { pass.new ≡ record pass.old
+        { lost = pass.new.lost; taken = pass.new.taken; hand = pass.new.hand } }
 {
     let Some(a) = pass.hand().get(event.from).copied() else {
         unreachable!()
@@ -218,12 +234,18 @@ pub fn take_touched(
 ) -> Result<(), Held>
     requires table { pass.old.table ≡ table.now }
     requires hand { pass.old.hand ≡ pass.old.taken }
-    requires parts { (2 < length table.now.opening) × (event.now.from < length table.now.opening) × (event.now.to < length table.now.opening) }
-    ensures touched { IfOk result (λ _. holds_touched event.now pass.new.taken × (pass.new.lost ≡ pass.old.lost)) }
-    ensures lost { IfErr result (λ held. (held.by ≢ pass.old.by) × ((part : ℕ) × MayTouch event.now part × (pass.new.lost ≡ pass.old.lost ++ (part, held.by) ∷ []))) }
-    ensures others { (i : ℕ) (x : ℕ) → held_at pass.old.taken i ≡ Some x → held_at pass.new.taken i ≡ Some x }
+    requires parts { (2 < length table.now.opening) × (event.now.from < length table.now.opening)
+        × (event.now.to < length table.now.opening) }
+    ensures touched { IfOk result (λ _. holds_touched event.now pass.new.taken
+        × (pass.new.lost ≡ pass.old.lost)) }
+    ensures lost { IfErr result (λ held. (held.by ≢ pass.old.by)
+        × ((part : ℕ) × IsShown event.now pass.new.taken part
+        × (pass.new.lost ≡ pass.old.lost ++ (part, held.by) ∷ []))) }
+    ensures others { (i : ℕ) (x : ℕ) → held_at pass.old.taken i ≡ Some x
+        → held_at pass.new.taken i ≡ Some x }
     ensures hand { pass.new.hand ≡ pass.new.taken }
-    ensures kept { pass.new ≡ record pass.old { lost = pass.new.lost; taken = pass.new.taken; hand = pass.new.hand } }
+    ensures kept { pass.new ≡ record pass.old
+        { lost = pass.new.lost; taken = pass.new.taken; hand = pass.new.hand } }
 {
     take(table, pass, event.from)?;
     take(table, pass, event.to)?;
@@ -233,8 +255,8 @@ pub fn take_touched(
 /// Makes an event by a pass that holds nothing, of a table of that many parts: takes what it touches,
 /// steps, commits and gives all back. The answer is the event's place in the history.
 ///
-/// The error is that another caller holds one of these parts, and is noted among the claims lost.
-/// Nothing else of the pass changes.
+/// The error is that another caller holds one of these parts, as the history that the pass then knows
+/// tells them, and is noted among the claims lost. Nothing else of the pass changes.
 pub fn make(
     table: &PartTable<Amounts>,
     pass: &mut Pass<Amounts>,
@@ -244,13 +266,28 @@ pub fn make(
     requires table { pass.old.table ≡ table.now }
     requires idle { HoldsNothing pass.old }
     requires parts { (parts ≡ length table.now.opening) × (3 ≤ parts) }
-    requires event { (event.now.by ≡ pass.old.by) × (event.now.from < parts) × (event.now.to < parts) }
+    requires event { (event.now.by ≡ pass.old.by) × (event.now.from < parts)
+        × (event.now.to < parts) }
     requires left { 0 < pass.old.left }
-    ensures made { IfOk result (λ place. (h : List (ℕ × Move)) × (pass.new ≡ record pass.old { seen = h ++ (pass.old.by, event.now) ∷ []; own = pass.old.own ++ place ∷ []; left = pass.old.left - 1 })
+    ensures made { IfOk result (λ place. (h : List (ℕ × Move))
+        × (pass.new ≡ record pass.old {
+          seen = h ++ (pass.old.by, event.now)
+              ∷ [];
+          own = pass.old.own ++ place ∷ [];
+          left = pass.old.left - 1;
+        })
         × StartsWith h pass.old.seen × (place ≡ length h + 1)) }
-    ensures lost { IfErr result (λ held. (held.by ≢ pass.old.by) × ((part : ℕ) × MayTouch event.now part × (pass.new ≡ record pass.old { lost = pass.old.lost ++ (part, held.by) ∷ [] }))) }
+    ensures lost { IfErr result (λ held. (held.by ≢ pass.old.by)
+        × ((part : ℕ) × IsTouched event.now (replayed moved table.now.opening pass.new.seen) part
+        × (pass.new ≡ record pass.old {
+          seen = pass.new.seen;
+          lost = pass.old.lost
+              ++ (part, held.by) ∷ [];
+        }))) }
+    ensures known { OnErr result (StartsWith pass.new.seen pass.old.seen) }
 {
     if let Err(held) = take_touched(table, pass, event) {
+        table.see(pass);
         give_all(table, pass, parts);
         return Err(held);
     }
@@ -279,8 +316,10 @@ pub fn serve(
     requires by { by ≡ pass.by }
     ensures table { (result.0.table ≡ table.now) × (result.0.by ≡ by) }
     ensures idle { HoldsNothing result.0 }
-    ensures made { (length result.0.own ≡ length pass.own + result.1) × (result.0.left + result.1 ≡ pass.left) × (result.1 ≤ events) }
-    ensures tries { (result.1 ≡ events) ⊎ ((result.0.left ≡ 0) ⊎ (length result.0.lost + result.1 ≡ length pass.lost + 100000000)) }
+    ensures made { (length result.0.own ≡ length pass.own + result.1)
+        × (result.0.left + result.1 ≡ pass.left) × (result.1 ≤ events) }
+    ensures tries { (result.1 ≡ events)
+        ⊎ ((result.0.left ≡ 0) ⊎ (length result.0.lost + result.1 ≡ length pass.lost + 100000000)) }
 {
     let mut made = 0;
     for turn in 0..TRIES {

@@ -13,7 +13,9 @@ impl<O: Object> Hand<O> {
     /// The part, to write, and None exactly where it is not held. What is written changes that part
     /// alone.
     pub fn get_mut(&mut self, part: u32) -> Option<&mut O::Part>
-        ensures* writes_back { sem 𝓛 (LendsIf (the_row O.row O.Part.row O.Event.row O.Object) O.Part.row self.entry result (λ value. slice_set self.old part (Some value)) self.old) }
+        ensures* writes_back { sem 𝓛 (LendsIf
+            (the_row O.row O.Part.row O.Event.row O.Object) O.Part.row self.entry result
+            (λ value. slice_set self.old part (Some value)) self.old) }
         ensures value { option_copied_mut result ≡ held_at self.old part }
     {
         if !self.holds(part) {
@@ -29,7 +31,9 @@ impl<O: Object> Hand<O> {
 impl<O: Object> Pass<O> {
     /// The parts that the caller holds, to change as it likes.
     pub fn hand_mut(&mut self) -> &mut Hand<O>
-        ensures* writes_back { sem 𝓛 (Lends (pass_row O.row O.Part.row O.Event.row O.Object) (the_row O.row O.Part.row O.Event.row O.Object) self.entry result (λ hand. record self.old { hand = hand })) }
+        ensures* writes_back { sem 𝓛 (Lends (pass_row O.row O.Part.row O.Event.row O.Object)
+            (the_row O.row O.Part.row O.Event.row O.Object) self.entry result
+            (λ hand. record self.old { hand = hand })) }
         ensures value { result.now ≡ self.old.hand }
     {
         &mut self.hand

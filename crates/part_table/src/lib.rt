@@ -18,7 +18,7 @@ mod view;
 
 pub use closing::Unclosed;
 pub use hand::Hand;
-pub use laws::a_step_changes_held_parts_alone;
+pub use laws::{a_caller_knows_its_own_events, a_step_changes_held_parts_alone};
 pub use memory::{Held, Memory};
 pub use object::Object;
 pub use pass::{Pass, a_pass_has_a_place_for_each_part, a_pass_knows_its_own_places};

@@ -19,8 +19,17 @@ impl<O: Object> PartTable<O> {
         requires stepped { pass.old.hand ≡ O.after event.now pass.old.taken }
         requires left { 0 < pass.old.left }
         requires may { O.may_make pass.old.by event.now }
-        ensures added { (h : List (ℕ × O.Event)) × (pass.new ≡ record pass.old { seen = h ++ (pass.old.by, event.now) ∷ []; own = pass.old.own ++ result ∷ []; left = pass.old.left - 1; taken = pass.old.hand })
-            × StartsWith h pass.old.seen × IsHandOf pass.old.taken (replayed O.step pass.old.table.opening h) }
+        ensures added { (h : List (ℕ × O.Event))
+            × (pass.new ≡ record pass.old {
+              seen = h ++ (pass.old.by, event.now)
+                  ∷ [];
+              own = pass.old.own ++ result
+                  ∷ [];
+              left = pass.old.left - 1;
+              taken = pass.old.hand;
+            })
+            × StartsWith h pass.old.seen × IsHandOf pass.old.taken
+            (replayed O.step pass.old.table.opening h) }
         ensures place { result ≡ length pass.new.seen }
         ensures places { IsTrueOf O.may_make pass.new }
     {
@@ -35,7 +44,8 @@ impl<O: Object> PartTable<O> {
         requires table { pass.old.table ≡ self.now }
         ensures kept { pass.new ≡ record pass.old { seen = pass.new.seen } }
         ensures seen { StartsWith pass.new.seen pass.old.seen }
-        ensures parts { IsHandOf pass.new.taken (replayed O.step pass.new.table.opening pass.new.seen) }
+        ensures parts { IsHandOf pass.new.taken
+            (replayed O.step pass.new.table.opening pass.new.seen) }
         ensures places { IsTrueOf O.may_make pass.new }
     {
         look::<O>(&self.table, &mut pass.seat);
@@ -68,7 +78,8 @@ impl<O: Object> PartTable<O> {
     /// The first pass meets each of the others in turn.
     fn meet_each(&self, first: &mut Pass<O>, others: &mut [Pass<O>])
         requires first { first.old.table ≡ self.now }
-        requires others { (i : ℕ) (p : Known O.Part O.Event) → slice_get others.old i ≡ Some p → p.table ≡ self.now }
+        requires others { (i : ℕ) (p : Known O.Part O.Event) → slice_get others.old i ≡ Some p
+            → p.table ≡ self.now }
         ensures { HasMetEach O.may_make first.old first.new others.old others.new }
     {
         for other in others.iter_mut() {
@@ -82,7 +93,8 @@ impl<O: Object> PartTable<O> {
     /// pass had seen, and each of its places is an own place of exactly one of them.
     pub fn gather(&self, passes: &mut [Pass<O>]) -> u64
         requires all { AreAll self.now passes.old }
-        ensures gathered { (common : List (ℕ × O.Event)) × HaveGathered O.may_make passes.old passes.new result common }
+        ensures gathered { (common : List (ℕ × O.Event))
+            × HaveGathered O.may_make passes.old passes.new result common }
     {
         let _ = &self.table;
         let (front, others) = passes.split_at_mut(1);

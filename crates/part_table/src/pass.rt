@@ -64,10 +64,22 @@ impl<O: Object> Pass<O> {
         quota: u64,
         parts: usize,
     ) -> Result<Pass<O>, Memory>
-        requires seat { seat.me ≡ (starting seat.me.0.setting (record { number = by; own = []; left = quota } ∷ []), []) }
-        requires told { (quota ≡ seat.me.0.setting.quota) × (parts ≡ length seat.me.0.setting.opening) }
-        requires few { (parts ≤ 256) × (by < seat.me.0.setting.callers) × (seat.me.0.setting.callers ≤ 65) }
-        ensures { IfOk result (λ pass. pass ≡ newcomer (record { id = seat.table_id; opening = seat.me.0.setting.opening; callers = seat.me.0.setting.callers; quota = seat.me.0.setting.quota }) by) }
+        requires seat { seat.me ≡ (
+          starting seat.me.0.setting
+              (record { number = by; own = []; left = quota } ∷ []),
+          [],
+        ) }
+        requires told { (quota ≡ seat.me.0.setting.quota)
+            × (parts ≡ length seat.me.0.setting.opening) }
+        requires few { (parts ≤ 256) × (by < seat.me.0.setting.callers)
+            × (seat.me.0.setting.callers ≤ 65) }
+        ensures { IfOk result (λ pass. pass
+            ≡ newcomer (record {
+              id = seat.table_id;
+              opening = seat.me.0.setting.opening;
+              callers = seat.me.0.setting.callers;
+              quota = seat.me.0.setting.quota;
+            }) by) }
     {
         let hand = Hand::of(empty_places(alloc, parts)?);
         let order = Vec::with_capacity(alloc, parts)?;
@@ -85,6 +97,13 @@ impl<O: Object> Pass<O> {
         ensures { result.now ≡ self.now.hand }
     {
         &self.hand
+    }
+
+    /// The caller's number.
+    pub fn by(&self) -> u32
+        ensures { result ≡ self.now.by }
+    {
+        self.by
     }
 
     /// How many commits the caller has left.
@@ -114,7 +133,8 @@ pub fn a_pass_has_a_place_for_each_part<O: Object>(pass: &Pass<O>)
 pub(crate) fn bring<O: Object>(seat: &mut PartSeat<O>, order: &mut Vec<u32>, place: usize)
     requires slots { seat.old.me.1 ≡ empties order.old.items }
     requires place { place < length order.old.items }
-    ensures seat { (seat.new.table_id ≡ seat.old.table_id) × (seat.new.id ≡ seat.old.id) × (seat.new.me.0 ≡ seat.old.me.0) }
+    ensures seat { (seat.new.table_id ≡ seat.old.table_id) × (seat.new.id ≡ seat.old.id)
+        × (seat.new.me.0 ≡ seat.old.me.0) }
     ensures slots { seat.new.me.1 ≡ empties order.new.items }
     ensures order { order.new.items ≡ drop place order.old.items ++ take place order.old.items }
     ensures room { vec_capacity order.new ≡ vec_capacity order.old }

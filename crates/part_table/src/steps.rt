@@ -37,15 +37,31 @@ pub(crate) fn claim<O: Object>(
     part: u32,
 ) -> Result<Box<O::Part>, Held>
     requires table { seat.old.table_id ≡ table.now.shared.table_id }
-    requires words { (table.now.shared.table_id.words ≡ table.now.shared.table_id.slots + 1) × (table.now.shared.table_id.slots ≤ 256) }
+    requires words { (table.now.shared.table_id.words ≡ table.now.shared.table_id.slots + 1)
+        × (table.now.shared.table_id.slots ≤ 256) }
     requires part { part < table.now.shared.table_id.slots }
-    requires number { seat.old.me.0.callers ≡ record { number = by; own = own_of seat.old.me.0.callers; left = left_of seat.old.me.0.callers } ∷ [] }
+    requires number { seat.old.me.0.callers
+        ≡ record {
+          number = by;
+          own = own_of seat.old.me.0.callers;
+          left = left_of
+              seat.old.me.0.callers;
+        } ∷ [] }
     requires few { seat.old.me.0.setting.callers ≤ 65 }
     requires by { by < seat.old.me.0.setting.callers }
     requires free { held_at seat.old.me.0.held part ≡ None }
     ensures same { (seat.new.table_id ≡ seat.old.table_id) × (seat.new.id ≡ seat.old.id) }
-    ensures taken { IfOk result (λ held. seat.new.me ≡ (record seat.old.me.0 { held = slice_set seat.old.me.0.held part (Some held.value) }, (part, None) ∷ seat.old.me.1)) }
-    ensures lost { IfErr result (λ held. (held.by ≢ by) × (held.by < seat.old.me.0.setting.callers) × (seat.new.me ≡ (record seat.old.me.0 { lost = seat.old.me.0.lost ++ (part, held.by) ∷ [] }, seat.old.me.1))) }
+    ensures taken { IfOk result (λ held. seat.new.me
+        ≡ (
+          record seat.old.me.0 { held = slice_set seat.old.me.0.held part (Some held.value) },
+          (part, None) ∷ seat.old.me.1,
+        )) }
+    ensures lost { IfErr result (λ held. (held.by ≢ by) × (held.by < seat.old.me.0.setting.callers)
+        × (seat.new.me ≡ (
+          record seat.old.me.0
+              { lost = seat.old.me.0.lost ++ (part, held.by) ∷ [] },
+          seat.old.me.1,
+        ))) }
 {
     let shared = &table.shared;
     let slot = part as usize;
@@ -69,12 +85,17 @@ pub(crate) fn release<O: Object>(
     held: Box<O::Part>,
 )
     requires table { seat.old.table_id ≡ table.now.shared.table_id }
-    requires words { (table.now.shared.table_id.words ≡ table.now.shared.table_id.slots + 1) × (table.now.shared.table_id.slots ≤ 256) }
+    requires words { (table.now.shared.table_id.words ≡ table.now.shared.table_id.slots + 1)
+        × (table.now.shared.table_id.slots ≤ 256) }
     requires part { part < table.now.shared.table_id.slots }
     requires slot { seat.old.me.1 ≡ (part, None) ∷ rest seat.old.me.1 }
     requires held { held_at seat.old.me.0.held part ≡ Some held.value }
     ensures same { (seat.new.table_id ≡ seat.old.table_id) × (seat.new.id ≡ seat.old.id) }
-    ensures given { seat.new.me ≡ (record seat.old.me.0 { held = slice_set seat.old.me.0.held part None }, rest seat.old.me.1) }
+    ensures given { seat.new.me ≡ (
+      record seat.old.me.0
+          { held = slice_set seat.old.me.0.held part None },
+      rest seat.old.me.1,
+    ) }
 {
     let shared = &table.shared;
     let slot = part as usize;
@@ -86,9 +107,16 @@ pub(crate) fn release<O: Object>(
 pub(crate) fn look<O: Object>(table: &Slots<O>, seat: &mut PartSeat<O>) -> u64
     requires table { seat.old.table_id ≡ table.now.shared.table_id }
     requires words { 0 < table.now.shared.table_id.words }
-    requires number { seat.old.me.0.callers ≡ record { number = number_of seat.old.me.0.callers; own = own_of seat.old.me.0.callers; left = left_of seat.old.me.0.callers } ∷ [] }
+    requires number { seat.old.me.0.callers
+        ≡ record {
+          number = number_of seat.old.me.0.callers;
+          own = own_of seat.old.me.0.callers;
+          left = left_of seat.old.me.0.callers;
+        } ∷ [] }
     ensures same { (seat.new.table_id ≡ seat.old.table_id) × (seat.new.id ≡ seat.old.id) }
-    ensures seen { (h : List (ℕ × O.Event)) × (seat.new.me ≡ (record seat.old.me.0 { seen = h }, seat.old.me.1)) × (result ≡ length h) × SeesTo O.step O.may_make h seat.old.me.0 × BeginsEach h seat.old.me.0.told }
+    ensures seen { (h : List (ℕ × O.Event))
+        × (seat.new.me ≡ (record seat.old.me.0 { seen = h }, seat.old.me.1)) × (result ≡ length h)
+        × SeesTo O.step O.may_make h seat.old.me.0 × BeginsEach h seat.old.me.0.told }
 {
     table.shared.load::<See<O>>(seat, 0)
 }
@@ -101,13 +129,21 @@ fn add_chosen<O: Object, C: Chosen<O::Event>>(
     requires chosen { C.chosen ≡ event.now ∷ [] }
     requires table { seat.old.table_id ≡ table.now.shared.table_id }
     requires words { 0 < table.now.shared.table_id.words }
-    requires number { seat.old.me.0.callers ≡ record { number = number_of seat.old.me.0.callers; own = own_of seat.old.me.0.callers; left = left_of seat.old.me.0.callers } ∷ [] }
+    requires number { seat.old.me.0.callers
+        ≡ record {
+          number = number_of seat.old.me.0.callers;
+          own = own_of seat.old.me.0.callers;
+          left = left_of seat.old.me.0.callers;
+        } ∷ [] }
     requires left { 0 < left_of seat.old.me.0.callers }
     requires enough { O.suffices event.now seat.old.me.0.held }
     requires may { O.may_make (number_of seat.old.me.0.callers) event.now }
     ensures same { (seat.new.table_id ≡ seat.old.table_id) × (seat.new.id ≡ seat.old.id) }
-    ensures added { (h : List (ℕ × O.Event)) × (seat.new.me ≡ (committed O.after event.now h seat.old.me.0, seat.old.me.1)) × (result ≡ length h) × SeesTo O.step O.may_make h seat.old.me.0
-        × ((id : TableId) (hand : List (Option O.Part)) → IsTrueOf O.may_make (known id (committed O.after event.now h seat.old.me.0) hand)) }
+    ensures added { (h : List (ℕ × O.Event))
+        × (seat.new.me ≡ (committed O.after event.now h seat.old.me.0, seat.old.me.1))
+        × (result ≡ length h) × SeesTo O.step O.may_make h seat.old.me.0
+        × ((id : TableId) (hand : List (Option O.Part))
+        → IsTrueOf O.may_make (known id (committed O.after event.now h seat.old.me.0) hand)) }
 {
     let _ = event;
     table.shared.fetch_add::<Commit<O, C>>(seat, 0, 1)
@@ -117,13 +153,21 @@ fn add_chosen<O: Object, C: Chosen<O::Event>>(
 pub(crate) fn add<O: Object>(table: &Slots<O>, seat: &mut PartSeat<O>, event: &O::Event) -> u64
     requires table { seat.old.table_id ≡ table.now.shared.table_id }
     requires words { 0 < table.now.shared.table_id.words }
-    requires number { seat.old.me.0.callers ≡ record { number = number_of seat.old.me.0.callers; own = own_of seat.old.me.0.callers; left = left_of seat.old.me.0.callers } ∷ [] }
+    requires number { seat.old.me.0.callers
+        ≡ record {
+          number = number_of seat.old.me.0.callers;
+          own = own_of seat.old.me.0.callers;
+          left = left_of seat.old.me.0.callers;
+        } ∷ [] }
     requires left { 0 < left_of seat.old.me.0.callers }
     requires enough { O.suffices event.now seat.old.me.0.held }
     requires may { O.may_make (number_of seat.old.me.0.callers) event.now }
     ensures same { (seat.new.table_id ≡ seat.old.table_id) × (seat.new.id ≡ seat.old.id) }
-    ensures added { (h : List (ℕ × O.Event)) × (seat.new.me ≡ (committed O.after event.now h seat.old.me.0, seat.old.me.1)) × (result ≡ length h) × SeesTo O.step O.may_make h seat.old.me.0
-        × ((id : TableId) (hand : List (Option O.Part)) → IsTrueOf O.may_make (known id (committed O.after event.now h seat.old.me.0) hand)) }
+    ensures added { (h : List (ℕ × O.Event))
+        × (seat.new.me ≡ (committed O.after event.now h seat.old.me.0, seat.old.me.1))
+        × (result ≡ length h) × SeesTo O.step O.may_make h seat.old.me.0
+        × ((id : TableId) (hand : List (Option O.Part))
+        → IsTrueOf O.may_make (known id (committed O.after event.now h seat.old.me.0) hand)) }
 {
     add_chosen::<O, Brand>(table, seat, event)
 }
@@ -132,15 +176,18 @@ pub(crate) fn add<O: Object>(table: &Slots<O>, seat: &mut PartSeat<O>, event: &O
 pub(crate) fn note<O: Object>(table: &Slots<O>, seat: &mut PartSeat<O>) -> PartSeat<O>
     requires table { seat.old.table_id ≡ table.now.shared.table_id }
     requires words { 0 < table.now.shared.table_id.words }
-    ensures same { (seat.new.table_id ≡ seat.old.table_id) × (seat.new.id ≡ seat.old.id) × (seat.new.me ≡ seat.old.me) }
-    ensures note { (result.table_id ≡ seat.old.table_id) × (result.me ≡ (note_of seat.old.me.0, [])) }
+    ensures same { (seat.new.table_id ≡ seat.old.table_id) × (seat.new.id ≡ seat.old.id)
+        × (seat.new.me ≡ seat.old.me) }
+    ensures note { (result.table_id ≡ seat.old.table_id)
+        × (result.me ≡ (note_of seat.old.me.0, [])) }
 {
     table.shared.split_seat::<Notes>(seat)
 }
 
 /// Takes in a seat that holds nothing.
 pub(crate) fn take_in<O: Object>(table: &Slots<O>, seat: &mut PartSeat<O>, other: PartSeat<O>)
-    requires tables { (seat.old.table_id ≡ table.now.shared.table_id) × (other.table_id ≡ table.now.shared.table_id) }
+    requires tables { (seat.old.table_id ≡ table.now.shared.table_id)
+        × (other.table_id ≡ table.now.shared.table_id) }
     requires words { 0 < table.now.shared.table_id.words }
     requires number { 0 < length seat.old.me.0.callers }
     requires empty { (other.me.1 ≡ []) × ((part : ℕ) → held_at other.me.0.held part ≡ None) }
@@ -152,10 +199,23 @@ pub(crate) fn take_in<O: Object>(table: &Slots<O>, seat: &mut PartSeat<O>, other
 
 /// Each of two seats then knows a history that begins with what both had seen.
 pub(crate) fn inform<O: Object>(table: &Slots<O>, a: &mut PartSeat<O>, b: &mut PartSeat<O>)
-    requires tables { (a.old.table_id ≡ table.now.shared.table_id) × (b.old.table_id ≡ table.now.shared.table_id) }
+    requires tables { (a.old.table_id ≡ table.now.shared.table_id)
+        × (b.old.table_id ≡ table.now.shared.table_id) }
     requires words { 0 < table.now.shared.table_id.words }
-    requires a_number { a.old.me.0.callers ≡ record { number = number_of a.old.me.0.callers; own = own_of a.old.me.0.callers; left = left_of a.old.me.0.callers } ∷ [] }
-    requires b_number { b.old.me.0.callers ≡ record { number = number_of b.old.me.0.callers; own = own_of b.old.me.0.callers; left = left_of b.old.me.0.callers } ∷ [] }
+    requires a_number { a.old.me.0.callers
+        ≡ record {
+          number = number_of a.old.me.0.callers;
+          own = own_of a.old.me.0.callers;
+          left =
+              left_of a.old.me.0.callers;
+        } ∷ [] }
+    requires b_number { b.old.me.0.callers
+        ≡ record {
+          number = number_of b.old.me.0.callers;
+          own = own_of b.old.me.0.callers;
+          left =
+              left_of b.old.me.0.callers;
+        } ∷ [] }
     ensures same { (a.new.table_id ≡ a.old.table_id) × (b.new.table_id ≡ b.old.table_id) }
     ensures a { Informed O.step O.may_make a.old.me b.old.me.0 a.new.me }
     ensures b { Informed O.step O.may_make b.old.me a.old.me.0 b.new.me }

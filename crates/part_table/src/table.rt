@@ -65,11 +65,15 @@ fn seat_callers<O: Object>(
     callers: u32,
     quota: u64,
 ) -> Result<Vec<Pass<O>>, Memory>
-    requires told { (callers ≡ table.now.shared.key.callers) × (quota ≡ table.now.shared.key.quota) × (parts ≡ length (setting_of table.now.shared.key).opening) }
+    requires told { (callers ≡ table.now.shared.key.callers) × (quota ≡ table.now.shared.key.quota)
+        × (parts ≡ length (setting_of table.now.shared.key).opening) }
     requires few { (parts ≤ 256) × (1 ≤ callers) × (callers ≤ 65) }
     requires words { 0 < table.now.shared.table_id.words }
-    requires seat { (seat.table_id ≡ table.now.shared.table_id) × (seat.me ≡ (founder table.now.shared.key, [])) }
-    ensures { IfOk result (λ passes. passes.items ≡ map (newcomer (opened table.now.shared.table_id table.now.shared.key)) (range_with_len 0 callers)) }
+    requires seat { (seat.table_id ≡ table.now.shared.table_id)
+        × (seat.me ≡ (founder table.now.shared.key, [])) }
+    ensures { IfOk result (λ passes. passes.items
+        ≡ map (newcomer (opened table.now.shared.table_id table.now.shared.key))
+        (range_with_len 0 callers)) }
 {
     let mut passes = Vec::with_capacity(alloc, callers as usize)?;
     for by in 0..callers - 1 {
@@ -94,8 +98,10 @@ impl<O: Object> PartTable<O> {
         requires parts { (1 ≤ vec_len parts) × (vec_len parts ≤ 256) }
         requires callers { (1 ≤ callers) × (callers ≤ 65) }
         requires quota { quota ≤ 2 ^ 40 }
-        ensures table { IfOk result (λ made. (made.0.opening ≡ map box_value parts.items) × (made.0.callers ≡ callers) × (made.0.quota ≡ quota)) }
-        ensures passes { IfOk result (λ made. made.1.items ≡ map (newcomer made.0) (range_with_len 0 callers)) }
+        ensures table { IfOk result (λ made. (made.0.opening ≡ map box_value parts.items)
+            × (made.0.callers ≡ callers) × (made.0.quota ≡ quota)) }
+        ensures passes { IfOk result (λ made. made.1.items
+            ≡ map (newcomer made.0) (range_with_len 0 callers)) }
     {
         let count = parts.len();
         let words = free_words(alloc, count)?;
@@ -121,8 +127,14 @@ impl<O: Object> PartTable<O> {
         requires hand { IsInHand pass.old }
         requires part { part < length self.now.opening }
         requires free { held_at pass.old.taken part ≡ None }
-        ensures taken { IfOk result (λ _. (value : O.Part) × (pass.new ≡ record pass.old { taken = slice_set pass.old.taken part (Some value); hand = slice_set pass.old.hand part (Some value) })) }
-        ensures lost { IfErr result (λ held. (held.by ≢ pass.old.by) × (held.by < self.now.callers) × (pass.new ≡ record pass.old { lost = pass.old.lost ++ (part, held.by) ∷ [] })) }
+        ensures taken { IfOk result (λ _. (value : O.Part)
+            × (pass.new ≡ record pass.old {
+              taken = slice_set pass.old.taken part
+                  (Some value);
+              hand = slice_set pass.old.hand part (Some value);
+            })) }
+        ensures lost { IfErr result (λ held. (held.by ≢ pass.old.by) × (held.by < self.now.callers)
+            × (pass.new ≡ record pass.old { lost = pass.old.lost ++ (part, held.by) ∷ [] })) }
     {
         let value = claim::<O>(&self.table, &mut pass.seat, pass.by, part)?;
         pass.hand.put(part, value);
@@ -136,7 +148,11 @@ impl<O: Object> PartTable<O> {
         requires hand { IsInHand pass.old }
         requires held { is_some (held_at pass.old.taken part) ≡ true }
         requires unchanged { held_at pass.old.hand part ≡ held_at pass.old.taken part }
-        ensures given { pass.new ≡ record pass.old { taken = slice_set pass.old.taken part None; hand = slice_set pass.old.hand part None } }
+        ensures given { pass.new ≡ record pass.old {
+          taken = slice_set pass.old.taken part None;
+          hand = slice_set pass.old.hand part
+              None;
+        } }
     {
         let Some(value) = pass.hand.take(part) else {
             unreachable!()
