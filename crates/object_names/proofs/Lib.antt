@@ -1,3 +1,4 @@
 pub mod Found
 pub mod NameOrder
+pub mod Scopes
 mod Worked

@@ -15,7 +15,9 @@ impl<T: Drop> Named<T> {
     /// before. None where the table does not have the name. The time does not grow with the table.
     #[tactic(auto, using(crate::proofs::Found::found_lent))]
     pub fn get_mut(&mut self, key: &Key) -> Option<&mut T>
-        ensures* writes_back { sem 𝓛 (LendsSo (the_row T.row) T.row self.entry result (λ after written. after ≡ set_value (key_eq key.now) self.old written) (λ after. after ≡ self.old)) }
+        ensures* writes_back { sem 𝓛 (LendsSo (the_row T.row) T.row self.entry result
+            (λ after written. after ≡ set_value (key_eq key.now) self.old written)
+            (λ after. after ≡ self.old)) }
         ensures value { option_copied_mut result ≡ lookup (key_eq key.now) self.old }
         ensures found { IsSome result ↔ Contains (keys_of self.old) key.now }
     {
@@ -27,7 +29,8 @@ impl<T: Drop> Named<T> {
     /// The value at a place, counted from 0, to write: the row has what was written, and the table is
     /// else as before. None where there are not as many rows.
     pub fn at_mut(&mut self, place: usize) -> Option<&mut T>
-        ensures* writes_back { sem 𝓛 (LendsIf (the_row T.row) T.row self.entry result (set_value_at self.old place) self.old) }
+        ensures* writes_back { sem 𝓛 (LendsIf (the_row T.row) T.row self.entry result
+            (set_value_at self.old place) self.old) }
         ensures value { option_copied_mut result ≡ slice_get (values_of self.old) place }
         ensures found { IsSome result ↔ (place < length self.old) }
     {

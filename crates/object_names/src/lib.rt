@@ -2,9 +2,11 @@
 //! of one scope in order of octets.
 #![tactic(auto)]
 
+mod copying;
 mod lends;
 mod listing;
 mod table;
 
+pub use copying::{Copied, each_name_stands_once};
 pub use listing::{Names, names_stand_in_order};
 pub use table::{Named, Unplaced};

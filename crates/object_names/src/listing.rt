@@ -50,8 +50,10 @@ fn copies(alloc: Global, names: &[&Identifier]) -> Result<Identifiers, Memory>
 /// The first so many of the names in order of octets, and whether there are more.
 #[tactic(auto, using(crate::proofs::NameOrder::sort_taken, crate::proofs::NameOrder::count_sorted))]
 fn first_in_order(alloc: Global, mut names: Vec<&Identifier>, most: usize) -> Result<Names, Memory>
-    ensures list { IfOk result (λ first. first.list ≡ take most (sorted_names (map (λ name. name.now) names.entry.items))) }
-    ensures more { IfOk result (λ first. first.more ≡ nat_lt most (length (sorted_names (map (λ name. name.now) names.entry.items)))) }
+    ensures list { IfOk result (λ first. first.list
+        ≡ take most (sorted_names (map (λ name. name.now) names.entry.items))) }
+    ensures more { IfOk result (λ first. first.more
+        ≡ nat_lt most (length (sorted_names (map (λ name. name.now) names.entry.items)))) }
 {
     let more = names.len() > most;
     names.sort_unstable();
@@ -72,8 +74,11 @@ impl<T: Drop> Named<T> {
         after: Option<&Identifier>,
         most: usize,
     ) -> Result<Names, Memory>
-        ensures list { IfOk result (λ names. names.list ≡ take most (names_after scope.now (option_copied after.entry) self.now)) }
-        ensures more { IfOk result (λ names. names.more ≡ nat_lt most (length (names_after scope.now (option_copied after.entry) self.now))) }
+        ensures list { IfOk result (λ names. names.list
+            ≡ take most (names_after scope.now (option_copied after.entry) self.now)) }
+        ensures more { IfOk result (λ names. names.more
+            ≡ nat_lt most (length (names_after scope.now
+            (option_copied after.entry) self.now))) }
     {
         let mut listed = Vec::new(alloc);
         for (key, _) in self.rows.iter() {

@@ -1,11 +1,12 @@
-ghost use Rattle.std.specs.Prelude.{◌≡◌, ◌<◌, ◌==◌, ◌↔◌, [], ◌∷◌, ◌++◌, length, slice_get, Contains, OnOk, IfErr, OnErr, IfSome, IsSome, None, Some};
+ghost use Rattle.std.specs.Prelude.{◌≡◌, ◌<◌, not, ◌==◌, ◌↔◌, [], ◌∷◌, ◌++◌, length, slice_get, Contains, OnOk, IfErr, OnErr, IfSome, IsSome, None, Some};
 ghost use Rattle.std.specs.Option.{option_copied};
 ghost use Rattle.std.specs.Map.{lookup, remove_entry, keys_of};
 ghost use Rattle.std.specs.List.{IsDistinct};
-ghost use Rattle.mms_types.specs.Order.{key_eq};
+ghost use Rattle.mms_types.specs.Order.{key_eq, scope_eq};
+ghost use Rattle.object_names.specs.Scopes.{has_any_of, without_all_of};
 
 use indexmap::IndexMap;
-use mms_types::Key;
+use mms_types::{Key, Scope};
 use std::alloc::{AllocFailed, Global};
 use std::marker::Model;
 
@@ -97,9 +98,34 @@ impl<T: Drop> Named<T> {
         self.rows.shift_remove(key)
     }
 
+    /// Whether any row has a name of that scope.
+    pub fn has_any_of(&self, scope: &Scope) -> bool
+        ensures { result ≡ has_any_of scope.now self.now }
+    {
+        for (key, _) in self.rows.iter() {
+            if key.scope == *scope {
+                return true;
+            }
+        }
+        false
+    }
+
+    /// Takes all rows out that have a name of that scope. All others stay as they are, in their order. It takes no
+    /// memory.
+    pub fn remove_all_of(&mut self, scope: &Scope)
+        ensures { self.new ≡ without_all_of scope.now self.old }
+    {
+        self.rows.retain(
+            |key: &Key, value: &mut T| -> bool
+                ensures { (result ≡ not (scope_eq key.now.scope scope.entry.now)) × (value.new ≡ value.old) }
+            { key.scope != *scope },
+        );
+    }
+
     /// The name and the value at a place, counted from 0. None where there are not as many rows.
     pub fn at(&self, place: usize) -> Option<(&Key, &T)>
-        ensures row { IfSome result (λ row. slice_get self.now place ≡ Some (row.0.now, row.1.now)) }
+        ensures row { IfSome result (λ row. slice_get self.now place
+            ≡ Some (row.0.now, row.1.now)) }
         ensures found { IsSome result ↔ (place < length self.now) }
     {
         self.rows.get_index(place)
