@@ -1,16 +1,15 @@
 -- What an event makes of the parts that are held, and of all parts (this profile's choice).
 use Rattle.std.specs.Prelude.{List, Option}
 use Rattle.mms_types.specs.declared.event.CellEvent.{CellEvent}
-use Rattle.parted_state.specs.Cut as cut
+use Rattle.parted_state.specs.Served as parted
 use Rattle.mms_step.specs.declared.part.Part.{Part}
-use Rattle.mms_step.specs.Step.{step}
-use Rattle.mms_step.specs.Partition.{parts_of, state_in}
-use Rattle.mms_step.specs.Needs.{wants}
+use Rattle.mms_step.specs.Partition.{cell}
+use Rattle.mms_step.specs.Serving.{services}
 
 -- the held parts after an event: those that it wants become as the state has them after the step, and the others stay
 abbrev pub after : CellEvent → List (Option Part) → List (Option Part)
-after event hand = cut.after_of parts_of state_in (wants event) (λ s. step s event) hand
+after event hand = parted.after cell services event hand
 
 -- all parts after an event
 abbrev pub parts_after : CellEvent → List Part → List Part
-parts_after event parts = cut.all_after_of parts_of state_in (wants event) (λ s. step s event) parts
+parts_after event parts = parted.parts_after cell services event parts

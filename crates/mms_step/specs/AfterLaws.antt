@@ -10,10 +10,8 @@ use Rattle.mms_types.specs.declared.pdu.Answer.{Answer}
 use Rattle.association.specs.Client.{ClientRow}
 use Rattle.part_table.specs.Held.{held_at, places_held, laid_over, IsHandOf}
 use Rattle.parted_state.specs.Cut.{IsFramed}
-use Rattle.parted_state.specs.CutLaws as laws
 use Rattle.parted_state.specs.Served.{Done, IsDevice, IsServed}
 use Rattle.parted_state.specs.Served as parted
-use Rattle.parted_state.specs.DeviceLaws.{cut}
 use Rattle.parted_state.specs.ServedLaws as served
 use Rattle.mms_step.specs.declared.part.Part.{Part}
 use Rattle.mms_step.specs.declared.part.Part.TheVariants.{Clock}
@@ -49,22 +47,11 @@ is_device = record {
 
 -- ---- each event reads and changes the tables that it uses alone
 
--- what was done with these tables alone, beside the others
-abbrev within : List ℕ → Tables → Done Tables Effect → Done Tables Effect
-within us t d = record { tables = parted.merged cell us d.tables t; told = d.told }
-
 abbrev alone : List ℕ → Tables → Tables
 alone us t = parted.masked cell us t
 
 as_it_was : (us : List ℕ) (t : Tables) → parted.merged cell us (alone us t) t ≡ t
 as_it_was us t = served.merged_masked cell is_device us t
-
--- where nothing is changed, and nothing read
-unchanged : (us : List ℕ) (t : Tables) (told : List (ℕ × Effect)) → record { tables = t; told = told } ≡ within us t (record { tables = alone us t; told = told })
-unchanged us t told = ap (λ (x : Tables). at x) (sym (as_it_was us t))
-  where
-    at : Tables → Done Tables Effect
-    at x = record { tables = x; told = told }
 
 -- ---- each request
 
@@ -98,7 +85,7 @@ effect_law t row asked = refl
 -- ---- settled once for all requests
 
 takes_law : (t : Tables) (row : ClientRow) (client invoke : ℕ) (asked : Request)
-    → hears t row client (Takes invoke asked) ≡ within (request_uses t row asked) t (hears (alone (request_uses t row asked) t) row client (Takes invoke asked))
+    → hears t row client (Takes invoke asked) ≡ parted.done_within cell (request_uses t row asked) t (hears (alone (request_uses t row asked) t) row client (Takes invoke asked))
 takes_law t row client invoke asked = ap₂ (λ (x : Tables) (l : List (ℕ × Effect)). at x l) tables (ap₂ (λ (a b : List (ℕ × Effect)). a ++ b) own also)
   where
     at : Tables → List (ℕ × Effect) → Done Tables Effect
@@ -134,7 +121,7 @@ heard_more_law t row (Takes invoke asked) = more_law (request_asks asked) t row 
 heard_more_law t row other = refl
 
 hears_law : (t : Tables) (row : ClientRow) (client : ℕ) (v : Verdict)
-    → hears t row client v ≡ within (heard_asks v ++ (heard_more t row v ++ [])) t (hears (alone (heard_asks v ++ (heard_more t row v ++ [])) t) row client v)
+    → hears t row client v ≡ parted.done_within cell (heard_asks v ++ (heard_more t row v ++ [])) t (hears (alone (heard_asks v ++ (heard_more t row v ++ [])) t) row client v)
 hears_law t row client (Takes invoke asked) = takes_law t row client invoke asked
 hears_law t row client (Tells effects) = refl
 hears_law t row client other = refl
@@ -146,7 +133,7 @@ each_served (Heard client octets) = record {
 }
 each_served (Lost client) = record {
   stages = λ t row. (refl, tt);
-  within = λ t row. unchanged (loss_asks row.association ++ []) t (serves t row (Lost client)).told;
+  within = λ t row. served.unchanged cell is_device (loss_asks row.association ++ []) t (serves t row (Lost client)).told;
 }
 each_served (Tick ms) = record { stages = λ t row. tt; within = λ t row. refl }
 each_served (Ends name) = record { stages = λ t row. tt; within = λ t row. refl }
@@ -158,9 +145,8 @@ pub each_framed : (event : CellEvent) (s : State) → IsFramed parts_of (wants e
 each_framed event s = served.framed cell is_device services event (each_served event) s
 
 pub after_holds_the_same : (event : CellEvent) (hand : List (Option Part)) → places_held (after event hand) ≡ places_held hand
-after_holds_the_same event hand = laws.after_holds_the_same parts_of state_in (wants event) (λ u. step u event) hand
+after_holds_the_same event = served.after_holds_the_same cell is_device services event (each_served event)
 
 pub after_is_laid_over : (event : CellEvent) (hand : List (Option Part)) (parts : List Part) → IsHandOf hand parts → need event hand ≡ []
     → parts_after event parts ≡ laid_over (after event hand) parts
-after_is_laid_over event hand parts of enough =
-    laws.after_is_laid_over parts_of state_in (wants event) (λ u. step u event) (cut cell is_device) hand parts (each_framed event (state_in (map Some parts))) of enough
+after_is_laid_over event = served.after_is_laid_over cell is_device services event (each_served event)

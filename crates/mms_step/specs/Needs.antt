@@ -46,4 +46,4 @@ heard_need n hand row octets =
 
 -- what is shown and isn't held
 abbrev pub need : CellEvent → List (Option Part) → List ℕ
-need event hand = cut.missing hand (shown event hand)
+need event hand = parted.need cell services event hand

@@ -86,7 +86,7 @@ module _ {S T R F P : Type 0} (d : Device S T R F P) (is : IsDevice d) where
 
   -- ---- held parts show a state
 
-  around_at : {A : Type 0} (n : ℕ) (xs : List A) (k : ℕ) → slice_get (around (front d) n xs) k ≡ slice_get xs (table_place d n k)
+  pub around_at : {A : Type 0} (n : ℕ) (xs : List A) (k : ℕ) → slice_get (around (front d) n xs) k ≡ slice_get xs (table_place d n k)
   around_at {A} n xs k = by_test (nat_lt k (front d)) refl
     where
       by_test : (b : Bool) → nat_lt k (front d) ≡ b → slice_get (around (front d) n xs) k ≡ slice_get xs (if b then k else k + n)

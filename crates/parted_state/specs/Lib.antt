@@ -1,8 +1,11 @@
 pub mod Cut
 pub mod CutLaws
 pub mod DeviceLaws
+pub mod Lifted
+pub mod LiftedLaws
 pub mod Lists
 pub mod Served
 pub mod ServedLaws
+pub mod Rows
 pub mod Shop
 pub mod ShopLaws

@@ -3,7 +3,7 @@
 use Rattle.std.specs.Prelude.{◌≡◌, ℕ, zero, suc, ◌+◌, ◌-◌, ◌<◌, ◌==◌, Bool, Option, None, Some, List, [], ◌∷◌, ◌++◌, map, take, drop, length, slice_get, unwrap_or, nat_lt, if◌then◌else◌}
 use Rattle.std.specs.List.{list_any}
 use Rattle.part_table.specs.Held.{held_at}
-use Rattle.parted_state.specs.Cut.{is_in}
+use Rattle.parted_state.specs.Cut.{is_in, missing, shown_of, after_of, all_after_of}
 
 -- what an event does: the tables after it, and what is told to whom
 pub record Done (T F : Type 0) : Type 0 where
@@ -100,6 +100,10 @@ module _ {S T R F P : Type 0} (d : Device S T R F P) where
   abbrev pub merged : List ℕ → T → T → T
   merged uses one other = d.tables_in (chosen (is_in uses) (d.table_parts one) (d.table_parts other))
 
+  -- what was done with these tables alone, beside the others
+  abbrev pub done_within : List ℕ → T → Done T F → Done T F
+  done_within uses t done = record { tables = merged uses done.tables t; told = done.told }
+
   -- ---- clients
 
   -- the row of a client
@@ -165,6 +169,17 @@ module _ {S T R F P : Type 0} (d : Device S T R F P) where
     abbrev pub wants : E → List (S → List ℕ)
     wants event = (λ s. footprint (length (d.clients_of s)) event) ∷ table_stages event (v.asks event)
 
+    -- what held parts show to be wanted, and isn't held
+    abbrev pub need : E → List (Option P) → List ℕ
+    need event hand = missing hand (shown_of parts_of state_in (wants event) hand)
+
+    -- held parts after an event, and all parts after it
+    abbrev pub after : E → List (Option P) → List (Option P)
+    after event hand = after_of parts_of state_in (wants event) (λ s. step s event) hand
+
+    abbrev pub parts_after : E → List P → List P
+    parts_after event parts = all_after_of parts_of state_in (wants event) (λ s. step s event) parts
+
     -- ---- what is to be shown of a device, and of each event
 
     -- each stage is told by the tables before it
@@ -175,10 +190,7 @@ module _ {S T R F P : Type 0} (d : Device S T R F P) where
     -- an event is served by the tables that it uses alone, and leaves the others as they are
     pub record IsServed (event : E) : Type 0 where
       pub stages : (t : T) (row : R) → AreAsked (v.words event) (v.asks event) t row
-      pub within : (t : T) (row : R) → v.serves t row event ≡ record {
-        tables = merged (uses t row event) (v.serves (masked (uses t row event) t) row event).tables t;
-        told = (v.serves (masked (uses t row event) t) row event).told;
-      }
+      pub within : (t : T) (row : R) → v.serves t row event ≡ done_within (uses t row event) t (v.serves (masked (uses t row event) t) row event)
 
   -- tables are cut into their parts, and a state into tables and clients
   pub record IsDevice : Type 0 where

@@ -1,15 +1,16 @@
 -- The steps of a device of tables and clients touch what they want: proved once, for every such device.
-use Rattle.std.specs.Prelude.{◌≡◌, ℕ, zero, suc, ◌+◌, ◌<◌, ◌≤◌, Bool, true, false, ◌==◌, ◌||◌, Option, None, Some, List, [], ◌∷◌, ◌++◌, map, length, slice_get, unwrap_or, nat_lt, if◌then◌else◌, refl}
+use Rattle.std.specs.Prelude.{◌≡◌, ℕ, zero, suc, ◌+◌, ◌<◌, ◌≤◌, Bool, true, false, ◌==◌, ◌||◌, Option, None, Some, List, [], ◌∷◌, ◌++◌, map, length, slice_get, is_some, unwrap_or, nat_lt, if◌then◌else◌, refl}
 use Rattle.std.specs.Option.{option_map}
 use Rattle.std.proofs.Common.{ap, ap₂, sym, ◌∙◌, inl, inr, subst, arith, append_assoc}
 use Rattle.std.proofs.lemmas.Bool.Decides.{nat_tests}
 use native.Mathlib.Decide.{ℕ_discrete}
-use Rattle.part_table.specs.Held.{held_at}
+use Rattle.part_table.specs.Held.{held_at, places_held, laid_over, IsHandOf}
+use Rattle.parted_state.specs.CutLaws as laws
 use Rattle.parted_state.specs.Cut.{is_in, wanted_of, SameAt, Agree, AreTold, IsFramed}
 use Rattle.parted_state.specs.CutLaws.{in_front, in_back, in_either, same_itself, same_number}
-use Rattle.parted_state.specs.Served.{Done, Device, Services, change, veiled, chosen, is_told, front, client_place, table_place, parts_of, masked, merged, row_at, reached, delivered, told_if, told_places, asked, uses, row_of, done_of, step, own_place, places, footprint, table_stages, wants, AreAsked, IsServed, IsDevice}
+use Rattle.parted_state.specs.Served.{Done, Device, Services, change, veiled, chosen, is_told, front, client_place, table_place, parts_of, state_in, masked, merged, done_within, row_at, reached, delivered, told_if, told_places, asked, uses, row_of, done_of, step, own_place, places, footprint, table_stages, wants, need, after, parts_after, AreAsked, IsServed, IsDevice}
 use Rattle.parted_state.specs.Lists.{get_some, get_veiled, chosen_same, held_of_all, get_past, length-change, get_changed, get_change, same_veiled, get_chosen, append_none, in_mapped, no_more}
-use Rattle.parted_state.specs.DeviceLaws.{as_many, table_at, client_at, spot}
+use Rattle.parted_state.specs.DeviceLaws.{as_many, table_at, client_at, spot, cut}
 
 module _ {S T R F P : Type 0} (d : Device S T R F P) (is : IsDevice d) where
   -- ---- what agreeing places tell
@@ -142,6 +143,14 @@ module _ {S T R F P : Type 0} (d : Device S T R F P) (is : IsDevice d) where
           (get_veiled (is_in us) (d.table_parts t) k on ∙ held_of_all (d.table_parts t) k)
           ∙ ap (λ (x : T). slice_get (d.table_parts x) k) (is.whole t)
 
+  -- where no table is changed
+  pub unchanged : (us : List ℕ) (t : T) (told : List (ℕ × F))
+      → record { tables = t; told = told } ≡ done_within d us t (record { tables = masked d us t; told = told })
+  unchanged us t told = ap (λ (x : T). at x) (sym (merged_masked us t))
+    where
+      at : T → Done T F
+      at x = record { tables = x; told = told }
+
   -- ---- what an event asks for, and what it does
 
   module _ {E : Type 0} (v : Services T R F E) (event : E) (served : IsServed d v event) where
@@ -220,7 +229,7 @@ module _ {S T R F P : Type 0} (d : Device S T R F P) (is : IsDevice d) where
     last_wanted s (stage ∷ stages) i on =
         in_back (places d v (length (d.clients_of s)) (stage (d.tables_of s) (row_of d v s event))) (wanted_of (table_stages d v event stages) s) i (last_wanted s stages i on)
 
-    told_wanted : (s : S) (j : ℕ) → j < length (d.clients_of s) → is_told (done_of d v s event).told (suc j) ≡ true
+    pub told_wanted : (s : S) (j : ℕ) → j < length (d.clients_of s) → is_told (done_of d v s event).told (suc j) ≡ true
         → is_in (wanted_of (wants d v event) s) (client_place d (suc j)) ≡ true
     told_wanted s j below on =
         let n = length (d.clients_of s) in
@@ -234,7 +243,7 @@ module _ {S T R F P : Type 0} (d : Device S T R F P) (is : IsDevice d) where
         in_front (own_place d v (suc j)) rest (client_place d (suc i))
         (ap (λ (m : ℕ). is_in (own_place d v (suc j)) (client_place d (suc m))) same ∙ ap (λ (b : Bool). b || false) (same_itself (client_place d (suc j))))
 
-    own_in : (n i : ℕ) (rest : List ℕ) → v.own event ≡ suc i → is_in (footprint d v n event ++ rest) (client_place d (suc i)) ≡ true
+    pub own_in : (n i : ℕ) (rest : List ℕ) → v.own event ≡ suc i → is_in (footprint d v n event ++ rest) (client_place d (suc i)) ≡ true
     own_in n i rest e = in_front (footprint d v n event) rest (client_place d (suc i)) (own_first (v.own event) i (places d v n (v.words event)) e)
 
     -- ---- each stage is told by those before it
@@ -300,18 +309,18 @@ module _ {S T R F P : Type 0} (d : Device S T R F P) (is : IsDevice d) where
 
     -- ---- what is wanted is all that is touched
 
-    step_many : (s : S) → length (d.clients_of (step d v s event)) ≡ length (d.clients_of s)
+    pub step_many : (s : S) → length (d.clients_of (step d v s event)) ≡ length (d.clients_of s)
     step_many s =
         ap (λ (l : List R). length l) (is.clients_back (done_of d v s event).tables (delivered d (done_of d v s event).told (d.clients_of s)))
         ∙ length-delivered (done_of d v s event).told (d.clients_of s)
 
-    step_table : (s : S) (k : ℕ) → slice_get (parts_of d (step d v s event)) (table_place d (length (d.clients_of s)) k) ≡ slice_get (d.table_parts (done_of d v s event).tables) k
+    pub step_table : (s : S) (k : ℕ) → slice_get (parts_of d (step d v s event)) (table_place d (length (d.clients_of s)) k) ≡ slice_get (d.table_parts (done_of d v s event).tables) k
     step_table s k =
         ap (λ (n : ℕ). slice_get (parts_of d (step d v s event)) (table_place d n k)) (sym (step_many s))
         ∙ table_at d is (step d v s event) k
         ∙ ap (λ (t : T). slice_get (d.table_parts t) k) (is.tables_back (done_of d v s event).tables (delivered d (done_of d v s event).told (d.clients_of s)))
 
-    step_client : (s : S) (j : ℕ) → j < length (d.clients_of s)
+    pub step_client : (s : S) (j : ℕ) → j < length (d.clients_of s)
         → slice_get (parts_of d (step d v s event)) (client_place d (suc j)) ≡ option_map d.client_part (slice_get (delivered d (done_of d v s event).told (d.clients_of s)) j)
     step_client s j below =
         let many = step_many s in
@@ -422,6 +431,25 @@ module _ {S T R F P : Type 0} (d : Device S T R F P) (is : IsDevice d) where
         };
       };
     }
+
+    -- ---- so held parts, and all parts, become what the state's are
+
+    pub after_holds_the_same : (hand : List (Option P)) → places_held (after d v event hand) ≡ places_held hand
+    after_holds_the_same hand = laws.after_holds_the_same (parts_of d) (state_in d) (wants d v event) (λ u. step d v u event) hand
+
+    pub after_is_laid_over : (hand : List (Option P)) (parts : List P) → IsHandOf hand parts → need d v event hand ≡ []
+        → parts_after d v event parts ≡ laid_over (after d v event hand) parts
+    after_is_laid_over hand parts of enough =
+        laws.after_is_laid_over (parts_of d) (state_in d) (wants d v event) (λ u. step d v u event) (cut d is) hand parts (framed (state_in d (map Some parts))) of enough
+
+    pub parts_step : (s : S) → parts_of d (step d v s event) ≡ parts_after d v event (parts_of d s)
+    parts_step s = laws.parts_step (parts_of d) (state_in d) (wants d v event) (λ u. step d v u event) (cut d is) s (framed s)
+
+    pub free_parts_stay : (s : S) (hand : List (Option P)) (place : ℕ) → IsHandOf hand (parts_of d s) → need d v event hand ≡ [] → held_at hand place ≡ None
+        → slice_get (parts_of d (step d v s event)) place ≡ slice_get (parts_of d s) place
+    free_parts_stay s hand place of enough free =
+        laws.others_stay (parts_of d) (state_in d) (wants d v event) (λ u. step d v u event) s hand (laws.shows_state (parts_of d) (state_in d) (cut d is) hand s of)
+        (framed s) enough place (ap is_some free)
 
     -- ---- all that is wanted is among the parts
 

@@ -1,7 +1,7 @@
 -- The example: a shelf with pieces, and a tool that one client has at a time.
-use Rattle.std.specs.Prelude.{ℕ, ◌-◌, ◌==◌, Bool, true, false, nat_le, nat_lt, Option, Some, List, [], ◌∷◌, ◌++◌, if◌then◌else◌}
+use Rattle.std.specs.Prelude.{◌≡◌, ℕ, ◌-◌, ◌==◌, Bool, true, false, nat_le, nat_lt, Option, Some, List, [], ◌∷◌, ◌++◌, if◌then◌else◌}
 use Rattle.part_table.specs.Held.{held_at}
-use Rattle.parted_state.specs.Cut as cut
+use Rattle.parted_state.specs.Rows.{Roomy, settled}
 use Rattle.parted_state.specs.Served.{Device, Services, Done}
 use Rattle.parted_state.specs.Served as parted
 use Rattle.parted_state.specs.declared.example.Word.{Word}
@@ -30,7 +30,7 @@ tool_in (Some (part.Tool tool)) = tool
 tool_in other = record { owner = 0; next = 0 }
 
 abbrev pub row_in : Option Part → List Word
-row_in (Some (part.Client row)) = row
+row_in (Some (part.Client row)) = row.words
 row_in other = []
 
 abbrev pub shop : Device State Tables (List Word) Word Part
@@ -41,7 +41,7 @@ shop = record {
   table_parts = λ t. part.Shelf t.pieces ∷ part.Tool t.tool ∷ [];
   tables = 2;
   last = 0;
-  client_part = λ row. part.Client row;
+  client_part = λ row. part.Client (settled row);
   tables_in = λ hand. record { pieces = pieces_in (held_at hand 0); tool = tool_in (held_at hand 1) };
   row_in = row_in;
   nobody = [];
@@ -50,6 +50,25 @@ shop = record {
 
 abbrev pub parts_of : State → List Part
 parts_of s = parted.parts_of shop s
+
+-- ---- on held parts
+
+-- the part of a client that is held, with its row changed
+abbrev pub on_row : (Roomy → Roomy) → Part → Part
+on_row f (part.Client row) = part.Client (f row)
+on_row f other = other
+
+abbrev pub roomy_in : Option Part → Roomy
+roomy_in (Some (part.Client row)) = row
+roomy_in other = settled []
+
+-- a client's part is held
+abbrev pub IsRow : Option Part → Type 0
+IsRow held = held ≡ Some (part.Client (roomy_in held))
+
+-- how many clients there are, by the number of parts
+abbrev pub clients_among : ℕ → ℕ
+clients_among places = places - 2
 
 -- ---- services
 
@@ -132,10 +151,10 @@ abbrev pub state_in : List (Option Part) → State
 state_in hand = parted.state_in shop hand
 
 abbrev pub need : Asked → List (Option Part) → List ℕ
-need asked hand = cut.missing hand (cut.shown_of parts_of state_in (wants asked) hand)
+need asked hand = parted.need shop services asked hand
 
 abbrev pub after : Asked → List (Option Part) → List (Option Part)
-after asked hand = cut.after_of parts_of state_in (wants asked) (λ s. step s asked) hand
+after asked hand = parted.after shop services asked hand
 
 abbrev pub parts_after : Asked → List Part → List Part
-parts_after asked parts = cut.all_after_of parts_of state_in (wants asked) (λ s. step s asked) parts
+parts_after asked parts = parted.parts_after shop services asked parts

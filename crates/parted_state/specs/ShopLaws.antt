@@ -1,20 +1,16 @@
 -- What is shown of the example: how it is cut, and of each request that it reads and changes the tables that it uses alone.
-use Rattle.std.specs.Prelude.{◌≡◌, ℕ, zero, suc, Bool, true, false, Option, None, Some, List, [], ◌∷◌, ◌++◌, is_some, slice_get, map, refl}
+use Rattle.std.specs.Prelude.{◌≡◌, ℕ, zero, suc, Bool, true, false, Option, None, Some, List, [], ◌∷◌, ◌++◌, slice_get, refl}
 use Rattle.std.proofs.Common.{ap, arith}
 use Rattle.part_table.specs.Held.{held_at, places_held, laid_over, IsHandOf}
-use Rattle.parted_state.specs.Cut.{IsFramed}
-use Rattle.parted_state.specs.CutLaws as laws
-use Rattle.parted_state.specs.Served.{Done, IsDevice, IsServed, masked, merged}
-use Rattle.parted_state.specs.DeviceLaws.{cut}
+use Rattle.parted_state.specs.Served.{IsDevice, IsServed, masked, done_within}
 use Rattle.parted_state.specs.ServedLaws as served
-use Rattle.parted_state.specs.declared.example.Word.{Word}
 use Rattle.parted_state.specs.declared.example.Ask.{Ask}
 use Rattle.parted_state.specs.declared.example.Ask.TheVariants.{Fetch}
 use Rattle.parted_state.specs.declared.example.Asked.{Asked}
 use Rattle.parted_state.specs.declared.example.Tables.{Tables}
 use Rattle.parted_state.specs.declared.example.Part.{Part}
 use Rattle.parted_state.specs.declared.example.Part.TheVariants as part
-use Rattle.parted_state.specs.Shop.{State, shop, services, parts_of, state_in, pieces_in, tool_in, are_few, fetch, serve, asks, guarded, more, step, wants, need, after, parts_after}
+use Rattle.parted_state.specs.Shop.{State, shop, services, parts_of, pieces_in, tool_in, are_few, fetch, serve, asks, guarded, more, step, need, after, parts_after}
 
 -- ---- once
 
@@ -38,15 +34,12 @@ is_device = record {
 
 -- ---- each request
 
-abbrev within : List ℕ → Tables → Done Tables Word → Done Tables Word
-within us t d = record { tables = merged shop us d.tables t; told = d.told }
-
 fetch_law : (few : Bool) (t : Tables) (c n : ℕ)
-    → fetch few t c n ≡ within ((0 ∷ []) ++ (guarded few ++ [])) t (fetch few (masked shop ((0 ∷ []) ++ (guarded few ++ [])) t) c n)
+    → fetch few t c n ≡ done_within shop ((0 ∷ []) ++ (guarded few ++ [])) t (fetch few (masked shop ((0 ∷ []) ++ (guarded few ++ [])) t) c n)
 fetch_law true t c n = refl
 fetch_law false t c n = refl
 
-serve_law : (t : Tables) (c : ℕ) (ask : Ask) → serve t c ask ≡ within (asks ask ++ (more t ask ++ [])) t (serve (masked shop (asks ask ++ (more t ask ++ [])) t) c ask)
+serve_law : (t : Tables) (c : ℕ) (ask : Ask) → serve t c ask ≡ done_within shop (asks ask ++ (more t ask ++ [])) t (serve (masked shop (asks ask ++ (more t ask ++ [])) t) c ask)
 serve_law t c (Fetch n) = fetch_law (are_few t.pieces) t c n
 serve_law t c ask = refl
 
@@ -59,22 +52,16 @@ each_served asked = record { stages = λ t row. (refl, (more_law t asked.ask, tt
 
 -- ---- and so, for every event
 
-pub each_framed : (asked : Asked) (s : State) → IsFramed parts_of (wants asked) (λ u. step u asked) s
-each_framed asked s = served.framed shop is_device services asked (each_served asked) s
-
 pub after_holds_the_same : (asked : Asked) (hand : List (Option Part)) → places_held (after asked hand) ≡ places_held hand
-after_holds_the_same asked hand = laws.after_holds_the_same parts_of state_in (wants asked) (λ u. step u asked) hand
+after_holds_the_same asked = served.after_holds_the_same shop is_device services asked (each_served asked)
 
 pub after_is_laid_over : (asked : Asked) (hand : List (Option Part)) (parts : List Part) → IsHandOf hand parts → need asked hand ≡ []
     → parts_after asked parts ≡ laid_over (after asked hand) parts
-after_is_laid_over asked hand parts of enough =
-    laws.after_is_laid_over parts_of state_in (wants asked) (λ u. step u asked) (cut shop is_device) hand parts (each_framed asked (state_in (map Some parts))) of enough
+after_is_laid_over asked = served.after_is_laid_over shop is_device services asked (each_served asked)
 
 pub parts_step : (s : State) (asked : Asked) → parts_of (step s asked) ≡ parts_after asked (parts_of s)
-parts_step s asked = laws.parts_step parts_of state_in (wants asked) (λ u. step u asked) (cut shop is_device) s (each_framed asked s)
+parts_step s asked = served.parts_step shop is_device services asked (each_served asked) s
 
 pub others_stay : (s : State) (hand : List (Option Part)) (asked : Asked) (place : ℕ) → IsHandOf hand (parts_of s) → need asked hand ≡ [] → held_at hand place ≡ None
     → slice_get (parts_of (step s asked)) place ≡ slice_get (parts_of s) place
-others_stay s hand asked place of enough free =
-    laws.others_stay parts_of state_in (wants asked) (λ u. step u asked) s hand (laws.shows_state parts_of state_in (cut shop is_device) hand s of) (each_framed asked s) enough place
-    (ap is_some free)
+others_stay s hand asked = served.free_parts_stay shop is_device services asked (each_served asked) s hand

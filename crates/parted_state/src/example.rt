@@ -2,11 +2,16 @@
 //! has it; one that hands it over tells the client that waited for it, which is another client's part; pieces are fetched from the shelf, and where few are left, by
 //! the client alone that has the tool.
 
-ghost use Rattle.std.specs.Prelude.{◌≡◌, ◌∷◌, [], ℕ, List, Option, None, slice_get};
+ghost use Rattle.std.specs.Prelude.{◌≡◌, ◌≢◌, ◌+◌, ◌<◌, ◌≤◌, ◌∷◌, [], ℕ, List, Option, None, OnOk, OnErr, length, slice_get};
+ghost use Rattle.std.specs.Option.{option_map};
 ghost use Rattle.part_table.specs.Held.{held_at, IsHandOf};
-ghost use Rattle.parted_state.specs.Shop.{State, are_few, fetch, give_word, given, heir, need, parts_after, parts_of, serve, step, take_word, taken, told_heir};
+ghost use Rattle.parted_state.specs.Lifted.{told_all, with_tables};
+ghost use Rattle.parted_state.specs.Rows.{with_room, with_word};
+ghost use Rattle.parted_state.specs.Served.{change};
+ghost use Rattle.parted_state.specs.Shop.{State, IsRow, after, are_few, clients_among, fetch, give_word, given, heir, need, on_row, parts_after, parts_of, pieces_in, roomy_in, serve, shop, step, take_word, taken, told_heir, tool_in};
 
-use part_table::Object;
+use part_table::{Hand, Object};
+use std::alloc::AllocError;
 use std::marker::Model;
 
 /// What a client is told.
@@ -54,19 +59,51 @@ pub struct Tables {
     pub tool: Tool,
 }
 
-/// What a client was told, in order. Contracts see the list.
+/// What a client was told, in order, with room for more words that is made before it is used. Contracts see the words,
+/// and for how many more there is room.
 #[derive(Debug, Drop)]
 pub struct Row {
     words: Vec<Word>,
+    room: usize,
 }
 
 impl Model for Row {
-    ghost use Rattle.std.specs.Prelude.{List};
-    ghost use Rattle.parted_state.specs.declared.example.Word.{Word};
+    ghost use Rattle.std.specs.Prelude.{◌+◌, ◌≤◌, vec_len, vec_capacity};
+    ghost use Rattle.parted_state.specs.Rows.{Roomy};
 
-    ghost Value = { List Word };
+    ghost Value = { Roomy };
 
-    ghost view = { λ row. row.words.items };
+    ghost view = { λ row. record { words = row.words.items; room = row.room } };
+
+    ghost invariant = { λ row. vec_len row.words + row.room ≤ vec_capacity row.words };
+}
+
+impl Row {
+    /// Makes room for so many words, in place of the room that there was.
+    fn reserve(&mut self, words: usize) -> Result<(), AllocError>
+        ensures made { OnOk result (self.new ≡ with_room words self.old) }
+        ensures kept { OnErr result (self.new ≡ self.old) }
+    {
+        self.words.reserve(words)?;
+        self.room = words;
+        Ok(())
+    }
+
+    /// Gives up the room that is left.
+    fn release(&mut self)
+        ensures { self.new ≡ with_room 0 self.old }
+    {
+        self.room = 0;
+    }
+
+    /// Appends a word. It uses the room for one.
+    fn tell(&mut self, word: Word)
+        requires room { 0 < self.old.room }
+        ensures { self.new ≡ with_word word self.old }
+    {
+        self.words.push_reserved(word);
+        self.room -= 1;
+    }
 }
 
 /// A part. With n clients there are n + 2 of them.
@@ -107,8 +144,10 @@ impl Object for Shop {
 
 /// The laws of the example: the step on the device is the step on its parts, and every part that is not held stays as it is where nothing is needed that is not held.
 pub fn a_step_is_of_the_held_parts()
-    ensures parts { (s : State) (event : Asked) → parts_of (step s event) ≡ parts_after event (parts_of s) }
-    ensures others { (s : State) (hand : List (Option Part)) (event : Asked) (place : ℕ) → IsHandOf hand (parts_of s) → need event hand ≡ [] → held_at hand place ≡ None
+    ensures parts { (s : State) (event : Asked)
+        → parts_of (step s event) ≡ parts_after event (parts_of s) }
+    ensures others { (s : State) (hand : List (Option Part)) (event : Asked) (place : ℕ)
+        → IsHandOf hand (parts_of s) → need event hand ≡ [] → held_at hand place ≡ None
         → slice_get (parts_of (step s event)) place ≡ slice_get (parts_of s) place }
 {}
 
@@ -150,8 +189,10 @@ impl Tool {
 impl Tables {
     /// The one that asks fetches pieces: what it is told.
     fn fetch(&mut self, client: u32, pieces: u32) -> Word
-        ensures tables { self.new ≡ (fetch (are_few self.old.pieces) self.old client pieces).tables }
-        ensures told { (client, result) ∷ [] ≡ (fetch (are_few self.old.pieces) self.old client pieces).told }
+        ensures tables { self.new ≡ (fetch
+            (are_few self.old.pieces) self.old client pieces).tables }
+        ensures told { (client, result) ∷ []
+            ≡ (fetch (are_few self.old.pieces) self.old client pieces).told }
     {
         let may = (self.pieces >= 10 || self.tool.owner == client) && pieces <= self.pieces;
         if !may {
@@ -164,7 +205,8 @@ impl Tables {
     /// Serves the one that asks: what it is told, and the client that is told that it has the tool, or 0.
     pub fn serve(&mut self, asked: Asked) -> (Word, u32)
         ensures tables { self.new ≡ (serve self.old asked.client asked.ask).tables }
-        ensures told { (asked.client, result.0) ∷ told_heir result.1 ≡ (serve self.old asked.client asked.ask).told }
+        ensures told { (asked.client, result.0) ∷ told_heir result.1
+            ≡ (serve self.old asked.client asked.ask).told }
     {
         match asked.ask {
             Ask::Take => (self.tool.take(asked.client), 0),
@@ -172,4 +214,227 @@ impl Tables {
             Ask::Fetch(pieces) => (self.fetch(asked.client, pieces), 0),
         }
     }
+}
+
+/// The tables that held parts show, with so many clients: where a part isn't held, its table is empty.
+fn lift(held: &Hand<Shop>, clients: u32) -> Tables
+    requires few { clients < 256 }
+    ensures { result ≡ record {
+      pieces = pieces_in (held_at held.now 0);
+      tool = tool_in (held_at held.now (1 + clients));
+    } }
+{
+    let pieces = match held.get(0) {
+        Some(Part::Shelf(pieces)) => *pieces,
+        _ => 0,
+    };
+    let tool = match held.get(1 + clients) {
+        Some(Part::Tool(tool)) => *tool,
+        _ => Tool { owner: 0, next: 0 },
+    };
+    Tables { pieces, tool }
+}
+
+/// Puts a part into its place, where one is held there.
+#[tactic(auto, using(crate::proofs::Places::written, crate::proofs::Places::free_stays))]
+fn put_back(held: &mut Hand<Shop>, place: u32, part: Part)
+    ensures { held.new ≡ change (option_map (λ there. part)) held.old place }
+{
+    match held.get_mut(place) {
+        Some(there) => *there = part,
+        None => {}
+    }
+}
+
+/// Puts the tables back into the parts that are held.
+fn lower(held: &mut Hand<Shop>, clients: u32, tables: Tables)
+    requires few { clients < 256 }
+    ensures { held.new ≡ with_tables shop clients tables held.old }
+{
+    put_back(held, 0, Part::Shelf(tables.pieces));
+    put_back(held, 1 + clients, Part::Tool(tables.tool));
+}
+
+/// Makes room for words in the part of a client, in place of the room that there was.
+fn make_room(held: &mut Hand<Shop>, client: u32, words: usize) -> Result<(), AllocError>
+    requires held { IsRow (held_at held.old client) }
+    ensures made { OnOk result (
+        held.new ≡ change (option_map (on_row (with_room words))) held.old client) }
+    ensures kept { OnErr result (held.new ≡ held.old) }
+{
+    let Some(mut part) = held.take(client) else {
+        unreachable!()
+    };
+    let made = match &mut *part {
+        Part::Client(row) => row.reserve(words),
+        _ => unreachable!(),
+    };
+    held.put(client, part);
+    made
+}
+
+/// Gives up the room in the part of a client.
+fn release(held: &mut Hand<Shop>, client: u32)
+    requires held { IsRow (held_at held.old client) }
+    ensures { held.new ≡ change (option_map (on_row (with_room 0))) held.old client }
+{
+    let Some(mut part) = held.take(client) else {
+        unreachable!()
+    };
+    match &mut *part {
+        Part::Client(row) => row.release(),
+        _ => unreachable!(),
+    }
+    held.put(client, part);
+}
+
+/// Tells a client something, which uses the room for one word in its part.
+fn tell(held: &mut Hand<Shop>, client: u32, word: Word)
+    requires held { IsRow (held_at held.old client) }
+    requires room { 0 < (roomy_in (held_at held.old client)).room }
+    ensures { held.new ≡ change (option_map (on_row (with_word word))) held.old client }
+{
+    let Some(mut part) = held.take(client) else {
+        unreachable!()
+    };
+    match &mut *part {
+        Part::Client(row) => row.tell(word),
+        _ => unreachable!(),
+    }
+    held.put(client, part);
+}
+
+/// Puts the tables back and tells a client one word: room is made for it first.
+fn put_word(
+    held: &mut Hand<Shop>,
+    clients: u32,
+    tables: Tables,
+    client: u32,
+    word: Word,
+) -> Result<(), AllocError>
+    requires few { clients < 256 }
+    requires among { (1 ≤ client) × (client ≤ clients) }
+    requires held { IsRow (held_at held.old client) }
+    ensures put { OnOk result (held.new
+        ≡ told_all shop clients ((client, word) ∷ []) (with_tables shop clients tables held.old)) }
+    ensures kept { OnErr result (held.new ≡ held.old) }
+{
+    make_room(held, client, 1)?;
+    lower(held, clients, tables);
+    tell(held, client, word);
+    Ok(())
+}
+
+/// Puts the tables back and tells one client two words.
+fn put_words(
+    held: &mut Hand<Shop>,
+    clients: u32,
+    tables: Tables,
+    client: u32,
+    words: (Word, Word),
+) -> Result<(), AllocError>
+    requires few { clients < 256 }
+    requires among { (1 ≤ client) × (client ≤ clients) }
+    requires held { IsRow (held_at held.old client) }
+    ensures put { OnOk result (held.new
+        ≡ told_all shop clients ((client, words.0) ∷ (client, words.1) ∷ [])
+        (with_tables shop clients tables held.old)) }
+    ensures kept { OnErr result (held.new ≡ held.old) }
+{
+    make_room(held, client, 2)?;
+    lower(held, clients, tables);
+    tell(held, client, words.0);
+    tell(held, client, words.1);
+    Ok(())
+}
+
+/// Makes room for a word in the parts of two clients, or in neither.
+fn make_rooms(held: &mut Hand<Shop>, client: u32, other: u32) -> Result<(), AllocError>
+    requires apart { client ≢ other }
+    requires held { IsRow (held_at held.old client) }
+    requires empty { (roomy_in (held_at held.old client)).room ≡ 0 }
+    requires held_other { IsRow (held_at held.old other) }
+    ensures made { OnOk result (held.new ≡ change (option_map (on_row (with_room 1)))
+        (change (option_map (on_row (with_room 1))) held.old client) other) }
+    ensures kept { OnErr result (held.new ≡ held.old) }
+{
+    make_room(held, client, 1)?;
+    if let Err(error) = make_room(held, other, 1) {
+        release(held, client);
+        return Err(error);
+    }
+    Ok(())
+}
+
+/// Puts the tables back and tells each of two clients a word: room is made in both of their parts first.
+fn put_word_each(
+    held: &mut Hand<Shop>,
+    clients: u32,
+    tables: Tables,
+    told: (u32, Word),
+    also: (u32, Word),
+) -> Result<(), AllocError>
+    requires few { clients < 256 }
+    requires apart { told.0 ≢ also.0 }
+    requires among { (1 ≤ told.0) × (told.0 ≤ clients) }
+    requires among_also { (1 ≤ also.0) × (also.0 ≤ clients) }
+    requires held { IsRow (held_at held.old told.0) }
+    requires empty { (roomy_in (held_at held.old told.0)).room ≡ 0 }
+    requires held_also { IsRow (held_at held.old also.0) }
+    ensures put { OnOk result (held.new
+        ≡ told_all shop clients (told ∷ also ∷ []) (with_tables shop clients tables held.old)) }
+    ensures kept { OnErr result (held.new ≡ held.old) }
+{
+    make_rooms(held, told.0, also.0)?;
+    lower(held, clients, tables);
+    tell(held, told.0, told.1);
+    tell(held, also.0, also.1);
+    Ok(())
+}
+
+/// Puts the tables back and tells the one that asked its word, and the one that has the tool then, if there is one, that
+/// it has it.
+fn put_in_place(
+    held: &mut Hand<Shop>,
+    clients: u32,
+    tables: Tables,
+    told: (u32, Word),
+    heir: u32,
+) -> Result<(), AllocError>
+    requires few { clients < 256 }
+    requires among { (1 ≤ told.0) × (told.0 ≤ clients) }
+    requires held { IsRow (held_at held.old told.0) }
+    requires empty { (roomy_in (held_at held.old told.0)).room ≡ 0 }
+    requires held_heir { 1 ≤ heir → heir ≤ clients → IsRow (held_at held.old heir) }
+    ensures put { OnOk result (held.new
+        ≡ told_all shop clients (told ∷ told_heir heir) (with_tables shop clients tables held.old)) }
+    ensures kept { OnErr result (held.new ≡ held.old) }
+{
+    if heir == 0 || heir > clients {
+        return put_word(held, clients, tables, told.0, told.1);
+    }
+    if heir == told.0 {
+        return put_words(held, clients, tables, heir, (told.1, Word::Yours));
+    }
+    put_word_each(held, clients, tables, told, (heir, Word::Yours))
+}
+
+/// Serves the one that asks, on held parts. First the tables are lifted out of them, what is asked for is done on these,
+/// and room is made in the parts of the clients that are told something, which alone may want memory. Then all is put
+/// in place, and can't fail. Without memory the parts are as before.
+pub fn apply(held: &mut Hand<Shop>, asked: Asked) -> Result<(), AllocError>
+    requires of { (s : State) × IsHandOf held.old (parts_of s) }
+    requires few { length held.old ≤ 256 }
+    requires among { (1 ≤ asked.client) × (asked.client ≤ clients_among (length held.old)) }
+    requires enough { need asked held.old ≡ [] }
+    // They are then parts of the state after the step, whichever state they were parts of.
+    ensures step { OnOk result ((s : State) → IsHandOf held.old (parts_of s)
+        → IsHandOf held.new (parts_of (step s asked))) }
+    ensures parts { OnOk result (held.new ≡ after asked held.old) }
+    ensures kept { OnErr result (held.new ≡ held.old) }
+{
+    let clients = held.places() as u32 - 2;
+    let mut tables = lift(held, clients);
+    let (word, heir) = tables.serve(asked);
+    put_in_place(held, clients, tables, (asked.client, word), heir)
 }
