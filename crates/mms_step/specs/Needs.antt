@@ -6,7 +6,7 @@ use Rattle.parted_state.specs.Served as parted
 use Rattle.mms_step.specs.declared.part.Part.{Part}
 use Rattle.mms_step.specs.State.{State}
 use Rattle.association.specs.Client.{ClientRow}
-use Rattle.mms_step.specs.Association.{verdict}
+use Rattle.mms_step.specs.Association.{Verdict, verdict}
 use Rattle.mms_step.specs.Meant.{no_tables}
 use Rattle.mms_step.specs.Serving.{services, heard_asks, heard_more}
 use Rattle.mms_step.specs.Partition.{cell, parts_of, state_in}
@@ -39,10 +39,12 @@ placed n tables = map (parted.table_place cell n) tables
 abbrev pub two_stages : List (Option Part) → List ℕ → List ℕ → List ℕ
 two_stages hand first second = cut.missing hand (first ++ (if cut.are_held hand first then second else []))
 
--- what octets from a client with that row need, once its part is held
+-- what a verdict on what a client sends needs, and so what its octets need, once its part is held
+abbrev pub verdict_need : ℕ → List (Option Part) → ClientRow → Verdict → List ℕ
+verdict_need n hand row v = two_stages hand (placed n (heard_asks v)) (placed n (heard_more no_tables row v))
+
 abbrev pub heard_need : ℕ → List (Option Part) → ClientRow → List ℕ → List ℕ
-heard_need n hand row octets =
-    two_stages hand (placed n (heard_asks (verdict row octets))) (placed n (heard_more no_tables row (verdict row octets)))
+heard_need n hand row octets = verdict_need n hand row (verdict row octets)
 
 -- what is shown and isn't held
 abbrev pub need : CellEvent → List (Option Part) → List ℕ

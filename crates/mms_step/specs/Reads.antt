@@ -1,8 +1,12 @@
 -- What was read of octets.
-use Rattle.std.specs.Prelude.{◌≡◌, Result, Ok, Err}
+use Rattle.std.specs.Prelude.{◌≡◌, ℕ, List, Option, None, Some, Result, Ok, Err}
+use Rattle.mms_types.specs.declared.event.CellEvent.{CellEvent}
+use Rattle.mms_types.specs.declared.event.CellEvent.TheVariants.{Heard}
+use Rattle.mms_types.specs.declared.identifier.Edition.{Edition}
 use Rattle.mms_types.specs.declared.pdu.Pdu.{Pdu}
 use Rattle.mms_pdu.specs.declared.refusal.Refusal.{Refusal}
 use Rattle.mms_pdu.specs.declared.reading.Read.{Read}
+use Rattle.mms_pdu.specs.Heard.{pdu_heard}
 use Rattle.mms_pdu.specs.Hearing.{depth_of}
 
 -- the PDU, or the refusal
@@ -19,3 +23,16 @@ IsDeep (Err refusal) = Unit {0}
 pub record IsRead (read : Result Read Refusal) (heard : Result Pdu Refusal) : Type 0 where
   pub pdu : pdu_read read ≡ heard
   pub depth : IsDeep read
+
+-- what is kept of the octets of an event: nothing, or the edition by which they were read, and what was read
+abbrev pub Kept : Type 0
+Kept = Option (Edition × Result Read Refusal)
+
+abbrev pub IsReadOf : Kept → List ℕ → Type 0
+IsReadOf None octets = Unit {0}
+IsReadOf (Some kept) octets = IsRead kept.1 (pdu_heard kept.0 octets)
+
+-- it is of that event
+abbrev pub IsReadingOf : Kept → CellEvent → Type 0
+IsReadingOf kept (Heard client octets) = IsReadOf kept octets
+IsReadingOf kept event = Unit {0}

@@ -14,16 +14,25 @@ ghost use Rattle.mms_step.specs.Meant.{row_heard};
 ghost use Rattle.mms_step.specs.Step.{step, IsInTime};
 ghost use Rattle.mms_step.specs.Partition.{parts_of, clients_among, clock_in, client_place, outbox_held, on_client, on_clock, IsClock, IsClient};
 ghost use Rattle.mms_step.specs.Needs.{need};
+ghost use Rattle.mms_step.specs.Reads.{IsReadOf, IsReadingOf};
 ghost use Rattle.mms_step.specs.After.{after};
 
+use crate::reading::Reading;
 use crate::tables::BEFORE_CLIENTS;
 use crate::{Cell, Part};
 use mms_types::{CellEvent, Memory, What};
 use part_table::Hand;
 use std::alloc::Global;
 
-/// Lets octets be heard from a client.
-fn hear_from(alloc: Global, held: &mut Hand<Cell>, client: u32, octets: &[u8]) -> Result<(), Memory>
+/// Lets octets be heard from a client, of which that was read.
+fn hear_from(
+    alloc: Global,
+    held: &mut Hand<Cell>,
+    client: u32,
+    octets: &[u8],
+    reading: &Reading,
+) -> Result<(), Memory>
+    requires reading { IsReadOf reading.now octets.now }
     requires small { client ≤ 64 }
     requires held { IsClient (held_at held.old (client_place client)) }
     ensures heard { OnOk result (held.new
@@ -36,7 +45,7 @@ fn hear_from(alloc: Global, held: &mut Hand<Cell>, client: u32, octets: &[u8]) -
         unreachable!()
     };
     let heard = match &mut *part {
-        Part::Client(client) => client.hear(alloc, octets),
+        Part::Client(client) => client.hear(alloc, octets, reading),
         _ => unreachable!(),
     };
     held.put(place, part);
@@ -102,9 +111,15 @@ pub fn drain(client: u32, held: &mut Hand<Cell>) -> Vec<What>
 }
 
 /// Does the step of an event on the parts that are held, and puts outputs into outboxes. `held` are parts of a state of the device, a client of the event is
-/// one of its clients, and nothing is needed that is not held. Without memory the parts are as before.
-pub fn apply(alloc: Global, event: &CellEvent, held: &mut Hand<Cell>) -> Result<(), Memory>
+/// one of its clients, and nothing is needed that is not held. Octets of which nothing was read are read here. Without memory the parts are as before.
+pub fn apply_read(
+    alloc: Global,
+    event: &CellEvent,
+    reading: &Reading,
+    held: &mut Hand<Cell>,
+) -> Result<(), Memory>
     requires of { (s : State) × IsSound s × IsHandOf held.old (parts_of s) }
+    requires reading { IsReadingOf reading.now event.now }
     requires among { IsAmong (clients_among (length held.old)) event.now }
     requires held { need event.now held.old ≡ [] }
     requires time { IsInTime (clock_in (held_at held.old 0)) event.now }
@@ -116,7 +131,9 @@ pub fn apply(alloc: Global, event: &CellEvent, held: &mut Hand<Cell>) -> Result<
     ensures kept { OnErr result (held.new ≡ held.old) }
 {
     match event {
-        CellEvent::Heard { client, octets } => hear_from(alloc, held, *client, octets.as_slice()),
+        CellEvent::Heard { client, octets } => {
+            hear_from(alloc, held, *client, octets.as_slice(), reading)
+        }
         CellEvent::Lost { client } => {
             lose(held, *client);
             Ok(())
@@ -131,4 +148,20 @@ pub fn apply(alloc: Global, event: &CellEvent, held: &mut Hand<Cell>) -> Result<
             Ok(())
         }
     }
+}
+
+/// Does the step of an event on the parts that are held, as `apply_read` where nothing was read.
+pub fn apply(alloc: Global, event: &CellEvent, held: &mut Hand<Cell>) -> Result<(), Memory>
+    requires of { (s : State) × IsSound s × IsHandOf held.old (parts_of s) }
+    requires among { IsAmong (clients_among (length held.old)) event.now }
+    requires held { need event.now held.old ≡ [] }
+    requires time { IsInTime (clock_in (held_at held.old 0)) event.now }
+    // They are then parts of the state after the step, whichever state they were parts of.
+    ensures step { OnOk result ((s : State) → IsHandOf held.old (parts_of s)
+        → IsHandOf held.new (parts_of (step s event.now))) }
+    ensures parts { OnOk result (held.new ≡ after event.now held.old) }
+    ensures places { places_held held.new ≡ places_held held.old }
+    ensures kept { OnErr result (held.new ≡ held.old) }
+{
+    apply_read(alloc, event, &Reading::none(), held)
 }

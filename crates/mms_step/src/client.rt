@@ -4,17 +4,19 @@ ghost use Rattle.std.specs.Prelude.{◌≡◌, nat_le, length, OnOk, OnErr, IfOk
 ghost use Rattle.association.specs.Client.{closed_row, drained_row, new_row};
 ghost use Rattle.association.specs.Negotiation.{negotiation};
 ghost use Rattle.mms_pdu.specs.Pdus.{pdu_octets};
-ghost use Rattle.mms_step.specs.Association.{abort_told, cancel_told, conclusion_told, loss_told, negotiated, sends, Takes};
+ghost use Rattle.mms_step.specs.Association.{abort_told, cancel_told, conclusion_told, loss_told, negotiated, sends, verdict_by, Takes};
 ghost use Rattle.mms_step.specs.Effects.{felt, felt_all, Sends};
 ghost use Rattle.mms_step.specs.Meant.{effects_of, meant, no_tables, row_after, row_heard};
 ghost use Rattle.mms_step.specs.Partition.{settled};
+ghost use Rattle.mms_step.specs.Reads.{pdu_read, IsDeep, IsReadOf};
 ghost use Rattle.mms_step.specs.Services.{cause, effect, refuses, request_told};
 ghost use Rattle.mms_step.specs.Serving.{size_of};
 
+use crate::reading::{Reading, read};
 use crate::service::{answer_to, cause};
-use crate::verdict::{Found, Said, read, verdict_of};
+use crate::verdict::{Found, Said, verdict_of};
 use association::{ClientPart, Constants, outcome_of};
-use mms_pdu::{Writer, put_pdu};
+use mms_pdu::{Read, Refusal, Writer, put_pdu};
 use mms_types::{
     Answer, CancelError, ConfirmedError, Initiate, Memory, Octets, Pdu, Request, ServiceError, What,
 };
@@ -245,14 +247,33 @@ impl Client {
         }
     }
 
-    /// Hears octets from the client. Without memory all stays as it was.
-    pub(crate) fn hear(&mut self, alloc: Global, octets: &[u8]) -> Result<(), Memory>
+    /// Hears what was read from the client. Without memory all stays as it was.
+    fn hear_read(&mut self, alloc: Global, read: &Result<Read, Refusal>) -> Result<(), Memory>
+        requires depth { IsDeep read.now }
+        ensures heard { OnOk result (self.new ≡ settled (row_after
+            (verdict_by self.old.row.association self.old.row (pdu_read read.now)) self.old.row)) }
+        ensures kept { OnErr result (self.new ≡ self.old) }
+    {
+        let found = verdict_of(&self.part, read)?;
+        self.act(alloc, &found)
+    }
+
+    /// Hears octets from the client, of which that was read. Without memory all stays as it was.
+    pub(crate) fn hear(
+        &mut self,
+        alloc: Global,
+        octets: &[u8],
+        reading: &Reading,
+    ) -> Result<(), Memory>
+        requires reading { IsReadOf reading.now octets.now }
         ensures heard { OnOk result (self.new ≡ settled (row_heard self.old.row octets.now)) }
         ensures kept { OnErr result (self.new ≡ self.old) }
     {
-        let read = read(alloc, octets, self.part.constants().edition)?;
-        let found = verdict_of(&self.part, &read)?;
-        self.act(alloc, &found)
+        let edition = self.part.constants().edition;
+        match reading.by(edition) {
+            Some(read) => self.hear_read(alloc, read),
+            None => self.hear_read(alloc, &read(alloc, octets, edition)?),
+        }
     }
 
     /// The client is lost, where there is an association.

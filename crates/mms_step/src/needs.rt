@@ -9,16 +9,20 @@ ghost use Rattle.mms_step.specs.Serving.{heard_asks, heard_more, loss_asks};
 ghost use Rattle.mms_step.specs.Tables.{loss_tables};
 ghost use Rattle.parted_state.specs.Cut.{missing};
 ghost use Rattle.mms_step.specs.Partition.{parts_of, client_place, clients_among, IsClient};
-ghost use Rattle.mms_step.specs.Needs.{footprint, heard_need, need, placed, two_stages};
+ghost use Rattle.mms_step.specs.Association.{verdict_by};
+ghost use Rattle.mms_step.specs.Needs.{footprint, heard_need, need, placed, two_stages, verdict_need};
+ghost use Rattle.mms_step.specs.Reads.{pdu_read, IsDeep, IsReadOf, IsReadingOf};
 
 use crate::places::Parts;
+use crate::reading::{Reading, read};
 use crate::service::{request_asks, request_more};
 use crate::tables::{
     BEFORE_CLIENTS, CLOCK, CONDITIONS, DOMAINS, JOURNALS, PROGRAMS, VARIABLES, semaphores,
 };
-use crate::verdict::{Found, read, verdict_of};
+use crate::verdict::{Found, verdict_of};
 use crate::{Cell, Part};
 use association::ClientPart;
+use mms_pdu::{Read, Refusal};
 use mms_types::{CellEvent, Memory};
 use part_table::Hand;
 use std::alloc::Global;
@@ -122,31 +126,54 @@ fn client_held(held: &Hand<Cell>, client: u32) -> &ClientPart
     }
 }
 
-/// What octets from a client need, once its part is held.
+/// What was read from a client needs, once its part is held.
+fn need_of(
+    clients: u32,
+    held: &Hand<Cell>,
+    part: &ClientPart,
+    read: &Result<Read, Refusal>,
+) -> Result<Parts, Memory>
+    requires few { clients ≤ 64 }
+    requires depth { IsDeep read.now }
+    ensures { IfOk result (λ parts. parts ≡ verdict_need clients held.now part.now.row
+        (verdict_by part.now.row.association part.now.row (pdu_read read.now))) }
+{
+    let found = verdict_of(part, read)?;
+    let first = heard_asks(&found, clients);
+    Ok(missing_of(&first, &heard_more(part, &found, clients), held))
+}
+
+/// What octets from a client need, of which that was read, once its part is held.
 fn need_heard(
     alloc: Global,
     clients: u32,
     held: &Hand<Cell>,
     part: &ClientPart,
     octets: &[u8],
+    reading: &Reading,
 ) -> Result<Parts, Memory>
     requires few { clients ≤ 64 }
-    ensures { IfOk result (λ parts. parts ≡ heard_need clients held.now part.now.row octets.now) }
+    requires reading { IsReadOf reading.now octets.now }
+    ensures { IfOk result (λ parts.
+        parts ≡ heard_need clients held.now part.now.row octets.now) }
 {
-    let read = read(alloc, octets, part.constants().edition)?;
-    let found = verdict_of(part, &read)?;
-    let first = heard_asks(&found, clients);
-    Ok(missing_of(&first, &heard_more(part, &found, clients), held))
+    let edition = part.constants().edition;
+    match reading.by(edition) {
+        Some(read) => need_of(clients, held, part, read),
+        None => need_of(clients, held, part, &read(alloc, octets, edition)?),
+    }
 }
 
 /// What the words of an event, once the parts are held that they tell, and these parts need.
 fn need_more(
     alloc: Global,
     event: &CellEvent,
+    reading: &Reading,
     clients: u32,
     held: &Hand<Cell>,
 ) -> Result<Parts, Memory>
     requires of { (s : State) × IsSound s × IsHandOf held.now (parts_of s) }
+    requires reading { IsReadingOf reading.now event.now }
     requires clients { clients ≡ clients_among (length held.now) }
     requires among { IsAmong clients event.now }
     requires words { missing held.now (footprint clients event.now) ≡ [] }
@@ -155,7 +182,7 @@ fn need_more(
     match event {
         CellEvent::Heard { client, octets } => {
             let part = client_held(held, *client);
-            need_heard(alloc, clients, held, part, octets.as_slice())
+            need_heard(alloc, clients, held, part, octets.as_slice(), reading)
         }
         CellEvent::Lost { client } => {
             let part = client_held(held, *client);
@@ -168,17 +195,33 @@ fn need_more(
 }
 
 /// The parts that the event's words and the held parts show to be needed, and that are not held. With parts of one state, more held parts show at least as
-/// much. `held` are parts of a state of the device, and a client of the event is one of its clients.
-pub fn need(alloc: Global, event: &CellEvent, held: &Hand<Cell>) -> Result<Parts, Memory>
+/// much. `held` are parts of a state of the device, and a client of the event is one of its clients. Octets of which nothing was read are read here.
+pub fn need_read(
+    alloc: Global,
+    event: &CellEvent,
+    reading: &Reading,
+    held: &Hand<Cell>,
+) -> Result<Parts, Memory>
     requires of { (s : State) × IsSound s × IsHandOf held.now (parts_of s) }
+    requires reading { IsReadingOf reading.now event.now }
     requires among { IsAmong (clients_among (length held.now)) event.now }
     ensures { IfOk result (λ parts. parts ≡ need event.now held.now) }
 {
     let clients = held.places() as u32 - 7;
     let missing = footprint(event, clients).missing(held);
     if missing.is_empty() {
-        need_more(alloc, event, clients, held)
+        need_more(alloc, event, reading, clients, held)
     } else {
         Ok(missing)
     }
+}
+
+/// The parts that the event's words and the held parts show to be needed, and that are not held, as `need_read` where
+/// nothing was read.
+pub fn need(alloc: Global, event: &CellEvent, held: &Hand<Cell>) -> Result<Parts, Memory>
+    requires of { (s : State) × IsSound s × IsHandOf held.now (parts_of s) }
+    requires among { IsAmong (clients_among (length held.now)) event.now }
+    ensures { IfOk result (λ parts. parts ≡ need event.now held.now) }
+{
+    need_read(alloc, event, &Reading::none(), held)
 }

@@ -3,30 +3,13 @@
 ghost use Rattle.std.specs.Prelude.{◌≡◌, nat_lt, Ok, Err, IfOk, OnOk, Result};
 ghost use Rattle.association.specs.Admission.{admission};
 ghost use Rattle.association.specs.Waiting.{is_waiting};
-ghost use Rattle.mms_pdu.specs.Heard.{pdu_heard};
 ghost use Rattle.mms_step.specs.Association.{admitted, cancelled, concluded, idle_verdict, open_verdict, requested, verdict_by};
 ghost use Rattle.mms_step.specs.Meant.{meant};
-ghost use Rattle.mms_step.specs.Reads.{pdu_read, IsDeep, IsRead};
+ghost use Rattle.mms_step.specs.Reads.{pdu_read, IsDeep};
 
 use association::{ClientPart, Negotiated, NotAdmitted};
-use mms_pdu::{Read, Refusal, read_pdu, reject_for};
-use mms_types::{Edition, Initiate, Memory, Pdu, Reject, RejectReason, Request};
-use std::alloc::Global;
-
-/// What octets are that a client of that edition sends: a PDU and its depth, or the first refusal that applies.
-pub(crate) fn read(
-    alloc: Global,
-    octets: &[u8],
-    edition: Edition,
-) -> Result<Result<Read, Refusal>, Memory>
-    ensures { IfOk result (λ told. IsRead told (pdu_heard edition octets.now)) }
-{
-    match read_pdu(alloc, octets, edition) {
-        Ok(read) => Ok(Ok(read)),
-        Err(Refusal::Memory) => Err(Memory),
-        Err(refusal) => Ok(Err(refusal)),
-    }
-}
+use mms_pdu::{Read, Refusal, reject_for};
+use mms_types::{Initiate, Memory, Pdu, Reject, RejectReason, Request};
 
 /// What a client is told at once.
 #[derive(Clone, Copy, Debug, PartialEq, Eq)]

@@ -9,7 +9,7 @@ use Rattle.mms_step.specs.Meant.{row_heard}
 use Rattle.mms_step.specs.Partition.{client_place, clients_among, on_client}
 use Rattle.mms_step.specs.Needs.{need}
 use Rattle.mms_step.proofs.Enough.{client_is_held, clock_is_held, heard_becomes, lost_becomes, ticked_becomes, ended_becomes, drained_becomes, becomes_as, places_either}
-use Rattle.mms_step.proofs.applying.apply.Goals as goal
+use Rattle.mms_step.proofs.applying.apply_read.Goals as goal
 
 pub hear_from-requires-clause-held : goal.hear_from-requires-clause-held
 hear_from-requires-clause-held c =

@@ -1,6 +1,6 @@
 use Rattle.std.proofs.Common.{ap, sym, ℕ, ◌∙◌, ◌-◌}
 use Rattle.mms_step.proofs.Needed.{need_by_test}
-use Rattle.mms_step.proofs.needs.need.Goals as goal
+use Rattle.mms_step.proofs.needs.need_read.Goals as goal
 
 pub returns-else-is_empty : goal.returns-else-is_empty
 returns-else-is_empty c =
