@@ -1,5 +1,5 @@
 -- The device that holds all parts, before and after an event.
-use Rattle.std.specs.Prelude.{◌≡◌, ℕ, ◌≤◌, true, Option, Some, List, [], ◌∷◌, map, length, refl}
+use Rattle.std.specs.Prelude.{◌≡◌, ℕ, ◌+◌, ◌≤◌, true, Option, Some, List, [], ◌∷◌, map, length, refl}
 use Rattle.std.proofs.Common.{ap, sym, ◌∙◌, subst, arith}
 use Rattle.mms_types.specs.declared.event.CellEvent.{CellEvent}
 use Rattle.std.specs.declared.boxed.Box.{Box}
@@ -12,7 +12,8 @@ use Rattle.mms_step.specs.Step.{step, MayCome, outbox_in, outbox_of}
 use Rattle.mms_step.specs.Partition.{parts_of, state_in, client_part, client_place, clients_among, outbox_held, IsClient}
 use Rattle.mms_step.specs.Needs.{need, is_held}
 use Rattle.mms_step.specs.After.{after}
-use Rattle.mms_step.proofs.PartsAfter.{step_sound, length-parts}
+use Rattle.mms_step.proofs.PartsAfter.{length-parts}
+use Rattle.mms_step.proofs.Sound.{step_sound}
 use Rattle.mms_step.proofs.Holding.{all_of_them, still_all, shows_itself, clients_counted, client_at, held_part, held_client, step_of_hand}
 use Rattle.mms_step.proofs.Enough.{places_then}
 use Rattle.mms_step.proofs.AllParts.{nothing_needed, is_held_there}
@@ -44,18 +45,18 @@ holds_all_after new after is = is ∙ ap (λ (s : State). map Some (parts_of s))
 -- ---- one event
 
 -- what the device keeps, and the state after the event
-pub record Serves (hand new : List (Option Part)) (event : CellEvent) : Type 0 where
+pub record Serves (count : ℕ) (hand new : List (Option Part)) (event : CellEvent) : Type 0 where
   pub all : HoldsAll new
-  pub sound : IsSound (state_in new)
+  pub sound : IsSound (count + 1) (state_in new)
   pub state : state_in new ≡ step (state_in hand) event
 
-pub serves : (hand new : List (Option Part)) (event : CellEvent) → HoldsAll hand → IsSound (state_in hand) → MayCome (state_in hand) event
-    → ((s : State) → IsHandOf hand (parts_of s) → IsHandOf new (parts_of (step s event))) → places_held new ≡ places_held hand → Serves hand new event
-serves hand new event all sound may stepped same =
+pub serves : (count : ℕ) (hand new : List (Option Part)) (event : CellEvent) → HoldsAll hand → IsSound count (state_in hand) → MayCome (state_in hand) event
+    → ((s : State) → IsHandOf hand (parts_of s) → IsHandOf new (parts_of (step s event))) → places_held new ≡ places_held hand → Serves count hand new event
+serves count hand new event all sound may stepped same =
     let after = step (state_in hand) event in
     let is = still_holds_all hand new after all (stepped (state_in hand) (is_of_its_state hand all)) same in
     let shown = state_after new after is in
-    record { all = holds_all_after new after is; sound = subst IsSound (sym shown) (step_sound (state_in hand) event sound); state = shown }
+    record { all = holds_all_after new after is; sound = subst (IsSound (count + 1)) (sym shown) (step_sound count (state_in hand) event sound); state = shown }
 
 pub none_needed : (hand : List (Option Part)) (event : CellEvent) → HoldsAll hand → IsAmong (length (state_in hand).clients) event → need event hand ≡ []
 none_needed hand event all among = ap (λ (h : List (Option Part)). need event h) all ∙ nothing_needed (state_in hand) event among
@@ -80,8 +81,8 @@ client_of_all hand client all some there =
         (is_held_there (parts_of (state_in hand)) (client_place client) (omega (arith, counted, there)))
 
 -- the drain of a client
-pub drains : (hand new : List (Option Part)) (event : CellEvent) → HoldsAll hand → IsSound (state_in hand) → MayCome (state_in hand) event → new ≡ after event hand → Serves hand new event
-drains hand new event all sound may is =
-    serves hand new event all sound may
+pub drains : (count : ℕ) (hand new : List (Option Part)) (event : CellEvent) → HoldsAll hand → IsSound count (state_in hand) → MayCome (state_in hand) event → new ≡ after event hand → Serves count hand new event
+drains count hand new event all sound may is =
+    serves count hand new event all sound may
     (λ s of. step_of_hand s hand new event of (none_needed hand event all may.among) is)
     (places_then hand new event is)

@@ -43,7 +43,7 @@ impl Model for Whole {
 
     ghost view = { λ device. record { state = state_in device.hand; count = device.count } };
 
-    ghost invariant = { λ device. (device.hand ≡ map Some (parts_of (state_in device.hand))) × IsSound (state_in device.hand) };
+    ghost invariant = { λ device. (device.hand ≡ map Some (parts_of (state_in device.hand))) × IsSound device.count (state_in device.hand) };
 }
 
 /// Each part in a place of its own.

@@ -30,7 +30,7 @@ use Rattle.mms_step.proofs.PartsAfter.{with_client, client_changed, step_heard, 
 
 -- parts of a sound state
 abbrev pub OfState : List (Option Part) → Type 0
-OfState hand = (s : State) × IsSound s × IsHandOf hand (parts_of s)
+OfState hand = (s : State) × ((count : ℕ) × IsSound count s) × IsHandOf hand (parts_of s)
 
 abbrev pub OfSome : List (Option Part) → Type 0
 OfSome hand = (s : State) × IsHandOf hand (parts_of s)

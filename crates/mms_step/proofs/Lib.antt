@@ -4,3 +4,4 @@ pub mod Enough
 pub mod Holding
 pub mod Needed
 pub mod PartsAfter
+pub mod Sound

@@ -17,7 +17,7 @@ use Rattle.parted_state.specs.Served as parted
 use Rattle.parted_state.specs.ServedLaws as served
 use Rattle.mms_step.specs.declared.part.Part.{Part}
 use Rattle.mms_step.specs.declared.part.Part.TheVariants.{Clock, Variables, Domains, Programs, Conditions, Journals, Semaphores}
-use Rattle.mms_step.specs.State.{State, start, device_of, first_rows, IsSound, HasDate}
+use Rattle.mms_step.specs.State.{State, start, device_of, first_rows, HasDate}
 use Rattle.mms_step.specs.Tables.{Tables}
 use Rattle.mms_step.specs.Effects.{Effect, felt, felt_all, tell}
 use Rattle.mms_step.specs.Association.{Verdict, Takes, verdict, loss_told}
@@ -88,7 +88,7 @@ client_changed s client f some there =
 
 -- ---- what is told to one client changes its row
 
-told_one : (effects : List Effect) (i : ℕ) (rows : List ClientRow) → parted.delivered cell (tell (suc i) effects) rows ≡ change (felt_all effects) rows i
+pub told_one : (effects : List Effect) (i : ℕ) (rows : List ClientRow) → parted.delivered cell (tell (suc i) effects) rows ≡ change (felt_all effects) rows i
 told_one [] i rows = sym (change-none rows i)
 told_one (effect ∷ effects) i rows = told_one effects i (change (felt effect) rows i) ∙ change-twice (felt_all effects) (felt effect) rows i
 
@@ -192,26 +192,12 @@ step_still s client octets =
 
 -- ---- what holds of each state
 
-length-clients_to : (n : ℕ) → length (clients_to n) ≡ n
+pub length-clients_to : (n : ℕ) → length (clients_to n) ≡ n
 length-clients_to zero = refl
 length-clients_to (suc n) = length-append (clients_to n) (suc n ∷ []) ∙ omega (arith, length-clients_to n)
 
 pub length-start : (config : Config) → length (start config).clients ≡ config.clients
 length-start config = length-map (clients_to config.clients) (λ c. new_row c (device_of config)) ∙ length-clients_to config.clients
-
-pub start_sound : (config : Config) → IsConfig config → IsSound (start config)
-start_sound config is =
-    let counted = length-start config in record { some = omega (arith, counted, is.some_client); few = omega (arith, counted, is.few_clients) }
-
-pub step_sound : (s : State) (event : CellEvent) → IsSound s → IsSound (step s event)
-step_sound s event sound = let same = step_sized s event in record { some = omega (arith, same, sound.some); few = omega (arith, same, sound.few) }
-
-sound_along : (s : State) (history : List CellEvent) → IsSound s → IsSound (fold step s history)
-sound_along s [] sound = sound
-sound_along s (event ∷ rest) sound = sound_along (step s event) rest (step_sound s event sound)
-
-pub replay_sound : (config : Config) (history : List CellEvent) → IsConfig config → IsSound (replay config history)
-replay_sound config history is = sound_along (start config) history (start_sound config is)
 
 -- ---- and what holds where time ends no later than the last moment
 

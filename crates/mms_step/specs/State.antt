@@ -1,8 +1,10 @@
 -- The state of the device: plain lists of rows and the moment (ISO 9506-1, the virtual manufacturing device).
-use Rattle.std.specs.Prelude.{ℕ, ◌≤◌, List, map, length}
+use Rattle.std.specs.Prelude.{◌≡◌, ℕ, ◌+◌, ◌<◌, ◌≤◌, List, [], ◌∷◌, Some, map, length, slice_get}
 use Rattle.mms_types.specs.Actors.{clients_to}
+use Rattle.association.specs.Admission.{called_of}
 use Rattle.association.specs.Client.{ClientRow, new_row}
 use Rattle.association.specs.declared.constants.Constants.{Constants}
+use Rattle.association.specs.declared.waiting.Waiting.{Waiting}
 use Rattle.cell_config.specs.declared.config.Config.{Config}
 
 pub record State : Type 0 where
@@ -27,10 +29,23 @@ start config = record { now = config.start.0; clients = first_rows config config
 abbrev pub last_moment : ℕ
 last_moment = 5662310399999
 
--- what holds of each state of the device: it has 1 to 64 clients
-pub record IsSound (s : State) : Type 0 where
+-- each of the requests that wait has the number of one of so many events
+abbrev pub AreNumbered : ℕ → List Waiting → Type 0
+AreNumbered count [] = Unit {0}
+AreNumbered count (request ∷ waiting) = (request.entry < count) × AreNumbered count waiting
+
+-- What holds of the row of a client after so many events: it has the client's number; no more requests wait than the association allows, and so none without
+-- one; and each of them has the number of one of the events.
+pub record IsSoundRow (count client : ℕ) (row : ClientRow) : Type 0 where
+  pub number : row.client ≡ client
+  pub allowed : length row.waiting ≤ called_of row.association
+  pub entries : AreNumbered count row.waiting
+
+-- what holds of each state of the device after so many events: it has 1 to 64 clients, in the order of their numbers, and their rows are sound
+pub record IsSound (count : ℕ) (s : State) : Type 0 where
   pub some : 1 ≤ length s.clients
   pub few : length s.clients ≤ 64
+  pub rows : (i : ℕ) (row : ClientRow) → slice_get s.clients i ≡ Some row → IsSoundRow count (i + 1) row
 
 -- six octets name its moment, which the ticks of all callers together keep and no caller alone can tell
 abbrev pub HasDate : State → Type 0

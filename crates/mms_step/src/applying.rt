@@ -1,6 +1,6 @@
 //! One event on the parts that are held.
 
-ghost use Rattle.std.specs.Prelude.{◌≡◌, ◌+◌, ◌≤◌, [], length, OnOk, OnErr};
+ghost use Rattle.std.specs.Prelude.{◌≡◌, ℕ, ◌+◌, ◌≤◌, [], length, OnOk, OnErr};
 ghost use Rattle.std.specs.Option.{option_map};
 ghost use Rattle.mms_types.specs.Actors.{IsAmong};
 ghost use Rattle.mms_types.specs.declared.event.CellEvent.TheVariants.{Drain};
@@ -118,7 +118,7 @@ pub fn apply_read(
     reading: &Reading,
     held: &mut Hand<Cell>,
 ) -> Result<(), Memory>
-    requires of { (s : State) × IsSound s × IsHandOf held.old (parts_of s) }
+    requires of { (s : State) × ((count : ℕ) × IsSound count s) × IsHandOf held.old (parts_of s) }
     requires reading { IsReadingOf reading.now event.now }
     requires among { IsAmong (clients_among (length held.old)) event.now }
     requires held { need event.now held.old ≡ [] }
@@ -152,7 +152,7 @@ pub fn apply_read(
 
 /// Does the step of an event on the parts that are held, as `apply_read` where nothing was read.
 pub fn apply(alloc: Global, event: &CellEvent, held: &mut Hand<Cell>) -> Result<(), Memory>
-    requires of { (s : State) × IsSound s × IsHandOf held.old (parts_of s) }
+    requires of { (s : State) × ((count : ℕ) × IsSound count s) × IsHandOf held.old (parts_of s) }
     requires among { IsAmong (clients_among (length held.old)) event.now }
     requires held { need event.now held.old ≡ [] }
     requires time { IsInTime (clock_in (held_at held.old 0)) event.now }

@@ -33,11 +33,11 @@ pub fn a_step_is_of_the_held_parts()
         → Contains (shown event hand) place → Contains (shown event larger) place }
 {}
 
-/// Every state is sound that the device reaches from its start: its clients are as many as they were. Where the events are some that may come, its moment is one
-/// that six octets name.
+/// Every state is sound that the device reaches from its start: its clients are as many as they were, each in its place, and no more requests of one wait
+/// than it may have, each with the number of one of the events. Where the events are some that may come, its moment is one that six octets name.
 pub fn each_state_is_sound()
     ensures sound { (config : Config) (history : List CellEvent) → IsConfig config
-        → IsSound (replay config history) }
+        → IsSound (length history) (replay config history) }
     ensures dated { (config : Config) (history : List CellEvent) → IsConfig config
         → MayFollow (start config) history → HasDate (replay config history) }
 {}

@@ -1,6 +1,6 @@
 //! Which parts an event needs.
 
-ghost use Rattle.std.specs.Prelude.{◌≡◌, ◌+◌, ◌<◌, ◌≤◌, [], Some, length, IfOk};
+ghost use Rattle.std.specs.Prelude.{◌≡◌, ℕ, ◌+◌, ◌<◌, ◌≤◌, [], Some, length, IfOk};
 ghost use Rattle.mms_types.specs.Actors.{IsAmong};
 ghost use Rattle.part_table.specs.Held.{held_at, IsHandOf};
 ghost use Rattle.mms_step.specs.Meant.{meant, no_tables};
@@ -172,7 +172,7 @@ fn need_more(
     clients: u32,
     held: &Hand<Cell>,
 ) -> Result<Parts, Memory>
-    requires of { (s : State) × IsSound s × IsHandOf held.now (parts_of s) }
+    requires of { (s : State) × ((count : ℕ) × IsSound count s) × IsHandOf held.now (parts_of s) }
     requires reading { IsReadingOf reading.now event.now }
     requires clients { clients ≡ clients_among (length held.now) }
     requires among { IsAmong clients event.now }
@@ -202,7 +202,7 @@ pub fn need_read(
     reading: &Reading,
     held: &Hand<Cell>,
 ) -> Result<Parts, Memory>
-    requires of { (s : State) × IsSound s × IsHandOf held.now (parts_of s) }
+    requires of { (s : State) × ((count : ℕ) × IsSound count s) × IsHandOf held.now (parts_of s) }
     requires reading { IsReadingOf reading.now event.now }
     requires among { IsAmong (clients_among (length held.now)) event.now }
     ensures { IfOk result (λ parts. parts ≡ need event.now held.now) }
@@ -219,7 +219,7 @@ pub fn need_read(
 /// The parts that the event's words and the held parts show to be needed, and that are not held, as `need_read` where
 /// nothing was read.
 pub fn need(alloc: Global, event: &CellEvent, held: &Hand<Cell>) -> Result<Parts, Memory>
-    requires of { (s : State) × IsSound s × IsHandOf held.now (parts_of s) }
+    requires of { (s : State) × ((count : ℕ) × IsSound count s) × IsHandOf held.now (parts_of s) }
     requires among { IsAmong (clients_among (length held.now)) event.now }
     ensures { IfOk result (λ parts. parts ≡ need event.now held.now) }
 {

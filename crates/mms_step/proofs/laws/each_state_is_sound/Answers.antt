@@ -1,4 +1,5 @@
-use Rattle.mms_step.proofs.PartsAfter.{replay_sound, replay_dated}
+use Rattle.mms_step.proofs.PartsAfter.{replay_dated}
+use Rattle.mms_step.proofs.Sound.{replay_sound}
 use Rattle.mms_step.proofs.laws.each_state_is_sound.Goals as goal
 
 pub returns-clause-sound : goal.returns-clause-sound

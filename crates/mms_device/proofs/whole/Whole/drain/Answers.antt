@@ -15,7 +15,7 @@ drain-outputs-requires-clause-held c =
 pub invariant_of-self : goal.invariant_of-self
 invariant_of-self c =
     let there = subst (λ (u : Served). c.args.client ≤ length u.state.clients) (sym c.self.view_is) c.requires.there in
-    let done = drains c.self.inside.hand c.drain-outputs.new.held (Drain c.args.client) c.self.invariant.0 c.self.invariant.1
+    let done = drains c.self.inside.count c.self.inside.hand c.drain-outputs.new.held (Drain c.args.client) c.self.invariant.0 c.self.invariant.1
     (record { among = (c.requires.some, there); time = tt })
     (c.drain-outputs.ensures.parts (state_in c.self.inside.hand) (is_of_its_state c.self.inside.hand c.self.invariant.0) (c.requires.some, there)) in
     (done.all, done.sound)
@@ -29,7 +29,7 @@ returns-clause-outputs c =
 pub returns-clause-step : goal.returns-clause-step
 returns-clause-step c =
     let there = subst (λ (u : Served). c.args.client ≤ length u.state.clients) (sym c.self.view_is) c.requires.there in
-    let done = drains c.self.inside.hand c.drain-outputs.new.held (Drain c.args.client) c.self.invariant.0 c.self.invariant.1
+    let done = drains c.self.inside.count c.self.inside.hand c.drain-outputs.new.held (Drain c.args.client) c.self.invariant.0 c.self.invariant.1
     (record { among = (c.requires.some, there); time = tt })
     (c.drain-outputs.ensures.parts (state_in c.self.inside.hand) (is_of_its_state c.self.inside.hand c.self.invariant.0) (c.requires.some, there)) in
     ap (λ (s : State). at s) done.state ∙ ap (λ (d : Served). served d (Drain c.args.client)) c.self.view_is

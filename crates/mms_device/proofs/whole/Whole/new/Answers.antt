@@ -1,6 +1,6 @@
 use Rattle.std.proofs.Common.{ap, sym, subst}
 use Rattle.mms_step.specs.State.{State, start, IsSound}
-use Rattle.mms_step.proofs.PartsAfter.{start_sound}
+use Rattle.mms_step.proofs.Sound.{start_sound}
 use Rattle.mms_device.specs.Served.{Served}
 use Rattle.mms_device.proofs.AllHeld.{state_after, holds_all_after}
 use Rattle.mms_device.proofs.whole.Whole.new.Goals as goal
@@ -9,7 +9,7 @@ pub invariant_of-result : goal.invariant_of-result
 invariant_of-result c =
     let is = c.in_ok-all_held.ensures in (
       holds_all_after c.in_ok-all_held.field-0 (start c.args.config.now) is,
-      subst IsSound (sym (state_after c.in_ok-all_held.field-0 (start c.args.config.now) is)) (start_sound c.args.config.now c.requires.config),
+      subst (IsSound 0) (sym (state_after c.in_ok-all_held.field-0 (start c.args.config.now) is)) (start_sound c.args.config.now c.requires.config),
     )
 
 pub returns : goal.returns

@@ -1,0 +1,282 @@
+-- Every state is sound that the device reaches from its start.
+use Rattle.std.specs.Prelude.{◌≡◌, ◌≢◌, ℕ, zero, suc, ◌+◌, ◌-◌, ◌<◌, ◌≤◌, nat_lt, Bool, true, false, not, ◌==◌, Option, None, Some, List, [], ◌∷◌, ◌++◌, filter, fold, map, length, slice_get, unwrap_or, Result, Ok, Err, if◌then◌else◌, refl}
+use Rattle.std.specs.Option.{option_map}
+use Rattle.std.proofs.Common.{ap, ap₂, sym, ◌∙◌, subst, arith}
+use Rattle.std.proofs.lemmas.Bool.Decides.{nat_tests}
+use native.Mathlib.Decide.{ℕ_discrete}
+use Rattle.mms_types.specs.Actors.{clients_to}
+use Rattle.mms_types.specs.declared.event.CellEvent.{CellEvent}
+use Rattle.mms_types.specs.declared.event.CellEvent.TheVariants.{Heard, Lost, Tick, Ends, Drain}
+use Rattle.mms_types.specs.declared.initiate.InitiateAnswer.{InitiateAnswer}
+use Rattle.mms_types.specs.declared.memory.Memory.{Memory}
+use Rattle.mms_types.specs.declared.pdu.Answer.{Answer}
+use Rattle.mms_types.specs.declared.pdu.Pdu.{Pdu}
+use Rattle.mms_types.specs.declared.pdu.Pdu.TheVariants as pdu
+use Rattle.mms_types.specs.declared.pdu.Reject.{Reject}
+use Rattle.mms_types.specs.declared.pdu.Request.{Request}
+use Rattle.mms_types.specs.declared.service_error.ServiceError.{ServiceError}
+use Rattle.mms_pdu.specs.declared.refusal.Refusal.{Refusal}
+use Rattle.mms_pdu.specs.Heard.{pdu_heard}
+use Rattle.mms_pdu.specs.Hearing.{depth_of}
+use Rattle.mms_pdu.specs.Rejects.{reject_of}
+use Rattle.association.specs.declared.client_part.NotAdmitted.{NotAdmitted}
+use Rattle.association.specs.declared.client_part.NotAdmitted.TheVariants as not_admitted
+use Rattle.association.specs.declared.negotiation.Association.{Association}
+use Rattle.association.specs.declared.negotiation.Association.TheVariants.{Idle, Open}
+use Rattle.association.specs.declared.negotiation.Negotiated.{Negotiated}
+use Rattle.association.specs.declared.waiting.Waiting.{Waiting}
+use Rattle.association.specs.Admission.{admission, called_of}
+use Rattle.association.specs.Client.{ClientRow, new_row}
+use Rattle.association.specs.Negotiation.{negotiation}
+use Rattle.association.specs.Waiting.{is_waiting, without}
+use Rattle.cell_config.specs.declared.config.Config.{Config}
+use Rattle.cell_config.specs.Said.{IsConfig}
+use Rattle.parted_state.specs.Lists.{get_front, get_behind, get_past, get_changed, get_change}
+use Rattle.parted_state.specs.Served.{change, row_at, delivered}
+use Rattle.parted_state.specs.Served as parted
+use Rattle.mms_step.specs.State.{State, start, device_of, IsSound, IsSoundRow, AreNumbered}
+use Rattle.mms_step.specs.Effects.{Effect, Sends, Opens, Closes, Waits, Answers, Drains, felt, felt_all, tell}
+use Rattle.mms_step.specs.Association.{Verdict, other_error, Tells, Takes, Concludes, Cancels, Aborts, verdict, verdict_by, idle_verdict, open_verdict, admitted, requested, concluded, cancelled, negotiated, refused, loss_told}
+use Rattle.mms_step.specs.Meant.{no_tables}
+use Rattle.mms_step.specs.Partition.{cell, no_client}
+use Rattle.mms_step.specs.Services.{cause, effect, fits, refuses, request_told, answer_told}
+use Rattle.mms_step.specs.Serving.{size_of, own_told, serves, services}
+use Rattle.mms_step.specs.Step.{step, replay}
+use Rattle.mms_step.proofs.PartsAfter.{heard_told, length-start, length-clients_to, step_sized, told_one}
+
+-- ---- requests that wait
+
+numbered_later : (count : ℕ) (waiting : List Waiting) → AreNumbered count waiting → AreNumbered (suc count) waiting
+numbered_later count [] numbered = tt
+numbered_later count (request ∷ waiting) numbered = (omega (arith, numbered.0), numbered_later count waiting numbered.1)
+
+numbered_without : (count invoke : ℕ) (waiting : List Waiting) → AreNumbered count waiting → AreNumbered count (without invoke waiting)
+numbered_without count invoke [] numbered = tt
+numbered_without count invoke (request ∷ waiting) numbered = by_test (not (request.invoke == invoke)) (numbered_without count invoke waiting numbered.1)
+  where
+    by_test : (b : Bool) → AreNumbered count (without invoke waiting) → AreNumbered count (if b then request ∷ without invoke waiting else without invoke waiting)
+    by_test true rest = (numbered.0, rest)
+    by_test false rest = rest
+
+fewer_without : (invoke : ℕ) (waiting : List Waiting) → length (without invoke waiting) ≤ length waiting
+fewer_without invoke [] = omega arith
+fewer_without invoke (request ∷ waiting) = by_test (not (request.invoke == invoke)) (fewer_without invoke waiting)
+  where
+    by_test : (b : Bool) → length (without invoke waiting) ≤ length waiting → length (if b then request ∷ without invoke waiting else without invoke waiting) ≤ length (request ∷ waiting)
+    by_test true rest = omega (arith, rest)
+    by_test false rest = omega (arith, rest)
+
+-- ---- a row, after what its client is told
+
+row_later : (count client : ℕ) (row : ClientRow) → IsSoundRow count client row → IsSoundRow (suc count) client row
+row_later count client row sound = record { number = sound.number; allowed = sound.allowed; entries = numbered_later count row.waiting sound.entries }
+
+module _ (count client : ℕ) where
+  sent : (output : _) (row : ClientRow) → IsSoundRow count client row → IsSoundRow count client (felt (Sends output) row)
+  sent output row sound = record { number = sound.number; allowed = sound.allowed; entries = sound.entries }
+
+  opened : (values : Negotiated) (row : ClientRow) → row.association ≡ Idle → IsSoundRow count client row → IsSoundRow count client (felt (Opens values) row)
+  opened values row idle sound =
+      let none : length row.waiting ≤ 0 = subst (λ (a : Association). length row.waiting ≤ called_of a) idle sound.allowed in
+      record { number = sound.number; allowed = omega (arith, none); entries = sound.entries }
+
+  closed : (row : ClientRow) → IsSoundRow count client row → IsSoundRow count client (felt Closes row)
+  closed row sound = record { number = sound.number; allowed = omega arith; entries = tt }
+
+  answered : (invoke : ℕ) (row : ClientRow) → IsSoundRow count client row → IsSoundRow count client (felt (Answers invoke) row)
+  answered invoke row sound = record {
+    number = sound.number;
+    allowed = let few = fewer_without invoke row.waiting in omega (arith, few, sound.allowed);
+    entries = numbered_without count invoke row.waiting sound.entries;
+  }
+
+  drained : (row : ClientRow) → IsSoundRow count client row → IsSoundRow count client (felt Drains row)
+  drained row sound = record { number = sound.number; allowed = sound.allowed; entries = sound.entries }
+
+  -- ---- what a client is told by what it sends
+
+  refused_sound : (row : ClientRow) (told : Result Reject Memory) → IsSoundRow count client row → IsSoundRow count client (felt_all (refused told) row)
+  refused_sound row (Ok reject) sound = sent _ row sound
+  refused_sound row (Err memory) sound = sound
+
+  negotiated_sound : (row : ClientRow) (told : Result InitiateAnswer ServiceError) → row.association ≡ Idle → IsSoundRow count client row
+      → IsSoundRow count client (felt_all (negotiated told) row)
+  negotiated_sound row (Ok answer) idle sound = sent _ (felt (Opens _) row) (opened _ row idle sound)
+  negotiated_sound row (Err refusal) idle sound = sent _ row sound
+
+  request_sound : (row : ClientRow) (size invoke : ℕ) (why : Option ServiceError) (told : Option Answer) → IsSoundRow count client row
+      → IsSoundRow count client (felt_all (request_told size invoke why told) row)
+  request_sound row size invoke (Some refusal) told sound = sent _ row sound
+  request_sound row size invoke None None sound = sound
+  request_sound row size invoke None (Some answer) sound = by_test (fits size invoke (Some answer))
+    where
+      by_test : (b : Bool) → IsSoundRow count client (felt_all (if b then answer_told invoke (Some answer) else refuses invoke other_error ∷ []) row)
+      by_test true = sent _ row sound
+      by_test false = sent _ row sound
+
+  -- ---- what a client is told by a verdict
+
+  abbrev Fine : ClientRow → Verdict → Type 0
+  Fine row (Tells effects) = IsSoundRow count client (felt_all effects row)
+  Fine row other = Unit {0}
+
+  own_sound : (row told : ClientRow) (v : Verdict) → IsSoundRow count client row → Fine row v → IsSoundRow count client (felt_all (own_told no_tables told v) row)
+  own_sound row told (Tells effects) sound fine = fine
+  own_sound row told (Takes invoke asked) sound fine = request_sound row (size_of told.association) invoke (cause no_tables told asked) (effect no_tables told asked).answer sound
+  own_sound row told Concludes sound fine = closed (felt (Sends _) row) (sent _ row sound)
+  own_sound row told (Cancels invoke) sound fine = sent _ _ (sent _ _ (answered invoke row sound))
+  own_sound row told Aborts sound fine = closed (felt (Sends _) row) (sent _ row sound)
+
+  admitted_fine : (row : ClientRow) (may : Result Unit NotAdmitted) (invoke : ℕ) (asked : Request) → IsSoundRow count client row → Fine row (admitted may invoke asked)
+  admitted_fine row (Err not_admitted.Waiting) invoke asked sound = sent _ row sound
+  admitted_fine row (Err not_admitted.Outstanding) invoke asked sound = sent _ row sound
+  admitted_fine row (Ok taken) invoke asked sound = tt
+
+  requested_fine : (row : ClientRow) (too_deep : Bool) (invoke : ℕ) (asked : Request) → IsSoundRow count client row → Fine row (requested too_deep row invoke asked)
+  requested_fine row true invoke asked sound = sent _ row sound
+  requested_fine row false invoke asked sound = admitted_fine row (admission invoke row) invoke asked sound
+
+  concluded_fine : (row : ClientRow) (waiting : List Waiting) → IsSoundRow count client row → Fine row (concluded waiting)
+  concluded_fine row [] sound = tt
+  concluded_fine row (first ∷ rest) sound = sent _ row sound
+
+  cancelled_fine : (row : ClientRow) (waits : Bool) (invoke : ℕ) → IsSoundRow count client row → Fine row (cancelled waits invoke)
+  cancelled_fine row true invoke sound = tt
+  cancelled_fine row false invoke sound = sent _ row sound
+
+  idle_fine : (row : ClientRow) (heard : Result Pdu Refusal) → row.association ≡ Idle → IsSoundRow count client row → Fine row (idle_verdict heard)
+  idle_fine row (Ok (pdu.InitiateRequest proposal)) idle sound = negotiated_sound row (negotiation proposal) idle sound
+  idle_fine row heard idle sound = sent _ row sound
+
+  open_fine : (values : Negotiated) (row : ClientRow) (heard : Result Pdu Refusal) → IsSoundRow count client row → Fine row (open_verdict values row heard)
+  open_fine values row (Err refusal) sound = refused_sound row (reject_of refusal) sound
+  open_fine values row (Ok (pdu.InitiateRequest proposal)) sound = tt
+  open_fine values row (Ok pdu.ConcludeRequest) sound = concluded_fine row row.waiting sound
+  open_fine values row (Ok (pdu.CancelRequest invoke)) sound = cancelled_fine row (is_waiting invoke row.waiting) invoke sound
+  open_fine values row (Ok (pdu.ConfirmedRequest invoke asked)) sound = requested_fine row (nat_lt values.nesting (depth_of (pdu.ConfirmedRequest invoke asked))) invoke asked sound
+  open_fine values row (Ok (pdu.ConfirmedResponse invoke told)) sound = sent _ row sound
+  open_fine values row (Ok (pdu.HeardError invoke)) sound = sent _ row sound
+  open_fine values row (Ok heard) sound = sound
+
+  verdict_fine : (row : ClientRow) (a : Association) (heard : Result Pdu Refusal) → row.association ≡ a → IsSoundRow count client row → Fine row (verdict_by a row heard)
+  verdict_fine row Idle heard is sound = idle_fine row heard is sound
+  verdict_fine row (Open values) heard is sound = open_fine values row heard sound
+
+  heard_sound : (row : ClientRow) (octets : List ℕ) → IsSoundRow count client row → IsSoundRow count client (felt_all (own_told no_tables row (verdict row octets)) row)
+  heard_sound row octets sound =
+      own_sound row row (verdict row octets) sound (verdict_fine row row.association (pdu_heard row.constants.edition octets) refl sound)
+
+  lost_sound : (row : ClientRow) (a : Association) → IsSoundRow count client row → IsSoundRow count client (felt_all (loss_told a) row)
+  lost_sound row Idle sound = sound
+  lost_sound row (Open values) sound = closed row sound
+
+-- ---- all rows
+
+abbrev AreSound : ℕ → List ClientRow → Type 0
+AreSound count rows = (i : ℕ) (row : ClientRow) → slice_get rows i ≡ Some row → IsSoundRow count (i + 1) row
+
+changed_sound : (count : ℕ) (f : ClientRow → ClientRow) (rows : List ClientRow) (k : ℕ) → AreSound count rows
+    → ((row : ClientRow) → slice_get rows k ≡ Some row → IsSoundRow count (k + 1) (f row)) → AreSound count (change f rows k)
+changed_sound count f rows k sound here i row there = by_place (ℕ_discrete i k)
+  where
+    by_value : (o : Option ClientRow) → slice_get rows k ≡ o → option_map f o ≡ Some row → IsSoundRow count (k + 1) row
+    by_value None e is = absurd (cc is)
+    by_value (Some r) e is =
+        let same : f r ≡ row = cc is in
+        subst (λ (x : ClientRow). IsSoundRow count (k + 1) x) same (here r e)
+
+    by_place : Dec (i ≡ k) → IsSoundRow count (i + 1) row
+    by_place (yes same) =
+        subst (λ (m : ℕ). IsSoundRow count (m + 1) row) (sym same)
+        (by_value (slice_get rows k) refl (sym (get_changed f rows k) ∙ ap (λ (m : ℕ). slice_get (change f rows k) m) (sym same) ∙ there))
+    by_place (no other) = sound i row (sym (get_change f rows k i other) ∙ there)
+
+nobody_told : (effects : List Effect) (rows : List ClientRow) → delivered cell (tell 0 effects) rows ≡ rows
+nobody_told [] rows = refl
+nobody_told (effect ∷ effects) rows = nobody_told effects rows
+
+row_of_it : (rows : List ClientRow) (k : ℕ) (row : ClientRow) → slice_get rows k ≡ Some row → row_at cell (suc k) rows ≡ row
+row_of_it rows k row there = ap (λ (o : Option ClientRow). unwrap_or o no_client) there
+
+-- the rows after one client was told what is told to its row
+told_sound : (count client : ℕ) (told : ClientRow → List Effect) (rows : List ClientRow) → AreSound count rows
+    → ((k : ℕ) (row : ClientRow) → IsSoundRow count k row → IsSoundRow count k (felt_all (told row) row))
+    → AreSound count (delivered cell (tell client (told (row_at cell client rows))) rows)
+told_sound count zero told rows sound each = subst (λ (l : List ClientRow). AreSound count l) (sym (nobody_told (told (row_at cell 0 rows)) rows)) sound
+told_sound count (suc k) told rows sound each =
+    subst (λ (l : List ClientRow). AreSound count l) (sym (told_one (told (row_at cell (suc k) rows)) k rows))
+    (changed_sound count (felt_all (told (row_at cell (suc k) rows))) rows k sound
+    (λ row there. subst (λ (r : ClientRow). IsSoundRow count (k + 1) (felt_all (told r) row)) (sym (row_of_it rows k row there)) (each (k + 1) row (sound k row there))))
+
+rows_after : (count : ℕ) (s : State) (event : CellEvent) → AreSound count s.clients → AreSound count (step s event).clients
+rows_after count s (Heard client octets) sound =
+    subst (λ (l : List (ℕ × Effect)). AreSound count (delivered cell l s.clients))
+    (sym (heard_told (cell.tables_of s) (row_at cell client s.clients) client octets))
+    (told_sound count client (λ row. own_told no_tables row (verdict row octets)) s.clients sound (λ k row. heard_sound count k row octets))
+rows_after count s (Lost client) sound =
+    told_sound count client (λ row. loss_told row.association) s.clients sound (λ k row. lost_sound count k row row.association)
+rows_after count s (Tick ms) sound = sound
+rows_after count s (Ends name) sound = sound
+rows_after count s (Drain client) sound = told_sound count client (λ row. Drains ∷ []) s.clients sound (λ k row. drained count k row)
+
+-- ---- states
+
+pub step_sound : (count : ℕ) (s : State) (event : CellEvent) → IsSound count s → IsSound (count + 1) (step s event)
+step_sound count s event sound =
+    let same = step_sized s event in
+    let next : suc count ≡ count + 1 = omega arith in
+    record {
+      some = omega (arith, same, sound.some);
+      few = omega (arith, same, sound.few);
+      rows = subst (λ (m : ℕ). AreSound m (step s event).clients) next
+          (rows_after (suc count) s event (λ i row there. row_later count (i + 1) row (sound.rows i row there)));
+    }
+
+sound_along : (count : ℕ) (s : State) (history : List CellEvent) → IsSound count s → IsSound (count + length history) (fold step s history)
+sound_along count s [] sound = subst (λ (m : ℕ). IsSound m s) (omega arith) sound
+sound_along count s (event ∷ rest) sound =
+    let all : count + 1 + length rest ≡ count + length (event ∷ rest) = omega arith in
+    subst (λ (m : ℕ). IsSound m (fold step (step s event) rest)) all (sound_along (count + 1) (step s event) rest (step_sound count s event sound))
+
+client_at : (n i c : ℕ) → slice_get (clients_to n) i ≡ Some c → c ≡ i + 1
+client_at zero i c there = absurd (cc there)
+client_at (suc n) i c there = by_test (λ e. client_at n i c e) (nat_lt i n) refl
+  where
+    many : length (clients_to n) ≡ n
+    many = length-clients_to n
+
+    last : (j : ℕ) → i ≡ n + j → slice_get (suc n ∷ []) j ≡ Some c → c ≡ i + 1
+    last zero at is = let same : suc n ≡ c = cc is in omega (arith, same, at)
+    last (suc j) at is = absurd (cc is)
+
+    by_test : (slice_get (clients_to n) i ≡ Some c → c ≡ i + 1) → (b : Bool) → nat_lt i n ≡ b → c ≡ i + 1
+    by_test before true e =
+        let below : i < n = grind (arith, nat_tests) in
+        before (sym (get_front (clients_to n) (suc n ∷ []) i (omega (arith, below, many))) ∙ there)
+    by_test before false e =
+        let past : n ≤ i = grind (arith, nat_tests) in
+        last (i - n) (omega (arith, past)) (sym (get_behind (clients_to n) (suc n ∷ []) i (i - n) (omega (arith, past, many))) ∙ there)
+
+get_mapped : {A B : Type 0} (f : A → B) (xs : List A) (i : ℕ) → slice_get (map f xs) i ≡ option_map f (slice_get xs i)
+get_mapped f [] i = refl
+get_mapped f (x ∷ xs) zero = refl
+get_mapped f (x ∷ xs) (suc i) = get_mapped f xs i
+
+first_rows_sound : (config : Config) (n : ℕ) → AreSound 0 (map (λ c. new_row c (device_of config)) (clients_to n))
+first_rows_sound config n i row there = by_value (slice_get (clients_to n) i) refl (sym (get_mapped (λ c. new_row c (device_of config)) (clients_to n) i) ∙ there)
+  where
+    by_value : (o : Option ℕ) → slice_get (clients_to n) i ≡ o → option_map (λ c. new_row c (device_of config)) o ≡ Some row → IsSoundRow 0 (i + 1) row
+    by_value None e is = absurd (cc is)
+    by_value (Some c) e is =
+        let same : new_row c (device_of config) ≡ row = cc is in
+        subst (λ (r : ClientRow). IsSoundRow 0 (i + 1) r) same (record { number = client_at n i c e; allowed = omega arith; entries = tt })
+
+pub start_sound : (config : Config) → IsConfig config → IsSound 0 (start config)
+start_sound config is =
+    let counted = length-start config in
+    record { some = omega (arith, counted, is.some_client); few = omega (arith, counted, is.few_clients); rows = first_rows_sound config config.clients }
+
+pub replay_sound : (config : Config) (history : List CellEvent) → IsConfig config → IsSound (length history) (replay config history)
+replay_sound config history is =
+    let all : 0 + length history ≡ length history = omega arith in
+    subst (λ (m : ℕ). IsSound m (replay config history)) all (sound_along 0 (start config) history (start_sound config is))
