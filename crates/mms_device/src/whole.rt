@@ -11,7 +11,7 @@ ghost use Rattle.mms_step.specs.Partition.{parts_of, state_in};
 ghost use Rattle.mms_device.specs.Served.{served};
 
 use cell_config::Config;
-use mms_step::{Cell, Part, apply, drain, start_parts};
+use mms_step::{Cell, Part, apply, clients_of, drain, start_parts};
 use mms_types::{CellEvent, Memory, Moment, What};
 use part_table::Hand;
 use std::alloc::{AllocError, Global};
@@ -83,7 +83,7 @@ impl Whole {
         ensures some { 1 ≤ length self.now.state.clients }
         ensures few { length self.now.state.clients ≤ 64 }
     {
-        self.hand.places() as u32 - 7
+        clients_of(&self.hand)
     }
 
     /// The moment.

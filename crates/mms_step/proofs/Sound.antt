@@ -1,7 +1,7 @@
 -- Every state is sound that the device reaches from its start.
-use Rattle.std.specs.Prelude.{◌≡◌, ◌≢◌, ℕ, zero, suc, ◌+◌, ◌-◌, ◌<◌, ◌≤◌, nat_lt, Bool, true, false, not, ◌==◌, Option, None, Some, List, [], ◌∷◌, ◌++◌, filter, fold, map, length, slice_get, unwrap_or, Result, Ok, Err, if◌then◌else◌, refl}
+use Rattle.std.specs.Prelude.{◌≡◌, ℕ, zero, suc, ◌+◌, ◌-◌, ◌<◌, ◌≤◌, nat_lt, Bool, true, false, not, ◌==◌, Option, None, Some, List, [], ◌∷◌, fold, map, length, slice_get, unwrap_or, Result, Ok, Err, if◌then◌else◌, refl}
 use Rattle.std.specs.Option.{option_map}
-use Rattle.std.proofs.Common.{ap, ap₂, sym, ◌∙◌, subst, arith}
+use Rattle.std.proofs.Common.{ap, sym, ◌∙◌, subst, arith}
 use Rattle.std.proofs.lemmas.Bool.Decides.{nat_tests}
 use native.Mathlib.Decide.{ℕ_discrete}
 use Rattle.mms_types.specs.Actors.{clients_to}
@@ -31,16 +31,15 @@ use Rattle.association.specs.Negotiation.{negotiation}
 use Rattle.association.specs.Waiting.{is_waiting, without}
 use Rattle.cell_config.specs.declared.config.Config.{Config}
 use Rattle.cell_config.specs.Said.{IsConfig}
-use Rattle.parted_state.specs.Lists.{get_front, get_behind, get_past, get_changed, get_change}
+use Rattle.parted_state.specs.Lists.{get_front, get_behind, get_changed, get_change}
 use Rattle.parted_state.specs.Served.{change, row_at, delivered}
-use Rattle.parted_state.specs.Served as parted
 use Rattle.mms_step.specs.State.{State, start, device_of, IsSound, IsSoundRow, AreNumbered}
-use Rattle.mms_step.specs.Effects.{Effect, Sends, Opens, Closes, Waits, Answers, Drains, felt, felt_all, tell}
+use Rattle.mms_step.specs.Effects.{Effect, Sends, Opens, Closes, Answers, Drains, felt, felt_all, tell}
 use Rattle.mms_step.specs.Association.{Verdict, other_error, Tells, Takes, Concludes, Cancels, Aborts, verdict, verdict_by, idle_verdict, open_verdict, admitted, requested, concluded, cancelled, negotiated, refused, loss_told}
 use Rattle.mms_step.specs.Meant.{no_tables}
 use Rattle.mms_step.specs.Partition.{cell, no_client}
 use Rattle.mms_step.specs.Services.{cause, effect, fits, refuses, request_told, answer_told}
-use Rattle.mms_step.specs.Serving.{size_of, own_told, serves, services}
+use Rattle.mms_step.specs.Serving.{size_of, own_told}
 use Rattle.mms_step.specs.Step.{step, replay}
 use Rattle.mms_step.proofs.PartsAfter.{heard_told, length-start, length-clients_to, step_sized, told_one}
 

@@ -1,5 +1,5 @@
 -- Laws of what an event makes of the parts that are held: the device is one of tables and clients, and each event reads and changes the tables that it uses alone.
-use Rattle.std.specs.Prelude.{◌≡◌, ℕ, zero, suc, Bool, true, false, ◌++◌, Option, Some, List, [], map, if◌then◌else◌, slice_get, refl}
+use Rattle.std.specs.Prelude.{◌≡◌, ℕ, zero, suc, Bool, true, false, ◌++◌, Option, Some, List, [], if◌then◌else◌, slice_get, refl}
 use Rattle.std.proofs.Common.{ap, ap₂, sym, ◌∙◌, arith}
 use Rattle.mms_types.specs.declared.event.CellEvent.{CellEvent}
 use Rattle.mms_types.specs.declared.event.CellEvent.TheVariants.{Heard, Lost, Tick, Ends, Drain}
@@ -21,7 +21,7 @@ use Rattle.mms_step.specs.Effects.{Effect, tell}
 use Rattle.mms_step.specs.Association.{Verdict, Tells, Takes, verdict}
 use Rattle.mms_step.specs.Services.{Outcome, cause, effect, request_asks, request_more, is_done, request_told}
 use Rattle.mms_step.specs.Serving.{size_of, is_served, tables_heard, own_told, also_told, hears, heard_asks, heard_more, loss_asks, serves, services}
-use Rattle.mms_step.specs.Partition.{cell, clock_in, parts_of, state_in}
+use Rattle.mms_step.specs.Partition.{cell, clock_in, parts_of}
 use Rattle.mms_step.specs.Step.{step}
 use Rattle.mms_step.specs.Needs.{need, wants}
 use Rattle.mms_step.specs.After.{after, parts_after}

@@ -121,7 +121,16 @@ open_verdict values row (Ok (pdu.CancelRequest invoke)) = cancelled (is_waiting 
 open_verdict values row (Ok (pdu.ConfirmedRequest invoke asked)) = requested (nat_lt values.nesting (depth_of (pdu.ConfirmedRequest invoke asked))) row invoke asked
 open_verdict values row (Ok (pdu.ConfirmedResponse invoke told)) = Tells (rejects_invalid ∷ [])
 open_verdict values row (Ok (pdu.HeardError invoke)) = Tells (rejects_invalid ∷ [])
-open_verdict values row (Ok heard) = Tells []
+open_verdict values row (Ok (pdu.ConfirmedError error)) = Tells []
+open_verdict values row (Ok (pdu.Reject reject)) = Tells []
+open_verdict values row (Ok (pdu.HeardReject invoke)) = Tells []
+open_verdict values row (Ok (pdu.CancelResponse invoke)) = Tells []
+open_verdict values row (Ok (pdu.CancelError error)) = Tells []
+open_verdict values row (Ok pdu.HeardOther) = Tells []
+open_verdict values row (Ok (pdu.InitiateResponse answer)) = Tells []
+open_verdict values row (Ok (pdu.InitiateError error)) = Tells []
+open_verdict values row (Ok pdu.ConcludeResponse) = Tells []
+open_verdict values row (Ok (pdu.ConcludeError error)) = Tells []
 
 abbrev pub verdict_by : Association → ClientRow → Result Pdu Refusal → Verdict
 verdict_by Idle row heard = idle_verdict heard

@@ -24,9 +24,13 @@ client_place client = 5 + client
 abbrev pub semaphores_place : ℕ → ℕ
 semaphores_place n = 6 + n
 
+-- how many parts are no client's
+abbrev pub tables_many : ℕ
+tables_many = 7
+
 -- how many clients there are, by the number of parts
 abbrev pub clients_among : ℕ → ℕ
-clients_among places = places - 7
+clients_among places = places - tables_many
 
 -- a client's row as a part; between events there is no room in it that is promised
 abbrev pub settled : ClientRow → RoomyRow
@@ -93,7 +97,7 @@ cell = record {
   clients_of = λ s. s.clients;
   state_of = λ t rows. record { now = t.now; clients = rows };
   table_parts = λ t. Clock t.now ∷ Variables ∷ Domains ∷ Programs ∷ Conditions ∷ Journals ∷ Semaphores ∷ [];
-  tables = 7;
+  tables = tables_many;
   last = 5;
   client_part = client_part;
   tables_in = λ hand. record { now = clock_in (held_at hand 0) };

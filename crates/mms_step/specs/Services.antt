@@ -27,7 +27,8 @@ pub record Outcome : Type 0 where
 -- names are not listed where the domain of their scope is not live: there are no domains yet, so none is
 abbrev pub scope_cause : ObjectScope → Option ServiceError
 scope_cause (scope.Domain domain) = Some missing_error
-scope_cause other = None
+scope_cause scope.Vmd = None
+scope_cause scope.Association = None
 
 -- the first condition for which a request is refused
 abbrev pub cause : Tables → ClientRow → Request → Option ServiceError
@@ -57,7 +58,10 @@ class_tables class.EventEnrollment = conditions_table ∷ []
 class_tables class.Journal = journals_table ∷ []
 class_tables class.Domain = domains_table ∷ []
 class_tables class.ProgramInvocation = programs_table ∷ []
-class_tables other = []
+class_tables class.ScatteredAccess = []
+class_tables class.NamedType = []
+class_tables class.EventAction = []
+class_tables class.OperatorStation = []
 
 -- names are listed from the table of their class, and whether the domain of their scope is live is looked up among domains
 abbrev pub listing : ObjectScope → ObjectClass → List ℕ

@@ -26,7 +26,10 @@ is_served t row invoke asked = is_done (size_of row.association) invoke (cause t
 
 abbrev pub tables_heard : Tables → ClientRow → Verdict → Tables
 tables_heard t row (Takes invoke asked) = if is_served t row invoke asked then (effect t row asked).tables else t
-tables_heard t row other = t
+tables_heard t row (Tells effects) = t
+tables_heard t row Concludes = t
+tables_heard t row (Cancels invoke) = t
+tables_heard t row Aborts = t
 
 -- what is told to the client itself
 abbrev pub own_told : Tables → ClientRow → Verdict → List Effect
@@ -39,7 +42,10 @@ own_told t row Aborts = abort_told
 -- what else is told
 abbrev pub also_told : Tables → ClientRow → Verdict → List (ℕ × Effect)
 also_told t row (Takes invoke asked) = if is_served t row invoke asked then (effect t row asked).also else []
-also_told t row other = []
+also_told t row (Tells effects) = []
+also_told t row Concludes = []
+also_told t row (Cancels invoke) = []
+also_told t row Aborts = []
 
 abbrev pub hears : Tables → ClientRow → ℕ → Verdict → Done Tables Effect
 hears t row client v = record { tables = tables_heard t row v; told = tell client (own_told t row v) ++ also_told t row v }
@@ -55,7 +61,9 @@ heard_asks Aborts = loss_tables
 abbrev pub heard_more : Tables → ClientRow → Verdict → List ℕ
 heard_more t row (Takes invoke asked) = request_more t row asked
 heard_more t row Concludes = clock_table ∷ variables_table ∷ conditions_table ∷ journals_table ∷ semaphores_table ∷ []
-heard_more t row other = []
+heard_more t row (Tells effects) = []
+heard_more t row (Cancels invoke) = []
+heard_more t row Aborts = []
 
 -- ---- loss
 
@@ -69,13 +77,17 @@ loss_asks (Open values) = loss_tables
 abbrev pub words : CellEvent → List ℕ
 words (Tick ms) = clock_table ∷ conditions_table ∷ semaphores_table ∷ []
 words (Ends name) = programs_table ∷ []
-words event = []
+words (Heard client octets) = []
+words (Lost client) = []
+words (Drain client) = []
 
 -- further tables, by the row of its client, and then by what these show
 abbrev pub asks : CellEvent → List (Tables → ClientRow → List ℕ)
 asks (Heard client octets) = (λ t row. heard_asks (verdict row octets)) ∷ (λ t row. heard_more t row (verdict row octets)) ∷ []
 asks (Lost client) = (λ t row. loss_asks row.association) ∷ []
-asks event = []
+asks (Tick ms) = []
+asks (Ends name) = []
+asks (Drain client) = []
 
 -- Octets are heard from a client, its association is lost, time goes by (there is no deadline yet), a program invocation ends (there is none yet), or what is
 -- to be sent to a client is taken away.

@@ -15,12 +15,13 @@ pub struct Clock {
 
 impl Model for Clock {
     ghost use Rattle.std.specs.Prelude.{ℕ, ◌≤◌};
+    ghost use Rattle.mms_step.specs.State.{last_moment};
 
     ghost Value = { ℕ };
 
     ghost view = { λ clock. clock.moment.0 };
 
-    ghost invariant = { λ clock. clock.moment.0 ≤ 5662310399999 };
+    ghost invariant = { λ clock. clock.moment.0 ≤ last_moment };
 }
 
 impl Clock {

@@ -26,3 +26,4 @@ pub use opening::start_parts;
 pub use part::Part;
 pub use places::Parts;
 pub use reading::{Reading, read_event};
+pub use tables::clients_of;

@@ -17,7 +17,8 @@ use crate::places::Parts;
 use crate::reading::{Reading, read};
 use crate::service::{request_asks, request_more};
 use crate::tables::{
-    BEFORE_CLIENTS, CLOCK, CONDITIONS, DOMAINS, JOURNALS, PROGRAMS, VARIABLES, semaphores,
+    BEFORE_CLIENTS, CLOCK, CONDITIONS, DOMAINS, JOURNALS, PROGRAMS, VARIABLES, clients_of,
+    semaphores,
 };
 use crate::verdict::{Found, verdict_of};
 use crate::{Cell, Part};
@@ -207,7 +208,7 @@ pub fn need_read(
     requires among { IsAmong (clients_among (length held.now)) event.now }
     ensures { IfOk result (λ parts. parts ≡ need event.now held.now) }
 {
-    let clients = held.places() as u32 - 7;
+    let clients = clients_of(held);
     let missing = footprint(event, clients).missing(held);
     if missing.is_empty() {
         need_more(alloc, event, reading, clients, held)

@@ -1,7 +1,21 @@
 //! The numbers of the parts of tables.
 
-ghost use Rattle.std.specs.Prelude.{◌≡◌, ◌+◌, ◌≤◌};
-ghost use Rattle.mms_step.specs.Partition.{semaphores_place};
+ghost use Rattle.std.specs.Prelude.{◌≡◌, ◌+◌, ◌≤◌, length};
+ghost use Rattle.mms_step.specs.Partition.{clients_among, semaphores_place};
+
+use crate::Cell;
+use part_table::Hand;
+
+/// How many parts are no client's.
+const TABLES: u32 = 7;
+
+/// How many clients there are, by the parts that have a place in a hand.
+pub fn clients_of(held: &Hand<Cell>) -> u32
+    requires { length held.now ≤ 256 }
+    ensures { result ≡ clients_among (length held.now) }
+{
+    (held.places() as u32).saturating_sub(TABLES)
+}
 
 /// The clock.
 pub(crate) const CLOCK: u8 = 0;

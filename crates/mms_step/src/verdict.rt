@@ -138,7 +138,16 @@ fn open<'a>(
                 reason: RejectReason::InvalidPdu,
             }))
         }
-        _ => Found::Tells(Said::Nothing),
+        Pdu::ConfirmedError(_)
+        | Pdu::Reject(_)
+        | Pdu::HeardReject { .. }
+        | Pdu::CancelResponse { .. }
+        | Pdu::CancelError(_)
+        | Pdu::HeardOther
+        | Pdu::InitiateResponse(_)
+        | Pdu::InitiateError(_)
+        | Pdu::ConcludeResponse
+        | Pdu::ConcludeError(_) => Found::Tells(Said::Nothing),
     })
 }
 

@@ -1,8 +1,8 @@
-use Rattle.std.proofs.Common.{ap, sym, ℕ, ◌∙◌, ◌-◌}
+use Rattle.std.proofs.Common.{sym, ◌∙◌}
 use Rattle.mms_step.proofs.Needed.{need_by_test}
 use Rattle.mms_step.proofs.needs.need_read.Goals as goal
 
 pub returns-else-is_empty : goal.returns-else-is_empty
 returns-else-is_empty c =
-    need_by_test c.args.held.now c.args.event.now (c.places.result - 7) c.footprint.result c.missing-missing.result (ap (λ (m : ℕ). m - 7) c.places.ensures)
+    need_by_test c.args.held.now c.args.event.now c.clients_of-clients.result c.footprint.result c.missing-missing.result c.clients_of-clients.ensures
     c.footprint.ensures c.missing-missing.ensures (sym c.is_empty.ensures ∙ c.if-is_empty.false)
