@@ -1,16 +1,21 @@
 -- Alternatives of one form, with numbers one after the other.
-use Rattle.std.proofs.Common.{◌≡◌, ℕ, zero, suc, pos, Bool, true, false, eqb, Ok, Err, [], refl, arith}
+use Rattle.std.proofs.Common.{◌≡◌, ◌≢◌, ◌≤◌, ◌≤ℤ◌, ◌==◌, MatchBool, ℕ, zero, suc, pos, Bool, true, false, eqb, Ok, Err, [], refl, sym, subst, arith}
+use Rattle.std.proofs.lemmas.Bool.Decides.{nat_tests}
 use Rattle.std.proofs.lemmas.Bool.{eqb-true, eqb-false, eq-eqb, ne_eqb}
 use Rattle.ber_core.specs.declared.element.Tag.{Tag}
 use Rattle.ber_core.specs.declared.element.Lengths.{Lengths}
 use Rattle.ber_core.specs.Part.{Part}
 use Rattle.ber_core.specs.Spelling.{element_octets}
 use Rattle.ber_forms.specs.Fault as fault
-use Rattle.ber_forms.specs.Value.{Value, chosen}
-use Rattle.ber_forms.specs.Form.{Form, or, no_other, unsigned8}
+use Rattle.ber_forms.specs.Value.{Value, chosen, number}
+use Rattle.ber_forms.specs.Form.{Form, Alternatives, or, no_other, unsigned8}
+use Rattle.ber_forms.specs.Fits.{Fits, FitsOne}
 use Rattle.ber_forms.specs.Reading.{◌>>=◌, is_tag, alternatives, number_value}
 use Rattle.ber_forms.specs.Spelling.{tag_of, spelling, alternative_octets}
-use Rattle.pdu_assoc.specs.ServiceErrors.{IsOneOf, numbered}
+use Rattle.mms_types.specs.declared.identifier.Edition.{Edition}
+use Rattle.mms_types.specs.Errors.{error}
+use Rattle.pdu_names.specs.Kinds.{IsOf}
+use Rattle.pdu_assoc.specs.ServiceErrors.{IsOneOf, numbered, service_error}
 
 pub numbered_more : (first n : ℕ) (f : Form) → numbered first (suc n) f ≡ or first f (numbered (suc first) n f)
 unfolding numbered
@@ -69,3 +74,23 @@ number_spelled first (suc n) k v h = rw (numbered_more first n unsigned8) (by_nu
 pub number_unspelled : (first n k : ℕ) (v : Value) → (IsOneOf first n k → ⊥) → alternative_octets (numbered first n unsigned8) (chosen k v) ≡ []
 number_unspelled first zero k v not = rw (numbered_none first unsigned8) refl
 number_unspelled first (suc n) k v not = rw (numbered_more first n unsigned8, ne_eqb k first (λ d. not (omega (arith, d), omega (arith, d)))) (number_unspelled (suc first) n k v (λ h. not (omega (arith, h.0), omega (arith, h.1))))
+
+-- a code in one of the alternatives is of their form
+pub code_fits : (first n alternative code : ℕ) → IsOneOf first n alternative → code ≤ 255 → FitsOne (numbered first n unsigned8) (chosen alternative (number (pos code)))
+code_fits first zero alternative code one small = absurd (omega (arith, one.0, one.1))
+code_fits first (suc n) alternative code one small =
+    subst (λ (a : Alternatives). FitsOne a (chosen alternative (number (pos code)))) (sym (numbered_more first n unsigned8))
+    (by_test (alternative == first) refl (λ further. code_fits (suc first) n alternative code further small))
+  where
+    in_range : (pos 0 ≤ℤ pos code) × (pos code ≤ℤ pos 255)
+    in_range = (grind arith, grind (arith, small))
+
+    by_test : (b : Bool) → (alternative == first) ≡ b → (IsOneOf (suc first) n alternative → FitsOne (numbered (suc first) n unsigned8) (chosen alternative (number (pos code))))
+        → MatchBool b (Fits unsigned8 (number (pos code))) (FitsOne (numbered (suc first) n unsigned8) (chosen alternative (number (pos code))))
+    by_test true e rest = in_range
+    by_test false e rest =
+        let other : alternative ≢ first = grind (arith, nat_tests) in
+        rest (omega (arith, one.0, other), omega (arith, one.1))
+
+pub error_fits : (edition : Edition) (class code : ℕ) → class ≤ 12 → code ≤ 255 → IsOf service_error edition (error class code)
+error_fits edition class code few small = (code_fits 0 13 class code (omega arith, omega (arith, few)) small, (tt, tt))

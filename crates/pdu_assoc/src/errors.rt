@@ -1,13 +1,16 @@
 //! ServiceError, confirmed-Error and cancel-Error.
 #![tactic(auto, unfolding(ber_forms::specs::Spelling::appended), using(ber_forms::proofs::Joined::writing))]
 
-ghost use Rattle.std.specs.Prelude.{◌≡◌, refl, ◌↔◌, ◌++◌, ◌+◌, ◌<◌, ◌≤◌, IsTrue, true, false, Ok, Err, OnOk, OnErr};
+ghost use Rattle.std.specs.Prelude.{◌≡◌, ℕ, refl, ◌↔◌, ◌++◌, ◌+◌, ◌<◌, ◌≤◌, IsTrue, true, false, Ok, Err, OnOk, OnErr};
 ghost use Rattle.ber_core.specs.Part.{part};
 ghost use Rattle.ber_forms.specs.Form.{unsigned8};
 ghost use Rattle.ber_forms.specs.Reading.{Gives, alternatives};
 ghost use Rattle.ber_forms.specs.Reads.{NeedsNoMemory};
 ghost use Rattle.ber_forms.specs.Spelling.{alternative_octets};
 ghost use Rattle.pdu_names.specs.Editions.{lengths_of};
+ghost use Rattle.mms_types.specs.declared.identifier.Edition.{Edition};
+ghost use Rattle.mms_types.specs.Errors.{error};
+ghost use Rattle.pdu_names.specs.Kinds.{IsOf};
 ghost use Rattle.pdu_assoc.specs.ServiceErrors.{IsOneOf, numbered, code_value, error_classes, state_kinds, classes_sound, states_sound, service_error, confirmed_error, cancel_error};
 
 use ber_core::{Element, Memory as Full, Tag, Writer};
@@ -214,3 +217,10 @@ impl Formed for CancelErrors {
 
     ghost sound = { λ _. rw (classes_sound, states_sound) refl };
 }
+
+/// An error that tells no more of the refusal is of the form where its class is one of the thirteen and its code an
+/// octet's number. So each error that the server answers is of the form, as `errors_have_their_numbers` tells theirs.
+pub fn errors_are_of_the_form()
+    ensures { (edition : Edition) (class code : ℕ) → class ≤ 12 → code ≤ 255
+        → IsOf service_error edition (error class code) }
+{}

@@ -9,7 +9,9 @@ mod name_list;
 mod reject;
 mod status;
 
-pub use errors::{CancelErrors, ConfirmedErrors, ErrorClasses, ServiceErrors, StateKinds};
+pub use errors::{
+    CancelErrors, ConfirmedErrors, ErrorClasses, ServiceErrors, StateKinds, errors_are_of_the_form,
+};
 pub use heard::{HeardErrors, read_heard_reject};
 pub use initiate::{Detail, InitiateRequest, InitiateResponse};
 pub use name_list::{Classes, GetNameListRequest, GetNameListResponse, Scopes};
