@@ -65,8 +65,8 @@ fn all_held(alloc: Global, config: &Config) -> Result<Hand<Cell>, Memory>
 }
 
 impl Whole {
-    /// The device at the start, as it is configured: it is the configured moment, there are as many clients as are configured, no
-    /// association is open, nothing waits and nothing is to be sent.
+    /// The device at the start, as it is configured: it is the configured moment, there are as many clients as are
+    /// configured, no association is open, nothing waits and nothing is to be sent.
     pub fn new(alloc: Global, config: &Config) -> Result<Whole, Memory>
         requires config { IsConfig config.now }
         ensures { IfOk result (λ device. device ≡ record { state = start config.now; count = 0 }) }

@@ -87,7 +87,8 @@ fn tick(held: &mut Hand<Cell>, ms: u32)
     held.put(0, part);
 }
 
-/// Takes what is to be sent to a client out of its part: the step of `Drain` on the parts that are held. It takes no memory.
+/// Takes what is to be sent to a client out of its part: the step of `Drain` on the parts that are held. It takes no
+/// memory.
 pub fn drain(client: u32, held: &mut Hand<Cell>) -> Vec<What>
     requires small { client ≤ 64 }
     requires held { IsClient (held_at held.old (client_place client)) }
@@ -110,8 +111,9 @@ pub fn drain(client: u32, held: &mut Hand<Cell>) -> Vec<What>
     outputs
 }
 
-/// Does the step of an event on the parts that are held, and puts outputs into outboxes. `held` are parts of a state of the device, a client of the event is
-/// one of its clients, and nothing is needed that is not held. Octets of which nothing was read are read here. Without memory the parts are as before.
+/// Does the step of an event on the parts that are held, and puts outputs into outboxes. `held` are parts of a state of
+/// the device, a client of the event is one of its clients, and nothing is needed that is not held. Octets of which
+/// nothing was read are read here. Without memory the parts are as before.
 pub fn apply_read(
     alloc: Global,
     event: &CellEvent,

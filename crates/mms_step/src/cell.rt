@@ -4,8 +4,8 @@ use crate::Part;
 use mms_types::CellEvent;
 use part_table::Object;
 
-/// The device, cut into its parts. Its events are those of the clients and of the cell itself; the caller that may make an event is
-/// the one with the number of the event's actor; so no client has the number 0, which is the cell's.
+/// The device, cut into its parts. Its events are those of the clients and of the cell itself; the caller that may make
+/// an event is the one with the number of the event's actor; so no client has the number 0, which is the cell's.
 pub struct Cell;
 
 impl Object for Cell {

@@ -7,7 +7,8 @@ ghost use Rattle.mms_step.specs.State.{last_moment};
 use mms_types::Moment;
 use std::marker::Model;
 
-/// The moment of the device, no later than the last millisecond of day 65,535 (ISO 9506-2, TimeOfDay). Contracts see its milliseconds.
+/// The moment of the device, no later than the last millisecond of day 65,535 (ISO 9506-2, TimeOfDay). Contracts see
+/// its milliseconds.
 #[derive(Debug, Drop)]
 pub struct Clock {
     moment: Moment,

@@ -13,9 +13,9 @@ ghost use Rattle.mms_step.specs.Partition.{parts_of};
 ghost use Rattle.mms_step.specs.Needs.{need, shown, is_held};
 ghost use Rattle.mms_step.specs.After.{parts_after};
 
-/// The step of an event on the parts of the device, for callers that hold some of them: it is the step on the state. Where nothing is needed that is not held, the
-/// held parts alone determine what becomes of them, and every part that is not held stays as it is. With parts of one state, more held parts show at least
-/// as much.
+/// The step of an event on the parts of the device, for callers that hold some of them: it is the step on the state.
+/// Where nothing is needed that is not held, the held parts alone determine what becomes of them, and every part that
+/// is not held stays as it is. With parts of one state, more held parts show at least as much.
 pub fn a_step_is_of_the_held_parts()
     ensures parts { (s : State) (event : CellEvent) → IsAmong (length s.clients) event
         → parts_of (step s event) ≡ parts_after event (parts_of s) }
@@ -33,8 +33,9 @@ pub fn a_step_is_of_the_held_parts()
         → Contains (shown event hand) place → Contains (shown event larger) place }
 {}
 
-/// Every state is sound that the device reaches from its start: its clients are as many as they were, each in its place, and no more requests of one wait
-/// than it may have, each with the number of one of the events. Where the events are some that may come, its moment is one that six octets name.
+/// Every state is sound that the device reaches from its start: its clients are as many as they were, each in its
+/// place, and no more requests of one wait than it may have, each with the number of one of the events. Where the
+/// events are some that may come, its moment is one that six octets name.
 pub fn each_state_is_sound()
     ensures sound { (config : Config) (history : List CellEvent) → IsConfig config
         → IsSound (length history) (replay config history) }

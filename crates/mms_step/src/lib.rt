@@ -1,5 +1,5 @@
-//! The device as parts, and one event on the parts that are held (ISO 9506-1, the virtual manufacturing device): which parts an event needs, and what it
-//! makes of them.
+//! The device as parts, and one event on the parts that are held (ISO 9506-1, the virtual manufacturing device): which
+//! parts an event needs, and what it makes of them.
 #![tactic(auto)]
 
 mod applying;

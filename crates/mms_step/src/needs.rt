@@ -195,8 +195,9 @@ fn need_more(
     }
 }
 
-/// The parts that the event's words and the held parts show to be needed, and that are not held. With parts of one state, more held parts show at least as
-/// much. `held` are parts of a state of the device, and a client of the event is one of its clients. Octets of which nothing was read are read here.
+/// The parts that the event's words and the held parts show to be needed, and that are not held. With parts of one
+/// state, more held parts show at least as much. `held` are parts of a state of the device, and a client of the event
+/// is one of its clients. Octets of which nothing was read are read here.
 pub fn need_read(
     alloc: Global,
     event: &CellEvent,

@@ -1,6 +1,7 @@
-//! An example of a device of tables and clients: a shelf with pieces, and a tool that one client has at a time. A client asks for the tool and waits where another
-//! has it; one that hands it over tells the client that waited for it, which is another client's part; pieces are fetched from the shelf, and where few are left, by
-//! the client alone that has the tool.
+//! An example of a device of tables and clients: a shelf with pieces, and a tool that one client has at a time. A
+//! client asks for the tool and waits where another has it; one that hands it over tells the client that waited for it,
+//! which is another client's part; pieces are fetched from the shelf, and where few are left, by the client alone that
+//! has the tool.
 
 ghost use Rattle.std.specs.Prelude.{◌≡◌, ◌≢◌, ◌+◌, ◌<◌, ◌≤◌, ◌∷◌, [], ℕ, List, Option, None, OnOk, OnErr, length, slice_get};
 ghost use Rattle.std.specs.Option.{option_map};
@@ -142,7 +143,8 @@ impl Object for Shop {
     ghost stepped = { λ event hand parts of enough. after_is_laid_over event hand parts of enough };
 }
 
-/// The laws of the example: the step on the device is the step on its parts, and every part that is not held stays as it is where nothing is needed that is not held.
+/// The laws of the example: the step on the device is the step on its parts, and every part that is not held stays as
+/// it is where nothing is needed that is not held.
 pub fn a_step_is_of_the_held_parts()
     ensures parts { (s : State) (event : Asked)
         → parts_of (step s event) ≡ parts_after event (parts_of s) }
@@ -392,8 +394,8 @@ fn put_word_each(
     Ok(())
 }
 
-/// Puts the tables back and tells the one that asked its word, and the one that has the tool then, if there is one, that
-/// it has it.
+/// Puts the tables back and tells the one that asked its word, and the one that has the tool then, if there is one,
+/// that it has it.
 fn put_in_place(
     held: &mut Hand<Shop>,
     clients: u32,
@@ -419,9 +421,9 @@ fn put_in_place(
     put_word_each(held, clients, tables, told, (heir, Word::Yours))
 }
 
-/// Serves the one that asks, on held parts. First the tables are lifted out of them, what is asked for is done on these,
-/// and room is made in the parts of the clients that are told something, which alone may want memory. Then all is put
-/// in place, and can't fail. Without memory the parts are as before.
+/// Serves the one that asks, on held parts. First the tables are lifted out of them, what is asked for is done on
+/// these, and room is made in the parts of the clients that are told something, which alone may want memory. Then all
+/// is put in place, and can't fail. Without memory the parts are as before.
 pub fn apply(held: &mut Hand<Shop>, asked: Asked) -> Result<(), AllocError>
     requires of { (s : State) × IsHandOf held.old (parts_of s) }
     requires few { length held.old ≤ 256 }
