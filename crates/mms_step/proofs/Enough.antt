@@ -11,6 +11,7 @@ use Rattle.association.specs.Client.{ClientRow, drained_row}
 use Rattle.part_table.specs.Held.{held_at, places_held, IsHandOf}
 use Rattle.parted_state.specs.Cut.{are_held, missing}
 use Rattle.parted_state.specs.CutLaws as laws
+use Rattle.parted_state.specs.LiftedLaws.{change_holds_the_same}
 use Rattle.parted_state.specs.Served.{change}
 use Rattle.parted_state.specs.Served as parted
 use Rattle.mms_step.specs.declared.part.Part.{Part}
@@ -24,7 +25,7 @@ use Rattle.mms_step.specs.Partition.{cell, parts_of, state_in, client_place, cli
 use Rattle.mms_step.specs.Needs.{need, is_held, footprint, shown}
 use Rattle.mms_step.specs.After.{after}
 use Rattle.mms_step.specs.AfterLaws.{after_holds_the_same}
-use Rattle.mms_step.proofs.Holding.{clients_counted, held_client, held_clock, after_of_hand, change_is_held, change_holds_the_same}
+use Rattle.mms_step.proofs.Holding.{clients_counted, held_client, held_clock, after_of_hand, change_is_held}
 use Rattle.mms_step.proofs.Needed.{drain_needs_none}
 use Rattle.mms_step.proofs.PartsAfter.{with_client, client_changed, step_heard, step_lost, step_drained}
 

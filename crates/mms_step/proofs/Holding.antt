@@ -1,5 +1,5 @@
 -- What held parts of a state are, before an event and after it.
-use Rattle.std.specs.Prelude.{◌≡◌, ℕ, zero, suc, ◌-◌, ◌≤◌, ◌<◌, Bool, true, Option, None, Some, List, [], ◌∷◌, ◌++◌, is_some, unwrap_or, map, length, slice_get, Contains, refl}
+use Rattle.std.specs.Prelude.{◌≡◌, ℕ, zero, suc, ◌-◌, ◌≤◌, ◌<◌, true, Option, None, Some, List, [], ◌∷◌, ◌++◌, is_some, unwrap_or, map, length, slice_get, Contains, refl}
 use Rattle.std.specs.Option.{option_map}
 use Rattle.std.proofs.Common.{ap, ap₂, sym, ◌∙◌, subst, arith}
 use Rattle.mms_types.specs.declared.event.CellEvent.{CellEvent}
@@ -112,13 +112,6 @@ shows_itself s = (device.cut cell is_device).whole s
 -- ---- a part that is changed
 
 module _ {P : Type 0} where
-  -- a change of a held part holds the same places
-  pub change_holds_the_same : (f : P → P) (hand : List (Option P)) (i : ℕ) → places_held (change (option_map f) hand i) ≡ places_held hand
-  change_holds_the_same f [] i = refl
-  change_holds_the_same f (None ∷ hand) zero = refl
-  change_holds_the_same f (Some x ∷ hand) zero = refl
-  change_holds_the_same f (h ∷ hand) (suc i) = ap (λ (l : List Bool). is_some h ∷ l) (change_holds_the_same f hand i)
-
   -- a part that is held is changed in the hand as in the list
   pub change_is_held : (f : P → P) (hand : List (Option P)) (parts : List P) (i : ℕ) → IsHandOf hand parts → is_some (held_at hand i) ≡ true
       → IsHandOf (change (option_map f) hand i) (change f parts i)

@@ -35,11 +35,6 @@ module _ {A : Type 0} where
   change-append f (x ∷ xs) ys (suc i) within =
       let rest : i < length xs = omega arith in ap (λ (l : List A). x ∷ l) (change-append f xs ys i rest)
 
-  pub length-change : (f : A → A) (xs : List A) (i : ℕ) → length (change f xs i) ≡ length xs
-  length-change f [] i = refl
-  length-change f (x ∷ xs) zero = refl
-  length-change f (x ∷ xs) (suc i) = omega (arith, length-change f xs i)
-
   change-none : (xs : List A) (i : ℕ) → change (λ x. x) xs i ≡ xs
   change-none [] i = refl
   change-none (x ∷ xs) zero = refl
