@@ -1,7 +1,7 @@
 -- What was read of octets.
 use Rattle.std.specs.Prelude.{◌≡◌, ℕ, List, Option, None, Some, Result, Ok, Err}
 use Rattle.mms_types.specs.declared.event.CellEvent.{CellEvent}
-use Rattle.mms_types.specs.declared.event.CellEvent.TheVariants.{Heard}
+use Rattle.mms_types.specs.declared.event.CellEvent.TheVariants.{Heard, Lost, Tick, Ends, Drain}
 use Rattle.mms_types.specs.declared.identifier.Edition.{Edition}
 use Rattle.mms_types.specs.declared.pdu.Pdu.{Pdu}
 use Rattle.mms_pdu.specs.declared.refusal.Refusal.{Refusal}
@@ -36,3 +36,15 @@ IsReadOf (Some kept) octets = IsRead kept.1 (pdu_heard kept.0 octets)
 abbrev pub IsReadingOf : Kept → CellEvent → Type 0
 IsReadingOf kept (Heard client octets) = IsReadOf kept octets
 IsReadingOf kept event = Unit {0}
+
+-- the edition by which something is kept, and that by which the octets of an event are read, where it has any
+abbrev pub edition_of : Kept → Option Edition
+edition_of None = None
+edition_of (Some kept) = Some kept.0
+
+abbrev pub edition_read : CellEvent → Edition → Option Edition
+edition_read (Heard client octets) edition = Some edition
+edition_read (Lost client) edition = None
+edition_read (Tick ms) edition = None
+edition_read (Ends name) edition = None
+edition_read (Drain client) edition = None

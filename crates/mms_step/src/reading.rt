@@ -2,7 +2,7 @@
 
 ghost use Rattle.std.specs.Prelude.{◌≡◌, None, Some, IfOk, IfSome};
 ghost use Rattle.mms_pdu.specs.Heard.{pdu_heard};
-ghost use Rattle.mms_step.specs.Reads.{IsRead, IsReadingOf};
+ghost use Rattle.mms_step.specs.Reads.{IsRead, IsReadingOf, edition_of, edition_read};
 
 use mms_pdu::{Read, Refusal, read_pdu};
 use mms_types::{CellEvent, Edition, Memory};
@@ -58,7 +58,9 @@ impl Reading {
 
 /// Reads the octets of an event, where it has any, by the edition of its client.
 pub fn read_event(alloc: Global, event: &CellEvent, edition: Edition) -> Result<Reading, Memory>
-    ensures { IfOk result (λ reading. IsReadingOf reading event.now) }
+    ensures reading { IfOk result (λ reading. IsReadingOf reading event.now) }
+    // Octets are read here, and no later.
+    ensures edition { IfOk result (λ reading. edition_of reading ≡ edition_read event.now edition) }
 {
     match event {
         CellEvent::Heard { octets, .. } => {
