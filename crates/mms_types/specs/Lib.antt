@@ -6,3 +6,12 @@ pub mod OptionBits
 pub mod Moments
 pub mod Classes
 pub mod Errors
+pub mod Datum
+pub mod DatumCode
+pub mod DataFalls
+pub mod SeenData
+pub mod Shape
+pub mod ShapeCode
+pub mod SeenType
+pub mod TypeFalls
+pub mod Matches

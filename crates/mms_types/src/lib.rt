@@ -1,12 +1,16 @@
 //! The words that the crates of the server share: names and their order, PDUs and events.
 #![tactic(auto)]
 
+mod copying;
+mod data;
+mod depth;
 mod event;
 mod identifier;
 mod identifiers;
 mod initiate;
 mod key;
 mod laws;
+mod matching;
 mod memory;
 mod moment;
 mod name_list;
@@ -15,7 +19,9 @@ mod octets;
 mod pdu;
 mod service_error;
 mod status;
+mod type_spec;
 
+pub use data::{BitString, Data, DataKind};
 pub use event::{CellEvent, Events, Output, What};
 pub use identifier::{BadName, Edition, Identifier, Unnamed};
 pub use identifiers::Identifiers;
@@ -30,3 +36,4 @@ pub use octets::Octets;
 pub use pdu::{Answer, Pdu, Reject, RejectReason, Request};
 pub use service_error::{CancelError, ConfirmedError, ServiceError, StateInfo};
 pub use status::{IdentifyAnswer, Status, StatusAnswer};
+pub use type_spec::{Component, TypeKind, TypeSpec};

@@ -1,0 +1,80 @@
+//! How deep data and types nest.
+
+ghost use Rattle.std.specs.Prelude.{◌≡◌, ◌≤◌, max};
+ghost use Rattle.mms_types.specs.Datum.{row, depth, deepest};
+ghost use Rattle.mms_types.specs.Shape.{shape_depth, fields_depth};
+ghost use Rattle.mms_types.specs.SeenType.{fields};
+
+use crate::{Component, Data, DataKind, TypeKind, TypeSpec};
+
+impl Data {
+    /// How deep it nests: a simple value 0, an array or a structure one more than its deepest part. At most 10.
+    pub fn depth(&self) -> u8
+        ensures depth { result ≡ depth self.now }
+        ensures most { result ≤ 10 }
+    {
+        depth_of(self)
+    }
+}
+
+impl TypeSpec {
+    /// How deep it nests: a simple type 0, an array or a structure one more than its deepest part. At most 10.
+    pub fn depth(&self) -> u8
+        ensures depth { result ≡ shape_depth self.now }
+        ensures most { result ≤ 10 }
+    {
+        type_depth(self)
+    }
+}
+
+fn greater(a: u8, b: u8) -> u8
+    ensures { result ≡ max a b }
+{
+    if a < b { b } else { a }
+}
+
+#[cycle(depth)]
+fn depth_of(item: &Data) -> u8
+    ensures depth { result ≡ depth item.now }
+    ensures most { result ≤ 10 }
+{
+    match &item.kind {
+        DataKind::Array(items) => deepest_of(items) + 1,
+        DataKind::Structure(items) => deepest_of(items) + 1,
+        _ => 0,
+    }
+}
+
+#[cycle(depth)]
+fn deepest_of(items: &[Data]) -> u8
+    ensures { result ≡ deepest (row items.now) }
+{
+    let mut found = 0;
+    for item in items {
+        found = greater(found, depth_of(item));
+    }
+    found
+}
+
+#[cycle(type_depth)]
+fn type_depth(of: &TypeSpec) -> u8
+    ensures depth { result ≡ shape_depth of.now }
+    ensures most { result ≤ 10 }
+{
+    match &of.kind {
+        TypeKind::Array { element, .. } => type_depth(element) + 1,
+        TypeKind::Structure { components, .. } => deepest_component(components) + 1,
+        _ => 0,
+    }
+}
+
+#[cycle(type_depth)]
+fn deepest_component(components: &[Component]) -> u8
+    ensures { result ≡ fields_depth (fields components.now) }
+{
+    let mut found = 0;
+    for component in components {
+        found = greater(found, type_depth(&component.spec));
+    }
+    found
+}

@@ -1,0 +1,5 @@
+pub mod Rows
+pub mod DataLaws
+pub mod TypeLaws
+pub mod DeepLaws
+mod Worked

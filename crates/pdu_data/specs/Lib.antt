@@ -1,0 +1,3 @@
+pub mod Data
+pub mod Types
+pub mod Deep
