@@ -9,7 +9,7 @@ use Rattle.ber_forms.specs.Value.{Value}
 use Rattle.ber_forms.specs.Reading.{is_tag}
 use Rattle.ber_forms.specs.Form.{one_of}
 use Rattle.ber_forms.specs.InForm.{AreMembers, IsMember}
-use Rattle.ber_forms.specs.TooDeep.{BeginsWith}
+use Rattle.ber_forms.specs.TooDeep.{IsAlternativeTooDeep, BeginsWith}
 use Rattle.pdu_data.specs.Data.{data_alternatives}
 
 -- an array or a structure
@@ -22,3 +22,7 @@ IsDeepData lengths (suc d) p =
     IsTrue (is_nested p.tag)
     × ((front : List ℕ) × (ps : List Part) × (vs : List Value) × (more : List ℕ) × (next : Part) × (rest : List ℕ)
     × (p.contents ≡ front ++ more) × IsCut lengths front ps × AreMembers (IsMember lengths (one_of (data_alternatives d))) ps vs × BeginsWith lengths more next rest × IsDeepData lengths d next)
+
+-- the form of data that nests no deeper than the number reads the element as too deep
+abbrev pub IsTooDeepData : Lengths → ℕ → Part → Type 0
+IsTooDeepData lengths d p = IsAlternativeTooDeep lengths (data_alternatives d) p

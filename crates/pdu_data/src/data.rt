@@ -45,7 +45,8 @@ fn kept_bits(alloc: Global, contents: &[u8]) -> Result<BitString, Unread>
 
 /// A simple value.
 fn simple(alloc: Global, element: Element<'_>, lengths: Lengths) -> Result<Data, Unread>
-    ensures exact { Gives data_value result (alternatives lengths simple_data (part element.entry)) }
+    ensures exact { Gives data_value result
+        (alternatives lengths simple_data (part element.entry)) }
     ensures deep { IfOk result (λ x. depth x ≡ 0) }
 {
     let Element { tag, contents } = element;
@@ -88,7 +89,8 @@ pub(crate) fn one(
     most: u8,
 ) -> Result<Data, Unread>
     requires { most ≤ 10 }
-    ensures exact { Gives data_value result (alternatives lengths (data_alternatives most) (part element.entry)) }
+    ensures exact { Gives data_value result
+        (alternatives lengths (data_alternatives most) (part element.entry)) }
     ensures deep { IfOk result (λ x. depth x ≤ most) }
 {
     if has_tag(element.tag, Tag::constructed(1)) {
@@ -115,7 +117,9 @@ pub(crate) fn one(
 #[cycle(data)]
 fn members(alloc: Global, lengths: Lengths, contents: &[u8], most: u8) -> Result<Vec<Data>, Unread>
     requires { most ≤ 10 }
-    ensures exact { Gives (λ v. row_values (row v.items)) result (members_by (required_at lengths (form.one_of (data_alternatives most))) (length contents.now) contents.now) }
+    ensures exact { Gives (λ v. row_values (row v.items)) result
+        (members_by (required_at lengths (form.one_of (data_alternatives most)))
+        (length contents.now) contents.now) }
     ensures deep { IfOk result (λ v. deepest (row v.items) ≤ most) }
 {
     let mut found = Vec::new(alloc);

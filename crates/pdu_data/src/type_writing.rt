@@ -51,7 +51,9 @@ fn put_floating(out: &mut Writer, width: u8, exponent: u8) -> Result<(), Full>
 
 #[tactic(auto, using(ber_forms::proofs::Joined::writing, crate::proofs::TypeLaws::floating_after))]
 fn put_floating_part(out: &mut Writer, width: u8, exponent: u8) -> Result<(), Full>
-    ensures ok { OnOk result (out.new ≡ out.old ++ element_octets (tag_of 2 7 form.elements) (floating_octets width exponent [])) }
+    ensures ok { OnOk result
+        (out.new ≡ out.old ++ element_octets
+        (tag_of 2 7 form.elements) (floating_octets width exponent [])) }
     ensures err { OnErr result (out.new ≡ out.old) }
 {
     let since = out.len();
@@ -63,7 +65,9 @@ fn put_floating_part(out: &mut Writer, width: u8, exponent: u8) -> Result<(), Fu
 #[tactic(auto, using(ber_forms::proofs::Joined::writing))]
 fn put_inner(out: &mut Writer, number: u32, of: &TypeSpec) -> Result<(), Full>
     requires { number < 16384 }
-    ensures ok { OnOk result (out.new ≡ out.old ++ element_octets (tag_of 2 number form.elements) (type_octets of.now)) }
+    ensures ok { OnOk result
+        (out.new ≡ out.old ++ element_octets
+        (tag_of 2 number form.elements) (type_octets of.now)) }
     ensures err { OnErr result (out.new ≡ out.old) }
 {
     let since = out.len();
@@ -85,7 +89,9 @@ fn put_array(out: &mut Writer, packed: bool, count: u32, of: &TypeSpec) -> Resul
 #[cycle(put_types)]
 #[tactic(auto, using(ber_forms::proofs::Joined::writing, crate::proofs::TypeLaws::array_after))]
 fn put_array_part(out: &mut Writer, packed: bool, count: u32, of: &TypeSpec) -> Result<(), Full>
-    ensures ok { OnOk result (out.new ≡ out.old ++ element_octets (tag_of 2 1 form.elements) (array_octets packed count (type_octets of.now) [])) }
+    ensures ok { OnOk result
+        (out.new ≡ out.old ++ element_octets
+        (tag_of 2 1 form.elements) (array_octets packed count (type_octets of.now) [])) }
     ensures err { OnErr result (out.new ≡ out.old) }
 {
     let since = out.len();
@@ -96,7 +102,8 @@ fn put_array_part(out: &mut Writer, packed: bool, count: u32, of: &TypeSpec) -> 
 #[cycle(put_types)]
 #[tactic(auto, using(ber_forms::proofs::Joined::writing))]
 fn put_structure(out: &mut Writer, packed: bool, components: &[Component]) -> Result<(), Full>
-    ensures ok { OnOk result (out.new ≡ structure_octets packed (field_octets (fields components.now)) out.old) }
+    ensures ok { OnOk result
+        (out.new ≡ structure_octets packed (field_octets (fields components.now)) out.old) }
     ensures begins { Begins out.old out.new }
 {
     put_defaulted_boolean(out, 0, packed, false)?;
@@ -106,7 +113,10 @@ fn put_structure(out: &mut Writer, packed: bool, components: &[Component]) -> Re
 #[cycle(put_types)]
 #[tactic(auto, using(ber_forms::proofs::Joined::writing, crate::proofs::TypeLaws::structure_after))]
 fn put_structure_part(out: &mut Writer, packed: bool, components: &[Component]) -> Result<(), Full>
-    ensures ok { OnOk result (out.new ≡ out.old ++ element_octets (tag_of 2 2 form.elements) (structure_octets packed (field_octets (fields components.now)) [])) }
+    ensures ok { OnOk result
+        (out.new ≡ out.old ++ element_octets
+        (tag_of 2 2 form.elements)
+        (structure_octets packed (field_octets (fields components.now)) [])) }
     ensures err { OnErr result (out.new ≡ out.old) }
 {
     let since = out.len();
@@ -117,7 +127,9 @@ fn put_structure_part(out: &mut Writer, packed: bool, components: &[Component]) 
 #[cycle(put_types)]
 #[tactic(auto, using(ber_forms::proofs::Joined::writing))]
 fn put_components_part(out: &mut Writer, components: &[Component]) -> Result<(), Full>
-    ensures ok { OnOk result (out.new ≡ out.old ++ element_octets (tag_of 2 1 form.elements) (field_octets (fields components.now))) }
+    ensures ok { OnOk result
+        (out.new ≡ out.old ++ element_octets
+        (tag_of 2 1 form.elements) (field_octets (fields components.now))) }
     ensures err { OnErr result (out.new ≡ out.old) }
 {
     let since = out.len();
@@ -140,7 +152,8 @@ fn put_components(out: &mut Writer, components: &[Component]) -> Result<(), Full
 #[cycle(put_types)]
 #[tactic(auto, using(ber_forms::proofs::Joined::writing))]
 fn put_component(out: &mut Writer, component: &Component) -> Result<(), Full>
-    ensures ok { OnOk result (out.new ≡ named_octets component.now.name (type_octets component.now.spec) out.old) }
+    ensures ok { OnOk result
+        (out.new ≡ named_octets component.now.name (type_octets component.now.spec) out.old) }
     ensures begins { Begins out.old out.new }
 {
     put_optional::<Identifier>(out, 0, component.name.as_ref())?;
@@ -150,7 +163,10 @@ fn put_component(out: &mut Writer, component: &Component) -> Result<(), Full>
 #[cycle(put_types)]
 #[tactic(auto, using(ber_forms::proofs::Joined::writing, crate::proofs::TypeLaws::named_after))]
 fn put_component_part(out: &mut Writer, component: &Component) -> Result<(), Full>
-    ensures ok { OnOk result (out.new ≡ out.old ++ element_octets (tag_of 0 16 form.elements) (named_octets component.now.name (type_octets component.now.spec) [])) }
+    ensures ok { OnOk result
+        (out.new ≡ out.old ++ element_octets
+        (tag_of 0 16 form.elements)
+        (named_octets component.now.name (type_octets component.now.spec) [])) }
     ensures err { OnErr result (out.new ≡ out.old) }
 {
     let since = out.len();
@@ -169,7 +185,9 @@ fn put_component_part(out: &mut Writer, component: &Component) -> Result<(), Ful
 
 /// Appends the type as the element chosen.
 pub(crate) fn put_type(out: &mut Writer, of: &TypeSpec) -> Result<(), Full>
-    ensures ok { OnOk result (out.new ≡ out.old ++ alternative_octets (type_alternatives widest 10) (type_value of.now)) }
+    ensures ok { OnOk result
+        (out.new ≡ out.old ++ alternative_octets
+        (type_alternatives widest 10) (type_value of.now)) }
     ensures err { OnErr result (out.new ≡ out.old) }
 {
     put_one(out, of)

@@ -36,7 +36,9 @@ fn is_format(width: u8, exponent: u8) -> bool
 
 /// The width of an integer.
 fn signed_width(contents: &[u8], _edition: Edition) -> Result<u8, Unread>
-    ensures { Gives (λ n. value.number (pos n)) result (reading (lengths_of _edition) (form.such_that says_signed_width form.unsigned8) contents.now) }
+    ensures { Gives (λ n. value.number (pos n)) result
+        (reading (lengths_of _edition)
+        (form.such_that says_signed_width form.unsigned8) contents.now) }
 {
     let width = unsigned8(contents)?;
     if is_signed_width(width) {
@@ -48,7 +50,9 @@ fn signed_width(contents: &[u8], _edition: Edition) -> Result<u8, Unread>
 
 /// The width of an unsigned.
 fn unsigned_width(contents: &[u8], _edition: Edition) -> Result<u8, Unread>
-    ensures { Gives (λ n. value.number (pos n)) result (reading (lengths_of _edition) (form.such_that says_unsigned_width form.unsigned8) contents.now) }
+    ensures { Gives (λ n. value.number (pos n)) result
+        (reading (lengths_of _edition)
+        (form.such_that says_unsigned_width form.unsigned8) contents.now) }
 {
     let width = unsigned8(contents)?;
     if is_unsigned_width(width) {
@@ -61,7 +65,8 @@ fn unsigned_width(contents: &[u8], _edition: Edition) -> Result<u8, Unread>
 /// A number under the universal tag of INTEGER.
 #[tactic(auto, unfolding(ber_forms::specs::Reading::required_by))]
 fn universal_u8(parts: &mut Cursor<'_>) -> Result<u8, Unread>
-    ensures exact { Gives (λ n. (value.number (pos n), parts.new.octets)) result (required_at parts.old.lengths (form.universal 2 form.unsigned8) parts.old.octets) }
+    ensures exact { Gives (λ n. (value.number (pos n), parts.new.octets)) result
+        (required_at parts.old.lengths (form.universal 2 form.unsigned8) parts.old.octets) }
     ensures kept { parts.new.lengths ≡ parts.old.lengths }
 {
     let element = parts.required(Tag::universal(2))?;
@@ -69,7 +74,8 @@ fn universal_u8(parts: &mut Cursor<'_>) -> Result<u8, Unread>
 }
 
 fn two_widths(contents: &[u8], edition: Edition) -> Result<(u8, u8), Unread>
-    ensures { Gives (λ f. floating_value f.0 f.1) result (reading (lengths_of edition) floating_form contents.now) }
+    ensures { Gives (λ f. floating_value f.0 f.1) result
+        (reading (lengths_of edition) floating_form contents.now) }
 {
     let mut parts = cursor(edition, contents);
     let width = universal_u8(&mut parts)?;
@@ -80,7 +86,8 @@ fn two_widths(contents: &[u8], edition: Edition) -> Result<(u8, u8), Unread>
 
 /// The widths of a format and of its exponent.
 fn widths(contents: &[u8], edition: Edition) -> Result<(u8, u8), Unread>
-    ensures { Gives (λ f. floating_value f.0 f.1) result (reading (lengths_of edition) (form.such_that says_format floating_form) contents.now) }
+    ensures { Gives (λ f. floating_value f.0 f.1) result
+        (reading (lengths_of edition) (form.such_that says_format floating_form) contents.now) }
 {
     let (width, exponent) = two_widths(contents, edition)?;
     if is_format(width, exponent) {
@@ -92,14 +99,16 @@ fn widths(contents: &[u8], edition: Edition) -> Result<(u8, u8), Unread>
 
 /// A length, or the greatest one as a number below 0.
 fn length_of(contents: &[u8], _edition: Edition) -> Result<i32, Unread>
-    ensures { Gives (λ n. value.number n) result (reading (lengths_of _edition) length_form contents.now) }
+    ensures { Gives (λ n. value.number n) result
+        (reading (lengths_of _edition) length_form contents.now) }
 {
     Ok(integer(contents, -60000, 60000)? as i32)
 }
 
 /// A simple type.
 fn simple(element: Element<'_>, edition: Edition) -> Result<TypeSpec, Unread>
-    ensures exact { Gives type_value result (alternatives (lengths_of edition) simple_types (part element.entry)) }
+    ensures exact { Gives type_value result
+        (alternatives (lengths_of edition) simple_types (part element.entry)) }
     ensures deep { IfOk result (λ s. shape_depth s ≡ 0) }
 {
     let Element { tag, contents } = element;
@@ -137,7 +146,9 @@ fn simple(element: Element<'_>, edition: Edition) -> Result<TypeSpec, Unread>
 /// Whether it is packed, under the context tag 0: FALSE where it is missing.
 fn packed(parts: &mut Cursor<'_>, edition: Edition) -> Result<bool, Unread>
     requires { parts.old.lengths ≡ lengths_of edition }
-    ensures exact { Gives (λ b. (value.given (value.truth b), parts.new.octets)) result (defaulted_at (lengths_of edition) (form.context 0 form.boolean) (value.truth false) parts.old.octets) }
+    ensures exact { Gives (λ b. (value.given (value.truth b), parts.new.octets)) result
+        (defaulted_at (lengths_of edition)
+        (form.context 0 form.boolean) (value.truth false) parts.old.octets) }
     ensures kept { parts.new.lengths ≡ parts.old.lengths }
 {
     parts.defaulted_boolean(0, false)
@@ -146,7 +157,9 @@ fn packed(parts: &mut Cursor<'_>, edition: Edition) -> Result<bool, Unread>
 /// How many elements, under the context tag 1: at most 4,096.
 fn count(parts: &mut Cursor<'_>, edition: Edition) -> Result<u32, Unread>
     requires { parts.old.lengths ≡ lengths_of edition }
-    ensures exact { Gives (λ n. (value.number (pos n), parts.new.octets)) result (required_at (lengths_of edition) (form.context 1 (form.integer (pos 0) (pos 4096))) parts.old.octets) }
+    ensures exact { Gives (λ n. (value.number (pos n), parts.new.octets)) result
+        (required_at (lengths_of edition)
+        (form.context 1 (form.integer (pos 0) (pos 4096))) parts.old.octets) }
     ensures kept { parts.new.lengths ≡ parts.old.lengths }
 {
     Ok(parts.required_integer(1, 0, 4096)? as u32)
@@ -155,7 +168,8 @@ fn count(parts: &mut Cursor<'_>, edition: Edition) -> Result<u32, Unread>
 /// An array of a type.
 fn array_of(alloc: Global, packed: bool, count: u32, inner: TypeSpec) -> Result<TypeSpec, Unread>
     requires { shape_depth inner < 10 }
-    ensures exact { Gives type_value result (Ok (value.chosen 1 (array_value packed count (type_value inner)))) }
+    ensures exact { Gives type_value result
+        (Ok (value.chosen 1 (array_value packed count (type_value inner)))) }
     ensures deep { IfOk result (λ s. shape_depth s ≡ shape_depth inner + 1) }
 {
     let element = Box::new(alloc, inner)?;
@@ -178,7 +192,9 @@ pub(crate) fn one(
     most: u8,
 ) -> Result<TypeSpec, Unread>
     requires { most ≤ 10 }
-    ensures exact { Gives type_value result (alternatives (lengths_of edition) (type_alternatives edition most) (part element.entry)) }
+    ensures exact { Gives type_value result
+        (alternatives (lengths_of edition)
+        (type_alternatives edition most) (part element.entry)) }
     ensures deep { IfOk result (λ s. shape_depth s ≤ most) }
 {
     if has_tag(element.tag, Tag::constructed(1)) {
@@ -204,7 +220,8 @@ pub(crate) fn one(
 #[tactic(auto, unfolding(ber_forms::specs::Reading::chosen_by))]
 fn whole(alloc: Global, contents: &[u8], edition: Edition, most: u8) -> Result<TypeSpec, Unread>
     requires { most ≤ 10 }
-    ensures exact { Gives type_value result (reading (lengths_of edition) (form.choice (type_alternatives edition most)) contents.now) }
+    ensures exact { Gives type_value result
+        (reading (lengths_of edition) (form.choice (type_alternatives edition most)) contents.now) }
     ensures deep { IfOk result (λ s. shape_depth s ≤ most) }
 {
     let mut parts = cursor(edition, contents);
@@ -226,7 +243,9 @@ fn required_type(
 ) -> Result<TypeSpec, Unread>
     requires lengths { parts.old.lengths ≡ lengths_of edition }
     requires most { most ≤ 10 }
-    ensures exact { Gives (λ s. (type_value s, parts.new.octets)) result (required_at (lengths_of edition) (form.context number (form.choice (type_alternatives edition most))) parts.old.octets) }
+    ensures exact { Gives (λ s. (type_value s, parts.new.octets)) result
+        (required_at (lengths_of edition)
+        (form.context number (form.choice (type_alternatives edition most))) parts.old.octets) }
     ensures kept { parts.new.lengths ≡ parts.old.lengths }
     ensures deep { IfOk result (λ s. shape_depth s ≤ most) }
 {
@@ -242,7 +261,8 @@ fn array(
     most: u8,
 ) -> Result<(bool, u32, TypeSpec), Unread>
     requires { most ≤ 10 }
-    ensures exact { Gives (λ a. array_value a.0 a.1 (type_value a.2)) result (reading (lengths_of edition) (array_form (type_alternatives edition most)) contents.now) }
+    ensures exact { Gives (λ a. array_value a.0 a.1 (type_value a.2)) result
+        (reading (lengths_of edition) (array_form (type_alternatives edition most)) contents.now) }
     ensures deep { IfOk result (λ a. shape_depth a.2 ≤ most) }
 {
     let mut parts = cursor(edition, contents);
@@ -261,7 +281,9 @@ fn structure(
     most: u8,
 ) -> Result<(bool, Vec<Component>), Unread>
     requires { most ≤ 10 }
-    ensures exact { Gives (λ s. structure_value s.0 (field_values (fields s.1.items))) result (reading (lengths_of edition) (structure_form edition (type_alternatives edition most)) contents.now) }
+    ensures exact { Gives (λ s. structure_value s.0 (field_values (fields s.1.items))) result
+        (reading (lengths_of edition) (structure_form edition (type_alternatives edition most))
+        contents.now) }
     ensures deep { IfOk result (λ s. fields_depth (fields s.1.items) ≤ most) }
 {
     let mut parts = cursor(edition, contents);
@@ -282,7 +304,11 @@ fn required_components(
 ) -> Result<Vec<Component>, Unread>
     requires lengths { parts.old.lengths ≡ lengths_of edition }
     requires most { most ≤ 10 }
-    ensures exact { Gives (λ v. (value.parts (value.all_of (field_values (fields v.items))), parts.new.octets)) result (required_at (lengths_of edition) (form.context 1 (form.list_of form.any_number (component_member edition (type_alternatives edition most)))) parts.old.octets) }
+    ensures exact { Gives
+        (λ v. (value.parts (value.all_of (field_values (fields v.items))), parts.new.octets)) result
+        (required_at (lengths_of edition)
+        (form.context 1 (form.list_of form.any_number
+        (component_member edition (type_alternatives edition most)))) parts.old.octets) }
     ensures kept { parts.new.lengths ≡ parts.old.lengths }
     ensures deep { IfOk result (λ v. fields_depth (fields v.items) ≤ most) }
 {
@@ -298,7 +324,10 @@ fn components(
     most: u8,
 ) -> Result<Vec<Component>, Unread>
     requires { most ≤ 10 }
-    ensures exact { Gives (λ v. field_values (fields v.items)) result (members_by (required_at (lengths_of edition) (component_member edition (type_alternatives edition most))) (length contents.now) contents.now) }
+    ensures exact { Gives (λ v. field_values (fields v.items)) result
+        (members_by (required_at (lengths_of edition)
+        (component_member edition (type_alternatives edition most)))
+        (length contents.now) contents.now) }
     ensures deep { IfOk result (λ v. fields_depth (fields v.items) ≤ most) }
 {
     let mut found = Vec::new(alloc);
@@ -320,7 +349,10 @@ fn next(
 ) -> Result<Component, Unread>
     requires lengths { parts.old.lengths ≡ lengths_of edition }
     requires most { most ≤ 10 }
-    ensures exact { Gives (λ c. (component_value c.name (type_value c.spec), parts.new.octets)) result (required_at (lengths_of edition) (component_member edition (type_alternatives edition most)) parts.old.octets) }
+    ensures exact { Gives
+        (λ c. (component_value c.name (type_value c.spec), parts.new.octets)) result
+        (required_at (lengths_of edition)
+        (component_member edition (type_alternatives edition most)) parts.old.octets) }
     ensures kept { parts.new.lengths ≡ parts.old.lengths }
     ensures shorter { OnOk result (length parts.new.octets < length parts.old.octets) }
     ensures deep { IfOk result (λ c. shape_depth c.spec ≤ most) }
@@ -341,7 +373,9 @@ fn component(
     most: u8,
 ) -> Result<Component, Unread>
     requires { most ≤ 10 }
-    ensures exact { Gives (λ c. component_value c.name (type_value c.spec)) result (reading (lengths_of edition) (component_form edition (type_alternatives edition most)) contents.now) }
+    ensures exact { Gives (λ c. component_value c.name (type_value c.spec)) result
+        (reading (lengths_of edition) (component_form edition (type_alternatives edition most))
+        contents.now) }
     ensures deep { IfOk result (λ c. shape_depth c.spec ≤ most) }
 {
     let mut parts = cursor(edition, contents);

@@ -42,7 +42,9 @@ fn put_one(out: &mut Writer, item: &Data) -> Result<(), Full>
 #[tactic(auto, using(ber_forms::proofs::Joined::writing))]
 fn put_nested(out: &mut Writer, number: u32, items: &[Data]) -> Result<(), Full>
     requires { number < 16384 }
-    ensures ok { OnOk result (out.new ≡ out.old ++ element_octets (tag_of 2 number form.elements) (row_octets (row items.now))) }
+    ensures ok { OnOk result
+        (out.new ≡ out.old ++ element_octets
+        (tag_of 2 number form.elements) (row_octets (row items.now))) }
     ensures err { OnErr result (out.new ≡ out.old) }
 {
     let since = out.len();
@@ -64,7 +66,8 @@ fn put_all(out: &mut Writer, items: &[Data]) -> Result<(), Full>
 
 /// Appends data as the element chosen.
 pub(crate) fn put_data(out: &mut Writer, item: &Data) -> Result<(), Full>
-    ensures ok { OnOk result (out.new ≡ out.old ++ alternative_octets (data_alternatives 10) (data_value item.now)) }
+    ensures ok { OnOk result
+        (out.new ≡ out.old ++ alternative_octets (data_alternatives 10) (data_value item.now)) }
     ensures err { OnErr result (out.new ≡ out.old) }
 {
     put_one(out, item)
