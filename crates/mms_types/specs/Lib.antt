@@ -5,6 +5,8 @@ pub mod KeyLaws
 pub mod OptionBits
 pub mod Moments
 pub mod Classes
+pub mod AccessErrors
+pub mod DeleteScopes
 pub mod Errors
 pub mod Datum
 pub mod DatumCode

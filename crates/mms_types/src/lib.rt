@@ -1,6 +1,7 @@
 //! The words that the crates of the server share: names and their order, PDUs and events.
 #![tactic(auto)]
 
+mod access_result;
 mod copying;
 mod data;
 mod depth;
@@ -10,6 +11,7 @@ mod identifiers;
 mod initiate;
 mod key;
 mod laws;
+mod listed;
 mod matching;
 mod memory;
 mod moment;
@@ -20,7 +22,11 @@ mod pdu;
 mod service_error;
 mod status;
 mod type_spec;
+mod variable;
 
+pub use access_result::{
+    AccessResult, AccessResults, DataAccessError, DataList, WriteAnswer, WriteResult, WriteResults,
+};
 pub use data::{BitString, Data, DataKind};
 pub use event::{CellEvent, Events, Output, What};
 pub use identifier::{BadName, Edition, Identifier, Unnamed};
@@ -28,12 +34,17 @@ pub use identifiers::Identifiers;
 pub use initiate::{Initiate, InitiateAnswer, InitiateDetail, ParameterOptions, ServiceOptions};
 pub use key::{Key, Scope};
 pub use laws::{errors_have_their_numbers, keys_stand_in_order, options_have_their_numbers};
+pub use listed::Listed;
 pub use memory::Memory;
 pub use moment::Moment;
 pub use name_list::{GetNameList, GetNameListAnswer, ObjectClass, ObjectScope};
-pub use object_name::ObjectName;
+pub use object_name::{ObjectName, ObjectNames};
 pub use octets::Octets;
 pub use pdu::{Answer, Pdu, Reject, RejectReason, Request};
 pub use service_error::{CancelError, ConfirmedError, ServiceError, StateInfo};
 pub use status::{IdentifyAnswer, Status, StatusAnswer};
 pub use type_spec::{Component, TypeKind, TypeSpec};
+pub use variable::{
+    Access, DefineNamedVariable, DefineNamedVariableList, DeleteNames, DeleteScope, Deleted,
+    ListAttributes, Read, ReadAnswer, Spec, Specs, VariableAttributes, Write,
+};

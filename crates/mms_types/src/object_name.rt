@@ -1,7 +1,7 @@
 ghost use Rattle.std.specs.Prelude.{◌≡◌, IfOk};
 ghost use Rattle.mms_types.specs.Order.{key_of};
 
-use crate::{Identifier, Key, Memory, Scope};
+use crate::{Identifier, Key, Listed, Memory, Scope};
 use std::alloc::Global;
 
 /// The name of an object as a PDU gives it (ISO 9506-2, ObjectName).
@@ -17,6 +17,9 @@ pub enum ObjectName {
     /// An aa-specific name: it belongs to the association on which it is given.
     Association(Identifier),
 }
+
+/// Names in order. Contracts see the list of them.
+pub type ObjectNames = Listed<ObjectName>;
 
 impl ObjectName {
     /// A copy.
