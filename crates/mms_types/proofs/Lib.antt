@@ -1,3 +1,4 @@
 pub mod Texts
 pub mod Precedence
 pub mod DataParts
+pub mod EqualParts

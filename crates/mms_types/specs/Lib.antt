@@ -17,3 +17,4 @@ pub mod ShapeCode
 pub mod SeenType
 pub mod TypeFalls
 pub mod Matches
+pub mod Equal

@@ -53,7 +53,7 @@ impl DataAccessError {
 }
 
 /// What was read of a variable (ISO 9506-2, AccessResult).
-#[derive(Debug, Drop)]
+#[derive(Debug, PartialEq, Eq, Drop)]
 pub enum AccessResult {
     /// Nothing, and why.
     Failure(DataAccessError),

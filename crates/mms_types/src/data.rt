@@ -43,7 +43,7 @@ pub enum DataKind {
 }
 
 /// A bit string.
-#[derive(Debug, Drop)]
+#[derive(Debug, PartialEq, Eq, Drop)]
 pub struct BitString {
     /// How many bits of the last octet are unused.
     pub unused: u8,

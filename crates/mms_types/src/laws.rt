@@ -2,10 +2,11 @@ ghost use Rattle.std.specs.Prelude.{◌≡◌, ◌↔◌, IsTrue};
 ghost use Rattle.std.specs.declared.cmp.Ordering.TheVariants.{Less, Equal};
 ghost use Rattle.std.specs.Cmp.{IsTotalOrder};
 ghost use Rattle.mms_types.specs.Order.{key_order, key_eq, KeyPrecedes};
+ghost use Rattle.mms_types.specs.Equal.{datum_eq, shape_eq};
 ghost use Rattle.mms_types.specs.Errors as errors;
 ghost use Rattle.mms_types.specs.OptionBits as bits;
 
-use crate::{Key, ParameterOptions, ServiceError, ServiceOptions};
+use crate::{Data, Key, ParameterOptions, ServiceError, ServiceOptions, TypeSpec};
 
 /// The order of keys is total, and a key is less than another exactly where it stands before it:
 /// the VMD's names first, then those of domains by the domain's name, then those of associations by
@@ -16,6 +17,12 @@ pub fn keys_stand_in_order(a: &Key, b: &Key)
     ensures before { (key_order a.now b.now ≡ Less) ↔ KeyPrecedes a.now b.now }
     ensures same { (key_order a.now b.now ≡ Equal) ↔ (a.now ≡ b.now) }
     ensures equal { IsTrue (key_eq a.now b.now) ↔ (a.now ≡ b.now) }
+{}
+
+/// Data that is equal is one value, and types that are equal are one type.
+pub fn equal_is_the_same(x: &Data, y: &Data, s: &TypeSpec, t: &TypeSpec)
+    ensures values { IsTrue (datum_eq x.now y.now) ↔ (x.now ≡ y.now) }
+    ensures types { IsTrue (shape_eq s.now t.now) ↔ (s.now ≡ t.now) }
 {}
 
 /// Each error that the server answers has the class and the code of the table.

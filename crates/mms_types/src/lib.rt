@@ -5,6 +5,7 @@ mod access_result;
 mod copying;
 mod data;
 mod depth;
+mod equal;
 mod event;
 mod identifier;
 mod identifiers;
@@ -33,7 +34,9 @@ pub use identifier::{BadName, Edition, Identifier, Unnamed};
 pub use identifiers::Identifiers;
 pub use initiate::{Initiate, InitiateAnswer, InitiateDetail, ParameterOptions, ServiceOptions};
 pub use key::{Key, Scope};
-pub use laws::{errors_have_their_numbers, keys_stand_in_order, options_have_their_numbers};
+pub use laws::{
+    equal_is_the_same, errors_have_their_numbers, keys_stand_in_order, options_have_their_numbers,
+};
 pub use listed::Listed;
 pub use memory::Memory;
 pub use moment::Moment;

@@ -77,7 +77,7 @@ pub struct Read {
 }
 
 /// What is written, and to which variables (ISO 9506-2, Write-Request).
-#[derive(Debug, Drop)]
+#[derive(Debug, PartialEq, Eq, Drop)]
 pub struct Write {
     /// The variables.
     pub access: Access,
@@ -86,7 +86,7 @@ pub struct Write {
 }
 
 /// Which named variable is defined (ISO 9506-2, DefineNamedVariable-Request).
-#[derive(Debug, Drop)]
+#[derive(Debug, PartialEq, Eq, Drop)]
 pub struct DefineNamedVariable {
     /// Its name.
     pub name: ObjectName,
@@ -154,7 +154,7 @@ pub struct DefineNamedVariableList {
 }
 
 /// What was read (ISO 9506-2, Read-Response).
-#[derive(Debug, Drop)]
+#[derive(Debug, PartialEq, Eq, Drop)]
 pub struct ReadAnswer {
     /// Which variables were read, where the request asked for it.
     pub access: Option<Access>,
@@ -163,7 +163,7 @@ pub struct ReadAnswer {
 }
 
 /// What a variable is (ISO 9506-2, GetVariableAccessAttributes-Response).
-#[derive(Debug, Drop)]
+#[derive(Debug, PartialEq, Eq, Drop)]
 pub struct VariableAttributes {
     /// Whether it can be deleted.
     pub deletable: bool,
