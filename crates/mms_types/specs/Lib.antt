@@ -18,3 +18,4 @@ pub mod SeenType
 pub mod TypeFalls
 pub mod Matches
 pub mod Equal
+pub mod Depths

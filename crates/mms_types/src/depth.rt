@@ -4,8 +4,9 @@ ghost use Rattle.std.specs.Prelude.{◌≡◌, ◌≤◌, max};
 ghost use Rattle.mms_types.specs.Datum.{row, depth, deepest};
 ghost use Rattle.mms_types.specs.Shape.{shape_depth, fields_depth};
 ghost use Rattle.mms_types.specs.SeenType.{fields};
+ghost use Rattle.mms_types.specs.Depths.{write_depth, definition_depth};
 
-use crate::{Component, Data, DataKind, TypeKind, TypeSpec};
+use crate::{Component, Data, DataKind, DefineNamedVariable, TypeKind, TypeSpec, Write};
 
 impl Data {
     /// How deep it nests: a simple value 0, an array or a structure one more than its deepest part. At most 10.
@@ -24,6 +25,29 @@ impl TypeSpec {
         ensures most { result ≤ 10 }
     {
         type_depth(self)
+    }
+}
+
+impl Write {
+    /// How deep the data that is written nests: the deepest of it, and 0 where there is none. At most 10.
+    pub fn depth(&self) -> u8
+        ensures depth { result ≡ write_depth self.now }
+        ensures most { result ≤ 10 }
+    {
+        deepest_of(self.values.as_slice())
+    }
+}
+
+impl DefineNamedVariable {
+    /// How deep the type that is given nests, and 0 where none is. At most 10.
+    pub fn depth(&self) -> u8
+        ensures depth { result ≡ definition_depth self.now }
+        ensures most { result ≤ 10 }
+    {
+        match &self.of {
+            None => 0,
+            Some(of) => of.depth(),
+        }
     }
 }
 
@@ -47,7 +71,8 @@ fn depth_of(item: &Data) -> u8
 
 #[cycle(depth)]
 fn deepest_of(items: &[Data]) -> u8
-    ensures { result ≡ deepest (row items.now) }
+    ensures depth { result ≡ deepest (row items.now) }
+    ensures most { result ≤ 10 }
 {
     let mut found = 0;
     for item in items {

@@ -7,7 +7,7 @@ use Rattle.mms_types.proofs.depth.+depth.Goals as goal
 pub deepest_of-loop-item-preserved : goal.deepest_of-loop-item-preserved
 deepest_of-loop-item-preserved t c =
     let next = deepest_next c.args.items.now c.loop-item.item-index c.item-item.result c.loop-item-test.true c.item-item.is in
-    omega (arith, next, c.greater-found.ensures, c.loop-item.invariant, c.depth_of.ensures.depth)
+    (omega (arith, next, c.greater-found.ensures, c.loop-item.invariant.0, c.depth_of.ensures.depth), omega (arith, c.greater-found.ensures, c.loop-item.invariant.1, c.depth_of.ensures.most))
 
 pub depth_of-deepest_of-requires : goal.depth_of-deepest_of-requires
 depth_of-deepest_of-requires t c =
