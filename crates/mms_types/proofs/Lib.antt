@@ -2,3 +2,4 @@ pub mod Texts
 pub mod Precedence
 pub mod DataParts
 pub mod EqualParts
+mod Worked
