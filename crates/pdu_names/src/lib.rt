@@ -19,7 +19,7 @@ pub use laws::spells_each;
 pub use leaves::{
     ApplicationReference, Boolean, Null, OctetString, Signed32, Unsigned32, VisibleString,
 };
-pub use listed::{AnyNumber, Count, ListOf, Listed, Within};
+pub use listed::{AnyNumber, Count, InSequence, ListOf, Within};
 pub use name::Name;
 pub use own::{Chosen, OneOf, Own, put_each, read_as, read_each};
 pub use parts::{optional, put_optional, required};

@@ -1,46 +1,16 @@
-//! Lists of items.
+//! Lists of items, and members of them that are sequences.
 
 ghost use Rattle.std.specs.Prelude.{◌≡◌, ℕ, Bool, false, Ok, Err};
 ghost use Rattle.ber_forms.specs.Form.{any_number, from_to};
-ghost use Rattle.pdu_names.specs.Kinds.{list_of};
+ghost use Rattle.pdu_names.specs.Kinds.{list_of, universal};
 
 use crate::formed::Formed;
 use crate::own::{Own, put_each, read_each};
-use ber_core::{Memory as Full, Writer};
-use ber_forms::Unread;
-use mms_types::Edition;
+use ber_core::{Memory as Full, Tag, Writer};
+use ber_forms::{Cursor, Unread, enclose};
+use mms_types::{Edition, Listed};
 use std::alloc::Global;
-use std::marker::{Model, PhantomData};
-
-/// Items in order. Contracts see the list of them.
-#[derive(Debug, Drop)]
-pub struct Listed<T: Drop> {
-    list: Vec<T>,
-}
-
-impl<T: Drop> Model for Listed<T> {
-    ghost use Rattle.std.specs.Prelude.{List};
-
-    ghost Value = { List T };
-
-    ghost view = { λ l. l.list.items };
-}
-
-impl<T: Drop> Listed<T> {
-    /// The items of the vector.
-    pub fn from_vec(list: Vec<T>) -> Listed<T>
-        ensures { result ≡ list.items }
-    {
-        Listed { list }
-    }
-
-    /// The items.
-    pub fn as_slice(&self) -> &[T]
-        ensures { result.now ≡ self.now }
-    {
-        &self.list
-    }
-}
+use std::marker::PhantomData;
 
 /// How many members a list may have.
 pub trait Count {
@@ -94,7 +64,7 @@ impl<O: Own, C: Count> Formed for ListOf<O, C> {
     fn read(alloc: Global, contents: &[u8], edition: Edition) -> Result<Listed<O::Item>, Unread> {
         let found = read_each::<O>(alloc, contents, edition)?;
         if C::is_count(found.len()) {
-            Ok(Listed::from_vec(found))
+            Ok(Listed::from(found))
         } else {
             Err(Unread::Malformed)
         }
@@ -106,4 +76,41 @@ impl<O: Own, C: Count> Formed for ListOf<O, C> {
     }
 
     ghost sound = { O.sound };
+}
+
+/// An element of the form F under the universal tag of SEQUENCE (ITU-T X.680, 8.4), as a member of a list.
+pub struct InSequence<F: Formed> {
+    of: PhantomData<F>,
+}
+
+impl<F: Formed> Own for InSequence<F> {
+    type Item = F::Item;
+
+    ghost item = { universal 16 F.kind };
+
+    ghost needs_no_memory = { F.needs_no_memory };
+
+    #[tactic(auto, unfolding(ber_forms::specs::Reading::required_by))]
+    fn take(alloc: Global, parts: &mut Cursor<'_>, edition: Edition) -> Result<F::Item, Unread> {
+        let element = parts.required(Tag {
+            class: 0,
+            constructed: F::is_constructed(),
+            number: 16,
+        })?;
+        F::read(alloc, element.contents, edition)
+    }
+
+    #[tactic(auto, using(ber_forms::proofs::Joined::writing))]
+    fn put_own(out: &mut Writer, x: &F::Item) -> Result<(), Full> {
+        let since = out.len();
+        let written = F::put(out, x);
+        let tag = Tag {
+            class: 0,
+            constructed: F::is_constructed(),
+            number: 16,
+        };
+        enclose(out, since, written, tag)
+    }
+
+    ghost sound = { F.sound };
 }
