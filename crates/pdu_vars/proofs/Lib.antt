@@ -1,0 +1,2 @@
+pub mod Succeeded
+mod Worked

@@ -1,0 +1,5 @@
+pub mod Variables
+pub mod Results
+pub mod ReadWrite
+pub mod Named
+pub mod Lists
