@@ -1,5 +1,5 @@
 -- Named variables (ISO 9506-2, variable access): their definition, their attributes and their deletion, which is that of variable lists too.
-use Rattle.std.specs.Prelude.{◌≡◌, ℕ, Bool, true, false, ◌==◌, if◌then◌else◌, [], ◌∷◌, get_or, List, refl}
+use Rattle.std.specs.Prelude.{◌≡◌, ℕ, Bool, true, false, [], ◌∷◌, get_or, List, refl}
 use Rattle.ber_forms.specs.Value.{Value, Slot, parts, missing, given, done, slot}
 use Rattle.ber_forms.specs.Form.{any_number}
 use Rattle.mms_types.specs.declared.object_name.ObjectName.{ObjectName}
@@ -11,7 +11,6 @@ use Rattle.mms_types.specs.declared.variable.DeleteNames.{DeleteNames}
 use Rattle.mms_types.specs.declared.variable.Deleted.{Deleted}
 use Rattle.mms_types.specs.DeleteScopes.{scope_number}
 use Rattle.pdu_data.specs.Types.{type_choice}
-use Rattle.pdu_names.specs.Said.{natural_of}
 use Rattle.pdu_names.specs.Names.{identifier, names}
 use Rattle.pdu_names.specs.Kinds.{Kind, boolean, unsigned32, enumerated, such_that, context, one_of, list_of, choice, sequence, required, optional, defaulted, no_more}
 use Rattle.pdu_vars.specs.Variables.{addresses}
@@ -61,9 +60,13 @@ is_given missing = false
 is_given (given v) = true
 
 -- the scope specific needs the names, and the scope domain the domain (this profile's choice)
+abbrev has_its_part : DeleteScope → Slot → Slot → Bool
+has_its_part Specific names domain = is_given names
+has_its_part Domain names domain = is_given domain
+has_its_part s names domain = true
+
 abbrev pub has_what_it_needs : Value → Bool
-has_what_it_needs (parts (slot (given scope) (slot names (slot domain done)))) =
-    if natural_of scope == 0 then is_given names else if natural_of scope == 2 then is_given domain else true
+has_what_it_needs (parts (slot (given scope) (slot names (slot domain done)))) = has_its_part (delete_scope.said scope) names domain
 has_what_it_needs v = false
 
 -- DeleteVariableAccess-Request and DeleteNamedVariableList-Request

@@ -1,11 +1,13 @@
 //! Named variables: their definition, their attributes and their deletion.
 #![tactic(auto, unfolding(ber_forms::specs::Spelling::appended), using(ber_forms::proofs::Joined::writing))]
 
-ghost use Rattle.std.specs.Prelude.{◌≡◌, refl, true, false};
+ghost use Rattle.std.specs.Prelude.{◌≡◌, refl, true, false, Ok, Err};
 ghost use Rattle.pdu_data.specs.Types.{type_sound};
+ghost use Rattle.ber_forms.specs.Spelling.{Begins};
 ghost use Rattle.ber_forms.specs.Steps.{DefaultedGives};
 ghost use Rattle.mms_types.specs.declared.variable.DeleteScope.TheVariants.{Specific};
 ghost use Rattle.pdu_names.specs.Names.{names_sound};
+ghost use Rattle.pdu_names.specs.Gives.{GivesContents, PutsContents};
 ghost use Rattle.pdu_names.specs.Kinds.{context};
 ghost use Rattle.pdu_vars.specs.Named.{define_variable, variable_attributes, delete_scope, delete_parts, delete_names, deleted_names, has_what_it_needs};
 
@@ -119,40 +121,29 @@ fn scope(parts: &mut Cursor<'_>, edition: Edition) -> Result<DeleteScope, Unread
 /// Names of variables, or of variable lists.
 type Names = ListOf<Name, AnyNumber>;
 
-/// The form of the components of a deletion, whatever they are together.
-struct DeleteParts;
+/// The components of a deletion, whatever they are together.
+fn delete_parts(alloc: Global, contents: &[u8], edition: Edition) -> Result<DeleteNames, Unread>
+    ensures { GivesContents delete_parts edition contents.now result }
+{
+    let mut parts = cursor(edition, contents);
+    let scope = scope(&mut parts, edition)?;
+    let names = optional::<Names>(alloc, &mut parts, edition, 1)?;
+    let domain = optional::<Identifier>(alloc, &mut parts, edition, 2)?;
+    parts.end()?;
+    Ok(DeleteNames {
+        scope,
+        names,
+        domain,
+    })
+}
 
-impl Formed for DeleteParts {
-    type Item = DeleteNames;
-
-    ghost kind = { delete_parts };
-
-    ghost needs_no_memory = { false };
-
-    fn is_constructed() -> bool {
-        true
-    }
-
-    fn read(alloc: Global, contents: &[u8], edition: Edition) -> Result<DeleteNames, Unread> {
-        let mut parts = cursor(edition, contents);
-        let scope = scope(&mut parts, edition)?;
-        let names = optional::<Names>(alloc, &mut parts, edition, 1)?;
-        let domain = optional::<Identifier>(alloc, &mut parts, edition, 2)?;
-        parts.end()?;
-        Ok(DeleteNames {
-            scope,
-            names,
-            domain,
-        })
-    }
-
-    fn put(out: &mut Writer, x: &DeleteNames) -> Result<(), Full> {
-        put_defaulted_integer(out, 0, i64::from(x.scope.number()), 0)?;
-        put_optional::<Names>(out, 1, x.names.as_ref())?;
-        put_optional::<Identifier>(out, 2, x.domain.as_ref())
-    }
-
-    ghost sound = { λ e. rw (names_sound e) refl };
+fn put_delete_parts(out: &mut Writer, x: &DeleteNames) -> Result<(), Full>
+    ensures ok { PutsContents delete_parts x.now out.old out.new result }
+    ensures begins { Begins out.old out.new }
+{
+    put_defaulted_integer(out, 0, i64::from(x.scope.number()), 0)?;
+    put_optional::<Names>(out, 1, x.names.as_ref())?;
+    put_optional::<Identifier>(out, 2, x.domain.as_ref())
 }
 
 /// Whether the scope has what it needs: the names, or the domain.
@@ -182,7 +173,7 @@ impl Formed for DeleteVariableAccessRequest {
     }
 
     fn read(alloc: Global, contents: &[u8], edition: Edition) -> Result<DeleteNames, Unread> {
-        let found = DeleteParts::read(alloc, contents, edition)?;
+        let found = delete_parts(alloc, contents, edition)?;
         if has_what_it_needs(&found) {
             Ok(found)
         } else {
@@ -191,7 +182,7 @@ impl Formed for DeleteVariableAccessRequest {
     }
 
     fn put(out: &mut Writer, x: &DeleteNames) -> Result<(), Full> {
-        DeleteParts::put(out, x)
+        put_delete_parts(out, x)
     }
 
     ghost sound = { λ e. rw (names_sound e) refl };
