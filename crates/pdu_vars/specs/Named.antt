@@ -61,12 +61,12 @@ is_given (given v) = true
 
 -- the scope specific needs the names, and the scope domain the domain (this profile's choice)
 abbrev has_its_part : DeleteScope → Slot → Slot → Bool
-has_its_part Specific names domain = is_given names
-has_its_part Domain names domain = is_given domain
-has_its_part s names domain = true
+has_its_part Specific listed _ = is_given listed
+has_its_part Domain _ domain = is_given domain
+has_its_part _ _ _ = true
 
 abbrev pub has_what_it_needs : Value → Bool
-has_what_it_needs (parts (slot (given scope) (slot names (slot domain done)))) = has_its_part (delete_scope.said scope) names domain
+has_what_it_needs (parts (slot (given scope) (slot listed (slot domain done)))) = has_its_part (delete_scope.said scope) listed domain
 has_what_it_needs v = false
 
 -- DeleteVariableAccess-Request and DeleteNamedVariableList-Request
