@@ -28,29 +28,32 @@ HERE = os.path.dirname(os.path.abspath(__file__))
 TOP = os.path.dirname(HERE)
 
 
-def copied_program(folder):
-    """The program of bench/table, with its files under their own names."""
-    source = os.path.join(HERE, "table")
+def copied_program(name, folder):
+    """The program of a folder of bench, with its files under their own names."""
+    source = os.path.join(HERE, name)
     for path, _, names in os.walk(source):
         place = os.path.join(folder, os.path.relpath(path, source))
         os.makedirs(place, exist_ok=True)
-        for name in names:
-            shutil.copyfile(os.path.join(path, name), os.path.join(place, name.removesuffix(".txt")))
+        for file in names:
+            shutil.copyfile(os.path.join(path, file), os.path.join(place, file.removesuffix(".txt")))
 
 
-def built(folder):
-    """Proves and builds the program in a folder of its own, and answers its path."""
-    crates = os.path.join(folder, "crates")
-    shutil.copytree(os.path.join(TOP, "crates", "part_table"), os.path.join(crates, "part_table"), dirs_exist_ok=True)
-    copied_program(os.path.join(crates, "table_bench"))
+def built(name, crates, words, folder):
+    """Proves and builds a program in a folder of its own, beside the crates that it stands on, and answers its path."""
+    program = name + "_bench"
+    place = os.path.join(folder, "crates")
+    for crate in crates:
+        shutil.copytree(os.path.join(TOP, "crates", crate), os.path.join(place, crate), dirs_exist_ok=True)
+    bench = os.path.join(place, program)
+    copied_program(name, bench)
     shutil.copyfile(os.path.join(TOP, "HANDLES"), os.path.join(folder, "HANDLES"))
-    with open(os.path.join(folder, "crates.txt"), "w") as out:
-        out.write("part_table: atomic_table\ntable_bench: part_table\n")
-    bench = os.path.join(crates, "table_bench")
-    done = subprocess.run(["rt", "run", "--", "0", "1"], cwd=bench, stdout=subprocess.PIPE, stderr=subprocess.STDOUT, text=True)
+    with open(os.path.join(TOP, "crates.txt")) as listed, open(os.path.join(folder, "crates.txt"), "w") as out:
+        out.writelines(line for line in listed if line.split(":")[0] in crates)
+        out.write(f"{program}: {' '.join(crates)}\n")
+    done = subprocess.run(["rt", "run", "--", *words], cwd=bench, stdout=subprocess.PIPE, stderr=subprocess.STDOUT, text=True)
     if done.returncode != 0:
         sys.exit(done.stdout)
-    return os.path.join(bench, "out", "table_bench")
+    return os.path.join(bench, "out", program)
 
 
 def counted(tool, pattern, words):
@@ -83,7 +86,7 @@ def main():
     with tempfile.TemporaryDirectory() as temporary:
         folder = asked.folder or temporary
         os.makedirs(folder, exist_ok=True)
-        table = built(folder)
+        table = built("table", ["part_table"], ["0", "1"], folder)
         mutex = os.path.join(folder, "mutex_floor")
         subprocess.run(["rustc", "-O", "-o", mutex, os.path.join(HERE, "mutex_floor.rs")], check=True)
         programs = {"mutex": [mutex]}
