@@ -1,2 +1,4 @@
+pub mod Borrowed
+pub mod BorrowedHash
 pub mod Listing
 pub mod Scopes

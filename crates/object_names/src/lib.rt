@@ -2,6 +2,7 @@
 //! of one scope in order of octets.
 #![tactic(auto)]
 
+mod borrowed;
 mod copying;
 mod lends;
 mod listing;
