@@ -3,6 +3,7 @@ use Rattle.std.proofs.Common.{◌≡◌, ℕ, ◌+◌, ◌<◌, ◌≤◌, ◌�
 use Rattle.std.proofs.lemmas.Bool.Decides.{nat_tests}
 use Rattle.std.specs.Option.{option_map}
 use Rattle.std.specs.declared.option.Option.{Option}
+use Rattle.mms_types.specs.FirstCause.{◌else◌, told, Tells, now, later}
 use Rattle.mms_types.specs.declared.identifier.Edition.{Edition}
 use Rattle.mms_types.specs.declared.event.CellEvent.{CellEvent}
 use Rattle.cell_config.specs.declared.config.Config.{Config}
@@ -12,7 +13,7 @@ use Rattle.cell_record.specs.Words.{content}
 use Rattle.cell_record.specs.EventLine.{said_of}
 use Rattle.cell_record.specs.Recording.{onto, moved, refusal_of, counted, excess, header_of, ms_in, octets_in}
 use Rattle.cell_record.specs.Grammar.{text_of, Says, phases_of, pdu_octets, phase_ms, all_ms}
-use Rattle.cell_record.specs.Refused.{HaveNoEnd, InSetup, InEvents, last_phase, IsOver, LacksHeader, LacksConfig, LacksEnd, IsMuchSetup, IsLong, OfEventLine, HasNoForm, HasNoOctets, NamesNoClient, PassesTime, IsMuchPhase, BreaksRule, ◌else◌, told, Refuses}
+use Rattle.cell_record.specs.Refused.{HaveNoEnd, InSetup, InEvents, last_phase, IsOver, LacksHeader, LacksConfig, LacksEnd, IsMuchSetup, IsLong, OfEventLine, HasNoForm, HasNoOctets, NamesNoClient, PassesTime, IsMuchPhase, BreaksRule, Refuses}
 use Rattle.cell_record.specs.declared.said.Said.{Said}
 use Rattle.cell_record.specs.declared.said.Said.TheVariants.{Nothing, Phase, Happens}
 use Rattle.cell_record.specs.declared.counts.Counts.{Counts}
@@ -33,30 +34,6 @@ pub none_some : {A : Type 0} (x : A) → None ≡ Some x → ⊥
 none_some x e = cc
 
 -- ---- the first cause
-
--- the cause holds of this refusal alone, or of none
-abbrev pub Tells : (RecordError → Type 0) → Option RecordError → Type 0
-Tells Cause (Some told) = Cause told × ((e : RecordError) → Cause e → e ≡ told)
-Tells Cause None = (e : RecordError) → Cause e → ⊥
-
-pub now : (C D : RecordError → Type 0) (t : RecordError) → Tells C (Some t) → Tells (C else D) (Some t)
-now C D t h = (inl h.0, unique)
-  where
-    unique : (r : RecordError) → (C else D) r → r ≡ t
-    unique r (inl c) = h.1 r c
-    unique r (inr d) = absurd (d.0 (t, h.0))
-
-pub later : (C D : RecordError → Type 0) (o : Option RecordError) → Tells C None → Tells D o → Tells (C else D) o
-later C D (Some t) none h = (inr (λ k. none k.0 k.1, h.0), unique)
-  where
-    unique : (r : RecordError) → (C else D) r → r ≡ t
-    unique r (inl c) = absurd (none r c)
-    unique r (inr d) = h.1 r d.1
-later C D None none h = never
-  where
-    never : (r : RecordError) → (C else D) r → ⊥
-    never r (inl c) = none r c
-    never r (inr d) = h r d.1
 
 module _ (before : List (List ℕ)) (here : Option (List ℕ)) where
   abbrev pub line : ℕ

@@ -4,6 +4,7 @@ use Rattle.std.proofs.lemmas.Bool.Decides.{nat_tests}
 use Rattle.std.specs.Option.{option_map}
 use Rattle.std.specs.declared.option.Option.{Option}
 use Rattle.cell_io.specs.Lines.{lines_of}
+use Rattle.mms_types.specs.FirstCause.{Holds, Tells}
 use Rattle.mms_types.specs.declared.identifier.Edition.{Edition}
 use Rattle.mms_types.specs.declared.identifier.Edition.TheVariants.{One}
 use Rattle.cell_config.specs.declared.config.Config.{Config}
@@ -14,7 +15,7 @@ use Rattle.cell_record.specs.Words.{content, is_long, trim}
 use Rattle.cell_record.specs.EventLine.{same, said_of, trimmed_says}
 use Rattle.cell_record.specs.Recording.{Place, Reading, Opening, behind, front, fits, refused, makes, moved, refusal_of, fresh, unless, with_said, reading_of, header_of, under, setup_in, in_text, size_in_text, setup_word, unless_word, opened_unless, configured, setup_of, opening_of, after_opening, reading_of_text}
 use Rattle.cell_record.specs.Grammar.{text_of}
-use Rattle.cell_record.specs.Refused.{octets_of, HaveNoEnd, InSetup, InEvents, IsOver, LacksHeader, LacksConfig, IsLong, OfEventLine, Holds, ◌else◌, Refuses, StandsBehind, NoneRefused, IsFirstRefusal, IsRefused}
+use Rattle.cell_record.specs.Refused.{octets_of, HaveNoEnd, InSetup, InEvents, IsOver, LacksHeader, LacksConfig, IsLong, OfEventLine, Refuses, StandsBehind, NoneRefused, IsFirstRefusal, IsRefused}
 use Rattle.cell_record.specs.declared.said.Said.{Said}
 use Rattle.cell_record.specs.declared.said.Said.TheVariants.{Nothing, Phase, Happens}
 use Rattle.cell_record.specs.declared.counts.Counts.{Counts}
@@ -24,7 +25,7 @@ use Rattle.cell_record.specs.declared.refusal.RecordError.{RecordError}
 use Rattle.cell_record.specs.declared.refusal.RecordError.TheVariants.{Bad, BadConfig, TooMuch}
 use Rattle.cell_record.proofs.Valid.{same_text}
 use Rattle.cell_record.proofs.LineCauses.{line_is}
-use Rattle.cell_record.proofs.FirstCause.{Counted, InConfig, Rule, Tells, config_tells, counted_more, event_tells, events_more, few_events, few_setup, from_event, from_long, header_tells, line, long_tells, no_event, none_some, not_both, outcome, over_tells, says, setup_same, some_same, true_false}
+use Rattle.cell_record.proofs.FirstCause.{Counted, InConfig, Rule, config_tells, counted_more, event_tells, events_more, few_events, few_setup, from_event, from_long, header_tells, line, long_tells, no_event, none_some, not_both, outcome, over_tells, says, setup_same, some_same, true_false}
 
 -- ---- the first line that is refused
 

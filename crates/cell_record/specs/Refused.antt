@@ -5,6 +5,7 @@ use Rattle.std.specs.Option.{option_map}
 use Rattle.std.specs.declared.option.Option.{Option}
 use Rattle.cell_io.specs.Lines.{lines_of}
 use Rattle.mms_types.specs.Spelling.{IsIdentifier}
+use Rattle.mms_types.specs.FirstCause.{Holds, ◌else◌, told}
 use Rattle.mms_types.specs.declared.identifier.Edition.{Edition}
 use Rattle.mms_types.specs.declared.event.CellEvent.{CellEvent}
 use Rattle.cell_config.specs.declared.config.Config.{Config}
@@ -156,19 +157,6 @@ BreaksRule before here e = (setup : List (List ℕ)) × InSetup before setup
     × (rule : ℕ) × (least_broken (text_of setup) ≡ Some rule) × (e ≡ BadConfig rule)
 
 -- ---- the first of them
-
--- of some refusal the cause holds
-abbrev pub Holds : (RecordError → Type 0) → Type 0
-Holds Cause = (e : RecordError) × Cause e
-
--- this cause, or where it doesn't hold of any refusal the next
-infixr 5 ◌else◌
-abbrev pub ◌else◌ : (RecordError → Type 0) → (RecordError → Type 0) → RecordError → Type 0
-(Cause else Next) e = Cause e ⊎ ((Holds Cause → ⊥) × Next e)
-
--- where the cause holds, this is told
-abbrev pub told : RecordError → Type 0 → RecordError → Type 0
-told refusal Cause e = (e ≡ refusal) × Cause
 
 -- why a line behind these lines is refused, or that it is missing: the first cause that holds
 abbrev pub Refuses : List (List ℕ) → Option (List ℕ) → RecordError → Type 0

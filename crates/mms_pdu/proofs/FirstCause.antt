@@ -15,41 +15,18 @@ use Rattle.ber_forms.specs.InForm.{InForm, IsAlternative}
 use Rattle.ber_forms.proofs.Sound.{fine_is, alternatives_sound}
 use Rattle.ber_forms.proofs.Numbered.{tag_class, sound_distinct, by_number}
 use Rattle.mms_types.specs.declared.identifier.Edition.{Edition}
+use Rattle.mms_types.specs.FirstCause.{◌else◌, told, Tells, now, later}
 use Rattle.pdu_assoc.specs.Heard.{heard_error, heard_reject_form, answered}
 use Rattle.mms_pdu.specs.declared.refusal.Refusal.{Refusal}
 use Rattle.mms_pdu.specs.declared.refusal.Refusal.TheVariants as refusal
 use Rattle.mms_pdu.specs.Services.{requests, requests_sound}
 use Rattle.mms_pdu.specs.Pdus.{heard_reject}
 use Rattle.mms_pdu.specs.Hearing.{Asked, is_pdu, kept_pdus, noted_pdus, noted_and, valid, and_then, argued, asked_value, served, sole_part, asked_at, reject_told, request_told, part_told, heard, Hears}
-use Rattle.mms_pdu.specs.Refused.{Asks, other_pdus, IsNoElement, HasUnknownTag, IsNoPdu, HasModifiers, IsNotOffered, NestsTooDeep, HasBadArgument, ◌else◌, refused_as, of_request, IsRefused, RefusesFirst}
+use Rattle.mms_pdu.specs.Refused.{Asks, other_pdus, IsNoElement, HasUnknownTag, IsNoPdu, HasModifiers, IsNotOffered, NestsTooDeep, HasBadArgument, of_request, IsRefused, RefusesFirst}
 use Rattle.mms_pdu.proofs.Whole.{alternative_tag}
 use Rattle.mms_pdu.proofs.Causes.{AskedSo, sole_is, sole_only, one_only, one_deep, one_deep_only, asked_is, asks_part}
 
 -- ---- the first cause
-
--- the cause holds of this refusal alone, or of none
-abbrev pub Tells : (Refusal → Type 0) → Option Refusal → Type 0
-Tells Cause (Some told) = Cause told × ((r : Refusal) → Cause r → r ≡ told)
-Tells Cause None = (r : Refusal) → Cause r → ⊥
-
-here : (C D : Refusal → Type 0) (t : Refusal) → Tells C (Some t) → Tells (C else D) (Some t)
-here C D t h = (inl h.0, unique)
-  where
-    unique : (r : Refusal) → (C else D) r → r ≡ t
-    unique r (inl c) = h.1 r c
-    unique r (inr d) = absurd (d.0 (t, h.0))
-
-later : (C D : Refusal → Type 0) (o : Option Refusal) → Tells C None → Tells D o → Tells (C else D) o
-later C D (Some t) none h = (inr (λ k. none k.0 k.1, h.0), unique)
-  where
-    unique : (r : Refusal) → (C else D) r → r ≡ t
-    unique r (inl c) = absurd (none r c)
-    unique r (inr d) = h.1 r d.1
-later C D None none h = never
-  where
-    never : (r : Refusal) → (C else D) r → ⊥
-    never r (inl c) = none r c
-    never r (inr d) = h r d.1
 
 abbrev refusal_in : {A : Type 0} → Result A Refusal → Option Refusal
 refusal_in (Ok x) = None
@@ -78,13 +55,13 @@ not_both b e f = absurd (cc (e, f))
 
 module _ (lengths : Lengths) (edition : Edition) (octets : List ℕ) where
   abbrev NoElement : Refusal → Type 0
-  NoElement = refused_as refusal.InvalidPdu (IsNoElement lengths edition octets)
+  NoElement = told refusal.InvalidPdu (IsNoElement lengths edition octets)
 
   abbrev UnknownTag : Refusal → Type 0
-  UnknownTag = refused_as refusal.UnknownType (HasUnknownTag lengths edition octets)
+  UnknownTag = told refusal.UnknownType (HasUnknownTag lengths edition octets)
 
   abbrev NoPdu : Refusal → Type 0
-  NoPdu = refused_as refusal.InvalidPdu (IsNoPdu lengths edition octets)
+  NoPdu = told refusal.InvalidPdu (IsNoPdu lengths edition octets)
 
   abbrev Modified : Refusal → Type 0
   Modified = of_request lengths octets refusal.Modifier (HasModifiers lengths edition)
@@ -132,7 +109,7 @@ module _ (lengths : Lengths) (edition : Edition) (octets : List ℕ) where
             later TooDeep BadArgument None (holds_not refusal.Recursion (NestsTooDeep lengths edition) (not_deep (Ok v) e (λ f. absurd cc)))
             (holds_not refusal.Argument (HasBadArgument lengths edition) (λ bad. bad v (alternatives_sound lengths (requests.alternatives edition) a.service v so.inner_fits e)))
         by_read (Err fault.too_deep) e =
-            here TooDeep BadArgument (refusal.Recursion a.invoke)
+            now TooDeep BadArgument (refusal.Recursion a.invoke)
             (holds refusal.Recursion (NestsTooDeep lengths edition) (one_deep lengths (requests.alternatives edition) so.service a.service so.fits so.service_is e))
         by_read (Err fault.malformed) e =
             later TooDeep BadArgument (Some (refusal.Argument a.invoke)) (holds_not refusal.Recursion (NestsTooDeep lengths edition) (not_deep (Err fault.malformed) e (λ f. absurd cc)))
@@ -141,7 +118,7 @@ module _ (lengths : Lengths) (edition : Edition) (octets : List ℕ) where
         by_form : (o : Option Form) → form_at a.service.tag.number (requests.alternatives edition) ≡ o
             → Tells (NotOffered else TooDeep else BadArgument) (refusal_in (and_then (served lengths a.invoke a.service o) (λ v. Ok (asked_value a.invoke v))))
         by_form None e =
-            here NotOffered (TooDeep else BadArgument) (refusal.Service a.invoke)
+            now NotOffered (TooDeep else BadArgument) (refusal.Service a.invoke)
             (holds refusal.Service (IsNotOffered lengths edition) (no_form a.service.tag.number (requests.alternatives edition) e))
         by_form (Some f) e =
             let there = some_form a.service.tag.number (requests.alternatives edition) f e in
@@ -153,7 +130,7 @@ module _ (lengths : Lengths) (edition : Edition) (octets : List ℕ) where
         by_modified : (b : Bool) → a.modified ≡ b
             → Tells FromRequests (refusal_in (cond b (Err (refusal.Modifier a.invoke)) (and_then (served lengths a.invoke a.service (form_at a.service.tag.number (requests.alternatives edition))) (λ v. Ok (asked_value a.invoke v)))))
         by_modified true m =
-            here Modified (NotOffered else TooDeep else BadArgument) (refusal.Modifier a.invoke) (holds refusal.Modifier (HasModifiers lengths edition) m)
+            now Modified (NotOffered else TooDeep else BadArgument) (refusal.Modifier a.invoke) (holds refusal.Modifier (HasModifiers lengths edition) m)
         by_modified false m =
             later Modified (NotOffered else TooDeep else BadArgument)
             (refusal_in (and_then (served lengths a.invoke a.service (form_at a.service.tag.number (requests.alternatives edition))) (λ v. Ok (asked_value a.invoke v))))
@@ -193,7 +170,7 @@ module _ (lengths : Lengths) (edition : Edition) (octets : List ℕ) where
 
         is_no_pdu : ((w : Value) → alternatives lengths (other_pdus edition) p ≡ Ok w → ⊥) → Tells (NoPdu else FromRequests) (Some refusal.InvalidPdu)
         is_no_pdu h =
-            here NoPdu FromRequests refusal.InvalidPdu
+            now NoPdu FromRequests refusal.InvalidPdu
             ((refl, record { asked = none; other = λ v k. h v (read_other v k) }), λ r c. c.0)
 
         by_elements : (r : Result Value Fault) → alternatives lengths (other_pdus edition) p ≡ (r >>= λ w. Ok (chosen 4 w)) → (x : Value) → Tells (NoPdu else FromRequests) (refusal_in (and_then (valid r) (λ _. Ok x)))
@@ -245,7 +222,7 @@ module _ (lengths : Lengths) (edition : Edition) (octets : List ℕ) where
 
         by_asked : (r : Result Asked Fault) → asked_at lengths p.contents ≡ r → Tells (NoPdu else FromRequests) (refusal_in (and_then (valid r) (request_told lengths edition)))
         by_asked (Err d) e =
-            here NoPdu FromRequests refusal.InvalidPdu
+            now NoPdu FromRequests refusal.InvalidPdu
             ((refl, record { asked = λ a k. absurd (cc (e, (asks_part lengths octets a p is k).1)); other = not_other }), λ r c. c.0)
         by_asked (Ok a) e =
             let so = asked_is lengths p.contents a fits e in
@@ -266,7 +243,7 @@ module _ (lengths : Lengths) (edition : Edition) (octets : List ℕ) where
         by_pdu : (b : Bool) → is_pdu p.tag ≡ b
             → Tells (UnknownTag else NoPdu else FromRequests) (refusal_in (cond b (cond (is_tag 2 true 0 p.tag) (and_then (valid (asked_at lengths p.contents)) (request_told lengths edition))
             (cond (is_tag 2 true 4 p.tag) (reject_told lengths edition p.contents) (cond (has_tag noted_pdus p.tag) (Ok nothing) (valid (alternatives lengths (kept_pdus edition) p))))) (Err refusal.UnknownType)))
-        by_pdu false e = here UnknownTag (NoPdu else FromRequests) refusal.UnknownType ((refl, (p, is, e)), λ r c. c.0)
+        by_pdu false e = now UnknownTag (NoPdu else FromRequests) refusal.UnknownType ((refl, (p, is, e)), λ r c. c.0)
         by_pdu true e =
             later UnknownTag (NoPdu else FromRequests) _
             (λ r c. not_both (is_pdu p.tag) e (subst (λ (q : Part). is_pdu q.tag ≡ false) (same c.1.0 c.1.1) c.1.2))
@@ -280,7 +257,7 @@ module _ (lengths : Lengths) (edition : Edition) (octets : List ℕ) where
     where
       by_sole : (r : Result Part Fault) → sole_part lengths octets ≡ r → Tells (NoElement else UnknownTag else NoPdu else FromRequests) (refusal_in (and_then (valid r) (part_told lengths edition)))
       by_sole (Err d) e =
-          here NoElement (UnknownTag else NoPdu else FromRequests) refusal.InvalidPdu
+          now NoElement (UnknownTag else NoPdu else FromRequests) refusal.InvalidPdu
           ((refl, λ p is. absurd (cc (e, sole_only lengths octets p is))), λ r c. c.0)
       by_sole (Ok p) e =
           let x = sole_is lengths octets p fits e in
@@ -305,17 +282,17 @@ refuses_first {X} lengths edition octets view (Err e) fits h = by_memory e h
     tells : (e : Refusal) → heard lengths edition octets ≡ Err e → Tells (IsRefused lengths edition octets) (Some e)
     tells e is = subst (λ (t : Result Value Refusal). Tells (IsRefused lengths edition octets) (refusal_in t)) is (heard_tells lengths edition octets fits)
 
-    told : (e : Refusal) → heard lengths edition octets ≡ Err e → RefusesFirst lengths edition octets (refused {X = X} e)
-    told e is = record {
+    answers : (e : Refusal) → heard lengths edition octets ≡ Err e → RefusesFirst lengths edition octets (refused {X = X} e)
+    answers e is = record {
       first = λ r ne same. subst (λ (t : Refusal). IsRefused lengths edition octets t) (err_is {X = X} e r same) (tells e is).0;
       only = λ r c. inl (ap (λ (t : Refusal). Err t) (sym ((tells e is).1 r c)));
     }
 
     by_memory : (e : Refusal) → Hears view (Err e) (heard lengths edition octets) → RefusesFirst lengths edition octets (refused {X = X} e)
     by_memory refusal.Memory h = record { first = λ r ne same. absurd (ne (sym (err_is {X = X} refusal.Memory r same))); only = λ r c. inr refl }
-    by_memory refusal.InvalidPdu h = told refusal.InvalidPdu h
-    by_memory refusal.UnknownType h = told refusal.UnknownType h
-    by_memory (refusal.Modifier n) h = told (refusal.Modifier n) h
-    by_memory (refusal.Service n) h = told (refusal.Service n) h
-    by_memory (refusal.Recursion n) h = told (refusal.Recursion n) h
-    by_memory (refusal.Argument n) h = told (refusal.Argument n) h
+    by_memory refusal.InvalidPdu h = answers refusal.InvalidPdu h
+    by_memory refusal.UnknownType h = answers refusal.UnknownType h
+    by_memory (refusal.Modifier n) h = answers (refusal.Modifier n) h
+    by_memory (refusal.Service n) h = answers (refusal.Service n) h
+    by_memory (refusal.Recursion n) h = answers (refusal.Recursion n) h
+    by_memory (refusal.Argument n) h = answers (refusal.Argument n) h

@@ -11,6 +11,7 @@ use Rattle.ber_forms.specs.Reading.{is_tag}
 use Rattle.ber_forms.specs.InForm.{InForm, IsMember, IsAlternative}
 use Rattle.ber_forms.specs.TooDeep.{IsAlternativeTooDeep}
 use Rattle.mms_types.specs.declared.identifier.Edition.{Edition}
+use Rattle.mms_types.specs.FirstCause.{◌else◌, told}
 use Rattle.pdu_assoc.specs.Heard.{heard_reject_form}
 use Rattle.mms_pdu.specs.declared.refusal.Refusal.{Refusal}
 use Rattle.mms_pdu.specs.declared.refusal.Refusal.TheVariants as refusal
@@ -76,29 +77,16 @@ module _ (lengths : Lengths) (edition : Edition) where
 
 -- ---- the first of them
 
--- of some refusal the cause holds
-abbrev pub Holds : (Refusal → Type 0) → Type 0
-Holds Cause = (r : Refusal) × Cause r
-
--- this cause, or where it doesn't hold of any refusal the next
-infixr 5 ◌else◌
-abbrev pub ◌else◌ : (Refusal → Type 0) → (Refusal → Type 0) → Refusal → Type 0
-(Cause else Next) r = Cause r ⊎ ((Holds Cause → ⊥) × Next r)
-
--- the refusal of the PDU
-abbrev pub refused_as : Refusal → Type 0 → Refusal → Type 0
-refused_as told Cause r = (r ≡ told) × Cause
-
 -- the refusal of the confirmed-Request that the octets are, with its invokeID
 abbrev pub of_request : Lengths → List ℕ → (ℕ → Refusal) → (Asked → Type 0) → Refusal → Type 0
-of_request lengths octets told Cause r = (a : Asked) × Asks lengths octets a × Cause a × (r ≡ told a.invoke)
+of_request lengths octets refusal_of Cause r = (a : Asked) × Asks lengths octets a × Cause a × (r ≡ refusal_of a.invoke)
 
 -- the refusal is that of the first cause that holds of the octets
 abbrev pub IsRefused : Lengths → Edition → List ℕ → Refusal → Type 0
 IsRefused lengths edition octets =
-    refused_as refusal.InvalidPdu (IsNoElement lengths edition octets)
-    else refused_as refusal.UnknownType (HasUnknownTag lengths edition octets)
-    else refused_as refusal.InvalidPdu (IsNoPdu lengths edition octets)
+    told refusal.InvalidPdu (IsNoElement lengths edition octets)
+    else told refusal.UnknownType (HasUnknownTag lengths edition octets)
+    else told refusal.InvalidPdu (IsNoPdu lengths edition octets)
     else of_request lengths octets refusal.Modifier (HasModifiers lengths edition)
     else of_request lengths octets refusal.Service (IsNotOffered lengths edition)
     else of_request lengths octets refusal.Recursion (NestsTooDeep lengths edition)

@@ -8,6 +8,7 @@ pub mod Classes
 pub mod AccessErrors
 pub mod DeleteScopes
 pub mod Errors
+pub mod FirstCause
 pub mod Datum
 pub mod DatumCode
 pub mod DataFalls
