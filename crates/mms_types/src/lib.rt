@@ -2,6 +2,7 @@
 #![tactic(auto)]
 
 mod access_result;
+mod cells;
 mod copying;
 mod data;
 mod depth;
@@ -28,6 +29,7 @@ mod variable;
 pub use access_result::{
     AccessResult, AccessResults, DataAccessError, DataList, WriteAnswer, WriteResult, WriteResults,
 };
+pub use cells::{CellRow, Cells, NamedCell, NamedCells};
 pub use data::{BitString, Data, DataKind};
 pub use event::{CellEvent, Events, Output, What};
 pub use identifier::{BadName, Edition, Identifier, Unnamed};

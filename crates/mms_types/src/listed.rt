@@ -46,6 +46,13 @@ impl<T: Drop> Listed<T> {
         &self.list
     }
 
+    /// The items, given away.
+    pub fn into_vec(self) -> Vec<T>
+        ensures { result.items ≡ self }
+    {
+        self.list
+    }
+
     /// The item at a place of the list, counted from 0. None where the list is not as long.
     pub fn at(&self, place: usize) -> Option<&T>
         ensures { option_copied result ≡ slice_get self.now place }

@@ -1,0 +1,62 @@
+-- Cells are found by numbers of 16 bits, and one that is changed keeps its number.
+use Rattle.std.proofs.Common.{◌≡◌, ℕ, ◌<◌, ◌≤◌, Bool, true, false, cond, nat_eq, List, [], ◌∷◌, map, Option, None, Some, refl, sym, ap, subst, ◌∙◌, arith, if◌then◌else◌}
+use Rattle.std.proofs.lemmas.Bool.Decides.{nat_tests}
+use Rattle.std.specs.List.{IsDistinct, AllByRecursion}
+use Rattle.std.specs.Map.{lookup, set_value, keys_of}
+use Rattle.std.specs.Option.{option_map}
+use Rattle.variables.specs.declared.rows.Cell.{Cell}
+use Rattle.variables.specs.Access.{change_cell}
+use Rattle.variables.specs.Bounds.{AreSmall}
+
+-- a number of more bits is that of no cell
+pub beyond : (number : ℕ) (cells : List (ℕ × Cell)) → AreSmall cells → 65536 ≤ number → lookup (nat_eq number) cells ≡ None
+beyond number [] small large = refl
+beyond number (row ∷ rows) small large =
+    let other : nat_eq number row.0 ≡ false = grind (arith, nat_tests, small.0, large) in
+    ap (λ (b : Bool). cond b (Some row.1) (lookup (nat_eq number) rows)) other ∙ beyond number rows small.1 large
+
+-- a number that no cell has changes none
+pub unchanged : (number : ℕ) (f : Cell → Cell) (cells : List (ℕ × Cell)) → AllByRecursion (λ other. nat_eq number other ≡ false) (keys_of cells) → change_cell number f cells ≡ cells
+unchanged number f [] none = refl
+unchanged number f (row ∷ rows) none =
+    ap (λ (b : Bool). (row.0, if b then f row.1 else row.1) ∷ change_cell number f rows) none.0
+    ∙ ap (λ (rest : List (ℕ × Cell)). row ∷ rest) (unchanged number f rows none.1)
+
+-- to write the cell of a number is to change that cell, where no two have the same number
+pub changed : (number : ℕ) (f : Cell → Cell) (cells : List (ℕ × Cell)) (cell : Cell) → IsDistinct nat_eq (keys_of cells) → lookup (nat_eq number) cells ≡ Some cell
+    → set_value (nat_eq number) cells (f cell) ≡ change_cell number f cells
+unfolding IsDistinct
+changed number f [] cell distinct found = refl
+changed number f (row ∷ rows) cell distinct found = by_first (nat_eq number row.0) refl (changed number f rows cell distinct.1)
+  where
+    same : nat_eq number row.0 ≡ true → number ≡ row.0
+    same e = grind (arith, nat_tests, e)
+
+    is_first : nat_eq number row.0 ≡ true → row.1 ≡ cell
+    is_first e = some_is (sym (ap (λ (b : Bool). cond b (Some row.1) (lookup (nat_eq number) rows)) e) ∙ found)
+      where
+        some_is : Some row.1 ≡ Some cell → row.1 ≡ cell
+        some_is h = cc
+
+    by_first : (b : Bool) → nat_eq number row.0 ≡ b → (lookup (nat_eq number) rows ≡ Some cell → set_value (nat_eq number) rows (f cell) ≡ change_cell number f rows)
+        → set_value (nat_eq number) (row ∷ rows) (f cell) ≡ change_cell number f (row ∷ rows)
+    by_first true e rest =
+        let none : AllByRecursion (λ other. nat_eq number other ≡ false) (keys_of rows) = subst (λ (n : ℕ). AllByRecursion (λ other. nat_eq n other ≡ false) (keys_of rows)) (sym (same e)) distinct.0 in
+        ap (λ (b : Bool). cond b ((row.0, f cell) ∷ rows) (row ∷ set_value (nat_eq number) rows (f cell))) e
+        ∙ ap (λ (c : Cell). (row.0, f c) ∷ rows) (sym (is_first e))
+        ∙ ap (λ (rs : List (ℕ × Cell)). (row.0, f row.1) ∷ rs) (sym (unchanged number f rows none))
+        ∙ ap (λ (b : Bool). (row.0, if b then f row.1 else row.1) ∷ change_cell number f rows) (sym e)
+    by_first false e rest =
+        let found_rest = sym (ap (λ (b : Bool). cond b (Some row.1) (lookup (nat_eq number) rows)) e) ∙ found in
+        ap (λ (b : Bool). cond b ((row.0, f cell) ∷ rows) (row ∷ set_value (nat_eq number) rows (f cell))) e
+        ∙ ap (λ (rs : List (ℕ × Cell)). row ∷ rs) (rest found_rest)
+        ∙ ap (λ (b : Bool). (row.0, if b then f row.1 else row.1) ∷ change_cell number f rows) (sym e)
+
+-- and it keeps the numbers
+pub still_small : (test : ℕ → Bool) (cells : List (ℕ × Cell)) (cell : Cell) → AreSmall cells → AreSmall (set_value test cells cell)
+still_small test [] cell small = small
+still_small test (row ∷ rows) cell small = by_first (test row.0) refl (still_small test rows cell small.1)
+  where
+    by_first : (b : Bool) → test row.0 ≡ b → AreSmall (set_value test rows cell) → AreSmall (set_value test (row ∷ rows) cell)
+    by_first true e rest = rw e small
+    by_first false e rest = rw e (small.0, rest)

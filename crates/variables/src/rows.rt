@@ -1,0 +1,19 @@
+use mms_types::{Data, TypeSpec};
+
+/// A cell: a variable that has an address (ISO 9506-1, unnamed variable).
+#[derive(Debug, Drop)]
+pub struct Cell {
+    /// Its type, which stays.
+    pub of: TypeSpec,
+    /// Its value, which is of the type.
+    pub value: Data,
+}
+
+/// A name of a cell (ISO 9506-1, named variable).
+#[derive(Clone, Copy, Debug, PartialEq, Eq)]
+pub struct Variable {
+    /// The number of the cell.
+    pub cell: u16,
+    /// Whether it was configured: then it can't be deleted.
+    pub configured: bool,
+}
