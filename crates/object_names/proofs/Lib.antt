@@ -1,4 +1,5 @@
 pub mod Found
+pub mod Listed
 pub mod NameOrder
 pub mod Scopes
 mod Worked

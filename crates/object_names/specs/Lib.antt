@@ -1,4 +1,6 @@
 pub mod Borrowed
 pub mod BorrowedHash
+pub mod Deletion
 pub mod Listing
 pub mod Scopes
+pub mod Selected

@@ -1,11 +1,12 @@
 //! Keys whose texts stand elsewhere: a name is looked up as a client gives it, and no key is made of it.
 ghost use Rattle.std.specs.Prelude.{◌≡◌, ◌↔◌, Contains, IsSome};
+ghost use Rattle.std.proofs.Common.{sym};
 ghost use Rattle.std.specs.Map.{lookup, keys_of};
 ghost use Rattle.std.specs.Option.{option_copied};
 ghost use Rattle.mms_types.specs.KeyLaws.{keys_equal};
 ghost use Rattle.mms_types.specs.Order.{key_eq, key_of, scope_eq};
 ghost use Rattle.object_names.specs.Borrowed.{key_meant, scope_meant};
-ghost use Rattle.object_names.specs.BorrowedHash.{keys_hash};
+ghost use Rattle.object_names.specs.BorrowedHash.{keys_alike, keys_hash};
 
 use crate::Named;
 use indexmap::Equivalent;
@@ -13,7 +14,7 @@ use mms_types::{Identifier, Key, ObjectName, Scope};
 
 /// Where a name belongs, as `Scope`.
 #[derive(Clone, Copy, PartialEq, Eq, Hash)]
-pub(crate) enum ScopeRef<'a> {
+pub enum ScopeRef<'a> {
     Vmd,
     Domain(&'a Identifier),
     Association(u32),
@@ -21,7 +22,7 @@ pub(crate) enum ScopeRef<'a> {
 
 /// A name in its scope, as `Key`.
 #[derive(Clone, Copy, PartialEq, Eq, Hash)]
-pub(crate) struct KeyRef<'a> {
+pub struct KeyRef<'a> {
     scope: ScopeRef<'a>,
     item: &'a Identifier,
 }
@@ -48,8 +49,16 @@ impl<'a> KeyRef<'a> {
     }
 }
 
+impl<'a> KeyRef<'a> {
+    fn is(&self, key: &Key) -> bool
+        ensures { result ≡ key_eq (key_meant self.entry.now) key.now }
+    {
+        self.scope.is(&key.scope) && *self.item == key.item
+    }
+}
+
 impl<'a> ScopeRef<'a> {
-    fn is(self, scope: &Scope) -> bool
+    pub(crate) fn is(self, scope: &Scope) -> bool
         ensures { result ≡ scope_eq (scope_meant self.entry) scope.now }
     {
         match (self, scope) {
@@ -69,7 +78,20 @@ impl<'a> Equivalent<Key> for KeyRef<'a> {
     ghost respects_eq = { λ q. keys_equal.congr (key_meant q) };
 
     fn equivalent(&self, key: &Key) -> bool {
-        self.scope.is(&key.scope) && *self.item == key.item
+        self.is(key)
+    }
+}
+
+/// A key stands for the borrowed name that is the same.
+impl<'a, 'k> Equivalent<KeyRef<'a>> for &'k Key {
+    ghost equivalent = { λ q k. key_eq (key_meant k) q.now };
+
+    ghost respects_hash = { λ q k same. sym (keys_hash k q.now same) };
+
+    ghost respects_eq = { keys_alike };
+
+    fn equivalent(&self, key: &KeyRef<'a>) -> bool {
+        key.is(*self)
     }
 }
 

@@ -4,10 +4,12 @@
 
 mod borrowed;
 mod copying;
+mod deletion;
 mod lends;
 mod listing;
 mod table;
 
 pub use copying::{Copied, each_name_stands_once};
+pub use deletion::{Deletable, Selection};
 pub use listing::{Names, names_stand_in_order};
 pub use table::{Named, Unplaced};
