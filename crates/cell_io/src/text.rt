@@ -1,4 +1,4 @@
-ghost use Rattle.std.specs.Prelude.{◌≡◌, ◌+◌, [], ◌++◌, ◌≤◌, ◌<◌, length, decimal, take, vec_len, IfOk, OnOk, OnErr};
+ghost use Rattle.std.specs.Prelude.{◌≡◌, ◌+◌, [], ◌∷◌, ◌++◌, ◌≤◌, ◌<◌, length, decimal, take, vec_len, IfOk, OnOk, OnErr};
 ghost use Rattle.std.specs.Io.KnownBytes.{Appends};
 ghost use Rattle.cell_io.specs.Faults.{HasCause};
 ghost use Rattle.cell_io.specs.Hex.{upper};
@@ -99,6 +99,30 @@ impl Text {
             return self.put(&[b'0' + n as u8]);
         }
         self.put(Buffer::new().format(n).as_bytes())
+    }
+
+    /// Puts a number's decimal digits and a blank to the end.
+    pub fn put_number_before_blank(&mut self, n: u64) -> Result<(), Memory>
+        ensures { OnOk result (self.new ≡ self.old ++ decimal n ++ 32 ∷ []) }
+    {
+        if n < 10 {
+            return self.put(&[b'0' + n as u8, b' ']);
+        }
+        self.put_number(n)?;
+        self.put(b" ")
+    }
+
+    /// Puts octets as pairs of hexadecimal digits in upper case, and a line feed, to the end.
+    pub fn put_hex_line(&mut self, octets: &[u8]) -> Result<(), Memory>
+        ensures ok { OnOk result (self.new ≡ self.old ++ upper octets.now ++ 10 ∷ []) }
+        ensures err { OnErr result (self.new ≡ self.old) }
+    {
+        let end = room(&mut self.buffer, self.end, 2 * octets.len() + 1)?;
+        let feed = end - 1;
+        encode(octets, &mut self.buffer.as_mut_slice()[self.end..feed]);
+        self.buffer.as_mut_slice()[feed] = b'\n';
+        self.end = end;
+        Ok(())
     }
 
     /// Puts octets as pairs of hexadecimal digits in upper case to the end.

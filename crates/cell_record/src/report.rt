@@ -1,6 +1,6 @@
 //! The report.
 
-ghost use Rattle.std.specs.Prelude.{◌≡◌, ◌+◌, ◌<◌, ◌≤◌, ◌^◌, ◌++◌, ◌∷◌, [], length, OnOk, OnErr, IfErr};
+ghost use Rattle.std.specs.Prelude.{◌≡◌, ◌+◌, ◌<◌, ◌≤◌, ◌^◌, ◌++◌, ◌∷◌, [], decimal, length, OnOk, OnErr, IfErr};
 ghost use Rattle.std.specs.List.{flat_map};
 ghost use Rattle.cell_io.specs.Faults.{Rose};
 ghost use Rattle.cell_io.specs.Prefix.{AppendsPrefix, AppendsBefore};
@@ -21,29 +21,32 @@ fn is_printed(event: &CellEvent) -> bool
     }
 }
 
-/// Puts an event as its line says it.
+/// Puts a word, a number and a line feed.
+fn put_word(text: &mut Text, word: &[u8], number: u32) -> Result<(), Memory>
+    ensures { OnOk result (text.new ≡ text.old ++ word.now ++ decimal number ++ 10 ∷ []) }
+{
+    text.put(word)?;
+    text.put_number(u64::from(number))?;
+    text.put(b"\n")
+}
+
+/// Puts an event as its line says it, and a line feed.
 fn put_event(text: &mut Text, event: &CellEvent) -> Result<(), Memory>
-    ensures { OnOk result (text.new ≡ text.old ++ event_text event.now) }
+    ensures { OnOk result (text.new ≡ text.old ++ event_text event.now ++ 10 ∷ []) }
 {
     match event {
         CellEvent::Heard { client, octets } => {
-            text.put_number(u64::from(*client))?;
-            text.put(b" ")?;
-            text.put_hex(octets.as_slice())
+            text.put_number_before_blank(u64::from(*client))?;
+            text.put_hex_line(octets.as_slice())
         }
-        CellEvent::Lost { client } => {
-            text.put(b"lost ")?;
-            text.put_number(u64::from(*client))
-        }
-        CellEvent::Tick { ms } => {
-            text.put(b"tick ")?;
-            text.put_number(u64::from(*ms))
-        }
+        CellEvent::Lost { client } => put_word(text, b"lost ", *client),
+        CellEvent::Tick { ms } => put_word(text, b"tick ", *ms),
         CellEvent::Ends { name } => {
             text.put(b"ends ")?;
-            text.put(name.octets())
+            text.put(name.octets())?;
+            text.put(b"\n")
         }
-        CellEvent::Drain { .. } => Ok(()),
+        CellEvent::Drain { .. } => text.put(b"\n"),
     }
 }
 
@@ -54,10 +57,8 @@ fn put_placed(text: &mut Text, place: u64, event: &CellEvent) -> Result<(), Memo
     if !is_printed(event) {
         return Ok(());
     }
-    text.put_number(place)?;
-    text.put(b" ")?;
-    put_event(text, event)?;
-    text.put(b"\n")
+    text.put_number_before_blank(place)?;
+    put_event(text, event)
 }
 
 /// Puts the line of what is sent.
@@ -67,8 +68,7 @@ fn put_output(text: &mut Text, output: &What) -> Result<(), Memory>
     match output {
         What::Octets(octets) => {
             text.put(b"> ")?;
-            text.put_hex(octets.as_slice())?;
-            text.put(b"\n")
+            text.put_hex_line(octets.as_slice())
         }
         What::Abort => text.put(b"> abort\n"),
     }

@@ -1,6 +1,11 @@
 -- The errors that the server answers (ISO 9506-2, ServiceError): one table of class and code.
-use Rattle.std.specs.Prelude.{ℕ, None}
+use Rattle.std.specs.Prelude.{ℕ, Bool, List, [], ◌∷◌, Option, None, Some, if◌then◌else◌}
 use Rattle.mms_types.specs.declared.service_error.ServiceError.{ServiceError}
+
+-- the error of the first condition that holds, or none
+abbrev pub first_of : List (Bool × ServiceError) → Option ServiceError
+first_of [] = None
+first_of (condition ∷ conditions) = if condition.0 then Some condition.1 else first_of conditions
 
 -- an error of that class and that code in it, without more of the refusal
 abbrev pub error : ℕ → ℕ → ServiceError

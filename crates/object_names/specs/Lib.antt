@@ -2,5 +2,6 @@ pub mod Borrowed
 pub mod BorrowedHash
 pub mod Deletion
 pub mod Listing
+pub mod NewName
 pub mod Scopes
 pub mod Selected

@@ -1,4 +1,4 @@
-ghost use Rattle.std.specs.Prelude.{◌≡◌, ◌<◌, not, ◌==◌, ◌↔◌, [], ◌∷◌, ◌++◌, length, slice_get, Contains, OnOk, IfErr, OnErr, IfSome, IsSome, None, Some};
+ghost use Rattle.std.specs.Prelude.{◌≡◌, ◌<◌, not, ◌==◌, ◌↔◌, [], ◌∷◌, ◌++◌, length, slice_get, Contains, OnOk, IfErr, OnErr, IfSome, IsSome, None, Some, ⊤};
 ghost use Rattle.std.specs.Option.{option_copied};
 ghost use Rattle.std.specs.Map.{lookup, remove_entry, keys_of};
 ghost use Rattle.std.specs.List.{IsDistinct};
@@ -6,7 +6,7 @@ ghost use Rattle.mms_types.specs.Order.{key_eq, scope_eq};
 ghost use Rattle.object_names.specs.Scopes.{has_any_of, without_all_of};
 
 use indexmap::IndexMap;
-use mms_types::{Key, Scope};
+use mms_types::{Key, Memory, Scope};
 use std::alloc::{AllocFailed, Global};
 use std::marker::Model;
 
@@ -33,6 +33,15 @@ pub struct Unplaced<T: Drop> {
     pub key: Key,
     /// Its value.
     pub value: T,
+}
+
+/// Where what the row was to hold is not wanted again.
+impl<T: Drop> From<Unplaced<T>> for Memory {
+    ghost from_gives = { λ _ _. ⊤ };
+
+    fn from(_unplaced: Unplaced<T>) -> Memory {
+        Memory
+    }
 }
 
 impl<T: Drop> Named<T> {

@@ -1,2 +1,4 @@
 pub mod Cells
+pub mod Fewer
+pub mod Unopposed
 pub mod Writing

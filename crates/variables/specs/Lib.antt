@@ -1,3 +1,4 @@
 pub mod Rows
 pub mod Access
 pub mod Bounds
+pub mod Definitions

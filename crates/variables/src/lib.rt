@@ -3,6 +3,8 @@
 #![tactic(auto)]
 
 mod access;
+mod defining;
+mod deleting;
 mod rows;
 mod vars;
 

@@ -18,6 +18,7 @@ pub struct Vars {
 
 impl Model for Vars {
     ghost use Rattle.variables.specs.Rows.{Rows};
+    ghost use Rattle.std.specs.Prelude.{◌≤◌, length};
     ghost use Rattle.variables.specs.Bounds.{AreSmall};
 
     ghost Value = { Rows };
@@ -29,7 +30,7 @@ impl Model for Vars {
 
     ghost view = { λ vars. record { cells = vars.cells.entries; variables = vars.variables } };
 
-    ghost invariant = { λ vars. AreSmall vars.cells.entries };
+    ghost invariant = { λ vars. AreSmall vars.cells.entries × (length vars.variables ≤ 4096) };
 }
 
 impl Vars {
@@ -49,7 +50,7 @@ impl Vars {
 
     /// The cell of that address, with its number. No cell has a number of more than 16 bits.
     #[tactic(auto, using(crate::proofs::Cells::beyond))]
-    fn addressed(&self, address: u32) -> Option<(u16, &Cell)>
+    pub(crate) fn addressed(&self, address: u32) -> Option<(u16, &Cell)>
         ensures cell { option_map (λ found. found.1.now) result ≡ cell_at address self.now }
         ensures number { IfSome result (λ found. found.0 ≡ address) }
     {
@@ -57,6 +58,14 @@ impl Vars {
         let number = u16::try_from(address).ok()?;
         let cell = self.cell(number)?;
         Some((number, cell))
+    }
+
+    /// The cell of that address.
+    pub(crate) fn at(&self, address: u32) -> Option<&Cell>
+        ensures { option_copied result ≡ cell_at address self.now }
+    {
+        let (_, cell) = self.addressed(address)?;
+        Some(cell)
     }
 
     /// The cell that a client's specification names, with its number. None where the name or the cell is missing.
