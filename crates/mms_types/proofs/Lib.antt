@@ -1,3 +1,4 @@
+pub mod Conditions
 pub mod Texts
 pub mod Precedence
 pub mod DataParts

@@ -1,3 +1,4 @@
+pub mod Fewer
 pub mod Found
 pub mod Listed
 pub mod NameOrder

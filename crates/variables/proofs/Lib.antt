@@ -1,4 +1,4 @@
+pub mod Apart
 pub mod Cells
-pub mod Fewer
 pub mod Unopposed
 pub mod Writing

@@ -1,5 +1,5 @@
 -- The numbers of cells are those of 16 bits.
-use Rattle.std.specs.Prelude.{ℕ, ◌<◌, ◌^◌, List, [], ◌∷◌}
+use Rattle.std.specs.Prelude.{ℕ, ◌<◌, List, [], ◌∷◌}
 use Rattle.variables.specs.declared.rows.Cell.{Cell}
 
 abbrev pub AreSmall : List (ℕ × Cell) → Type 0

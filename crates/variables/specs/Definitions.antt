@@ -1,12 +1,11 @@
 -- What names are told, defined and deleted (ISO 9506-2, GetVariableAccessAttributes, DefineNamedVariable, DeleteVariableAccess).
-use Rattle.std.specs.Prelude.{ℕ, nat_eq, nat_le, Bool, true, false, not, ◌&&◌, List, [], ◌∷◌, ◌++◌, Option, None, Some, is_some, is_none, length}
+use Rattle.std.specs.Prelude.{ℕ, nat_le, Bool, true, false, not, [], ◌∷◌, ◌++◌, Option, None, Some, is_some, is_none, length}
 use Rattle.std.specs.Option.{option_map, option_and_then}
 use Rattle.mms_types.specs.Shape.{Shape}
 use Rattle.mms_types.specs.Equal.{shape_eq}
 use Rattle.mms_types.specs.Errors.{first_of, invalid_address, type_inconsistent, capability_unavailable}
 use Rattle.mms_types.specs.Order.{key_of}
 use Rattle.mms_types.specs.declared.key.Key.{Key}
-use Rattle.mms_types.specs.declared.object_name.ObjectName.{ObjectName}
 use Rattle.mms_types.specs.declared.service_error.ServiceError.{ServiceError}
 use Rattle.mms_types.specs.declared.variable.Spec.{Spec}
 use Rattle.mms_types.specs.declared.variable.Spec.TheVariants as spec

@@ -1,4 +1,5 @@
 pub mod Rows
+pub mod Start
 pub mod Access
 pub mod Bounds
 pub mod Definitions

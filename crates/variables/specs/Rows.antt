@@ -1,5 +1,6 @@
 -- Cells and named variables, and what a specification names (ISO 9506-1, unnamed and named variables).
-use Rattle.std.specs.Prelude.{ℕ, nat_eq, List, Option, Some}
+use Rattle.std.specs.Prelude.{ℕ, nat_eq, Bool, List, Option, Some, is_some}
+use Rattle.std.specs.List.{list_all}
 use Rattle.std.specs.Map.{lookup}
 use Rattle.std.specs.Option.{option_map, option_and_then}
 use Rattle.mms_types.specs.declared.key.Key.{Key}
@@ -34,3 +35,7 @@ cell_named client s rows = option_and_then (λ number. cell_at number rows) (num
 
 abbrev pub number_named : ℕ → Spec → Rows → Option ℕ
 number_named client s rows = option_and_then (λ number. option_map (λ _. number) (cell_at number rows)) (number_told client s rows)
+
+-- each of the variables has its name and its cell
+abbrev pub are_there : ℕ → List Spec → Rows → Bool
+are_there client variables rows = list_all (λ s. is_some (cell_named client s rows)) variables

@@ -1,15 +1,18 @@
 //! What variables are, and the names that they are given: GetVariableAccessAttributes, DefineNamedVariable.
 
-ghost use Rattle.std.specs.Prelude.{◌≡◌, Bool, IfOk, None, OnErr, OnOk, is_none, is_some};
+ghost use Rattle.std.specs.Prelude.{◌≡◌, Bool, IfOk, None, OnErr, OnOk, is_none, is_some, length, nat_lt, take};
 ghost use Rattle.std.specs.Option.{option_copied};
+ghost use Rattle.object_names.specs.Listing.{names_after};
 ghost use Rattle.object_names.specs.NewName.{is_of_domain};
 ghost use Rattle.variables.specs.Rows.{cell_at, variable_named};
 ghost use Rattle.variables.specs.Definitions.{attributes, attributes_of_cell, define_cause, defined, has_other_type};
 
 use crate::{Cell, Variable, Vars};
 use mms_types::{
-    DefineNamedVariable, Memory, ObjectName, ServiceError, Spec, TypeSpec, VariableAttributes,
+    DefineNamedVariable, Identifier, Memory, ObjectName, Scope, ServiceError, Spec, TypeSpec,
+    VariableAttributes,
 };
+use object_names::Names;
 use std::alloc::Global;
 
 /// The most variables with a name.
@@ -106,5 +109,23 @@ impl Vars {
         };
         self.variables.insert(key, variable)?;
         Ok(())
+    }
+
+    /// The names of variables of a scope that come after that one, which need not be there, in order of octets: the
+    /// first `most` of them, and whether more are left (ISO 9506-2, GetNameList). The one refusal is want of memory.
+    pub fn names_after(
+        &self,
+        alloc: Global,
+        scope: &Scope,
+        after: Option<&Identifier>,
+        most: usize,
+    ) -> Result<Names, Memory>
+        ensures list { IfOk result (λ names. names.list
+            ≡ take most (names_after scope.now (option_copied after.entry) self.now.variables)) }
+        ensures more { IfOk result (λ names. names.more
+            ≡ nat_lt most (length (names_after scope.now
+            (option_copied after.entry) self.now.variables))) }
+    {
+        self.variables.names_after(alloc, scope, after, most)
     }
 }

@@ -25,7 +25,7 @@ impl Vars {
         self.variables.count(selection)
     }
 
-    #[tactic(auto, using(crate::proofs::Fewer::still_few))]
+    #[tactic(auto, using(object_names::proofs::Fewer::still_few))]
     /// Deletes the variables that a selection has, but for those that were configured. It takes no memory.
     pub fn delete(&mut self, selection: &Selection<'_>)
         ensures { self.new ≡ without (selected selection.entry.now) self.old }
@@ -33,7 +33,7 @@ impl Vars {
         self.variables.delete(selection);
     }
 
-    #[tactic(auto, using(crate::proofs::Fewer::still_few))]
+    #[tactic(auto, using(object_names::proofs::Fewer::still_few))]
     /// A client is lost: the variables of its association are removed. It takes no memory.
     pub fn lose(&mut self, client: u32)
         ensures { self.new ≡ without_client client self.old }

@@ -5,6 +5,7 @@
 mod access;
 mod defining;
 mod deleting;
+mod opening;
 mod rows;
 mod vars;
 

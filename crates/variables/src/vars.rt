@@ -1,6 +1,6 @@
 ghost use Rattle.std.specs.Prelude.{◌≡◌, IfSome};
 ghost use Rattle.std.specs.Option.{option_copied, option_map};
-ghost use Rattle.variables.specs.Rows.{cell_at, cell_named, number_named, variable_named};
+ghost use Rattle.variables.specs.Rows.{are_there, cell_at, cell_named, number_named, variable_named};
 
 use crate::{Cell, Variable};
 use indexmap::IndexMap;
@@ -89,5 +89,14 @@ impl Vars {
     {
         let (number, _) = self.found(by, of)?;
         Some(number)
+    }
+
+    /// Whether each of the variables that a client specifies has its name and its cell.
+    pub fn are_there(&self, client: u32, variables: &[Spec]) -> bool
+        ensures { result ≡ are_there client variables.now self.now }
+    {
+        variables
+            .iter()
+            .all(|spec| self.found(client, spec).is_some())
     }
 }

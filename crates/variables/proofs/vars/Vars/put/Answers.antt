@@ -1,8 +1,7 @@
-use Rattle.std.proofs.Common.{◌≡◌, ℕ, nat_eq, List, Some, IsSome, ap, sym, subst, ◌∙◌}
+use Rattle.std.proofs.Common.{◌≡◌, ℕ, nat_eq, List, Some, ap, sym, ◌∙◌}
 use Rattle.std.specs.Map.{lookup, set_value}
 use Rattle.variables.specs.declared.rows.Cell.{Cell}
-use Rattle.variables.specs.Rows.{Rows, cell_at}
-use Rattle.variables.specs.Access.{change_cell, with_value}
+use Rattle.variables.specs.Access.{with_value}
 use Rattle.variables.proofs.Cells.{changed}
 use Rattle.variables.proofs.vars.Vars.put.Goals as goal
 

@@ -2,7 +2,7 @@ use Rattle.std.proofs.Common.{◌≡◌, List, [], ◌++◌, map, inl, inr, ap, 
 use Rattle.std.specs.List.{zip}
 use Rattle.mms_types.specs.Datum.{Datum}
 use Rattle.mms_types.specs.declared.variable.Spec.{Spec}
-use Rattle.variables.specs.Access.{result_of, writes}
+use Rattle.variables.specs.Access.{result_of}
 use Rattle.variables.proofs.Writing.{no_first, no_second, results_are}
 use Rattle.variables.proofs.vars.Vars.results.Goals as goal
 

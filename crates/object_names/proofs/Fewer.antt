@@ -1,5 +1,5 @@
--- No more variables are left than there were.
-use Rattle.std.proofs.Common.{ℕ, ◌+◌, ◌≤◌, Bool, true, false, List, [], ◌∷◌, filter, length, arith, ◌≡◌, refl, if◌then◌else◌}
+-- No more rows are left than there were.
+use Rattle.std.proofs.Common.{ℕ, ◌≤◌, Bool, true, false, List, [], ◌∷◌, filter, length, arith, ◌≡◌, refl}
 
 pub still_few : {A : Type 0} (p : A → Bool) (xs : List A) (most : ℕ) → length xs ≤ most → length (filter p xs) ≤ most
 still_few p xs most few = let h = fewer p xs in omega (arith, few, h)

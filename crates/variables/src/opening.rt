@@ -1,0 +1,112 @@
+//! The variables of a device at its start, and copies of them.
+
+ghost use Rattle.std.specs.Prelude.{◌≡◌, ◌<◌, ◌++◌, ◌∷◌, [], IfOk, None, OnOk, map, nat_eq};
+ghost use Rattle.std.specs.Cmp.Lexicographic.{pointwise};
+ghost use Rattle.std.specs.List.{IsDistinct};
+ghost use Rattle.std.specs.Map.{lookup};
+ghost use Rattle.variables.specs.Bounds.{AreSmall};
+ghost use Rattle.variables.specs.Start.{AreApart, cell_row, start, variable_row};
+
+use crate::{Cell, Variable, Vars};
+use indexmap::IndexMap;
+use mms_types::{CellRow, Cells, Key, Memory, NamedCell, NamedCells, Scope};
+use object_names::{Copied, Named};
+use std::alloc::Global;
+
+/// One cell more, of a number that none has.
+fn add(cells: &mut IndexMap<u16, Cell>, number: u16, cell: Cell) -> Result<(), Memory>
+    requires { lookup (nat_eq number) cells.old.entries ≡ None }
+    ensures cells { OnOk result (cells.new.entries ≡ cells.old.entries ++ (number, cell) ∷ []) }
+    ensures small { number < 65536 }
+{
+    match cells.insert(number, cell) {
+        Ok(None) => Ok(()),
+        Ok(Some(_)) => unreachable!(),
+        Err(_) => Err(Memory),
+    }
+}
+
+/// The cells of a configuration, under their numbers.
+#[tactic(auto, using(crate::proofs::Apart::small_more))]
+fn numbered(alloc: Global, rows: Vec<CellRow>) -> Result<IndexMap<u16, Cell>, Memory>
+    requires { IsDistinct nat_eq (map (λ row. row.number) rows.items) }
+    ensures cells { IfOk result (λ cells. cells.entries ≡ map cell_row rows.items) }
+    ensures small { IfOk result (λ cells. AreSmall cells.entries) }
+{
+    let mut cells = IndexMap::new(alloc);
+    for row in rows {
+        let cell = Cell {
+            of: row.of,
+            value: row.value,
+        };
+        add(&mut cells, row.number, cell)?;
+    }
+    Ok(cells)
+}
+
+/// The variables of a configuration, under their names.
+fn named(alloc: Global, rows: Vec<NamedCell>) -> Result<Named<Variable>, Memory>
+    requires { IsDistinct (pointwise nat_eq) (map (λ row. row.name) rows.items) }
+    ensures { IfOk result (λ variables. variables ≡ map variable_row rows.items) }
+{
+    let mut variables = Named::new(alloc);
+    for row in rows {
+        let key = Key {
+            scope: Scope::Vmd,
+            item: row.name,
+        };
+        let variable = Variable {
+            cell: row.cell,
+            configured: true,
+        };
+        variables.insert(key, variable)?;
+    }
+    Ok(variables)
+}
+
+impl Vars {
+    /// The cells and the variables of a configuration, in its order. The one refusal is want of memory.
+    pub fn new(alloc: Global, cells: Cells, variables: NamedCells) -> Result<Vars, Memory>
+        requires { AreApart cells variables }
+        ensures { IfOk result (λ vars. vars ≡ start cells variables) }
+    {
+        Ok(Vars {
+            cells: numbered(alloc, cells.into_vec())?,
+            variables: named(alloc, variables.into_vec())?,
+        })
+    }
+}
+
+/// The cells, copied.
+fn copied(alloc: Global, cells: &IndexMap<u16, Cell>) -> Result<IndexMap<u16, Cell>, Memory>
+    ensures { IfOk result (λ copies. copies.entries ≡ cells.now.entries) }
+{
+    let _distinct = cells.len();
+    let mut copies = IndexMap::new(alloc);
+    for (number, cell) in cells.iter() {
+        let copy = Cell {
+            of: cell.of.copy(alloc)?,
+            value: cell.value.copy(alloc)?,
+        };
+        add(&mut copies, *number, copy)?;
+    }
+    Ok(copies)
+}
+
+impl Copied for Variable {
+    fn copied(&self, _alloc: Global) -> Result<Variable, Memory> {
+        Ok(*self)
+    }
+}
+
+impl Vars {
+    /// A copy, with its rows in the same order. The one refusal is want of memory.
+    pub fn copy(&self, alloc: Global) -> Result<Vars, Memory>
+        ensures { IfOk result (λ vars. vars ≡ self.now) }
+    {
+        Ok(Vars {
+            cells: copied(alloc, &self.cells)?,
+            variables: self.variables.copy(alloc)?,
+        })
+    }
+}
