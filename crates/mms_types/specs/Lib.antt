@@ -9,6 +9,7 @@ pub mod AccessErrors
 pub mod DeleteScopes
 pub mod Errors
 pub mod FirstCause
+pub mod Serves
 pub mod Datum
 pub mod DatumCode
 pub mod DataFalls

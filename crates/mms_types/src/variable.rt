@@ -5,7 +5,7 @@ ghost use Rattle.std.specs.Prelude.{◌≡◌, ◌<◌, IfOk};
 ghost use Rattle.mms_types.specs.DeleteScopes.{scope_number};
 
 use crate::{
-    AccessResults, DataList, Identifier, Listed, Memory, ObjectName, ObjectNames, TypeSpec,
+    AccessResults, Data, DataList, Identifier, Listed, Memory, ObjectName, ObjectNames, TypeSpec,
 };
 use std::alloc::Global;
 
@@ -52,6 +52,19 @@ impl Listed<Spec> {
             specs.push(spec.copy(alloc)?)?;
         }
         Ok(specs)
+    }
+}
+
+impl Listed<Data> {
+    /// A copy. Memory where memory runs out.
+    pub fn copy(&self, alloc: Global) -> Result<DataList, Memory>
+        ensures { IfOk result (λ values. values ≡ self.now) }
+    {
+        let mut values = Listed::new(alloc);
+        for value in self.as_slice() {
+            values.push(value.copy(alloc)?)?;
+        }
+        Ok(values)
     }
 }
 

@@ -1,0 +1,109 @@
+//! Read, Write, GetVariableAccessAttributes and DefineNamedVariable.
+
+ghost use Rattle.std.specs.Prelude.{◌≡◌, Bool, None, OnErr, OnOk, Some};
+ghost use Rattle.mms_types.specs.Serves.{Serves};
+ghost use Rattle.variable_services.specs.Services.{attributes_answer, attributes_cause, define_after, define_cause, read_answer, read_cause, write_after, write_answer, write_cause};
+
+use crate::VariableTables;
+use crate::tables::accessed;
+use mms_types::{
+    DataList, DefineNamedVariable, Memory, Read, ReadAnswer, Refuse, ServiceError, Spec,
+    VariableAttributes, Write, WriteAnswer,
+};
+use std::alloc::Global;
+
+impl VariableTables {
+    /// What a client reads (ISO 9506-2, Read). Object-non-existent where the list that it names is missing.
+    pub fn read(&self, alloc: Global, client: u32, asked: &Read) -> Result<ReadAnswer, Refuse>
+        ensures { Serves result (read_cause client asked.now self.now) (Some (read_answer client asked.now self.now)) }
+    {
+        let Some(variables) = accessed(&self.lists, client, &asked.access) else {
+            return Err(Refuse::Service(ServiceError::OBJECT_NON_EXISTENT));
+        };
+        let access = if asked.with_access {
+            Some(asked.access.copy(alloc)?)
+        } else {
+            None
+        };
+        Ok(ReadAnswer {
+            access,
+            results: self.vars.reads(alloc, client, variables)?,
+        })
+    }
+
+    /// What becomes of the variables that a client writes (ISO 9506-2, Write); nothing is written yet.
+    /// Object-non-existent where the list that it names is missing, and then type-inconsistent where there are more
+    /// or fewer data than variables.
+    pub fn write_results(
+        &self,
+        alloc: Global,
+        client: u32,
+        asked: &Write,
+    ) -> Result<WriteAnswer, Refuse>
+        ensures { Serves result (write_cause client asked.now self.now) (Some (write_answer client asked.now self.now)) }
+    {
+        let Some(variables) = accessed(&self.lists, client, &asked.access) else {
+            return Err(Refuse::Service(ServiceError::OBJECT_NON_EXISTENT));
+        };
+        let values = asked.values.as_slice();
+        if values.len() != variables.len() {
+            return Err(Refuse::Service(ServiceError::TYPE_INCONSISTENT));
+        }
+        Ok(self.vars.results(alloc, client, variables, values)?)
+    }
+
+    /// Writes variables, whose data, copied, are given. It takes no memory.
+    pub fn write(&mut self, client: u32, asked: &Write, values: DataList)
+        requires cause { write_cause client asked.now self.old ≡ None }
+        requires copied { values ≡ asked.now.values }
+        ensures { self.new ≡ write_after client asked.now self.old }
+    {
+        let Some(variables) = accessed(&self.lists, client, &asked.access) else {
+            unreachable!()
+        };
+        self.vars.write(client, variables, values);
+    }
+
+    /// What a variable is (ISO 9506-2, GetVariableAccessAttributes). Object-non-existent where its name or its cell is
+    /// missing.
+    pub fn attributes(
+        &self,
+        alloc: Global,
+        client: u32,
+        asked: &Spec,
+    ) -> Result<VariableAttributes, Refuse>
+        ensures { Serves result (attributes_cause client asked.now self.now) (attributes_answer client asked.now self.now) }
+    {
+        match self.vars.attributes(alloc, client, asked)? {
+            Some(told) => Ok(told),
+            None => Err(Refuse::Service(ServiceError::OBJECT_NON_EXISTENT)),
+        }
+    }
+
+    /// Why a variable is not defined (ISO 9506-2, DefineNamedVariable): the first condition that holds. `live` is
+    /// whether the domain of its scope is live, where it has one.
+    pub fn define_cause(
+        &self,
+        client: u32,
+        asked: &DefineNamedVariable,
+        live: bool,
+    ) -> Option<ServiceError>
+        ensures { result ≡ define_cause live client asked.now self.now }
+    {
+        self.vars.define_cause(client, asked, live)
+    }
+
+    /// Defines a variable. The one refusal is want of memory; then all is as before.
+    pub fn define(
+        &mut self,
+        alloc: Global,
+        client: u32,
+        asked: &DefineNamedVariable,
+    ) -> Result<(), Memory>
+        requires { (live : Bool) × (define_cause live client asked.now self.old ≡ None) }
+        ensures defined { OnOk result (self.new ≡ define_after client asked.now self.old) }
+        ensures kept { OnErr result (self.new ≡ self.old) }
+    {
+        self.vars.define(alloc, client, asked)
+    }
+}

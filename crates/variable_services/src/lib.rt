@@ -1,0 +1,11 @@
+//! The services for variables and variable lists on the tables that hold them (ISO 9506-2, variable access). Each is
+//! refused or answered before anything changes; what changes the tables takes memory before it changes them, or none.
+#![tactic(auto)]
+
+mod access;
+mod deleting;
+mod listing;
+mod tables;
+
+pub use deleting::delete_cause;
+pub use tables::VariableTables;

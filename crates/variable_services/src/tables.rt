@@ -1,0 +1,47 @@
+ghost use Rattle.std.specs.Prelude.{◌≡◌, IfOk};
+ghost use Rattle.std.specs.Option.{option_copied};
+ghost use Rattle.variable_services.specs.Services.{accessed_in, lost};
+
+use mms_types::{Access, Memory, Spec};
+use std::alloc::Global;
+use variable_lists::Lists;
+use variables::Vars;
+
+/// The variables of a device and their lists.
+#[derive(Drop)]
+pub struct VariableTables {
+    /// Cells and named variables.
+    pub vars: Vars,
+    /// Lists of variables.
+    pub lists: Lists,
+}
+
+/// The variables that an access names: those that it specifies, or those of a list. None where the list is missing.
+pub(crate) fn accessed<'a>(lists: &'a Lists, client: u32, access: &'a Access) -> Option<&'a [Spec]>
+    ensures { option_copied result ≡ accessed_in client access.now lists.now }
+{
+    match access {
+        Access::Specs(variables) => Some(variables.as_slice()),
+        Access::List(name) => lists.members(client, name),
+    }
+}
+
+impl VariableTables {
+    /// A client is lost: the names of its association are removed. It takes no memory.
+    pub fn lose(&mut self, client: u32)
+        ensures { self.new ≡ lost client self.old }
+    {
+        self.vars.lose(client);
+        self.lists.lose(client);
+    }
+
+    /// A copy. The one refusal is want of memory.
+    pub fn copy(&self, alloc: Global) -> Result<VariableTables, Memory>
+        ensures { IfOk result (λ tables. tables ≡ self.now) }
+    {
+        Ok(VariableTables {
+            vars: self.vars.copy(alloc)?,
+            lists: self.lists.copy(alloc)?,
+        })
+    }
+}
