@@ -108,7 +108,7 @@ impl Text {
         if n < 10 {
             return self.put(&[b'0' + n as u8, b' ']);
         }
-        self.put_number(n)?;
+        self.put(Buffer::new().format(n).as_bytes())?;
         self.put(b" ")
     }
 
@@ -121,17 +121,6 @@ impl Text {
         let feed = end - 1;
         encode(octets, &mut self.buffer.as_mut_slice()[self.end..feed]);
         self.buffer.as_mut_slice()[feed] = b'\n';
-        self.end = end;
-        Ok(())
-    }
-
-    /// Puts octets as pairs of hexadecimal digits in upper case to the end.
-    pub fn put_hex(&mut self, octets: &[u8]) -> Result<(), Memory>
-        ensures ok { OnOk result (self.new ≡ self.old ++ upper octets.now) }
-        ensures err { OnErr result (self.new ≡ self.old) }
-    {
-        let end = room(&mut self.buffer, self.end, 2 * octets.len())?;
-        encode(octets, &mut self.buffer.as_mut_slice()[self.end..end]);
         self.end = end;
         Ok(())
     }
