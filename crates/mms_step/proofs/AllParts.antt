@@ -66,7 +66,6 @@ class_below class.ProgramInvocation = refl
 class_below c = refl
 
 listing_below : (s : ObjectScope) (c : ObjectClass) → are_tables (listing s c) ≡ true
-listing_below (scope.Domain domain) class.Domain = refl
 listing_below (scope.Domain domain) c = class_below c
 listing_below s c = class_below c
 

@@ -1,6 +1,6 @@
 -- What an event needs, stage by stage.
 use Rattle.std.specs.Prelude.{◌≡◌, ◌≢◌, ℕ, zero, suc, ◌≤◌, ◌==◌, Bool, true, false, not, ◌&&◌, ◌||◌, Option, Some, List, [], ◌∷◌, ◌++◌, is_some, length, unwrap_or, if◌then◌else◌, refl}
-use Rattle.std.proofs.Common.{ap, ap₂, sym, ◌∙◌, arith}
+use Rattle.std.proofs.Common.{ap, ap₂, sym, ◌∙◌, subst, arith}
 use Rattle.std.proofs.lemmas.Bool.Decides.{nat_tests}
 use Rattle.mms_types.specs.declared.event.CellEvent.{CellEvent}
 use Rattle.mms_types.specs.declared.event.CellEvent.TheVariants.{Heard, Lost, Tick, Ends, Drain}
@@ -10,6 +10,8 @@ use Rattle.part_table.specs.Held.{held_at}
 use Rattle.parted_state.specs.Cut.{are_held, missing}
 use Rattle.parted_state.specs.Cut as cut
 use Rattle.parted_state.specs.CutLaws as laws
+use Rattle.parted_state.specs.Sets.{IsSetOf}
+use Rattle.parted_state.specs.SetLaws.{empty_set, missing_set}
 use Rattle.parted_state.specs.DeviceLaws as device
 use Rattle.parted_state.specs.Served as parted
 use Rattle.mms_step.specs.declared.part.Part.{Part}
@@ -55,19 +57,25 @@ module _ {P : Type 0} where
       none_behind [] = refl
       none_behind (x ∷ xs) = ap (λ (l : List ℕ). x ∷ l) (none_behind xs)
 
-  -- as a test of the length tells it
-  pub next_by_test : (hand : List (Option P)) (stage rest gone : List ℕ) → gone ≡ missing hand stage → (length gone == 0) ≡ true → (left : List ℕ) → left ≡ missing hand rest
-      → left ≡ missing hand (stage ++ (if are_held hand stage then rest else []))
-  next_by_test hand stage rest gone is none left behind = behind ∙ sym (next_missing hand stage rest (sym is ∙ empty gone none))
+  -- as a test tells it of the set of them
+  nothing_missing : (hand : List (Option P)) (stage gone : List ℕ) → IsSetOf gone (missing hand stage) → (length gone == 0) ≡ true → missing hand stage ≡ []
+  nothing_missing hand stage gone is none = (empty_set gone (missing hand stage) is).0 (empty gone none)
     where
       empty : (xs : List ℕ) → (length xs == 0) ≡ true → xs ≡ []
       empty [] e = refl
       empty (x ∷ xs) e = let no : (length (x ∷ xs) == 0) ≡ false = grind (arith, nat_tests) in absurd (cc (sym no ∙ e))
 
-  pub first_by_test : (hand : List (Option P)) (stage rest gone : List ℕ) → gone ≡ missing hand stage → (length gone == 0) ≡ false
-      → gone ≡ missing hand (stage ++ (if are_held hand stage then rest else []))
-  first_by_test hand stage rest gone is some =
-      is ∙ sym (first_missing hand stage rest (λ none. let all : gone ≡ [] = is ∙ none in cc (sym (ap (λ (l : List ℕ). length l == 0) all) ∙ some)))
+  something_missing : (hand : List (Option P)) (stage gone : List ℕ) → IsSetOf gone (missing hand stage) → (length gone == 0) ≡ false → missing hand stage ≢ []
+  something_missing hand stage gone is some none =
+      let all : gone ≡ [] = (empty_set gone (missing hand stage) is).1 none in cc (sym (ap (λ (l : List ℕ). length l == 0) all) ∙ some)
+
+  pub next_by_test : (hand : List (Option P)) (stage rest gone : List ℕ) → IsSetOf gone (missing hand stage) → (length gone == 0) ≡ true → (left : List ℕ)
+      → IsSetOf left (missing hand rest) → IsSetOf left (missing hand (stage ++ (if are_held hand stage then rest else [])))
+  next_by_test hand stage rest gone is none left behind = subst (IsSetOf left) (sym (next_missing hand stage rest (nothing_missing hand stage gone is none))) behind
+
+  pub first_by_test : (hand : List (Option P)) (stage rest gone : List ℕ) → IsSetOf gone (missing hand stage) → (length gone == 0) ≡ false
+      → IsSetOf gone (missing hand (stage ++ (if are_held hand stage then rest else [])))
+  first_by_test hand stage rest gone is some = subst (IsSetOf gone) (sym (first_missing hand stage rest (something_missing hand stage gone is some))) is
 
   -- of two stages and a third of which nothing is missing
   missing_thrice : (hand : List (Option P)) (first second third : List ℕ) → missing hand third ≡ []
@@ -155,12 +163,16 @@ module _ (hand : List (Option Part)) (event : CellEvent) (n : ℕ) (counted : n 
   pub need_later : missing hand (footprint n event) ≡ [] → need event hand ≡ missing hand (later event hand)
   need_later none = by_words ∙ next_missing hand (footprint n event) (later event hand) none
 
--- as a test of the length tells it
-pub need_by_test : (hand : List (Option Part)) (event : CellEvent) (n : ℕ) (words gone : List ℕ) → n ≡ clients_among (length hand) → words ≡ footprint n event
-    → gone ≡ missing hand words → (length gone == 0) ≡ false → gone ≡ need event hand
+-- as a test tells it of the set of them
+pub need_by_test : (hand : List (Option Part)) (event : CellEvent) (n : ℕ) (words gone : List ℕ) → n ≡ clients_among (length hand) → IsSetOf words (footprint n event)
+    → IsSetOf gone (missing hand words) → (length gone == 0) ≡ false → IsSetOf gone (need event hand)
 need_by_test hand event n words gone counted is left some =
-    let first : gone ≡ missing hand (footprint n event) = left ∙ ap (λ (l : List ℕ). missing hand l) is in
-    first ∙ sym (need_first hand event n counted (λ none. let all : gone ≡ [] = first ∙ none in cc (sym (ap (λ (l : List ℕ). length l == 0) all) ∙ some)))
+    let first = missing_set hand words (footprint n event) gone is left in
+    subst (IsSetOf gone) (sym (need_first hand event n counted (something_missing hand (footprint n event) gone first some))) first
+
+pub words_by_test : (hand : List (Option Part)) (event : CellEvent) (n : ℕ) (words gone : List ℕ) → IsSetOf words (footprint n event)
+    → IsSetOf gone (missing hand words) → (length gone == 0) ≡ true → missing hand (footprint n event) ≡ []
+words_by_test hand event n words gone is left none = nothing_missing hand (footprint n event) gone (missing_set hand words (footprint n event) gone is left) none
 
 pub need_heard : (hand : List (Option Part)) (client : ℕ) (octets : List ℕ) (n : ℕ) (part : RoomyRow) → n ≡ clients_among (length hand)
     → missing hand (footprint n (Heard client octets)) ≡ [] → 1 ≤ client → client ≤ n → held_at hand (client_place client) ≡ Some (Client part)

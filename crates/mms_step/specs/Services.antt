@@ -65,7 +65,6 @@ class_tables class.OperatorStation = []
 
 -- names are listed from the table of their class, and whether the domain of their scope is live is looked up among domains
 abbrev pub listing : ObjectScope → ObjectClass → List ℕ
-listing (scope.Domain domain) class.Domain = domains_table ∷ []
 listing (scope.Domain domain) c = domains_table ∷ class_tables c
 listing s c = class_tables c
 

@@ -10,7 +10,6 @@ mod laws;
 mod needs;
 mod opening;
 mod part;
-mod places;
 mod reading;
 mod service;
 mod tables;
@@ -24,6 +23,6 @@ pub use laws::{a_step_is_of_the_held_parts, all_parts_are_enough, each_state_is_
 pub use needs::{footprint, need, need_read};
 pub use opening::start_parts;
 pub use part::Part;
-pub use places::Parts;
+pub use parted_state::{Numbers, Parts};
 pub use reading::{Reading, read_event};
 pub use tables::clients_of;

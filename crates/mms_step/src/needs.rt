@@ -8,12 +8,12 @@ ghost use Rattle.mms_step.specs.State.{State, IsSound};
 ghost use Rattle.mms_step.specs.Serving.{heard_asks, heard_more, loss_asks};
 ghost use Rattle.mms_step.specs.Tables.{loss_tables};
 ghost use Rattle.parted_state.specs.Cut.{missing};
+ghost use Rattle.parted_state.specs.Sets.{IsSetOf};
 ghost use Rattle.mms_step.specs.Partition.{parts_of, client_place, clients_among, IsClient};
 ghost use Rattle.mms_step.specs.Association.{verdict_by};
 ghost use Rattle.mms_step.specs.Needs.{footprint, heard_need, need, placed, two_stages, verdict_need};
 ghost use Rattle.mms_step.specs.Reads.{pdu_read, IsDeep, IsReadOf, IsReadingOf};
 
-use crate::places::Parts;
 use crate::reading::{Reading, read};
 use crate::service::{request_asks, request_more};
 use crate::tables::{
@@ -26,6 +26,7 @@ use association::ClientPart;
 use mms_pdu::{Read, Refusal};
 use mms_types::{CellEvent, Memory};
 use part_table::Hand;
+use parted_state::Parts;
 use std::alloc::Global;
 
 /// The parts that an event's words alone tell, with so many clients.
@@ -33,7 +34,7 @@ pub fn footprint(event: &CellEvent, clients: u32) -> Parts
     requires some { 1 ≤ clients }
     requires few { clients ≤ 64 }
     requires among { IsAmong clients event.now }
-    ensures { result ≡ footprint clients event.now }
+    ensures { IsSetOf result (footprint clients event.now) }
 {
     match event {
         CellEvent::Heard { client, .. }
@@ -47,7 +48,7 @@ pub fn footprint(event: &CellEvent, clients: u32) -> Parts
 /// The parts of the tables in which a client may have anything.
 fn loss_parts(clients: u32) -> Parts
     requires few { clients ≤ 64 }
-    ensures { result ≡ placed clients loss_tables }
+    ensures { IsSetOf result (placed clients loss_tables) }
 {
     Parts::of(&[
         CLOCK,
@@ -62,7 +63,7 @@ fn loss_parts(clients: u32) -> Parts
 /// The parts of the tables that are used by what octets come to.
 fn heard_asks(found: &Found<'_>, clients: u32) -> Parts
     requires few { clients ≤ 64 }
-    ensures { result ≡ placed clients (heard_asks (meant found.now)) }
+    ensures { IsSetOf result (placed clients (heard_asks (meant found.now))) }
 {
     match *found {
         Found::Tells(_) => Parts::new(),
@@ -76,7 +77,8 @@ fn heard_asks(found: &Found<'_>, clients: u32) -> Parts
 /// The parts of the tables that are used beside those, by what they show.
 fn heard_more(part: &ClientPart, found: &Found<'_>, clients: u32) -> Parts
     requires few { clients ≤ 64 }
-    ensures { result ≡ placed clients (heard_more no_tables part.now.row (meant found.now)) }
+    ensures { IsSetOf result
+        (placed clients (heard_more no_tables part.now.row (meant found.now))) }
 {
     match *found {
         Found::Takes(_, asked) => request_more(part, asked, clients),
@@ -94,7 +96,7 @@ fn heard_more(part: &ClientPart, found: &Found<'_>, clients: u32) -> Parts
 /// The parts of the tables that the loss of a client uses.
 fn loss_asks(part: &ClientPart, clients: u32) -> Parts
     requires few { clients ≤ 64 }
-    ensures { result ≡ placed clients (loss_asks part.now.row.association) }
+    ensures { IsSetOf result (placed clients (loss_asks part.now.row.association)) }
 {
     if part.negotiated().is_some() {
         loss_parts(clients)
@@ -105,7 +107,7 @@ fn loss_asks(part: &ClientPart, clients: u32) -> Parts
 
 /// Those of the parts that are not held, and where all of them are, those of the further ones.
 fn missing_of(first: &Parts, second: &Parts, held: &Hand<Cell>) -> Parts
-    ensures { result ≡ two_stages held.now first.now second.now }
+    ensures { IsSetOf result (two_stages held.now first.now second.now) }
 {
     let missing = first.missing(held);
     if missing.is_empty() {
@@ -136,8 +138,8 @@ fn need_of(
 ) -> Result<Parts, Memory>
     requires few { clients ≤ 64 }
     requires depth { IsDeep read.now }
-    ensures { IfOk result (λ parts. parts ≡ verdict_need clients held.now part.now.row
-        (verdict_by part.now.row.association part.now.row (pdu_read read.now))) }
+    ensures { IfOk result (λ parts. IsSetOf parts (verdict_need clients held.now part.now.row
+        (verdict_by part.now.row.association part.now.row (pdu_read read.now)))) }
 {
     let found = verdict_of(part, read)?;
     let first = heard_asks(&found, clients);
@@ -156,7 +158,7 @@ fn need_heard(
     requires few { clients ≤ 64 }
     requires reading { IsReadOf reading.now octets.now }
     ensures { IfOk result (λ parts.
-        parts ≡ heard_need clients held.now part.now.row octets.now) }
+        IsSetOf parts (heard_need clients held.now part.now.row octets.now)) }
 {
     let edition = part.constants().edition;
     match reading.by(edition) {
@@ -178,7 +180,7 @@ fn need_more(
     requires clients { clients ≡ clients_among (length held.now) }
     requires among { IsAmong clients event.now }
     requires words { missing held.now (footprint clients event.now) ≡ [] }
-    ensures { IfOk result (λ parts. parts ≡ need event.now held.now) }
+    ensures { IfOk result (λ parts. IsSetOf parts (need event.now held.now)) }
 {
     match event {
         CellEvent::Heard { client, octets } => {
@@ -207,7 +209,7 @@ pub fn need_read(
     requires of { (s : State) × ((count : ℕ) × IsSound count s) × IsHandOf held.now (parts_of s) }
     requires reading { IsReadingOf reading.now event.now }
     requires among { IsAmong (clients_among (length held.now)) event.now }
-    ensures { IfOk result (λ parts. parts ≡ need event.now held.now) }
+    ensures { IfOk result (λ parts. IsSetOf parts (need event.now held.now)) }
 {
     let clients = clients_of(held);
     let missing = footprint(event, clients).missing(held);
@@ -223,7 +225,7 @@ pub fn need_read(
 pub fn need(alloc: Global, event: &CellEvent, held: &Hand<Cell>) -> Result<Parts, Memory>
     requires of { (s : State) × ((count : ℕ) × IsSound count s) × IsHandOf held.now (parts_of s) }
     requires among { IsAmong (clients_among (length held.now)) event.now }
-    ensures { IfOk result (λ parts. parts ≡ need event.now held.now) }
+    ensures { IfOk result (λ parts. IsSetOf parts (need event.now held.now)) }
 {
     need_read(alloc, event, &Reading::none(), held)
 }

@@ -1,17 +1,18 @@
 //! The confirmed services (ISO 9506-1, VMD support): why a request is refused, its answer, and the tables that it uses.
 
-ghost use Rattle.std.specs.Prelude.{◌≡◌, ◌+◌, ◌≤◌, ◌++◌, length, IfOk, Some};
+ghost use Rattle.std.specs.Prelude.{◌≡◌, ◌≤◌, [], ◌∷◌, IfOk, MatchOption, Some};
+ghost use Rattle.parted_state.specs.Sets.{IsSetOf};
 ghost use Rattle.mms_step.specs.Meant.{no_tables};
 ghost use Rattle.mms_step.specs.Needs.{placed};
 ghost use Rattle.mms_step.specs.Services.{cause, class_tables, effect, listing, request_asks, request_more, scope_cause};
 
-use crate::places::Parts;
 use crate::tables::{CONDITIONS, DOMAINS, JOURNALS, PROGRAMS, VARIABLES, semaphores};
 use association::ClientPart;
 use mms_types::{
     Answer, GetNameListAnswer, Identifiers, IdentifyAnswer, Memory, ObjectClass, ObjectScope,
     Request, ServiceError, StatusAnswer,
 };
+use parted_state::Parts;
 use std::alloc::Global;
 
 /// Why names of a scope are not listed: there is no domain yet.
@@ -60,47 +61,43 @@ pub(crate) fn answer_to(alloc: Global, part: &ClientPart, asked: &Request) -> Re
     }
 }
 
-/// Appends the part with the names of a class, where it has one.
-fn push_class(parts: &mut Parts, clients: u32, class: ObjectClass)
+/// The part with the names of a class, where it has one.
+fn class_part(clients: u32, class: ObjectClass) -> Option<u8>
     requires few { clients ≤ 64 }
-    requires room { length parts.old + 1 ≤ 256 }
-    ensures { parts.new ≡ parts.old ++ placed clients (class_tables class) }
+    ensures { MatchOption result (class_tables class ≡ [])
+        (λ part. placed clients (class_tables class) ≡ part ∷ []) }
 {
     match class {
-        ObjectClass::NamedVariable | ObjectClass::NamedVariableList => parts.push(VARIABLES),
-        ObjectClass::Semaphore => parts.push(semaphores(clients)),
-        ObjectClass::EventCondition | ObjectClass::EventEnrollment => parts.push(CONDITIONS),
-        ObjectClass::Journal => parts.push(JOURNALS),
-        ObjectClass::Domain => parts.push(DOMAINS),
-        ObjectClass::ProgramInvocation => parts.push(PROGRAMS),
+        ObjectClass::NamedVariable | ObjectClass::NamedVariableList => Some(VARIABLES),
+        ObjectClass::Semaphore => Some(semaphores(clients)),
+        ObjectClass::EventCondition | ObjectClass::EventEnrollment => Some(CONDITIONS),
+        ObjectClass::Journal => Some(JOURNALS),
+        ObjectClass::Domain => Some(DOMAINS),
+        ObjectClass::ProgramInvocation => Some(PROGRAMS),
         ObjectClass::ScatteredAccess
         | ObjectClass::NamedType
         | ObjectClass::EventAction
-        | ObjectClass::OperatorStation => {}
+        | ObjectClass::OperatorStation => None,
     }
 }
 
 /// The parts from which names of a class are listed in a scope.
 fn listing(scope: &ObjectScope, class: ObjectClass, clients: u32) -> Parts
     requires few { clients ≤ 64 }
-    ensures { result ≡ placed clients (listing scope.now class) }
+    ensures { IsSetOf result (placed clients (listing scope.now class)) }
 {
-    let mut parts = Parts::new();
-    match (scope, class) {
-        (ObjectScope::Domain(_), ObjectClass::Domain) => parts.push(DOMAINS),
-        (ObjectScope::Domain(_), _) => {
-            parts.push(DOMAINS);
-            push_class(&mut parts, clients, class);
-        }
-        _ => push_class(&mut parts, clients, class),
+    match (scope, class_part(clients, class)) {
+        (ObjectScope::Domain(_), Some(part)) => Parts::of(&[DOMAINS, part]),
+        (ObjectScope::Domain(_), None) => Parts::of(&[DOMAINS]),
+        (_, Some(part)) => Parts::of(&[part]),
+        (_, None) => Parts::new(),
     }
-    parts
 }
 
 /// The parts of the tables that a request uses, by its words, with so many clients.
 pub(crate) fn request_asks(asked: &Request, clients: u32) -> Parts
     requires few { clients ≤ 64 }
-    ensures { result ≡ placed clients (request_asks asked.now) }
+    ensures { IsSetOf result (placed clients (request_asks asked.now)) }
 {
     match asked {
         Request::GetNameList(asked) => listing(&asked.scope, asked.class, clients),
@@ -111,7 +108,8 @@ pub(crate) fn request_asks(asked: &Request, clients: u32) -> Parts
 /// The parts of the tables that a request uses beside those, by what they show.
 pub(crate) fn request_more(part: &ClientPart, asked: &Request, clients: u32) -> Parts
     requires few { clients ≤ 64 }
-    ensures { result ≡ placed clients (request_more no_tables part.now.row asked.now) }
+    ensures { IsSetOf result
+        (placed clients (request_more no_tables part.now.row asked.now)) }
 {
     let _asks = part;
     let _clients = clients;

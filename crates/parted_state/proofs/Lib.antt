@@ -1,3 +1,4 @@
 pub mod Applied
+pub mod Bits
 pub mod Places
 pub mod Putting

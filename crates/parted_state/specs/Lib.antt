@@ -6,6 +6,8 @@ pub mod LiftedLaws
 pub mod Lists
 pub mod Served
 pub mod ServedLaws
+pub mod Sets
+pub mod SetLaws
 pub mod Rows
 pub mod Shop
 pub mod ShopLaws

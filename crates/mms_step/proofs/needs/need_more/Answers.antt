@@ -4,6 +4,8 @@ use Rattle.mms_types.specs.Actors.{IsAmong}
 use Rattle.mms_types.specs.declared.event.CellEvent.{CellEvent}
 use Rattle.mms_types.specs.declared.event.CellEvent.TheVariants.{Heard, Lost, Drain}
 use Rattle.parted_state.specs.Cut.{missing}
+use Rattle.parted_state.specs.Sets.{IsSetOf}
+use Rattle.parted_state.specs.SetLaws.{missing_set}
 use Rattle.mms_step.specs.Needs.{footprint, heard_need, need}
 use Rattle.mms_step.proofs.Enough.{client_by_words, own_is_held}
 use Rattle.mms_step.proofs.Needed.{need_heard, need_lost, need_ticked, need_ended, drain_needs_none}
@@ -24,42 +26,47 @@ client_held-part-requires-in-Lost-clause-held c =
 pub returns-in-Heard : goal.returns-in-Heard
 returns-in-Heard c =
     let among = subst (λ (e : CellEvent). IsAmong c.args.clients e) c.in-Heard.is c.requires.among in
-    IfOk-weaker c.need_heard.result (λ parts. parts ≡ heard_need c.args.clients c.args.held.now c.client_held-part.result.now.row c.as_slice.result.now) (λ parts. parts ≡ need c.args.event.now c.args.held.now)
-    (λ parts is. is
-    ∙ ap (λ (o : List ℕ). heard_need c.args.clients c.args.held.now c.client_held-part.result.now.row o) c.as_slice.ensures
+    let same : heard_need c.args.clients c.args.held.now c.client_held-part.result.now.row c.as_slice.result.now ≡ need c.args.event.now c.args.held.now =
+    ap (λ (o : List ℕ). heard_need c.args.clients c.args.held.now c.client_held-part.result.now.row o) c.as_slice.ensures
     ∙ sym (need_heard c.args.held.now c.in-Heard.client c.in-Heard.octets c.args.clients c.client_held-part.result.now c.requires.clients
     (subst (λ (e : CellEvent). missing c.args.held.now (footprint c.args.clients e) ≡ []) c.in-Heard.is c.requires.words) among.0 among.1 c.client_held-part.ensures)
-    ∙ ap (λ (e : CellEvent). need e c.args.held.now) (sym c.in-Heard.is))
+    ∙ ap (λ (e : CellEvent). need e c.args.held.now) (sym c.in-Heard.is) in
+    IfOk-weaker c.need_heard.result (λ parts. IsSetOf parts (heard_need c.args.clients c.args.held.now c.client_held-part.result.now.row c.as_slice.result.now))
+    (λ parts. IsSetOf parts (need c.args.event.now c.args.held.now))
+    (λ parts is. subst (IsSetOf parts) same is)
     c.need_heard.ensures
 
 pub returns-in-Lost : goal.returns-in-Lost
 returns-in-Lost c =
     let among = subst (λ (e : CellEvent). IsAmong c.args.clients e) c.in-Lost.is c.requires.among in
-    c.missing.ensures
-    ∙ ap (λ (l : List ℕ). missing c.args.held.now l) c.loss_asks.ensures
-    ∙ sym (need_lost c.args.held.now c.in-Lost.client c.args.clients c.client_held-part-in-Lost.result.now c.requires.clients
+    subst (IsSetOf c.missing.result)
+    (sym (need_lost c.args.held.now c.in-Lost.client c.args.clients c.client_held-part-in-Lost.result.now c.requires.clients
     (subst (λ (e : CellEvent). missing c.args.held.now (footprint c.args.clients e) ≡ []) c.in-Lost.is c.requires.words) among.0 among.1 c.client_held-part-in-Lost.ensures)
-    ∙ ap (λ (e : CellEvent). need e c.args.held.now) (sym c.in-Lost.is)
+    ∙ ap (λ (e : CellEvent). need e c.args.held.now) (sym c.in-Lost.is))
+    (missing_set c.args.held.now c.loss_asks.result _ c.missing.result c.loss_asks.ensures c.missing.ensures)
 
 pub returns-in-Tick : goal.returns-in-Tick
 returns-in-Tick c =
-    c.new.ensures
-    ∙ sym (need_ticked c.args.held.now c.in-Tick.ms c.args.clients c.requires.clients
+    subst (IsSetOf c.new.result)
+    (sym (need_ticked c.args.held.now c.in-Tick.ms c.args.clients c.requires.clients
     (subst (λ (e : CellEvent). missing c.args.held.now (footprint c.args.clients e) ≡ []) c.in-Tick.is c.requires.words))
-    ∙ ap (λ (e : CellEvent). need e c.args.held.now) (sym c.in-Tick.is)
+    ∙ ap (λ (e : CellEvent). need e c.args.held.now) (sym c.in-Tick.is))
+    c.new.ensures.set
 
 pub returns-in-Ends : goal.returns-in-Ends
 returns-in-Ends c =
-    c.new-in-Ends.ensures
-    ∙ sym (need_ended c.args.held.now c.in-Ends.name c.args.clients c.requires.clients
+    subst (IsSetOf c.new-in-Ends.result)
+    (sym (need_ended c.args.held.now c.in-Ends.name c.args.clients c.requires.clients
     (subst (λ (e : CellEvent). missing c.args.held.now (footprint c.args.clients e) ≡ []) c.in-Ends.is c.requires.words))
-    ∙ ap (λ (e : CellEvent). need e c.args.held.now) (sym c.in-Ends.is)
+    ∙ ap (λ (e : CellEvent). need e c.args.held.now) (sym c.in-Ends.is))
+    c.new-in-Ends.ensures.set
 
 pub returns-in-Drain : goal.returns-in-Drain
 returns-in-Drain c =
     let among = subst (λ (e : CellEvent). IsAmong c.args.clients e) c.in-Drain.is c.requires.among in
-    c.new-in-Drain.ensures
-    ∙ sym (drain_needs_none c.args.held.now c.in-Drain.client among.0
+    subst (IsSetOf c.new-in-Drain.result)
+    (sym (drain_needs_none c.args.held.now c.in-Drain.client among.0
     (own_is_held c.args.held.now c.args.clients (Drain c.in-Drain.client) c.in-Drain.client refl among.0
     (subst (λ (e : CellEvent). missing c.args.held.now (footprint c.args.clients e) ≡ []) c.in-Drain.is c.requires.words)))
-    ∙ ap (λ (e : CellEvent). need e c.args.held.now) (sym c.in-Drain.is)
+    ∙ ap (λ (e : CellEvent). need e c.args.held.now) (sym c.in-Drain.is))
+    c.new-in-Drain.ensures.set
