@@ -1,8 +1,9 @@
 -- A part is taken out of its place, changed and put back.
-use Rattle.std.proofs.Common.{◌≡◌, ℕ, zero, suc, List, [], ◌∷◌, set, Option, Some, None, refl, ap, sym, ◌∙◌}
+use Rattle.std.proofs.Common.{◌≡◌, ℕ, zero, suc, ◌<◌, List, [], ◌∷◌, set, length, Option, Some, None, refl, ap, sym, ◌∙◌, arith, length-set}
 use Rattle.std.specs.Option.{option_map}
 use Rattle.association.specs.Client.{ClientRow, Client as RoomyRow}
 use Rattle.part_table.specs.Held.{held_at}
+use Rattle.part_table.specs.HeldLaws.{held_within}
 use Rattle.mms_step.specs.declared.part.Part.{Part}
 use Rattle.mms_step.specs.declared.part.Part.TheVariants.{Clock, Client}
 use Rattle.parted_state.specs.Served.{change}
@@ -48,3 +49,54 @@ pub client_kept : (hand taken new : List (Option Part)) (place : ℕ) (part valu
     → new ≡ set taken place (Some (Client after)) → new ≡ hand
 client_kept hand taken new place part value client after held out same is kept back =
     as_it_was hand taken new place (Client after) (ap Some (ap Client kept ∙ sym is ∙ same) ∙ held) out back
+
+-- a part that is taken out, changed and put back
+pub part_changed : (f : Part → Part) (hand taken new : List (Option Part)) (place : ℕ) (part now : Part)
+    → Some part ≡ held_at hand place → taken ≡ set hand place None → now ≡ f part → new ≡ set taken place (Some now) → new ≡ change (option_map f) hand place
+part_changed f hand taken new place part now held out is back =
+    back
+    ∙ ap (λ (l : List (Option Part)). set l place (Some now)) out
+    ∙ ap (λ (p : Part). set (set hand place None) place (Some p)) is
+    ∙ changed_part f hand place part (sym held)
+
+-- nothing is taken out where nothing is held
+pub free_changed : (f : Part → Part) (hand taken : List (Option Part)) (place : ℕ) → None ≡ held_at hand place → taken ≡ set hand place None
+    → taken ≡ change (option_map f) hand place
+free_changed f hand taken place free out = out ∙ stays hand place (sym free)
+  where
+    stays : (hand : List (Option Part)) (i : ℕ) → held_at hand i ≡ None → set hand i None ≡ change (option_map f) hand i
+    stays [] i free = refl
+    stays (h ∷ hand) zero free = ap (λ (o : Option Part). o ∷ hand) (sym (ap (option_map f) free))
+    stays (h ∷ hand) (suc i) free = ap (λ (l : List (Option Part)). h ∷ l) (stays hand i free)
+
+pub place_left : (hand taken : List (Option Part)) (place : ℕ) (part : Part) → Some part ≡ held_at hand place → taken ≡ set hand place None → place < length taken
+place_left hand taken place part held out =
+    let within = held_within hand place part (sym held) in
+    let same : length taken ≡ length hand = ap (λ (l : List (Option Part)). length l) out ∙ length-set hand place None in
+    omega (arith, within, same)
+
+-- of which that is a client's
+pub client_arm : (f : Part → Part) (hand taken new : List (Option Part)) (place : ℕ) (part value : Part) (client after : RoomyRow)
+    → Some part ≡ held_at hand place → taken ≡ set hand place None → value ≡ part → value ≡ Client client → Client after ≡ f (Client client)
+    → new ≡ set taken place (Some (Client after)) → new ≡ change (option_map f) hand place
+client_arm f hand taken new place part value client after held out same is done back =
+    part_changed f hand taken new place part (Client after) held out (done ∙ ap f (sym is ∙ same)) back
+
+-- and of which it is none
+pub other_arm : (f : Part → Part) (hand taken new : List (Option Part)) (place : ℕ) (part value : Part)
+    → Some part ≡ held_at hand place → taken ≡ set hand place None → value ≡ part → f value ≡ value
+    → new ≡ set taken place (Some value) → new ≡ change (option_map f) hand place
+other_arm f hand taken new place part value held out same kept back =
+    part_changed f hand taken new place part value held out (sym kept ∙ ap f same) back
+
+-- of which that is the clock
+pub clock_arm : (now : ℕ) (hand taken new : List (Option Part)) (place : ℕ) (part value : Part) (was after : ℕ)
+    → Some part ≡ held_at hand place → taken ≡ set hand place None → value ≡ part → value ≡ Clock was → after ≡ now
+    → new ≡ set taken place (Some (Clock after)) → new ≡ change (option_map (on_clock (λ n. now))) hand place
+clock_arm now hand taken new place part value was after held out same is done back =
+    part_changed (on_clock (λ n. now)) hand taken new place part (Clock after) held out (ap Clock done ∙ ap (on_clock (λ n. now)) (sym is ∙ same)) back
+
+-- a part that is no clock stays as it is
+pub no_clock : (f : ℕ → ℕ) (part : Part) → ((now : ℕ) → part ≡ Clock now → ⊥) → on_clock f part ≡ part
+no_clock f (Clock now) other = absurd (other now refl)
+no_clock f part other = refl

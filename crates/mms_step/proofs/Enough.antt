@@ -16,18 +16,21 @@ use Rattle.parted_state.specs.Served.{change}
 use Rattle.parted_state.specs.Served as parted
 use Rattle.mms_step.specs.declared.part.Part.{Part}
 use Rattle.mms_step.specs.State.{State, IsSound}
-use Rattle.mms_step.specs.Effects.{felt_all}
-use Rattle.mms_step.specs.Association.{loss_told}
-use Rattle.mms_step.specs.Serving.{services}
+use Rattle.mms_step.specs.Association.{verdict}
+use Rattle.mms_step.specs.declared.planning.Act.TheVariants as act
+use Rattle.mms_step.specs.Acts.{act_done, row_held, HoldsClient}
+use Rattle.mms_step.specs.AfterLaws.{is_device, each_served}
+use Rattle.parted_state.specs.Lifted.{row_shown, tables_shown, put_in_place}
+use Rattle.parted_state.specs.LiftedLaws as lifted
+use Rattle.mms_step.specs.Serving.{hears, serves, services}
 use Rattle.mms_step.specs.Step.{step}
-use Rattle.mms_step.specs.Meant.{row_heard}
 use Rattle.mms_step.specs.Partition.{cell, parts_of, state_in, client_place, clients_among, on_client, on_clock, IsClient, IsClock}
 use Rattle.mms_step.specs.Needs.{need, is_held, footprint, shown}
 use Rattle.mms_step.specs.After.{after}
 use Rattle.mms_step.specs.AfterLaws.{after_holds_the_same}
 use Rattle.mms_step.proofs.Holding.{clients_counted, held_client, held_clock, after_of_hand, change_is_held}
 use Rattle.mms_step.proofs.Needed.{drain_needs_none}
-use Rattle.mms_step.proofs.PartsAfter.{with_client, client_changed, step_heard, step_lost, step_drained}
+use Rattle.mms_step.proofs.PartsAfter.{with_client, client_changed, step_drained}
 
 -- parts of a sound state
 abbrev pub OfState : List (Option Part) → Type 0
@@ -84,6 +87,14 @@ clock_is_held hand ms (s, sound, of) enough =
     (laws.held_in hand (footprint (length (state_in hand).clients) (Tick ms)) 0
     (laws.none_missing hand (footprint (length (state_in hand).clients) (Tick ms)) (words_held hand (Tick ms) enough)) refl)
 
+-- the part of a client that is lost
+pub lost_is_held : (hand : List (Option Part)) (client : ℕ) → OfState hand → IsAmong (clients_among (length hand)) (Lost client) → need (Lost client) hand ≡ []
+    → HoldsClient client hand
+lost_is_held hand client (s, sound, of) among enough =
+    let counted = clients_counted s hand of in
+    let few = sound.1.few in
+    (omega (arith, counted, few, among.1), client_is_held hand (Lost client) client (s, sound, of) among refl enough)
+
 -- ---- held parts after an event
 
 pub record Becomes (hand new : List (Option Part)) (event : CellEvent) : Type 0 where
@@ -110,16 +121,6 @@ own_becomes hand new event client f of_state among whose enough is stepped =
     (sym (ap (λ (u : State). parts_of u) (stepped s among.0 there) ∙ client_changed s client f among.0 there))
     (change_is_held (on_client f) hand (parts_of s) (client_place client) of held)))
 
-pub heard_becomes : (hand new : List (Option Part)) (client : ℕ) (octets : List ℕ) → OfState hand → IsAmong (clients_among (length hand)) (Heard client octets)
-    → need (Heard client octets) hand ≡ [] → new ≡ change (option_map (on_client (λ row. row_heard row octets))) hand (client_place client) → Becomes hand new (Heard client octets)
-heard_becomes hand new client octets of among enough is =
-    own_becomes hand new (Heard client octets) client (λ row. row_heard row octets) (of.0, of.2) among refl enough is (λ s some there. step_heard s client octets some there)
-
-pub lost_becomes : (hand new : List (Option Part)) (client : ℕ) → OfState hand → IsAmong (clients_among (length hand)) (Lost client) → need (Lost client) hand ≡ []
-    → new ≡ change (option_map (on_client (λ row. felt_all (loss_told row.association) row))) hand (client_place client) → Becomes hand new (Lost client)
-lost_becomes hand new client of among enough is =
-    own_becomes hand new (Lost client) client (λ row. felt_all (loss_told row.association) row) (of.0, of.2) among refl enough is (λ s some there. step_lost s client some there)
-
 pub drained_becomes : (hand new : List (Option Part)) (client : ℕ) → OfState hand → IsAmong (clients_among (length hand)) (Drain client) → need (Drain client) hand ≡ []
     → new ≡ change (option_map (on_client drained_row)) hand (client_place client) → Becomes hand new (Drain client)
 drained_becomes hand new client of among enough is =
@@ -133,14 +134,39 @@ drained_is_after hand new client s of among held is =
     (own_becomes hand new (Drain client) client drained_row (s, of) (among.0, omega (arith, counted, among.1)) refl
     (drain_needs_none hand client among.0 (ap (λ (o : Option Part). is_some o) held)) is (λ u some there. step_drained u client some there)).parts
 
-pub ticked_becomes : (hand new : List (Option Part)) (ms : ℕ) → OfState hand → need (Tick ms) hand ≡ [] → new ≡ change (option_map (on_clock (λ now. now + ms))) hand 0
-    → Becomes hand new (Tick ms)
-ticked_becomes hand new ms of_state enough is =
-    become hand new (Tick ms) (of_state.0, of_state.2) enough (ap (λ (h : List (Option Part)). places_held h) is ∙ change_holds_the_same (on_clock (λ now. now + ms)) hand 0)
-    (λ s of. let held = laws.held_in hand (footprint (length (state_in hand).clients) (Tick ms)) 0
-    (laws.none_missing hand (footprint (length (state_in hand).clients) (Tick ms)) (words_held hand (Tick ms) enough)) refl in
-    subst (λ (h : List (Option Part)). IsHandOf h (parts_of (step s (Tick ms)))) (sym is)
-    (change_is_held (on_clock (λ now. now + ms)) hand (parts_of s) 0 of held))
+-- what is served on the tables and the row that held parts show, and put in place
+pub served_becomes : (hand new : List (Option Part)) (event : CellEvent) → OfState hand → actor_of event ≤ clients_among (length hand) → need event hand ≡ []
+    → new ≡ put_in_place cell (serves (tables_shown cell hand) (row_shown cell (actor_of event) hand) event) hand → Becomes hand new event
+served_becomes hand new event (s, sound, of) few enough put =
+    let is : new ≡ after event hand = put ∙ lifted.in_place cell is_device services event (each_served event) s hand of enough few in
+    record {
+      step = λ u of_u. subst (λ (h : List (Option Part)). IsHandOf h (parts_of (step u event))) (sym put)
+          (lifted.of_state cell is_device services event (each_served event) u hand of_u enough few);
+      parts = is;
+      places = ap (λ (h : List (Option Part)). places_held h) is ∙ after_holds_the_same event hand;
+    }
+
+-- the row of a client whose part is held
+pub row_of_held : (hand : List (Option Part)) (client : ℕ) → 1 ≤ client → row_shown cell client hand ≡ row_held hand client
+row_of_held hand zero some = absurd (omega (arith, some))
+row_of_held hand (suc i) some = refl
+
+pub heard_becomes : (hand new : List (Option Part)) (client : ℕ) (octets : List ℕ) → OfState hand → IsAmong (clients_among (length hand)) (Heard client octets)
+    → need (Heard client octets) hand ≡ []
+    → new ≡ put_in_place cell (hears (tables_shown cell hand) (row_held hand client) client (verdict (row_held hand client) octets)) hand → Becomes hand new (Heard client octets)
+heard_becomes hand new client octets of among enough put =
+    served_becomes hand new (Heard client octets) of among.1 enough
+    (put ∙ ap (λ (r : ClientRow). put_in_place cell (serves (tables_shown cell hand) r (Heard client octets)) hand) (sym (row_of_held hand client among.0)))
+
+pub lost_becomes : (hand new : List (Option Part)) (client : ℕ) → OfState hand → IsAmong (clients_among (length hand)) (Lost client) → need (Lost client) hand ≡ []
+    → new ≡ put_in_place cell (act_done (tables_shown cell hand) hand (act.Loss client)) hand → Becomes hand new (Lost client)
+lost_becomes hand new client of among enough put =
+    served_becomes hand new (Lost client) of among.1 enough
+    (put ∙ ap (λ (r : ClientRow). put_in_place cell (serves (tables_shown cell hand) r (Lost client)) hand) (sym (row_of_held hand client among.0)))
+
+pub ticked_becomes : (hand new : List (Option Part)) (ms : ℕ) → OfState hand → need (Tick ms) hand ≡ []
+    → new ≡ put_in_place cell (act_done (tables_shown cell hand) hand (act.Time ms)) hand → Becomes hand new (Tick ms)
+ticked_becomes hand new ms of enough put = served_becomes hand new (Tick ms) of (omega arith) enough put
 
 pub ended_becomes : (hand : List (Option Part)) (name : List ℕ) → OfState hand → need (Ends name) hand ≡ [] → Becomes hand hand (Ends name)
 ended_becomes hand name of enough = become hand hand (Ends name) (of.0, of.2) enough refl (λ s is. is)

@@ -5,3 +5,6 @@ pub mod Holding
 pub mod Needed
 pub mod PartsAfter
 pub mod Sound
+pub mod ToldLaws
+pub mod ServeLaws
+pub mod PlanLaws

@@ -23,7 +23,7 @@ use Rattle.mms_step.specs.Effects.{Effect, felt, felt_all, tell}
 use Rattle.mms_step.specs.Association.{Verdict, Takes, verdict, loss_told}
 use Rattle.mms_step.specs.Services.{cause, effect, request_told}
 use Rattle.mms_step.specs.Serving.{size_of, is_served, tables_heard, own_told, also_told, serves, services}
-use Rattle.mms_step.specs.Meant.{no_tables, row_heard}
+use Rattle.mms_step.specs.Meant.{no_tables}
 use Rattle.mms_step.specs.Partition.{cell, parts_of, client_part, client_place, on_client, no_client}
 use Rattle.mms_step.specs.AfterLaws.{is_device}
 use Rattle.mms_step.specs.Step.{step, replay, MayCome, MayFollow}
@@ -136,35 +136,6 @@ pub heard_told : (t : Tables) (row : ClientRow) (client : ℕ) (octets : List �
 heard_told t row client octets =
     ap₂ (λ (own : List Effect) (also : List (ℕ × Effect)). tell client own ++ also) (own_same t row (verdict row octets)) (none_also t row (verdict row octets))
     ∙ append_none (tell client (own_told no_tables row (verdict row octets)))
-
-pub step_heard : (s : State) (client : ℕ) (octets : List ℕ) → 1 ≤ client → client ≤ length s.clients
-    → step s (Heard client octets) ≡ with_client s client (λ row. row_heard row octets)
-step_heard s zero octets some there = absurd (omega arith)
-step_heard s (suc i) octets some there =
-    let row = parted.row_of cell services s (Heard (suc i) octets) in
-    let first : suc i - 1 ≡ i = omega arith in
-    ap₂ (λ (t : Tables) (rows : List ClientRow). at t rows) (none_changed (cell.tables_of s) row (verdict row octets))
-    (ap (λ (told : List (ℕ × Effect)). parted.delivered cell told s.clients) (heard_told (cell.tables_of s) row (suc i) octets)
-    ∙ told_one (own_told no_tables row (verdict row octets)) i s.clients
-    ∙ change-here (felt_all (own_told no_tables row (verdict row octets))) (λ r. row_heard r octets) s.clients i no_client (omega arith) refl
-    ∙ ap (λ (k : ℕ). change (λ r. row_heard r octets) s.clients k) (sym first))
-  where
-    at : Tables → List ClientRow → State
-    at t rows = record { now = t.now; clients = rows }
-
-pub step_lost : (s : State) (client : ℕ) → 1 ≤ client → client ≤ length s.clients
-    → step s (Lost client) ≡ with_client s client (λ row. felt_all (loss_told row.association) row)
-step_lost s zero some there = absurd (omega arith)
-step_lost s (suc i) some there =
-    let row = parted.row_of cell services s (Lost (suc i)) in
-    let first : suc i - 1 ≡ i = omega arith in
-    ap (λ (rows : List ClientRow). at rows)
-    (told_one (loss_told row.association) i s.clients
-    ∙ change-here (felt_all (loss_told row.association)) (λ r. felt_all (loss_told r.association) r) s.clients i no_client (omega arith) refl
-    ∙ ap (λ (k : ℕ). change (λ r. felt_all (loss_told r.association) r) s.clients k) (sym first))
-  where
-    at : List ClientRow → State
-    at rows = record { now = s.now; clients = rows }
 
 pub step_drained : (s : State) (client : ℕ) → 1 ≤ client → client ≤ length s.clients → step s (Drain client) ≡ with_client s client drained_row
 step_drained s zero some there = absurd (omega arith)

@@ -11,3 +11,6 @@ pub mod Serving
 pub mod State
 pub mod Step
 pub mod Tables
+pub mod Telling
+pub mod Changes
+pub mod Acts

@@ -1,17 +1,18 @@
 -- What a verdict that was found means.
-use Rattle.std.specs.Prelude.{ℕ, List, [], ◌∷◌}
+use Rattle.std.specs.Prelude.{◌≡◌, ℕ, List, [], ◌∷◌}
 use Rattle.mms_types.specs.declared.event.What.TheVariants.{Abort}
 use Rattle.mms_types.specs.declared.pdu.Pdu.TheVariants as pdu
-use Rattle.association.specs.Client.{ClientRow}
+use Rattle.association.specs.Client.{ClientRow, Client as RoomyRow}
 use Rattle.association.specs.Negotiation.{negotiation}
 use Rattle.mms_step.specs.declared.verdict.Said.{Said}
 use Rattle.mms_step.specs.declared.verdict.Said.TheVariants as said
 use Rattle.mms_step.specs.declared.verdict.Found.{Found}
 use Rattle.mms_step.specs.declared.verdict.Found.TheVariants as found
-use Rattle.mms_step.specs.Effects.{Effect, Sends, felt_all}
+use Rattle.mms_step.specs.Effects.{Effect, Sends, felt_all, tell}
+use Rattle.mms_step.specs.Partition.{settled}
 use Rattle.mms_step.specs.Tables.{Tables}
-use Rattle.mms_step.specs.Association.{Verdict, Tells, Takes, Concludes, Cancels, Aborts, sends, negotiated, further_error, unknown_error, verdict}
-use Rattle.mms_step.specs.Serving.{own_told}
+use Rattle.mms_step.specs.Association.{Verdict, Tells, Takes, Concludes, Cancels, Aborts, sends, negotiated, further_error, unknown_error}
+use Rattle.mms_step.specs.Serving.{own_told, hears}
 
 abbrev pub effects_of : Said → List Effect
 effects_of said.Nothing = []
@@ -28,13 +29,15 @@ meant found.Concludes = Concludes
 meant (found.Cancels invoke) = Cancels invoke
 meant found.Aborts = Aborts
 
--- no service reads a table yet, so what is heard is the same with none
+-- where no table is used, what is heard is the same with none
 abbrev pub no_tables : Tables
 no_tables = record { now = 0 }
 
--- the row of a client after a verdict, and after its octets
+-- the row of a client after a verdict that uses none
 abbrev pub row_after : Verdict → ClientRow → ClientRow
 row_after v row = felt_all (own_told no_tables row v) row
 
-abbrev pub row_heard : ClientRow → List ℕ → ClientRow
-row_heard row octets = row_after (verdict row octets) row
+-- the client is told all that comes of a verdict, which uses no table and tells nobody else anything
+pub record IsPlainlyHeard (row : ClientRow) (new : RoomyRow) (v : Verdict) : Type 0 where
+  pub is : new ≡ settled (row_after v row)
+  pub alone : (t : Tables) (client : ℕ) → hears t row client v ≡ record { tables = t; told = tell client (own_told no_tables row v) }

@@ -37,14 +37,21 @@ cause t row (request.Status asked) = None
 cause t row request.Identify = None
 
 -- a request is answered, and nothing changes
-abbrev pub answers : Tables → Answer → Outcome
-answers t told = record { tables = t; answer = Some told; also = [] }
+abbrev pub answers : Tables → Option Answer → Outcome
+answers t told = record { tables = t; answer = told; also = [] }
 
--- Status is answered with state-changes-allowed and operational, Identify with the device's texts. No class has a name yet.
+-- The answer to a request that is never refused and that the row of its client alone answers: Status with state-changes-allowed and operational, Identify with the
+-- device's texts. Another has none here.
+abbrev pub plain_answer : ClientRow → Request → Option Answer
+plain_answer row (request.GetNameList x) = None
+plain_answer row (request.Status asked) = Some (answer.Status (record { logical = 0; physical = 0 }))
+plain_answer row request.Identify = Some (answer.Identify (record { vendor = row.constants.vendor; model = row.constants.model; revision = row.constants.revision }))
+
+-- what a request does; no class has a name yet
 abbrev pub effect : Tables → ClientRow → Request → Outcome
-effect t row (request.GetNameList x) = answers t (answer.GetNameList (record { names = []; more = false }))
-effect t row (request.Status asked) = answers t (answer.Status (record { logical = 0; physical = 0 }))
-effect t row request.Identify = answers t (answer.Identify (record { vendor = row.constants.vendor; model = row.constants.model; revision = row.constants.revision }))
+effect t row (request.GetNameList x) = answers t (Some (answer.GetNameList (record { names = []; more = false })))
+effect t row (request.Status asked) = answers t (plain_answer row (request.Status asked))
+effect t row request.Identify = answers t (plain_answer row request.Identify)
 
 -- ---- the tables that each service reads or changes
 

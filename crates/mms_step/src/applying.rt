@@ -1,43 +1,50 @@
 //! One event on the parts that are held.
 
-ghost use Rattle.std.specs.Prelude.{◌≡◌, ℕ, ◌+◌, ◌≤◌, [], length, OnOk, OnErr};
+ghost use Rattle.std.specs.Prelude.{◌≡◌, ℕ, ◌+◌, ◌≤◌, [], length, OnOk, OnErr, OnSome, IfOk, IfNone, IfSome};
 ghost use Rattle.std.specs.Option.{option_map};
 ghost use Rattle.mms_types.specs.Actors.{IsAmong};
 ghost use Rattle.mms_types.specs.declared.event.CellEvent.TheVariants.{Drain};
 ghost use Rattle.association.specs.Client.{drained_row};
 ghost use Rattle.part_table.specs.Held.{held_at, places_held, IsHandOf};
+ghost use Rattle.parted_state.specs.Lifted.{put_in_place, tables_shown};
 ghost use Rattle.parted_state.specs.Served.{change};
-ghost use Rattle.mms_step.specs.State.{State, IsSound, last_moment};
-ghost use Rattle.mms_step.specs.Association.{loss_told};
-ghost use Rattle.mms_step.specs.Effects.{felt_all};
-ghost use Rattle.mms_step.specs.Meant.{row_heard};
+ghost use Rattle.mms_step.specs.State.{State, IsSound};
+ghost use Rattle.mms_step.specs.Association.{verdict};
 ghost use Rattle.mms_step.specs.Step.{step, IsInTime};
-ghost use Rattle.mms_step.specs.Partition.{parts_of, clients_among, clock_in, client_place, outbox_held, on_client, on_clock, IsClock, IsClient};
+ghost use Rattle.mms_step.specs.Partition.{cell, parts_of, clients_among, clock_in, client_place, outbox_held, on_client, IsClient};
 ghost use Rattle.mms_step.specs.Needs.{need};
-ghost use Rattle.mms_step.specs.Reads.{IsReadOf, IsReadingOf};
+ghost use Rattle.mms_step.specs.Reads.{IsDeep, IsReadOf, IsReadingOf};
+ghost use Rattle.mms_step.specs.Acts.{row_held, verdict_read, IsActOf, IsHeardInPlace};
+ghost use Rattle.mms_step.specs.Serving.{hears};
 ghost use Rattle.mms_step.specs.After.{after};
 
-use crate::reading::Reading;
-use crate::tables::BEFORE_CLIENTS;
+use crate::needs::client_held;
+use crate::planning::Act;
+use crate::reading::{Reading, read};
+use crate::serving::serve;
+use crate::tables::{BEFORE_CLIENTS, clients_of};
 use crate::{Cell, Part};
+use mms_pdu::{Read, Refusal};
 use mms_types::{CellEvent, Memory, What};
 use part_table::Hand;
 use std::alloc::Global;
 
-/// Lets octets be heard from a client, of which that was read.
-fn hear_from(
+/// Lets a client hear what was read from it. Where no table is used, all of it is done; otherwise that is answered which
+/// is to be done on the tables, and all is as before, as it is without memory.
+fn hear_own<'a>(
     alloc: Global,
     held: &mut Hand<Cell>,
     client: u32,
-    octets: &[u8],
-    reading: &Reading,
-) -> Result<(), Memory>
-    requires reading { IsReadOf reading.now octets.now }
+    read: &'a Result<Read, Refusal>,
+) -> Result<Option<Act<'a>>, Memory>
     requires small { client ≤ 64 }
+    requires depth { IsDeep read.now }
     requires held { IsClient (held_at held.old (client_place client)) }
-    ensures heard { OnOk result (held.new
-        ≡ change (option_map (on_client (λ row. row_heard row octets.now))) held.old
-        (client_place client)) }
+    ensures done { IfOk result (λ left. IfNone left
+        (IsHeardInPlace client (verdict_read (row_held held.old client) read.now) held.old held.new)) }
+    ensures left { IfOk result (λ left. IfSome left
+        (IsActOf client (row_held held.old client) (verdict_read (row_held held.old client) read.now))) }
+    ensures same { IfOk result (λ left. OnSome left (held.new ≡ held.old)) }
     ensures kept { OnErr result (held.new ≡ held.old) }
 {
     let place = BEFORE_CLIENTS + client;
@@ -45,46 +52,63 @@ fn hear_from(
         unreachable!()
     };
     let heard = match &mut *part {
-        Part::Client(client) => client.hear(alloc, octets, reading),
+        Part::Client(own) => own.hear(alloc, client, read),
         _ => unreachable!(),
     };
     held.put(place, part);
     heard
 }
 
-/// Lets a client be lost.
-fn lose(held: &mut Hand<Cell>, client: u32)
-    requires small { client ≤ 64 }
+/// Lets a client hear what was read from it.
+fn hear_read(
+    alloc: Global,
+    held: &mut Hand<Cell>,
+    clients: u32,
+    client: u32,
+    read: &Result<Read, Refusal>,
+) -> Result<(), Memory>
+    requires of { (s : State) × IsHandOf held.old (parts_of s) }
+    requires many { clients ≡ clients_among (length held.old) }
+    requires few { clients ≤ 64 }
+    requires among { (1 ≤ client) × (client ≤ clients) }
+    requires depth { IsDeep read.now }
     requires held { IsClient (held_at held.old (client_place client)) }
-    ensures { held.new ≡ change (option_map
-        (on_client (λ row. felt_all (loss_told row.association) row))) held.old
-        (client_place client) }
+    ensures heard { OnOk result (held.new ≡ put_in_place cell
+        (hears (tables_shown cell held.old) (row_held held.old client) client
+        (verdict_read (row_held held.old client) read.now)) held.old) }
+    ensures kept { OnErr result (held.new ≡ held.old) }
 {
-    let place = BEFORE_CLIENTS + client;
-    let Some(mut part) = held.take(place) else {
-        unreachable!()
-    };
-    match &mut *part {
-        Part::Client(client) => client.lose(),
-        _ => unreachable!(),
+    match hear_own(alloc, held, client, read)? {
+        None => Ok(()),
+        Some(act) => serve(alloc, held, clients, &act),
     }
-    held.put(place, part);
 }
 
-/// Lets milliseconds go by.
-fn tick(held: &mut Hand<Cell>, ms: u32)
-    requires held { IsClock (held_at held.old 0) }
-    requires time { clock_in (held_at held.old 0) + ms ≤ last_moment }
-    ensures { held.new ≡ change (option_map (on_clock (λ now. now + ms))) held.old 0 }
+/// Lets octets be heard from a client, of which that was read.
+fn hear_from(
+    alloc: Global,
+    held: &mut Hand<Cell>,
+    clients: u32,
+    client: u32,
+    octets: &[u8],
+    reading: &Reading,
+) -> Result<(), Memory>
+    requires of { (s : State) × IsHandOf held.old (parts_of s) }
+    requires many { clients ≡ clients_among (length held.old) }
+    requires few { clients ≤ 64 }
+    requires among { (1 ≤ client) × (client ≤ clients) }
+    requires reading { IsReadOf reading.now octets.now }
+    requires held { IsClient (held_at held.old (client_place client)) }
+    ensures heard { OnOk result (held.new ≡ put_in_place cell
+        (hears (tables_shown cell held.old) (row_held held.old client) client
+        (verdict (row_held held.old client) octets.now)) held.old) }
+    ensures kept { OnErr result (held.new ≡ held.old) }
 {
-    let Some(mut part) = held.take(0) else {
-        unreachable!()
-    };
-    match &mut *part {
-        Part::Clock(clock) => clock.advance(ms),
-        _ => unreachable!(),
+    let edition = client_held(held, client).constants().edition;
+    match reading.by(edition) {
+        Some(read) => hear_read(alloc, held, clients, client, read),
+        None => hear_read(alloc, held, clients, client, &read(alloc, octets, edition)?),
     }
-    held.put(0, part);
 }
 
 /// Takes what is to be sent to a client out of its part: the step of `Drain` on the parts that are held. It takes no
@@ -132,18 +156,13 @@ pub fn apply_read(
     ensures places { places_held held.new ≡ places_held held.old }
     ensures kept { OnErr result (held.new ≡ held.old) }
 {
+    let clients = clients_of(held);
     match event {
         CellEvent::Heard { client, octets } => {
-            hear_from(alloc, held, *client, octets.as_slice(), reading)
+            hear_from(alloc, held, clients, *client, octets.as_slice(), reading)
         }
-        CellEvent::Lost { client } => {
-            lose(held, *client);
-            Ok(())
-        }
-        CellEvent::Tick { ms } => {
-            tick(held, *ms);
-            Ok(())
-        }
+        CellEvent::Lost { client } => serve(alloc, held, clients, &Act::Loss { client: *client }),
+        CellEvent::Tick { ms } => serve(alloc, held, clients, &Act::Time { ms: *ms }),
         CellEvent::Ends { .. } => Ok(()),
         CellEvent::Drain { client } => {
             let _outputs = drain(*client, held);

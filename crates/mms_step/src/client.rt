@@ -1,19 +1,22 @@
 //! The part of a client, and what becomes of it.
 
-ghost use Rattle.std.specs.Prelude.{◌≡◌, nat_le, length, OnOk, OnErr, IfOk, [], ◌∷◌, None, Some, if◌then◌else◌};
+ghost use Rattle.std.specs.Prelude.{◌≡◌, ◌≤◌, nat_le, length, true, false, OnOk, OnErr, OnSome, IfOk, IfNone, IfSome, [], ◌∷◌, None, Some, if◌then◌else◌};
 ghost use Rattle.association.specs.Client.{closed_row, drained_row, new_row};
 ghost use Rattle.association.specs.Negotiation.{negotiation};
 ghost use Rattle.mms_pdu.specs.Pdus.{pdu_octets};
-ghost use Rattle.mms_step.specs.Association.{abort_told, cancel_told, conclusion_told, loss_told, negotiated, sends, verdict_by, Takes};
+ghost use Rattle.mms_step.specs.Acts.{IsActOf};
+ghost use Rattle.mms_step.specs.Association.{negotiated, sends, verdict_by, Takes};
 ghost use Rattle.mms_step.specs.Effects.{felt, felt_all, Sends};
-ghost use Rattle.mms_step.specs.Meant.{effects_of, meant, no_tables, row_after, row_heard};
+ghost use Rattle.mms_step.specs.Meant.{effects_of, meant, row_after, IsPlainlyHeard};
 ghost use Rattle.mms_step.specs.Partition.{settled};
-ghost use Rattle.mms_step.specs.Reads.{pdu_read, IsDeep, IsReadOf};
-ghost use Rattle.mms_step.specs.Services.{cause, effect, refuses, request_told};
+ghost use Rattle.mms_step.specs.Reads.{pdu_read, IsDeep};
+ghost use Rattle.mms_step.specs.Services.{refuses, request_told};
 ghost use Rattle.mms_step.specs.Serving.{size_of};
+ghost use Rattle.mms_step.specs.Telling.{effect_of, output_count, told_row};
 
-use crate::reading::{Reading, read};
-use crate::service::{answer_to, cause};
+use crate::planning::Act;
+use crate::service::plain_answer;
+use crate::telling::Told;
 use crate::verdict::{Found, Said, verdict_of};
 use association::{ClientPart, Constants, outcome_of};
 use mms_pdu::{Read, Refusal, Writer, put_pdu};
@@ -39,6 +42,16 @@ impl Model for Client {
     ghost view = { λ client. client.part };
 }
 
+/// The negotiated size of a PDU, and 0 where there is no association.
+pub(crate) fn size_of(part: &ClientPart) -> u32
+    ensures { result ≡ size_of part.now.row.association }
+{
+    match part.negotiated() {
+        None => 0,
+        Some(values) => values.size,
+    }
+}
+
 impl Client {
     /// The part of a client of that number, with which there is no association.
     pub(crate) fn new(alloc: Global, client: u32, device: Constants) -> Client
@@ -55,16 +68,6 @@ impl Client {
         ensures { result.now ≡ self.now }
     {
         &self.part
-    }
-
-    /// The negotiated size of a PDU, and 0 where there is no association.
-    fn size(&self) -> u32
-        ensures { result ≡ size_of self.now.row.association }
-    {
-        match self.part.negotiated() {
-            None => 0,
-            Some(values) => values.size,
-        }
     }
 
     /// The octets of a PDU.
@@ -178,112 +181,90 @@ impl Client {
         Ok(())
     }
 
-    /// Serves a confirmed request, or refuses it.
-    fn serve(&mut self, alloc: Global, invoke: u32, asked: &Request) -> Result<(), Memory>
-        ensures served { OnOk result (self.new
-            ≡ settled (row_after (Takes invoke asked.now) self.old.row)) }
+    /// Answers a request that the row of the client alone answers. False for any other, where all stays as it was.
+    fn serve(&mut self, alloc: Global, invoke: u32, asked: &Request) -> Result<bool, Memory>
+        ensures served { IfOk result (λ done. done ≡ true
+            → IsPlainlyHeard self.old.row self.new (Takes invoke asked.now)) }
+        ensures same { IfOk result (λ done. done ≡ false → self.new ≡ self.old) }
         ensures kept { OnErr result (self.new ≡ self.old) }
     {
-        if let Some(refusal) = cause(&self.part, asked) {
-            return self.refuse(alloc, invoke, refusal);
-        }
-        let answer = answer_to(alloc, &self.part, asked)?;
-        self.answer(alloc, self.size(), invoke, answer)
-    }
-
-    /// Grants a conclusion: the client is lost.
-    fn conclude(&mut self, alloc: Global) -> Result<(), Memory>
-        ensures concluded { OnOk result
-            (self.new ≡ settled (felt_all conclusion_told self.old.row)) }
-        ensures kept { OnErr result (self.new ≡ self.old) }
-    {
-        self.send(alloc, &Pdu::ConcludeResponse)?;
-        self.part.close();
-        Ok(())
-    }
-
-    /// Cancels a request that waits.
-    fn cancel(&mut self, alloc: Global, invoke: u32) -> Result<(), Memory>
-        ensures cancelled { OnOk result
-            (self.new ≡ settled (felt_all (cancel_told invoke) self.old.row)) }
-        ensures kept { OnErr result (self.new ≡ self.old) }
-    {
-        let cancelled = self.spelled(alloc, &Pdu::CancelResponse { invoke })?;
-        let error = Pdu::ConfirmedError(ConfirmedError {
-            invoke,
-            modifier: None,
-            error: ServiceError::CANCEL,
-        });
-        let preempted = self.spelled(alloc, &error)?;
-        self.part.reserve(2, 0)?;
-        self.part.answered(invoke);
-        self.part.push(What::Octets(cancelled));
-        self.part.push(What::Octets(preempted));
-        Ok(())
-    }
-
-    /// Aborts the association.
-    fn break_off(&mut self) -> Result<(), Memory>
-        ensures aborted { OnOk result (self.new ≡ settled (felt_all abort_told self.old.row)) }
-        ensures kept { OnErr result (self.new ≡ self.old) }
-    {
-        self.abort()?;
-        self.part.close();
-        Ok(())
-    }
-
-    /// Lets the client be told what its octets come to. Without memory all stays as it was.
-    fn act(&mut self, alloc: Global, found: &Found<'_>) -> Result<(), Memory>
-        ensures heard { OnOk result (self.new
-            ≡ settled (row_after (meant found.now) self.old.row)) }
-        ensures kept { OnErr result (self.new ≡ self.old) }
-    {
-        match *found {
-            Found::Tells(said) => self.say(alloc, &said),
-            Found::Takes(invoke, request) => self.serve(alloc, invoke, request),
-            Found::Concludes => self.conclude(alloc),
-            Found::Cancels(invoke) => self.cancel(alloc, invoke),
-            Found::Aborts => self.break_off(),
+        match plain_answer(alloc, &self.part, asked)? {
+            None => Ok(false),
+            Some(answer) => {
+                let size = size_of(&self.part);
+                self.answer(alloc, size, invoke, answer)?;
+                Ok(true)
+            }
         }
     }
 
-    /// Hears what was read from the client. Without memory all stays as it was.
-    fn hear_read(&mut self, alloc: Global, read: &Result<Read, Refusal>) -> Result<(), Memory>
+    /// Hears what was read from the client, which has that number: where no table is used, all of it is done. Otherwise
+    /// that is answered which is to be done on the tables, and all stays as it was, as it does without memory.
+    pub(crate) fn hear<'a>(
+        &mut self,
+        alloc: Global,
+        client: u32,
+        read: &'a Result<Read, Refusal>,
+    ) -> Result<Option<Act<'a>>, Memory>
         requires depth { IsDeep read.now }
-        ensures heard { OnOk result (self.new ≡ settled (row_after
-            (verdict_by self.old.row.association self.old.row (pdu_read read.now)) self.old.row)) }
+        ensures done { IfOk result (λ left. IfNone left
+            (IsPlainlyHeard self.old.row self.new (verdict_by self.old.row.association self.old.row (pdu_read read.now)))) }
+        ensures left { IfOk result (λ left. IfSome left (λ act. IsActOf client self.old.row
+            (verdict_by self.old.row.association self.old.row (pdu_read read.now)) act)) }
+        ensures same { IfOk result (λ left. OnSome left (self.new ≡ self.old)) }
         ensures kept { OnErr result (self.new ≡ self.old) }
     {
         let found = verdict_of(&self.part, read)?;
-        self.act(alloc, &found)
+        match found {
+            Found::Tells(said) => {
+                self.say(alloc, &said)?;
+                Ok(None)
+            }
+            Found::Takes(invoke, asked) => {
+                if self.serve(alloc, invoke, asked)? {
+                    Ok(None)
+                } else {
+                    Ok(Some(Act::Request {
+                        client,
+                        invoke,
+                        asked,
+                    }))
+                }
+            }
+            Found::Concludes => Ok(Some(Act::Conclusion { client })),
+            Found::Cancels(invoke) => Ok(Some(Act::Cancel { client, invoke })),
+            Found::Aborts => Ok(Some(Act::Abort { client })),
+        }
     }
 
-    /// Hears octets from the client, of which that was read. Without memory all stays as it was.
-    pub(crate) fn hear(
-        &mut self,
-        alloc: Global,
-        octets: &[u8],
-        reading: &Reading,
-    ) -> Result<(), Memory>
-        requires reading { IsReadOf reading.now octets.now }
-        ensures heard { OnOk result (self.new ≡ settled (row_heard self.old.row octets.now)) }
+    /// Makes room for so many outputs, in place of the room that there was.
+    pub(crate) fn reserve(&mut self, outputs: usize) -> Result<(), Memory>
+        ensures made { OnOk result (self.new
+            ≡ record { row = self.old.row; output_room = outputs; waiting_room = 0 }) }
         ensures kept { OnErr result (self.new ≡ self.old) }
     {
-        let edition = self.part.constants().edition;
-        match reading.by(edition) {
-            Some(read) => self.hear_read(alloc, read),
-            None => self.hear_read(alloc, &read(alloc, octets, edition)?),
-        }
+        self.part.reserve(outputs, 0)
     }
 
-    /// The client is lost, where there is an association.
-    pub(crate) fn lose(&mut self)
-        ensures { self.new ≡ settled (felt_all (loss_told self.old.row.association) self.old.row) }
+    /// Gives up the room that is left.
+    pub(crate) fn release(&mut self)
+        ensures { self.new ≡ settled self.old.row }
     {
-        if self.part.negotiated().is_some() {
-            self.part.close();
-        }
         self.part.release();
+    }
+
+    /// The client is told something. An output uses the room for one.
+    pub(crate) fn tell(&mut self, told: Told)
+        requires room { output_count told ≤ self.old.output_room }
+        ensures { self.new ≡ told_row (effect_of told) (output_count told) self.old }
+    {
+        match told {
+            Told::Sends(output) => self.part.push(output),
+            Told::Closes => self.part.close(),
+            Told::Answers(invoke) => {
+                let _waited = self.part.answered(invoke);
+            }
+        }
     }
 
     /// Hands on what is to be sent.

@@ -7,12 +7,16 @@ mod cell;
 mod client;
 mod clock;
 mod laws;
+mod lifted;
 mod needs;
 mod opening;
 mod part;
+mod planning;
 mod reading;
 mod service;
+mod serving;
 mod tables;
+mod telling;
 mod verdict;
 
 pub use applying::{apply, apply_read, drain};

@@ -118,7 +118,7 @@ fn missing_of(first: &Parts, second: &Parts, held: &Hand<Cell>) -> Parts
 }
 
 /// The part of a client, which is held.
-fn client_held(held: &Hand<Cell>, client: u32) -> &ClientPart
+pub(crate) fn client_held(held: &Hand<Cell>, client: u32) -> &ClientPart
     requires small { client ≤ 64 }
     requires held { IsClient (held_at held.now (client_place client)) }
     ensures { held_at held.now (client_place client) ≡ Some (Part.Client result.now) }

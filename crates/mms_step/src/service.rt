@@ -4,9 +4,13 @@ ghost use Rattle.std.specs.Prelude.{◌≡◌, ◌≤◌, [], ◌∷◌, IfOk, M
 ghost use Rattle.parted_state.specs.Sets.{IsSetOf};
 ghost use Rattle.mms_step.specs.Meant.{no_tables};
 ghost use Rattle.mms_step.specs.Needs.{placed};
-ghost use Rattle.mms_step.specs.Services.{cause, class_tables, effect, listing, request_asks, request_more, scope_cause};
+ghost use Rattle.mms_step.specs.Acts.{outcome_of};
+ghost use Rattle.mms_step.specs.Changes.{IsTimely};
+ghost use Rattle.mms_step.specs.Services.{cause, class_tables, effect, listing, plain_answer, request_asks, request_more, scope_cause};
 
+use crate::lifted::{Change, Tables};
 use crate::tables::{CONDITIONS, DOMAINS, JOURNALS, PROGRAMS, VARIABLES, semaphores};
+use crate::telling::Told;
 use association::ClientPart;
 use mms_types::{
     Answer, GetNameListAnswer, Identifiers, IdentifyAnswer, Memory, ObjectClass, ObjectScope,
@@ -25,39 +29,85 @@ fn scope_cause(scope: &ObjectScope) -> Option<ServiceError>
     }
 }
 
-/// The first condition for which a request is refused.
-pub(crate) fn cause(part: &ClientPart, asked: &Request) -> Option<ServiceError>
-    ensures { result ≡ cause no_tables part.now.row asked.now }
+/// What a request does that is not refused: how the tables change, its answer or none yet, and what else is told to whom.
+#[derive(Drop)]
+pub(crate) struct Outcome {
+    pub(crate) change: Change,
+    pub(crate) answer: Option<Answer>,
+    pub(crate) also: Vec<(u32, Told)>,
+}
+
+/// A request is answered, and nothing changes.
+fn answers(alloc: Global, answer: Answer) -> Outcome
+    ensures change { result.change ≡ Change.Nothing }
+    ensures answer { result.answer ≡ Some answer }
+    ensures nobody { result.also.items ≡ [] }
 {
-    let _asks = part;
+    Outcome {
+        change: Change::Nothing,
+        answer: Some(answer),
+        also: Vec::new(alloc),
+    }
+}
+
+/// The first condition for which a request is refused.
+pub(crate) fn cause(tables: &Tables, part: &ClientPart, asked: &Request) -> Option<ServiceError>
+    ensures { result ≡ cause tables.now part.now.row asked.now }
+{
+    let _tables = tables;
+    let _part = part;
     match asked {
         Request::GetNameList(asked) => scope_cause(&asked.scope),
         Request::Status(_) | Request::Identify => None,
     }
 }
 
-/// The answer to a request that is not refused. No class has a name yet.
-pub(crate) fn answer_to(alloc: Global, part: &ClientPart, asked: &Request) -> Result<Answer, Memory>
-    ensures { IfOk result (λ answer. (effect no_tables part.now.row asked.now).answer
-        ≡ Some answer) }
+/// The answer to a request that is never refused and that the row of its client alone answers, and None for any other.
+pub(crate) fn plain_answer(
+    alloc: Global,
+    part: &ClientPart,
+    asked: &Request,
+) -> Result<Option<Answer>, Memory>
+    ensures { IfOk result (λ answer. answer ≡ plain_answer part.now.row asked.now) }
 {
     match asked {
-        Request::Status(_) => Ok(Answer::Status(StatusAnswer {
+        Request::Status(_) => Ok(Some(Answer::Status(StatusAnswer {
             logical: 0,
             physical: 0,
-        })),
-        Request::GetNameList(_) => Ok(Answer::GetNameList(GetNameListAnswer {
-            names: Identifiers::new(alloc),
-            more: false,
-        })),
+        }))),
         Request::Identify => {
             let device = part.constants();
-            Ok(Answer::Identify(IdentifyAnswer {
+            Ok(Some(Answer::Identify(IdentifyAnswer {
                 vendor: device.vendor.copy(alloc)?,
                 model: device.model.copy(alloc)?,
                 revision: device.revision.copy(alloc)?,
-            }))
+            })))
         }
+        Request::GetNameList(_) => Ok(None),
+    }
+}
+
+/// What a request does that is not refused. No class has a name yet.
+pub(crate) fn effect(
+    alloc: Global,
+    tables: &Tables,
+    part: &ClientPart,
+    asked: &Request,
+) -> Result<Outcome, Memory>
+    ensures outcome { IfOk result (λ outcome. effect tables.now part.now.row asked.now
+        ≡ outcome_of tables.now outcome.change outcome.answer outcome.also.items) }
+    ensures time { IfOk result (λ outcome. IsTimely outcome.change tables.now) }
+{
+    let _tables = tables;
+    match plain_answer(alloc, part, asked)? {
+        Some(answer) => Ok(answers(alloc, answer)),
+        None => Ok(answers(
+            alloc,
+            Answer::GetNameList(GetNameListAnswer {
+                names: Identifiers::new(alloc),
+                more: false,
+            }),
+        )),
     }
 }
 

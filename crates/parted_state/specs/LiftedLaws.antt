@@ -96,6 +96,26 @@ module _ {S T R F P : Type 0} (d : Device S T R F P) (is : IsDevice d) (n : ℕ)
       (change_other (option_map (λ held. part)) f hand (client_place d (suc i)) (table_place d n k) (λ same. apart k i few (sym same)))
       ∙ put_after parts (suc k) i f (change (option_map (λ held. part)) hand (table_place d n k)) few
 
+  -- parts that are held as they are put back
+  pub put_as_held : (parts : List P) (k : ℕ) (hand : List (Option P))
+      → ((l : ℕ) (x y : P) → slice_get parts l ≡ Some x → held_at hand (table_place d n (k + l)) ≡ Some y → x ≡ y) → put_from d n k parts hand ≡ hand
+  put_as_held [] k hand same = refl
+  put_as_held (part ∷ parts) k hand same =
+      ap (put_from d n (suc k) parts) (as_there hand (table_place d n k) (λ y held. same 0 part y refl (ap (λ (m : ℕ). held_at hand (table_place d n m)) first ∙ held)))
+      ∙ put_as_held parts (suc k) hand (λ l x y there held. same (suc l) x y there (ap (λ (m : ℕ). held_at hand (table_place d n m)) (next l) ∙ held))
+    where
+      first : k + 0 ≡ k
+      first = omega arith
+
+      next : (l : ℕ) → k + suc l ≡ suc k + l
+      next l = omega arith
+
+      as_there : (hand : List (Option P)) (i : ℕ) → ((y : P) → held_at hand i ≡ Some y → part ≡ y) → change (option_map (λ held. part)) hand i ≡ hand
+      as_there [] i same = refl
+      as_there (None ∷ hand) zero same = refl
+      as_there (Some y ∷ hand) zero same = ap (λ (x : P). Some x ∷ hand) (same y refl)
+      as_there (h ∷ hand) (suc i) same = ap (λ (l : List (Option P)). h ∷ l) (as_there hand i same)
+
   put_holds_the_same : (parts : List P) (k : ℕ) (hand : List (Option P)) → places_held (put_from d n k parts hand) ≡ places_held hand
   put_holds_the_same [] k hand = refl
   put_holds_the_same (part ∷ parts) k hand =

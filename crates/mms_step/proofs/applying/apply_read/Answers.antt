@@ -1,14 +1,15 @@
 use Rattle.std.proofs.Common.{◌≡◌, List, length, [], ℕ, ap, refl, ◌∙◌, subst}
-use Rattle.std.specs.Option.{option_map}
 use Rattle.std.proofs.lemmas.Result.{on_ok_weaker}
 use Rattle.mms_types.specs.Actors.{IsAmong}
 use Rattle.mms_types.specs.declared.event.CellEvent.{CellEvent}
 use Rattle.mms_types.specs.declared.event.CellEvent.TheVariants.{Heard, Lost, Tick, Ends, Drain}
-use Rattle.parted_state.specs.Served.{change}
-use Rattle.mms_step.specs.Meant.{row_heard}
-use Rattle.mms_step.specs.Partition.{client_place, clients_among, on_client}
+use Rattle.parted_state.specs.Lifted.{put_in_place, tables_shown}
+use Rattle.mms_step.specs.Acts.{row_held}
+use Rattle.mms_step.specs.Association.{verdict}
+use Rattle.mms_step.specs.Partition.{cell, clients_among}
 use Rattle.mms_step.specs.Needs.{need}
-use Rattle.mms_step.proofs.Enough.{client_is_held, clock_is_held, heard_becomes, lost_becomes, ticked_becomes, ended_becomes, drained_becomes, becomes_as, places_either}
+use Rattle.mms_step.specs.Serving.{hears}
+use Rattle.mms_step.proofs.Enough.{client_is_held, lost_is_held, heard_becomes, lost_becomes, ticked_becomes, ended_becomes, drained_becomes, becomes_as, places_either}
 use Rattle.mms_step.proofs.applying.apply_read.Goals as goal
 
 pub hear_from-requires-clause-held : goal.hear_from-requires-clause-held
@@ -18,17 +19,11 @@ hear_from-requires-clause-held c =
     client_is_held hand told c.in-Heard.client c.requires.of (subst (λ (e : CellEvent). IsAmong (clients_among (length hand)) e) c.in-Heard.is c.requires.among) refl
     (subst (λ (e : CellEvent). need e hand ≡ []) c.in-Heard.is c.requires.held)
 
-pub lose-requires-clause-held : goal.lose-requires-clause-held
-lose-requires-clause-held c =
+pub serve-requires-clause-own : goal.serve-requires-clause-own
+serve-requires-clause-own c =
     let hand = c.args.held.now in
-    let told = Lost c.in-Lost.client in
-    client_is_held hand told c.in-Lost.client c.requires.of (subst (λ (e : CellEvent). IsAmong (clients_among (length hand)) e) c.in-Lost.is c.requires.among) refl
+    lost_is_held hand c.in-Lost.client c.requires.of (subst (λ (e : CellEvent). IsAmong (clients_among (length hand)) e) c.in-Lost.is c.requires.among)
     (subst (λ (e : CellEvent). need e hand ≡ []) c.in-Lost.is c.requires.held)
-
-pub tick-requires-clause-held : goal.tick-requires-clause-held
-tick-requires-clause-held c =
-    let hand = c.args.held.now in
-    clock_is_held hand c.in-Tick.ms c.requires.of (subst (λ (e : CellEvent). need e hand ≡ []) c.in-Tick.is c.requires.held)
 
 pub drain-outputs-requires-clause-held : goal.drain-outputs-requires-clause-held
 drain-outputs-requires-clause-held c =
@@ -44,7 +39,8 @@ returns-in-Heard-clause-step c =
     (heard_becomes c.args.held.now c.hear_from.new.held c.in-Heard.client c.in-Heard.octets c.requires.of
     (subst (λ (e : CellEvent). IsAmong (clients_among (length c.args.held.now)) e) c.in-Heard.is c.requires.among)
     (subst (λ (e : CellEvent). need e c.args.held.now ≡ []) c.in-Heard.is c.requires.held)
-    (done ∙ ap (λ (o : List ℕ). change (option_map (on_client (λ row. row_heard row o))) c.args.held.now (client_place c.in-Heard.client)) c.as_slice.ensures))).step) c.hear_from.ensures.heard
+    (done ∙ ap (λ (o : List ℕ). put_in_place cell (hears (tables_shown cell c.args.held.now) (row_held c.args.held.now c.in-Heard.client) c.in-Heard.client
+    (verdict (row_held c.args.held.now c.in-Heard.client) o)) c.args.held.now) c.as_slice.ensures))).step) c.hear_from.ensures.heard
 
 pub returns-in-Heard-clause-parts : goal.returns-in-Heard-clause-parts
 returns-in-Heard-clause-parts c =
@@ -53,7 +49,8 @@ returns-in-Heard-clause-parts c =
     (heard_becomes c.args.held.now c.hear_from.new.held c.in-Heard.client c.in-Heard.octets c.requires.of
     (subst (λ (e : CellEvent). IsAmong (clients_among (length c.args.held.now)) e) c.in-Heard.is c.requires.among)
     (subst (λ (e : CellEvent). need e c.args.held.now ≡ []) c.in-Heard.is c.requires.held)
-    (done ∙ ap (λ (o : List ℕ). change (option_map (on_client (λ row. row_heard row o))) c.args.held.now (client_place c.in-Heard.client)) c.as_slice.ensures))).parts) c.hear_from.ensures.heard
+    (done ∙ ap (λ (o : List ℕ). put_in_place cell (hears (tables_shown cell c.args.held.now) (row_held c.args.held.now c.in-Heard.client) c.in-Heard.client
+    (verdict (row_held c.args.held.now c.in-Heard.client) o)) c.args.held.now) c.as_slice.ensures))).parts) c.hear_from.ensures.heard
 
 pub returns-in-Heard-clause-places : goal.returns-in-Heard-clause-places
 returns-in-Heard-clause-places c =
@@ -62,14 +59,53 @@ returns-in-Heard-clause-places c =
     (heard_becomes c.args.held.now c.hear_from.new.held c.in-Heard.client c.in-Heard.octets c.requires.of
     (subst (λ (e : CellEvent). IsAmong (clients_among (length c.args.held.now)) e) c.in-Heard.is c.requires.among)
     (subst (λ (e : CellEvent). need e c.args.held.now ≡ []) c.in-Heard.is c.requires.held)
-    (done ∙ ap (λ (o : List ℕ). change (option_map (on_client (λ row. row_heard row o))) c.args.held.now (client_place c.in-Heard.client)) c.as_slice.ensures))) c.hear_from.ensures.heard) c.hear_from.ensures.kept
+    (done ∙ ap (λ (o : List ℕ). put_in_place cell (hears (tables_shown cell c.args.held.now) (row_held c.args.held.now c.in-Heard.client) c.in-Heard.client
+    (verdict (row_held c.args.held.now c.in-Heard.client) o)) c.args.held.now) c.as_slice.ensures))) c.hear_from.ensures.heard) c.hear_from.ensures.kept
 
 pub returns-in-Lost-clause-step : goal.returns-in-Lost-clause-step
 returns-in-Lost-clause-step c =
-    (becomes_as c.args.held.now c.lose.new.held c.args.event.now (Lost c.in-Lost.client) c.in-Lost.is
-    (lost_becomes c.args.held.now c.lose.new.held c.in-Lost.client c.requires.of
+    on_ok_weaker c.serve.result (λ done. (
+    becomes_as c.args.held.now c.serve.new.held c.args.event.now (Lost c.in-Lost.client) c.in-Lost.is
+    (lost_becomes c.args.held.now c.serve.new.held c.in-Lost.client c.requires.of
     (subst (λ (e : CellEvent). IsAmong (clients_among (length c.args.held.now)) e) c.in-Lost.is c.requires.among)
-    (subst (λ (e : CellEvent). need e c.args.held.now ≡ []) c.in-Lost.is c.requires.held) c.lose.ensures)).step
+    (subst (λ (e : CellEvent). need e c.args.held.now ≡ []) c.in-Lost.is c.requires.held) done)).step) c.serve.ensures.put
+
+pub returns-in-Lost-clause-parts : goal.returns-in-Lost-clause-parts
+returns-in-Lost-clause-parts c =
+    on_ok_weaker c.serve.result (λ done. (
+    becomes_as c.args.held.now c.serve.new.held c.args.event.now (Lost c.in-Lost.client) c.in-Lost.is
+    (lost_becomes c.args.held.now c.serve.new.held c.in-Lost.client c.requires.of
+    (subst (λ (e : CellEvent). IsAmong (clients_among (length c.args.held.now)) e) c.in-Lost.is c.requires.among)
+    (subst (λ (e : CellEvent). need e c.args.held.now ≡ []) c.in-Lost.is c.requires.held) done)).parts) c.serve.ensures.put
+
+pub returns-in-Lost-clause-places : goal.returns-in-Lost-clause-places
+returns-in-Lost-clause-places c =
+    places_either c.serve.result c.args.held.now c.serve.new.held c.args.event.now (on_ok_weaker c.serve.result (λ done.
+    becomes_as c.args.held.now c.serve.new.held c.args.event.now (Lost c.in-Lost.client) c.in-Lost.is
+    (lost_becomes c.args.held.now c.serve.new.held c.in-Lost.client c.requires.of
+    (subst (λ (e : CellEvent). IsAmong (clients_among (length c.args.held.now)) e) c.in-Lost.is c.requires.among)
+    (subst (λ (e : CellEvent). need e c.args.held.now ≡ []) c.in-Lost.is c.requires.held) done)) c.serve.ensures.put) c.serve.ensures.kept
+
+pub returns-in-Tick-clause-step : goal.returns-in-Tick-clause-step
+returns-in-Tick-clause-step c =
+    on_ok_weaker c.serve-in-Tick.result (λ done. (
+    becomes_as c.args.held.now c.serve-in-Tick.new.held c.args.event.now (Tick c.in-Tick.ms) c.in-Tick.is
+    (ticked_becomes c.args.held.now c.serve-in-Tick.new.held c.in-Tick.ms c.requires.of
+    (subst (λ (e : CellEvent). need e c.args.held.now ≡ []) c.in-Tick.is c.requires.held) done)).step) c.serve-in-Tick.ensures.put
+
+pub returns-in-Tick-clause-parts : goal.returns-in-Tick-clause-parts
+returns-in-Tick-clause-parts c =
+    on_ok_weaker c.serve-in-Tick.result (λ done. (
+    becomes_as c.args.held.now c.serve-in-Tick.new.held c.args.event.now (Tick c.in-Tick.ms) c.in-Tick.is
+    (ticked_becomes c.args.held.now c.serve-in-Tick.new.held c.in-Tick.ms c.requires.of
+    (subst (λ (e : CellEvent). need e c.args.held.now ≡ []) c.in-Tick.is c.requires.held) done)).parts) c.serve-in-Tick.ensures.put
+
+pub returns-in-Tick-clause-places : goal.returns-in-Tick-clause-places
+returns-in-Tick-clause-places c =
+    places_either c.serve-in-Tick.result c.args.held.now c.serve-in-Tick.new.held c.args.event.now (on_ok_weaker c.serve-in-Tick.result (λ done.
+    becomes_as c.args.held.now c.serve-in-Tick.new.held c.args.event.now (Tick c.in-Tick.ms) c.in-Tick.is
+    (ticked_becomes c.args.held.now c.serve-in-Tick.new.held c.in-Tick.ms c.requires.of
+    (subst (λ (e : CellEvent). need e c.args.held.now ≡ []) c.in-Tick.is c.requires.held) done)) c.serve-in-Tick.ensures.put) c.serve-in-Tick.ensures.kept
 
 pub returns-in-Drain-clause-step : goal.returns-in-Drain-clause-step
 returns-in-Drain-clause-step c =
@@ -78,18 +114,6 @@ returns-in-Drain-clause-step c =
     (subst (λ (e : CellEvent). IsAmong (clients_among (length c.args.held.now)) e) c.in-Drain.is c.requires.among)
     (subst (λ (e : CellEvent). need e c.args.held.now ≡ []) c.in-Drain.is c.requires.held) c.drain-outputs.ensures.emptied)).step
 
-pub returns-in-Tick-clause-step : goal.returns-in-Tick-clause-step
-returns-in-Tick-clause-step c =
-    (becomes_as c.args.held.now c.tick.new.held c.args.event.now (Tick c.in-Tick.ms) c.in-Tick.is
-    (ticked_becomes c.args.held.now c.tick.new.held c.in-Tick.ms c.requires.of (subst (λ (e : CellEvent). need e c.args.held.now ≡ []) c.in-Tick.is c.requires.held) c.tick.ensures)).step
-
-pub returns-in-Lost-clause-parts : goal.returns-in-Lost-clause-parts
-returns-in-Lost-clause-parts c =
-    (becomes_as c.args.held.now c.lose.new.held c.args.event.now (Lost c.in-Lost.client) c.in-Lost.is
-    (lost_becomes c.args.held.now c.lose.new.held c.in-Lost.client c.requires.of
-    (subst (λ (e : CellEvent). IsAmong (clients_among (length c.args.held.now)) e) c.in-Lost.is c.requires.among)
-    (subst (λ (e : CellEvent). need e c.args.held.now ≡ []) c.in-Lost.is c.requires.held) c.lose.ensures)).parts
-
 pub returns-in-Drain-clause-parts : goal.returns-in-Drain-clause-parts
 returns-in-Drain-clause-parts c =
     (becomes_as c.args.held.now c.drain-outputs.new.held c.args.event.now (Drain c.in-Drain.client) c.in-Drain.is
@@ -97,29 +121,12 @@ returns-in-Drain-clause-parts c =
     (subst (λ (e : CellEvent). IsAmong (clients_among (length c.args.held.now)) e) c.in-Drain.is c.requires.among)
     (subst (λ (e : CellEvent). need e c.args.held.now ≡ []) c.in-Drain.is c.requires.held) c.drain-outputs.ensures.emptied)).parts
 
-pub returns-in-Tick-clause-parts : goal.returns-in-Tick-clause-parts
-returns-in-Tick-clause-parts c =
-    (becomes_as c.args.held.now c.tick.new.held c.args.event.now (Tick c.in-Tick.ms) c.in-Tick.is
-    (ticked_becomes c.args.held.now c.tick.new.held c.in-Tick.ms c.requires.of (subst (λ (e : CellEvent). need e c.args.held.now ≡ []) c.in-Tick.is c.requires.held) c.tick.ensures)).parts
-
-pub returns-in-Lost-clause-places : goal.returns-in-Lost-clause-places
-returns-in-Lost-clause-places c =
-    (becomes_as c.args.held.now c.lose.new.held c.args.event.now (Lost c.in-Lost.client) c.in-Lost.is
-    (lost_becomes c.args.held.now c.lose.new.held c.in-Lost.client c.requires.of
-    (subst (λ (e : CellEvent). IsAmong (clients_among (length c.args.held.now)) e) c.in-Lost.is c.requires.among)
-    (subst (λ (e : CellEvent). need e c.args.held.now ≡ []) c.in-Lost.is c.requires.held) c.lose.ensures)).places
-
 pub returns-in-Drain-clause-places : goal.returns-in-Drain-clause-places
 returns-in-Drain-clause-places c =
     (becomes_as c.args.held.now c.drain-outputs.new.held c.args.event.now (Drain c.in-Drain.client) c.in-Drain.is
     (drained_becomes c.args.held.now c.drain-outputs.new.held c.in-Drain.client c.requires.of
     (subst (λ (e : CellEvent). IsAmong (clients_among (length c.args.held.now)) e) c.in-Drain.is c.requires.among)
     (subst (λ (e : CellEvent). need e c.args.held.now ≡ []) c.in-Drain.is c.requires.held) c.drain-outputs.ensures.emptied)).places
-
-pub returns-in-Tick-clause-places : goal.returns-in-Tick-clause-places
-returns-in-Tick-clause-places c =
-    (becomes_as c.args.held.now c.tick.new.held c.args.event.now (Tick c.in-Tick.ms) c.in-Tick.is
-    (ticked_becomes c.args.held.now c.tick.new.held c.in-Tick.ms c.requires.of (subst (λ (e : CellEvent). need e c.args.held.now ≡ []) c.in-Tick.is c.requires.held) c.tick.ensures)).places
 
 pub returns-in-Ends-clause-step : goal.returns-in-Ends-clause-step
 returns-in-Ends-clause-step c =

@@ -1,19 +1,18 @@
-use Rattle.std.proofs.Common.{◌+◌}
-use Rattle.std.proofs.lemmas.Result.{on_ok_weaker, on_err_weaker}
-use Rattle.mms_step.specs.Meant.{row_heard}
-use Rattle.mms_step.proofs.Changed.{client_changed, client_kept}
+use Rattle.std.proofs.Common.{ap, ◌∙◌}
+use Rattle.std.proofs.lemmas.Result.{on_ok_weaker}
+use Rattle.parted_state.specs.Lifted.{put_in_place, tables_shown}
+use Rattle.mms_step.specs.Acts.{row_held}
+use Rattle.mms_step.specs.Association.{Verdict}
+use Rattle.mms_step.specs.Partition.{cell}
+use Rattle.mms_step.specs.Serving.{hears}
+use Rattle.mms_step.proofs.ServeLaws.{verdict_same}
 use Rattle.mms_step.proofs.applying.hear_from.Goals as goal
 
-pub returns-clause-heard : goal.returns-clause-heard
-returns-clause-heard c =
-    on_ok_weaker c.hear-heard.result
-    (λ done. client_changed (λ row. row_heard row c.args.octets.now) c.args.held.now c.take.new.self c.put.new.self (5 + c.args.client) c.in-Some.part.value
-    c.deref_mut.result.now c.in-Client.client c.hear-heard.new.self c.in-Some.ensures.part c.in-Some.ensures.left c.deref_mut.ensures.value c.in-Client.is done c.put.ensures)
-    c.hear-heard.ensures.heard
-
-pub returns-clause-kept : goal.returns-clause-kept
-returns-clause-kept c =
-    on_err_weaker c.hear-heard.result
-    (λ kept. client_kept c.args.held.now c.take.new.self c.put.new.self (5 + c.args.client) c.in-Some.part.value c.deref_mut.result.now c.in-Client.client
-    c.hear-heard.new.self c.in-Some.ensures.part c.in-Some.ensures.left c.deref_mut.ensures.value c.in-Client.is kept c.put.ensures)
-    c.hear-heard.ensures.kept
+pub returns-in_ok-read-in-None-clause-heard : goal.returns-in_ok-read-in-None-clause-heard
+returns-in_ok-read-in-None-clause-heard c =
+    on_ok_weaker c.hear_read-in-None.result
+    (λ put. put
+    ∙ ap (λ (v : Verdict). put_in_place cell (hears (tables_shown cell c.args.held.now) (row_held c.args.held.now c.args.client) c.args.client v) c.args.held.now)
+    (verdict_same c.args.held.now c.args.client c.client_held.result.now c.constants.result.now c.args.octets.now c.in_ok-read-in-None.field-0
+    c.client_held.ensures c.constants.ensures c.in_ok-read-in-None.ensures))
+    c.hear_read-in-None.ensures.heard

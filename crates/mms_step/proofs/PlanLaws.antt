@@ -1,0 +1,112 @@
+-- Requests that the row of their client alone answers, and what is left to be done on the tables.
+use Rattle.std.specs.Prelude.{◌≡◌, ℕ, Bool, true, false, Option, None, Some, List, [], ◌∷◌, ◌++◌, if◌then◌else◌, refl}
+use Rattle.std.proofs.Common.{ap, ap₂, sym, ◌∙◌, subst}
+use Rattle.mms_types.specs.declared.pdu.Request.{Request}
+use Rattle.mms_types.specs.declared.pdu.Request.TheVariants as request
+use Rattle.mms_types.specs.declared.pdu.Answer.{Answer}
+use Rattle.mms_types.specs.declared.service_error.ServiceError.{ServiceError}
+use Rattle.std.specs.Borrow.{Bor}
+use Rattle.association.specs.Client.{ClientRow, Client as RoomyRow}
+use Rattle.part_table.specs.Held.{held_at}
+use Rattle.parted_state.specs.Served.{Done}
+use Rattle.mms_step.specs.declared.part.Part.{Part}
+use Rattle.mms_step.specs.declared.planning.Act.{Act}
+use Rattle.mms_step.specs.declared.planning.Act.TheVariants as act
+use Rattle.mms_step.specs.Tables.{Tables}
+use Rattle.mms_step.specs.Effects.{Effect, felt_all, tell}
+use Rattle.mms_step.specs.Association.{Verdict, Tells, Takes, Concludes, Cancels, Aborts}
+use Rattle.mms_step.specs.Services.{Outcome, answers, cause, effect, plain_answer, fits, is_done, request_told}
+use Rattle.mms_step.specs.Serving.{hears, own_told, size_of}
+use Rattle.mms_step.specs.Meant.{no_tables, row_after, IsPlainlyHeard}
+use Rattle.mms_step.specs.Acts.{IsActOf}
+use Rattle.mms_step.specs.Partition.{client_place, settled, IsClient}
+
+append_none : {A : Type 0} (xs : List A) → xs ++ [] ≡ xs
+append_none [] = refl
+append_none {A} (x ∷ xs) = ap (λ (l : List A). x ∷ l) (append_none xs)
+
+no_cause : (t : Tables) (row : ClientRow) (asked : Request) (a : Answer) → plain_answer row asked ≡ Some a → cause t row asked ≡ None
+no_cause t row (request.GetNameList x) a is = absurd (cc is)
+no_cause t row asked a is = refl
+
+plain_effect : (t : Tables) (row : ClientRow) (asked : Request) (a : Answer) → plain_answer row asked ≡ Some a → effect t row asked ≡ answers t (Some a)
+plain_effect t row (request.GetNameList x) a is = absurd (cc is)
+plain_effect t row (request.Status y) a is = ap (answers t) is
+plain_effect t row request.Identify a is = ap (answers t) is
+
+plain_own : (t : Tables) (row : ClientRow) (invoke : ℕ) (asked : Request) (a : Answer) → plain_answer row asked ≡ Some a
+    → own_told t row (Takes invoke asked) ≡ request_told (size_of row.association) invoke None (Some a)
+plain_own t row invoke asked a is =
+    ap₂ (λ (c : Option ServiceError) (o : Outcome). request_told (size_of row.association) invoke c o.answer) (no_cause t row asked a is) (plain_effect t row asked a is)
+
+plain_alone : (t : Tables) (row : ClientRow) (client invoke : ℕ) (asked : Request) (a : Answer) → plain_answer row asked ≡ Some a
+    → hears t row client (Takes invoke asked) ≡ record { tables = t; told = tell client (request_told (size_of row.association) invoke None (Some a)) }
+plain_alone t row client invoke asked a is =
+    ap₂ (λ (c : Option ServiceError) (o : Outcome). at c o) (no_cause t row asked a is) (plain_effect t row asked a is)
+    ∙ by_test (fits (size_of row.association) invoke (Some a))
+    ∙ ap (λ (l : List (ℕ × Effect)). done t l) (append_none (tell client (request_told (size_of row.association) invoke None (Some a))))
+  where
+    done : Tables → List (ℕ × Effect) → Done Tables Effect
+    done x l = record { tables = x; told = l }
+
+    at : Option ServiceError → Outcome → Done Tables Effect
+    at c o = record {
+      tables = if is_done (size_of row.association) invoke c o.answer then o.tables else t;
+      told = tell client (request_told (size_of row.association) invoke c o.answer) ++ (if is_done (size_of row.association) invoke c o.answer then o.also else []);
+    }
+
+    by_test : (b : Bool)
+        → done (if b then t else t) (tell client (request_told (size_of row.association) invoke None (Some a)) ++ (if b then [] else []))
+        ≡ done t (tell client (request_told (size_of row.association) invoke None (Some a)) ++ [])
+    by_test true = refl
+    by_test false = refl
+
+pub plainly_answered : (row : ClientRow) (new : RoomyRow) (invoke : ℕ) (asked : Request) (a : Answer) → Some a ≡ plain_answer row asked
+    → new ≡ settled (felt_all (request_told (size_of row.association) invoke None (Some a)) row) → IsPlainlyHeard row new (Takes invoke asked)
+plainly_answered row new invoke asked a is told = record {
+  is = told ∙ ap (λ (l : List Effect). settled (felt_all l row)) (sym (plain_own no_tables row invoke asked a (sym is)));
+  alone = λ t client. plain_alone t row client invoke asked a (sym is)
+      ∙ ap (λ (l : List Effect). at t (tell client l)) (sym (plain_own no_tables row invoke asked a (sym is)));
+}
+  where
+    at : Tables → List (ℕ × Effect) → Done Tables Effect
+    at x l = record { tables = x; told = l }
+
+pub plainly_told : (row : ClientRow) (new : RoomyRow) (effects : List Effect) → new ≡ settled (felt_all effects row) → IsPlainlyHeard row new (Tells effects)
+plainly_told row new effects told = record { is = told; alone = λ t client. ap (λ (l : List (ℕ × Effect)). at t l) (append_none (tell client effects)) }
+  where
+    at : Tables → List (ℕ × Effect) → Done Tables Effect
+    at x l = record { tables = x; told = l }
+
+-- ---- what is left
+
+pub request_left : (client : ℕ) (row : ClientRow) (invoke : ℕ) (asked : Bor Request) (v : Verdict) → Takes invoke asked.now ≡ v → IsActOf client row v (act.Request client invoke asked)
+request_left client row invoke asked v is = record {
+  done = λ t hand same. ap₂ (λ (r : ClientRow) (w : Verdict). hears t r client w) same is;
+  own = λ hand own. own;
+  time = λ t. tt;
+}
+
+pub conclusion_left : (client : ℕ) (row : ClientRow) (v : Verdict) → Concludes ≡ v → IsActOf client row v (act.Conclusion client)
+conclusion_left client row v is = record {
+  done = λ t hand same. ap₂ (λ (r : ClientRow) (w : Verdict). hears t r client w) same is;
+  own = λ hand own. own;
+  time = λ t. tt;
+}
+
+pub cancel_left : (client : ℕ) (row : ClientRow) (invoke : ℕ) (v : Verdict) → Cancels invoke ≡ v → IsActOf client row v (act.Cancel client invoke)
+cancel_left client row invoke v is = record {
+  done = λ t hand same. ap₂ (λ (r : ClientRow) (w : Verdict). hears t r client w) same is;
+  own = λ hand own. own;
+  time = λ t. tt;
+}
+
+pub abort_left : (client : ℕ) (row : ClientRow) (v : Verdict) → Aborts ≡ v → IsActOf client row v (act.Abort client)
+abort_left client row v is = record {
+  done = λ t hand same. ap₂ (λ (r : ClientRow) (w : Verdict). hears t r client w) same is;
+  own = λ hand own. own;
+  time = λ t. tt;
+}
+
+pub plain_as : (row : ClientRow) (new : RoomyRow) (v w : Verdict) → v ≡ w → IsPlainlyHeard row new v → IsPlainlyHeard row new w
+plain_as row new v w same heard = subst (IsPlainlyHeard row new) same heard

@@ -1,0 +1,42 @@
+use Rattle.std.proofs.Common.{sym, ◌∙◌, ap, List, Option, ℕ, ◌+◌, arith}
+use Rattle.std.specs.Option.{option_map}
+use Rattle.parted_state.specs.Served.{change}
+use Rattle.mms_step.specs.declared.part.Part.{Part}
+use Rattle.mms_step.specs.Partition.{client_place}
+use Rattle.mms_step.specs.Telling.{with_room, without_rooms, outputs_to}
+use Rattle.mms_step.proofs.ToldLaws.{no_rooms_yet, room_made, room_needless, rooms_gone}
+use Rattle.mms_step.proofs.telling.make_rooms.Goals as goal
+use Rattle.mms_step.proofs.telling.make_rooms.Goals.{then-outputs-gt0+in_default, else-outputs-gt0}
+
+pub loop-client-init : goal.loop-client-init
+loop-client-init c = record { some = omega arith; made = sym (no_rooms_yet (outputs_to c.args.told.now) c.args.held.now) }
+
+pub returns-in-Err-clause-kept : goal.returns-in-Err-clause-kept
+returns-in-Err-clause-kept c =
+    let below = c.loop-client-test.true in
+    c.release_all.ensures
+    ∙ ap (without_rooms _) (c.in-Err.ensures.kept ∙ c.loop-client.invariant.made)
+    ∙ rooms_gone c.loop-client.client _ (outputs_to c.args.told.now) c.args.held.now (omega (arith, below))
+    ∙ c.requires.settled
+
+pub loop-client-preserved : goal.loop-client-preserved
+loop-client-preserved c =
+    let some = c.loop-client.invariant.some in
+    record {
+      some = omega (arith, some);
+      made = elim c.if-outputs-gt0.branch [
+        | then-outputs-gt0+in_default w ↦
+            w.held-is ∙ w.in_default.ensures.made
+            ∙ ap (λ (r : ℕ). change (option_map (with_room r)) c.loop-client.held (client_place c.loop-client.client)) c.outputs_to-outputs.ensures
+            ∙ ap (λ (l : List (Option Part)). change (option_map (with_room (outputs_to c.args.told.now c.loop-client.client))) l (client_place c.loop-client.client))
+            c.loop-client.invariant.made
+            ∙ room_made c.loop-client.client (outputs_to c.args.told.now) c.args.held.now some
+        | else-outputs-gt0 w ↦
+            let below = c.loop-client-test.true in
+            let few = w.if-outputs-gt0.false in
+            let same = c.outputs_to-outputs.ensures in
+            w.held-is ∙ c.loop-client.invariant.made
+            ∙ room_needless c.loop-client.client (c.args.clients + 1) (outputs_to c.args.told.now) c.args.held.now some below c.requires.settled
+            (omega (arith, few, same))
+      ];
+    }
