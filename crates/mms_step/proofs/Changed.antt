@@ -33,16 +33,6 @@ client_changed f hand taken new place part value client after held out same is d
     ∙ ap (λ (r : RoomyRow). set (set hand place None) place (Some (Client r))) done
     ∙ changed_part (on_client f) hand place (Client client) (sym held ∙ ap Some (sym same ∙ is))
 
--- the clock
-pub clock_changed : (f : ℕ → ℕ) (hand taken new : List (Option Part)) (place : ℕ) (part value : Part) (now after : ℕ)
-    → Some part ≡ held_at hand place → taken ≡ set hand place None → value ≡ part → value ≡ Clock now → after ≡ f now
-    → new ≡ set taken place (Some (Clock after)) → new ≡ change (option_map (on_clock f)) hand place
-clock_changed f hand taken new place part value now after held out same is done back =
-    back
-    ∙ ap (λ (l : List (Option Part)). set l place (Some (Clock after))) out
-    ∙ ap (λ (n : ℕ). set (set hand place None) place (Some (Clock n))) done
-    ∙ changed_part (on_clock f) hand place (Clock now) (sym held ∙ ap Some (sym same ∙ is))
-
 -- a client's part that is put back as it was
 pub client_kept : (hand taken new : List (Option Part)) (place : ℕ) (part value : Part) (client after : RoomyRow)
     → Some part ≡ held_at hand place → taken ≡ set hand place None → value ≡ part → value ≡ Client client → after ≡ client

@@ -24,11 +24,11 @@ use Rattle.parted_state.specs.Lifted.{row_shown, tables_shown, put_in_place}
 use Rattle.parted_state.specs.LiftedLaws as lifted
 use Rattle.mms_step.specs.Serving.{hears, serves, services}
 use Rattle.mms_step.specs.Step.{step}
-use Rattle.mms_step.specs.Partition.{cell, parts_of, state_in, client_place, clients_among, on_client, on_clock, IsClient, IsClock}
+use Rattle.mms_step.specs.Partition.{cell, parts_of, state_in, client_place, clients_among, on_client, on_clock, IsClient}
 use Rattle.mms_step.specs.Needs.{need, is_held, footprint, shown}
 use Rattle.mms_step.specs.After.{after}
 use Rattle.mms_step.specs.AfterLaws.{after_holds_the_same}
-use Rattle.mms_step.proofs.Holding.{clients_counted, held_client, held_clock, after_of_hand, change_is_held}
+use Rattle.mms_step.proofs.Holding.{clients_counted, held_client, after_of_hand, change_is_held}
 use Rattle.mms_step.proofs.Needed.{drain_needs_none}
 use Rattle.mms_step.proofs.PartsAfter.{with_client, client_changed, step_drained}
 
@@ -50,7 +50,7 @@ first_held hand place rest none = by_test (is_held hand place) refl (laws.none_m
 among_state : (s : State) (hand : List (Option Part)) (event : CellEvent) → IsHandOf hand (parts_of s) → IsAmong (clients_among (length hand)) event → IsAmong (length s.clients) event
 among_state s hand event of among = subst (λ (n : ℕ). IsAmong n event) (clients_counted s hand of) among
 
--- ---- the parts of a client and of the clock are held where an event wants them
+-- ---- the part of a client is held where an event wants it
 
 -- where no part is missing that the words of an event tell, that of its client is held
 pub own_is_held : (hand : List (Option Part)) (n : ℕ) (event : CellEvent) (client : ℕ) → actor_of event ≡ client → 1 ≤ client → missing hand (footprint n event) ≡ []
@@ -80,12 +80,6 @@ pub client_by_words : (hand : List (Option Part)) (event : CellEvent) (client n 
 client_by_words hand event client n (s, sound, of) same among whose enough =
     let counted = clients_counted s hand of in
     held_client s hand client of among.0 (omega (arith, counted, same, among.1)) (own_is_held hand n event client whose among.0 enough)
-
-pub clock_is_held : (hand : List (Option Part)) (ms : ℕ) → OfState hand → need (Tick ms) hand ≡ [] → IsClock (held_at hand 0)
-clock_is_held hand ms (s, sound, of) enough =
-    held_clock s hand of
-    (laws.held_in hand (footprint (length (state_in hand).clients) (Tick ms)) 0
-    (laws.none_missing hand (footprint (length (state_in hand).clients) (Tick ms)) (words_held hand (Tick ms) enough)) refl)
 
 -- the part of a client that is lost
 pub lost_is_held : (hand : List (Option Part)) (client : ℕ) → OfState hand → IsAmong (clients_among (length hand)) (Lost client) → need (Lost client) hand ≡ []

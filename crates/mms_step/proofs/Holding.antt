@@ -13,7 +13,7 @@ use Rattle.mms_step.specs.declared.part.Part.{Part}
 use Rattle.mms_step.specs.declared.part.Part.TheVariants.{Clock, Client, Semaphores}
 use Rattle.mms_step.specs.State.{State}
 use Rattle.mms_step.specs.Step.{step}
-use Rattle.mms_step.specs.Partition.{cell, parts_of, client_part, client_place, clients_among, clock_in, client_in, state_in, IsClock, IsClient}
+use Rattle.mms_step.specs.Partition.{cell, parts_of, client_part, client_place, clients_among, clock_in, client_in, state_in, IsClient}
 use Rattle.mms_step.specs.Needs.{need, shown, wants, is_held}
 use Rattle.mms_step.specs.After.{after, parts_after}
 use Rattle.mms_step.specs.AfterLaws.{is_device, each_framed}
@@ -51,11 +51,6 @@ held_client s hand client of some there held =
     let found = client_at s client some there in
     let is = held_part hand (parts_of s) (client_place client) (client_part found.0) of held found.1 in
     is ∙ sym (ap (λ (o : Option Part). Some (Client (client_in o))) is)
-
-pub held_clock : (s : State) (hand : List (Option Part)) → IsHandOf hand (parts_of s) → is_held hand 0 ≡ true → IsClock (held_at hand 0)
-held_clock s hand of held =
-    let is = held_part hand (parts_of s) 0 (Clock s.now) of held refl in
-    is ∙ sym (ap (λ (o : Option Part). Some (Clock (clock_in o))) is)
 
 -- ---- an event
 

@@ -182,7 +182,7 @@ need_heard hand client octets n part counted none some there held =
     ∙ missing_thrice hand (placed (length (state_in hand).clients) (heard_asks v)) (placed (length (state_in hand).clients) (heard_more t row v)) last_stage
     (missing_last hand (parted.told_places cell (serves t row (Heard client octets)).told (length (state_in hand).clients))
     (ap (λ (l : List (ℕ × Effect)). missing hand (parted.told_places cell l (length (state_in hand).clients))) (heard_told t row client octets)
-    ∙ own_told_held hand (tell client (own_told no_tables row v)) client (length (state_in hand).clients) (told_one client (own_told no_tables row v)) (ap (λ (o : Option Part). is_some o) held)))
+    ∙ own_told_held hand (tell client (own_told t row v)) client (length (state_in hand).clients) (told_one client (own_told t row v)) (ap (λ (o : Option Part). is_some o) held)))
     ∙ ap (λ (l : List ℕ). two_stages hand (placed (length (state_in hand).clients) (heard_asks v)) (placed (length (state_in hand).clients) l)) (more_same t row v)
     ∙ ap₂ (λ (m : ℕ) (r : ClientRow). heard_need m hand r octets) (same_many hand (Heard client octets) n counted)
     (row_held hand client part some (omega (arith, there, counted)) held)

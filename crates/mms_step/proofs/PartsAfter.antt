@@ -87,29 +87,17 @@ pub told_one : (effects : List Effect) (i : ℕ) (rows : List ClientRow) → par
 told_one [] i rows = sym (change-none rows i)
 told_one (effect ∷ effects) i rows = told_one effects i (change (felt effect) rows i) ∙ change-twice (felt_all effects) (felt effect) rows i
 
--- no service reads a table yet, nor tells another client, nor changes anything
-no_cause : (t : Tables) (row : ClientRow) (asked : Request) → cause t row asked ≡ cause no_tables row asked
-no_cause t row (request.GetNameList x) = refl
-no_cause t row asked = refl
-
-no_answer : (t : Tables) (row : ClientRow) (asked : Request) → (effect t row asked).answer ≡ (effect no_tables row asked).answer
-no_answer t row (request.GetNameList x) = refl
-no_answer t row asked = refl
-
+-- no service tells another client yet
 no_also : (t : Tables) (row : ClientRow) (asked : Request) → (effect t row asked).also ≡ []
 no_also t row (request.GetNameList x) = refl
 no_also t row asked = refl
 
-no_change : (t : Tables) (row : ClientRow) (asked : Request) → (effect t row asked).tables ≡ t
-no_change t row (request.GetNameList x) = refl
-no_change t row asked = refl
+-- no service moves the clock
+now_kept : (t : Tables) (row : ClientRow) (asked : Request) → (effect t row asked).tables.now ≡ t.now
+now_kept t row (request.GetNameList x) = refl
+now_kept t row asked = refl
 
-pub own_same : (t : Tables) (row : ClientRow) (v : Verdict) → own_told t row v ≡ own_told no_tables row v
-own_same t row (Takes invoke asked) =
-    ap₂ (λ (c : Option ServiceError) (a : Option Answer). request_told (size_of row.association) invoke c a) (no_cause t row asked) (no_answer t row asked)
-own_same t row other = refl
-
-pub none_also : (t : Tables) (row : ClientRow) (v : Verdict) → also_told t row v ≡ []
+none_also : (t : Tables) (row : ClientRow) (v : Verdict) → also_told t row v ≡ []
 none_also t row (Takes invoke asked) = by_test (is_served t row invoke asked)
   where
     by_test : (b : Bool) → (if b then (effect t row asked).also else []) ≡ []
@@ -117,13 +105,13 @@ none_also t row (Takes invoke asked) = by_test (is_served t row invoke asked)
     by_test false = refl
 none_also t row other = refl
 
-none_changed : (t : Tables) (row : ClientRow) (v : Verdict) → tables_heard t row v ≡ t
-none_changed t row (Takes invoke asked) = by_test (is_served t row invoke asked)
+now_heard : (t : Tables) (row : ClientRow) (v : Verdict) → (tables_heard t row v).now ≡ t.now
+now_heard t row (Takes invoke asked) = by_test (is_served t row invoke asked)
   where
-    by_test : (b : Bool) → (if b then (effect t row asked).tables else t) ≡ t
-    by_test true = no_change t row asked
+    by_test : (b : Bool) → (if b then (effect t row asked).tables else t).now ≡ t.now
+    by_test true = now_kept t row asked
     by_test false = refl
-none_changed t row other = refl
+now_heard t row other = refl
 
 append_none : {A : Type 0} (xs : List A) → xs ++ [] ≡ xs
 append_none [] = refl
@@ -132,10 +120,10 @@ append_none {A} (x ∷ xs) = ap (λ (l : List A). x ∷ l) (append_none xs)
 -- ---- each event
 
 pub heard_told : (t : Tables) (row : ClientRow) (client : ℕ) (octets : List ℕ)
-    → (serves t row (Heard client octets)).told ≡ tell client (own_told no_tables row (verdict row octets))
+    → (serves t row (Heard client octets)).told ≡ tell client (own_told t row (verdict row octets))
 heard_told t row client octets =
-    ap₂ (λ (own : List Effect) (also : List (ℕ × Effect)). tell client own ++ also) (own_same t row (verdict row octets)) (none_also t row (verdict row octets))
-    ∙ append_none (tell client (own_told no_tables row (verdict row octets)))
+    ap (λ (also : List (ℕ × Effect)). tell client (own_told t row (verdict row octets)) ++ also) (none_also t row (verdict row octets))
+    ∙ append_none (tell client (own_told t row (verdict row octets)))
 
 pub step_drained : (s : State) (client : ℕ) → 1 ≤ client → client ≤ length s.clients → step s (Drain client) ≡ with_client s client drained_row
 step_drained s zero some there = absurd (omega arith)
@@ -154,7 +142,7 @@ step_sized s event = served.length-delivered cell is_device (parted.done_of cell
 pub step_still : (s : State) (client : ℕ) (octets : List ℕ) → (step s (Heard client octets)).now ≡ s.now
 step_still s client octets =
     let row = parted.row_of cell services s (Heard client octets) in
-    ap (λ (t : Tables). t.now) (none_changed (cell.tables_of s) row (verdict row octets))
+    now_heard (cell.tables_of s) row (verdict row octets)
 
 -- ---- what holds of each state
 

@@ -36,7 +36,7 @@ use Rattle.parted_state.specs.Served.{change, row_at, delivered}
 use Rattle.mms_step.specs.State.{State, start, device_of, IsSound, IsSoundRow, AreNumbered}
 use Rattle.mms_step.specs.Effects.{Effect, Sends, Opens, Closes, Answers, Drains, felt, felt_all, tell}
 use Rattle.mms_step.specs.Association.{Verdict, other_error, Tells, Takes, Concludes, Cancels, Aborts, verdict, verdict_by, idle_verdict, open_verdict, admitted, requested, concluded, cancelled, negotiated, refused, loss_told}
-use Rattle.mms_step.specs.Meant.{no_tables}
+use Rattle.mms_step.specs.Tables.{Tables}
 use Rattle.mms_step.specs.Partition.{cell, no_client}
 use Rattle.mms_step.specs.Services.{cause, effect, fits, refuses, request_told, answer_told}
 use Rattle.mms_step.specs.Serving.{size_of, own_told}
@@ -119,12 +119,12 @@ module _ (count client : ℕ) where
   Fine row (Tells effects) = IsSoundRow count client (felt_all effects row)
   Fine row other = Unit {0}
 
-  own_sound : (row told : ClientRow) (v : Verdict) → IsSoundRow count client row → Fine row v → IsSoundRow count client (felt_all (own_told no_tables told v) row)
-  own_sound row told (Tells effects) sound fine = fine
-  own_sound row told (Takes invoke asked) sound fine = request_sound row (size_of told.association) invoke (cause no_tables told asked) (effect no_tables told asked).answer sound
-  own_sound row told Concludes sound fine = closed (felt (Sends _) row) (sent _ row sound)
-  own_sound row told (Cancels invoke) sound fine = sent _ _ (sent _ _ (answered invoke row sound))
-  own_sound row told Aborts sound fine = closed (felt (Sends _) row) (sent _ row sound)
+  own_sound : (t : Tables) (row told : ClientRow) (v : Verdict) → IsSoundRow count client row → Fine row v → IsSoundRow count client (felt_all (own_told t told v) row)
+  own_sound t row told (Tells effects) sound fine = fine
+  own_sound t row told (Takes invoke asked) sound fine = request_sound row (size_of told.association) invoke (cause t told asked) (effect t told asked).answer sound
+  own_sound t row told Concludes sound fine = closed (felt (Sends _) row) (sent _ row sound)
+  own_sound t row told (Cancels invoke) sound fine = sent _ _ (sent _ _ (answered invoke row sound))
+  own_sound t row told Aborts sound fine = closed (felt (Sends _) row) (sent _ row sound)
 
   admitted_fine : (row : ClientRow) (may : Result Unit NotAdmitted) (invoke : ℕ) (asked : Request) → IsSoundRow count client row → Fine row (admitted may invoke asked)
   admitted_fine row (Err not_admitted.Waiting) invoke asked sound = sent _ row sound
@@ -161,9 +161,9 @@ module _ (count client : ℕ) where
   verdict_fine row Idle heard is sound = idle_fine row heard is sound
   verdict_fine row (Open values) heard is sound = open_fine values row heard sound
 
-  heard_sound : (row : ClientRow) (octets : List ℕ) → IsSoundRow count client row → IsSoundRow count client (felt_all (own_told no_tables row (verdict row octets)) row)
-  heard_sound row octets sound =
-      own_sound row row (verdict row octets) sound (verdict_fine row row.association (pdu_heard row.constants.edition octets) refl sound)
+  heard_sound : (t : Tables) (row : ClientRow) (octets : List ℕ) → IsSoundRow count client row → IsSoundRow count client (felt_all (own_told t row (verdict row octets)) row)
+  heard_sound t row octets sound =
+      own_sound t row row (verdict row octets) sound (verdict_fine row row.association (pdu_heard row.constants.edition octets) refl sound)
 
   lost_sound : (row : ClientRow) (a : Association) → IsSoundRow count client row → IsSoundRow count client (felt_all (loss_told a) row)
   lost_sound row Idle sound = sound
@@ -211,7 +211,7 @@ rows_after : (count : ℕ) (s : State) (event : CellEvent) → AreSound count s.
 rows_after count s (Heard client octets) sound =
     subst (λ (l : List (ℕ × Effect)). AreSound count (delivered cell l s.clients))
     (sym (heard_told (cell.tables_of s) (row_at cell client s.clients) client octets))
-    (told_sound count client (λ row. own_told no_tables row (verdict row octets)) s.clients sound (λ k row. heard_sound count k row octets))
+    (told_sound count client (λ row. own_told (cell.tables_of s) row (verdict row octets)) s.clients sound (λ k row. heard_sound count k (cell.tables_of s) row octets))
 rows_after count s (Lost client) sound =
     told_sound count client (λ row. loss_told row.association) s.clients sound (λ k row. lost_sound count k row row.association)
 rows_after count s (Tick ms) sound = sound

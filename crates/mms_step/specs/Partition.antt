@@ -81,10 +81,7 @@ abbrev pub on_clock : (ℕ → ℕ) → Part → Part
 on_clock f (Clock now) = Clock (f now)
 on_clock f other = other
 
--- the clock is held, and a client's part
-abbrev pub IsClock : Option Part → Type 0
-IsClock part = part ≡ Some (Clock (clock_in part))
-
+-- a client's part is held
 abbrev pub IsClient : Option Part → Type 0
 IsClient part = part ≡ Some (Client (client_in part))
 

@@ -29,8 +29,8 @@ use mms_types::{CellEvent, Memory, What};
 use part_table::Hand;
 use std::alloc::Global;
 
-/// Lets a client hear what was read from it. Where no table is used, all of it is done; otherwise that is answered which
-/// is to be done on the tables, and all is as before, as it is without memory.
+/// Lets a client hear what was read from it. Where no table is used, all of it is done; otherwise that is answered
+/// which is to be done on the tables, and all is as before, as it is without memory.
 fn hear_own<'a>(
     alloc: Global,
     held: &mut Hand<Cell>,
@@ -41,9 +41,11 @@ fn hear_own<'a>(
     requires depth { IsDeep read.now }
     requires held { IsClient (held_at held.old (client_place client)) }
     ensures done { IfOk result (λ left. IfNone left
-        (IsHeardInPlace client (verdict_read (row_held held.old client) read.now) held.old held.new)) }
+        (IsHeardInPlace client (verdict_read (row_held held.old client) read.now)
+        held.old held.new)) }
     ensures left { IfOk result (λ left. IfSome left
-        (IsActOf client (row_held held.old client) (verdict_read (row_held held.old client) read.now))) }
+        (IsActOf client (row_held held.old client)
+        (verdict_read (row_held held.old client) read.now))) }
     ensures same { IfOk result (λ left. OnSome left (held.new ≡ held.old)) }
     ensures kept { OnErr result (held.new ≡ held.old) }
 {

@@ -208,7 +208,8 @@ impl Client {
     ) -> Result<Option<Act<'a>>, Memory>
         requires depth { IsDeep read.now }
         ensures done { IfOk result (λ left. IfNone left
-            (IsPlainlyHeard self.old.row self.new (verdict_by self.old.row.association self.old.row (pdu_read read.now)))) }
+            (IsPlainlyHeard self.old.row self.new (verdict_by self.old.row.association
+            self.old.row (pdu_read read.now)))) }
         ensures left { IfOk result (λ left. IfSome left (λ act. IsActOf client self.old.row
             (verdict_by self.old.row.association self.old.row (pdu_read read.now)) act)) }
         ensures same { IfOk result (λ left. OnSome left (self.new ≡ self.old)) }

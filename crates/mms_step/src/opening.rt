@@ -33,8 +33,8 @@ fn put(alloc: Global, parts: &mut Vec<Box<Part>>, part: Part) -> Result<(), Memo
     Ok(())
 }
 
-/// The parts of a configured device at the start: it is the configured moment, there are as many clients as are configured, no
-/// association is open, nothing waits and nothing is to be sent.
+/// The parts of a configured device at the start: it is the configured moment, there are as many clients as are
+/// configured, no association is open, nothing waits and nothing is to be sent.
 #[tactic(auto, using(crate::proofs::PartsAfter::start_more))]
 pub fn start_parts(alloc: Global, config: &Config) -> Result<Vec<Box<Part>>, Memory>
     requires config { IsConfig config.now }

@@ -75,8 +75,10 @@ fn sent(alloc: Global, pdu: &Pdu) -> Result<Told, Memory>
 
 /// A client is sent a PDU, where it is not longer than so many octets.
 fn sent_within(alloc: Global, size: u32, pdu: &Pdu) -> Result<Option<Told>, Memory>
-    ensures { IfOk result (λ told. MatchOption told (nat_le (length (pdu_octets pdu.now)) size ≡ false)
-        (λ sent. (nat_le (length (pdu_octets pdu.now)) size ≡ true) × (effect_of sent ≡ sends pdu.now))) }
+    ensures { IfOk result (λ told. MatchOption told
+        (nat_le (length (pdu_octets pdu.now)) size ≡ false)
+        (λ sent. (nat_le (length (pdu_octets pdu.now)) size ≡ true)
+        × (effect_of sent ≡ sends pdu.now))) }
 {
     let mut out = Writer::new(alloc);
     put_pdu(&mut out, pdu)?;
@@ -160,7 +162,8 @@ fn request_plan(
 
 /// A conclusion is granted: the client is lost.
 fn conclusion_plan(alloc: Global, client: u32) -> Result<Plan, Memory>
-    ensures told { IfOk result (λ plan. effects_told plan.told.items ≡ tell client conclusion_told) }
+    ensures told { IfOk result (λ plan.
+        effects_told plan.told.items ≡ tell client conclusion_told) }
     ensures change { IfOk result (λ plan. plan.change ≡ Change.Nothing) }
 {
     let granted = sent(alloc, &Pdu::ConcludeResponse)?;

@@ -29,7 +29,8 @@ fn scope_cause(scope: &ObjectScope) -> Option<ServiceError>
     }
 }
 
-/// What a request does that is not refused: how the tables change, its answer or none yet, and what else is told to whom.
+/// What a request does that is not refused: how the tables change, its answer or none yet, and what else is told to
+/// whom.
 #[derive(Drop)]
 pub(crate) struct Outcome {
     pub(crate) change: Change,

@@ -17,8 +17,8 @@ use mms_types::Memory;
 use part_table::Hand;
 use std::alloc::Global;
 
-/// Plans what is done on the tables that were lifted, and makes room for what clients are told. Without memory the parts
-/// are as before.
+/// Plans what is done on the tables that were lifted, and makes room for what clients are told. Without memory the
+/// parts are as before.
 fn prepared(
     alloc: Global,
     held: &mut Hand<Cell>,
@@ -42,9 +42,9 @@ fn prepared(
     Ok(plan)
 }
 
-/// Does something on the tables that held parts show. The tables are lifted out of the parts, what is done is planned on
-/// them, and room is made in the part of each client that is told something; only these may want memory. Then the tables
-/// change, they are put back, and the clients are told. Without memory the parts are as before.
+/// Does something on the tables that held parts show. The tables are lifted out of the parts, what is done is planned
+/// on them, and room is made in the part of each client that is told something; only these may want memory. Then the
+/// tables change, they are put back, and the clients are told. Without memory the parts are as before.
 pub(crate) fn serve(
     alloc: Global,
     held: &mut Hand<Cell>,
