@@ -64,6 +64,7 @@ pub(crate) fn cause(tables: &Tables, part: &ClientPart, asked: &Request) -> Opti
 }
 
 /// The answer to a request that is never refused and that the row of its client alone answers, and None for any other.
+#[inline(always)]
 pub(crate) fn plain_answer(
     alloc: Global,
     part: &ClientPart,
