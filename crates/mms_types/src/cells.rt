@@ -3,7 +3,7 @@
 use crate::{Data, Identifier, Listed, TypeSpec};
 
 /// A cell, as it is configured: a variable that has an address and no name of its own (ISO 9506-1, unnamed variable).
-#[derive(Debug, Drop)]
+#[derive(Debug, PartialEq, Eq, Drop)]
 pub struct CellRow {
     /// Its number, from 0 to 4,095 in a configuration: the address by which PDUs name it.
     pub number: u16,
