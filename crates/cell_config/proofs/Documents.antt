@@ -4,6 +4,7 @@ use Rattle.std.specs.Str.{IsUtf8, is_utf8}
 use Rattle.std.proofs.lemmas.Str.{IsUtf8-from_is_utf8, is_utf8-from_IsUtf8}
 use Rattle.toml.specs.Data.{Members}
 use Rattle.toml.specs.Parse.{parse_document}
+use Rattle.mms_types.specs.declared.identifier.Edition.{Edition}
 use Rattle.cell_config.specs.Rules.{document_of, least_broken, least_broken_of}
 use Rattle.std.specs.Option.{option_map_or}
 
@@ -18,5 +19,5 @@ none text parsed = go (is_utf8 text) refl
     go false is = rw is
 
 -- a text that isn't read breaks rule 0
-pub refused : (text : List ℕ) → (IsUtf8 text → parse_document text ≡ None) → least_broken text ≡ Some 0
-refused text parsed = ap (λ document. option_map_or least_broken_of document (Some 0)) (none text parsed)
+pub refused : (edition : Edition) (text : List ℕ) → (IsUtf8 text → parse_document text ≡ None) → least_broken edition text ≡ Some 0
+refused edition text parsed = ap (λ document. option_map_or (least_broken_of edition) document (Some 0)) (none text parsed)

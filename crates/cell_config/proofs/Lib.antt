@@ -1,2 +1,4 @@
 pub mod Documents
 pub mod Holding
+pub mod Walks
+mod Worked

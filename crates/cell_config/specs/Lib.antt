@@ -1,2 +1,5 @@
+pub mod Rows
+pub mod Cells
 pub mod Rules
 pub mod Said
+pub mod Seen

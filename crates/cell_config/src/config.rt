@@ -1,7 +1,7 @@
 ghost use Rattle.std.specs.Prelude.{◌≡◌};
 ghost use Rattle.cell_config.specs.declared.config.BadConfig.TheVariants.{Memory as OutOfMemory};
 
-use mms_types::{Edition, Memory, Moment, Octets};
+use mms_types::{Cells, Edition, Memory, Moment, NamedCells, Octets};
 use thiserror::Error;
 
 /// What a configuration says of a cell.
@@ -19,14 +19,29 @@ pub struct Config {
     pub model: Octets,
     /// Its revision: 1 to 32 octets from 20 to 7E hex (ISO 9506-2, Identify, revision).
     pub revision: Octets,
+    /// The cells, in the order of the text: each with a number of its own from 0 to 4,095, and a
+    /// value of its type (ISO 9506-1, unnamed variable).
+    pub cells: Cells,
+    /// The variables of the VMD, in the order of the text: at most 4,096, each with a name of its
+    /// own and one of the cells (ISO 9506-1, named variable).
+    pub variables: NamedCells,
 }
 
 /// Why a text is no configuration.
 #[derive(Clone, Copy, Debug, PartialEq, Eq, Error)]
 pub enum BadConfig {
-    /// The least rule that the text breaks: 0 where it is no TOML document, 1 where a key is not listed
-    /// or a value is of another TOML type than its key takes, 2 where `clients`, `day` or `ms` is out of
-    /// range, and 3 where `vendor`, `model` or `revision` is not 1 to 32 octets from 20 to 7E hex.
+    /// The least rule that the text breaks:
+    /// - 0: it is no TOML document;
+    /// - 1: a key is not listed, or a value is of another TOML type than its key takes, or a row
+    ///   lacks a key;
+    /// - 2: `clients`, `day` or `ms` is out of range;
+    /// - 3: `vendor`, `model` or `revision` is not 1 to 32 octets from 20 to 7E hex;
+    /// - 4: a variable's name is no Identifier;
+    /// - 5: a cell's number is not 0 to 4,095, or two cells share one;
+    /// - 6: a type or a value is not hex of one element of its form, or nests deeper than 10, or
+    ///   the value is not of the type;
+    /// - 7: two variables share a name, or the cell of one is missing;
+    /// - 9: there are more than 4,096 variables.
     #[error("rule {0} of the configuration is broken")]
     Rule(u8),
     /// There was not enough memory.

@@ -1,26 +1,15 @@
-ghost use Rattle.std.specs.Prelude.{◌≡◌, ◌≤◌, not, is_some, IfSome, option_and_then};
-ghost use Rattle.toml.specs.Data.{get_member, as_integer};
+ghost use Rattle.std.specs.Prelude.{◌≡◌, ◌≤◌, not, is_some, IfSome};
 ghost use Rattle.toml.specs.View.{table_view};
 ghost use Rattle.mms_types.specs.Moments.{milliseconds, IsDated};
-ghost use Rattle.cell_config.specs.Rules.{is_between, clients_of, day_of, ms_of, breaks_ranges};
-ghost use Rattle.cell_config.specs.Said.{number_of};
+ghost use Rattle.cell_config.specs.Cells.{is_between, number_of};
+ghost use Rattle.cell_config.specs.Rules.{clients_of, day_of, ms_of, breaks_ranges};
 
-use crate::table::value_at;
+use crate::table::integer_at;
 use mms_types::Moment;
 use toml::Table;
 
-/// The integer at a key, where the table has one there.
-fn integer_at(table: &Table, key: &str) -> Option<i64>
-    ensures { result ≡ option_and_then as_integer (get_member key.now (table_view table.now)) }
-{
-    match value_at(table, key) {
-        Some(value) => value.as_integer(),
-        None => None,
-    }
-}
-
 /// The number, where it is from the least to the most.
-fn between(least: u32, most: u32, number: i64) -> Option<u32>
+pub(crate) fn between(least: u32, most: u32, number: i64) -> Option<u32>
     ensures found { is_some result ≡ is_between least most number }
     ensures value { IfSome result (λ n. n ≡ number_of number) }
     ensures least { IfSome result (λ n. least ≤ n) }

@@ -1,22 +1,27 @@
-ghost use Rattle.std.specs.Prelude.{◌≡◌, Some, Err, IfOk, IfErr, option_map};
-ghost use Rattle.std.specs.Str.{is_utf8};
-ghost use Rattle.toml.specs.Data.{same_key};
-ghost use Rattle.toml.specs.View.{table_view, view};
-ghost use Rattle.cell_config.specs.Rules.{document_of, takes_integer, takes_text, is_fit, breaks_keys, least_broken_of, least_broken};
-ghost use Rattle.cell_config.specs.Said.{config_of, IsConfig, TellsRule};
+ghost use Rattle.std.specs.Prelude.{◌≡◌, Some, Err, IfOk, IfErr, map, option_map};
+ghost use Rattle.toml.specs.View.{table_view};
+ghost use Rattle.cell_config.specs.Rows.{cells_told, variables_told};
+ghost use Rattle.mms_types.specs.Moments.{milliseconds};
+ghost use Rattle.cell_config.specs.Cells.{number_of, cell_row, named_cell};
+ghost use Rattle.cell_config.specs.Rules.{document_of, clients_of, day_of, ms_of, vendor_of, model_of, revision_of, least_of_keys, least_of_rows, least_broken_of, least_broken};
+ghost use Rattle.cell_config.specs.Said.{config_of, IsConfig, TellsBad, TellsRule};
 
-use crate::numbers::read_numbers;
-use crate::texts::read_texts;
+use crate::cells::{numbers, read_cells};
+use crate::keys::breaks_keys;
+use crate::numbers::{Numbers, read_numbers};
+use crate::rows::{cell_rows, variable_rows};
+use crate::texts::{Texts, read_texts};
+use crate::variables::{are_few, are_named, are_variables, named_cells};
 use crate::{BadConfig, Config};
-use mms_types::{Edition, Octets};
+use mms_types::{Cells, Edition, NamedCells, Octets};
 use std::alloc::Global;
-use toml::{Table, Value};
+use toml::Table;
 
 /// The TOML document that the text is.
 #[tactic(auto, using(crate::proofs::Documents::read, crate::proofs::Documents::refused))]
-fn document(alloc: Global, text: &[u8]) -> Result<Table, BadConfig>
+fn document(alloc: Global, text: &[u8], edition: Edition) -> Result<Table, BadConfig>
     ensures document { IfOk result (λ table. document_of text.now ≡ Some (table_view table)) }
-    ensures rule { IfErr result (λ bad. TellsRule (Err bad) (least_broken text.now)) }
+    ensures rule { IfErr result (λ bad. TellsBad bad (least_broken edition text.now)) }
 {
     match toml::table_from_slice(alloc, text) {
         Ok(table) => Ok(table),
@@ -30,48 +35,64 @@ fn document(alloc: Global, text: &[u8]) -> Result<Table, BadConfig>
     }
 }
 
-fn is_key(key: &str, name: &str) -> bool
-    ensures { result ≡ same_key name.now key.now }
-{
-    name == key
+/// The cells and the variables of a document.
+#[derive(Drop)]
+struct Rows {
+    cells: Cells,
+    variables: NamedCells,
 }
 
-fn takes_integer(key: &str) -> bool
-    ensures { result ≡ takes_integer key.now }
+/// The cells and the variables that a document tells, or the least rule of theirs that it breaks.
+fn read_rows(alloc: Global, document: &Table, edition: Edition) -> Result<Rows, BadConfig>
+    ensures cells { IfOk result (λ rows. rows.cells
+        ≡ map (cell_row edition) (cells_told (table_view document.now))) }
+    ensures variables { IfOk result (λ rows. rows.variables
+        ≡ map named_cell (variables_told (table_view document.now))) }
+    ensures rule { TellsRule result (least_of_rows edition (table_view document.now)) }
 {
-    is_key(key, "clients") || is_key(key, "day") || is_key(key, "ms")
-}
-
-fn takes_text(key: &str) -> bool
-    ensures { result ≡ takes_text key.now }
-{
-    is_key(key, "vendor") || is_key(key, "model") || is_key(key, "revision")
-}
-
-/// Whether the key is listed, and the value of the type that it takes.
-fn is_fit(key: &str, value: &Value) -> bool
-    ensures { result ≡ is_fit key.now (view value.now) }
-{
-    (takes_integer(key) && value.is_integer()) || (takes_text(key) && value.is_str())
-}
-
-/// Whether a key is not listed, or a value is of another type than its key takes.
-fn breaks_keys(table: &Table) -> bool
-    ensures { result ≡ breaks_keys (table_view table.now) }
-{
-    for (key, value) in table.iter() {
-        if !is_fit(key, value) {
-            return true;
-        }
+    let cells = cell_rows(alloc, document)?;
+    let variables = variable_rows(alloc, document)?;
+    let variables = variables.as_slice();
+    if !are_named(variables, edition) {
+        return Err(BadConfig::Rule(4));
     }
-    false
+    let Some(numbers) = numbers(alloc, &cells)? else {
+        return Err(BadConfig::Rule(5));
+    };
+    let Some(cells) = read_cells(alloc, &cells, edition)? else {
+        return Err(BadConfig::Rule(6));
+    };
+    if !are_variables(alloc, &numbers, variables)? {
+        return Err(BadConfig::Rule(7));
+    }
+    if !are_few(variables) {
+        return Err(BadConfig::Rule(9));
+    }
+    let variables = named_cells(alloc, variables, edition)?;
+    Ok(Rows { cells, variables })
 }
 
-/// The configuration that the document tells in an edition.
-fn config(alloc: Global, document: &Table, edition: Edition) -> Result<Config, BadConfig>
-    ensures config { IfOk result (λ config. config ≡ config_of edition (table_view document.now)) }
-    ensures valid { IfOk result IsConfig }
-    ensures rule { TellsRule result (least_broken_of (table_view document.now)) }
+/// The numbers and the texts of a document.
+struct Own<'a> {
+    numbers: Numbers,
+    texts: Texts<'a>,
+}
+
+/// The numbers and the texts that a document tells, or the least rule that it breaks by its own
+/// keys.
+fn read_own(document: &Table) -> Result<Own<'_>, BadConfig>
+    ensures clients { IfOk result (λ own. own.numbers.clients
+        ≡ number_of (clients_of (table_view document.now))) }
+    ensures start { IfOk result (λ own. own.numbers.start.0
+        ≡ milliseconds (number_of (day_of (table_view document.now)))
+        (number_of (ms_of (table_view document.now)))) }
+    ensures vendor { IfOk result (λ own. own.texts.vendor.now
+        ≡ vendor_of (table_view document.now)) }
+    ensures model { IfOk result (λ own. own.texts.model.now
+        ≡ model_of (table_view document.now)) }
+    ensures revision { IfOk result (λ own. own.texts.revision.now
+        ≡ revision_of (table_view document.now)) }
+    ensures rule { TellsRule result (least_of_keys (table_view document.now)) }
 {
     if breaks_keys(document) {
         return Err(BadConfig::Rule(1));
@@ -82,6 +103,16 @@ fn config(alloc: Global, document: &Table, edition: Edition) -> Result<Config, B
     let Some(texts) = read_texts(document) else {
         return Err(BadConfig::Rule(3));
     };
+    Ok(Own { numbers, texts })
+}
+
+/// The configuration that the document tells in an edition.
+fn config(alloc: Global, document: &Table, edition: Edition) -> Result<Config, BadConfig>
+    ensures config { IfOk result (λ config. config ≡ config_of edition (table_view document.now)) }
+    ensures rule { TellsRule result (least_broken_of edition (table_view document.now)) }
+{
+    let Own { numbers, texts } = read_own(document)?;
+    let Rows { cells, variables } = read_rows(alloc, document, edition)?;
     Ok(Config {
         edition,
         clients: numbers.clients,
@@ -89,17 +120,24 @@ fn config(alloc: Global, document: &Table, edition: Edition) -> Result<Config, B
         vendor: Octets::from_slice(alloc, texts.vendor.as_bytes())?,
         model: Octets::from_slice(alloc, texts.model.as_bytes())?,
         revision: Octets::from_slice(alloc, texts.revision.as_bytes())?,
+        cells,
+        variables,
     })
 }
 
-/// The configuration that a text tells in an edition. A text that breaks a rule gives `Rule` with the least one
-/// that it breaks; what breaks none gives the configuration, or want of memory. Every key may be left out. No
-/// rule depends on the edition so far.
+/// The configuration that a text tells in an edition. A text that breaks a rule gives `Rule` with
+/// the least one that it breaks; what breaks none gives the configuration, or want of memory. Every
+/// key of the document may be left out, and a row has all of its keys. Names, types and values are
+/// those of the edition. Types and values are hex of one element each (ISO 9506-2,
+/// TypeSpecification and Data).
+#[tactic(auto, using(crate::proofs::Holding::told_holds))]
 pub fn read_config(alloc: Global, text: &[u8], edition: Edition) -> Result<Config, BadConfig>
-    ensures config { IfOk result (λ config. option_map (config_of edition) (document_of text.now) ≡ Some config) }
+    ensures config { IfOk result (λ config. option_map (config_of edition) (document_of text.now)
+        ≡ Some config) }
     ensures valid { IfOk result IsConfig }
-    ensures rule { TellsRule result (least_broken text.now) }
+    ensures rule { TellsRule result (least_broken edition text.now) }
 {
-    let document = document(alloc, text)?;
-    config(alloc, &document, edition)
+    let document = document(alloc, text, edition)?;
+    let config = config(alloc, &document, edition)?;
+    Ok(config)
 }

@@ -1,22 +1,10 @@
-ghost use Rattle.std.specs.Prelude.{◌≡◌, not, is_some, IsTrue, IfSome, option_and_then};
+ghost use Rattle.std.specs.Prelude.{◌≡◌, not, is_some, IsTrue, IfSome};
 ghost use Rattle.std.specs.List.{list_all};
-ghost use Rattle.std.specs.Option.{option_copied};
-ghost use Rattle.toml.specs.Data.{get_member, as_str};
 ghost use Rattle.toml.specs.View.{table_view};
 ghost use Rattle.cell_config.specs.Rules.{is_shown, is_short_text, vendor_of, model_of, revision_of, breaks_texts};
 
-use crate::table::value_at;
+use crate::table::text_at;
 use toml::Table;
-
-/// The text at a key, where the table has one there.
-fn text_at<'a>(table: &'a Table, key: &str) -> Option<&'a str>
-    ensures { option_copied result ≡ option_and_then as_str (get_member key.now (table_view table.now)) }
-{
-    match value_at(table, key) {
-        Some(value) => value.as_str(),
-        None => None,
-    }
-}
 
 fn is_shown(octet: u8) -> bool
     ensures { result ≡ is_shown octet }

@@ -144,6 +144,9 @@ tails a b c d xs ys e = (cc, cc, cc)
 pub setup_same : (before xs ys : List (List ℕ)) → InSetup before xs → InSetup before ys → xs ≡ ys
 setup_same before xs ys i j = (tails i.header i.second j.header j.second xs ys (sym i.lines ∙ j.lines)).2
 
+pub header_same : (before xs ys : List (List ℕ)) (i : InSetup before xs) (j : InSetup before ys) → i.header ≡ j.header
+header_same before xs ys i j = (tails i.header i.second j.header j.second xs ys (sym i.lines ∙ j.lines)).0
+
 pub not_both : (before setup : List (List ℕ)) (config : Config) (said : List Said) → InSetup before setup → InEvents before config said → ⊥
 not_both before setup config said i j =
     let same = (tails i.header i.second j.header j.second setup (j.setup ++ j.last ∷ j.body) (sym i.lines ∙ j.lines)).2 in

@@ -25,7 +25,7 @@ use Rattle.cell_record.specs.declared.refusal.RecordError.{RecordError}
 use Rattle.cell_record.specs.declared.refusal.RecordError.TheVariants.{Bad, BadConfig, TooMuch}
 use Rattle.cell_record.proofs.Valid.{same_text}
 use Rattle.cell_record.proofs.LineCauses.{line_is}
-use Rattle.cell_record.proofs.FirstCause.{Counted, InConfig, Rule, config_tells, counted_more, event_tells, events_more, few_events, few_setup, from_event, from_long, header_tells, line, long_tells, no_event, none_some, not_both, outcome, over_tells, says, setup_same, some_same, true_false}
+use Rattle.cell_record.proofs.FirstCause.{Counted, InConfig, Rule, config_tells, counted_more, event_tells, events_more, few_events, few_setup, from_event, from_long, header_same, header_tells, line, long_tells, no_event, none_some, not_both, outcome, over_tells, says, setup_same, some_same, true_false}
 
 -- ---- the first line that is refused
 
@@ -230,19 +230,22 @@ module _ (before setup : List (List ℕ)) (l : List ℕ) (i : InSetup before set
   at_end : content l ≡ codes "end" → (o : Option RecordError) → Tells (Rule before (Some l)) o → Tells (Refuses before (Some l)) o
   at_end e o t = from_long before (Some l) o over setup_header (end_config e) (from_event before (Some l) o (end_short e) (no_event before (Some l) o setup_events t))
 
-  rule_tells : content l ≡ codes "end" → (rule : ℕ) → least_broken (text_of setup) ≡ Some rule → Tells (Rule before (Some l)) (Some (BadConfig rule))
-  rule_tells e rule r = ((setup, i, l, refl, e, rule, r, refl), unique)
+  -- the least broken rule is that of the one edition and the one text
+  same_rule : (edition : Edition) → header_of (content i.header) ≡ Some edition
+      → (other : List (List ℕ)) (j : InSetup before other) (e : Edition) → header_of (content j.header) ≡ Some e → least_broken e (text_of other) ≡ least_broken edition (text_of setup)
+  same_rule edition of other j e is =
+      let one : e ≡ edition = some_same e edition (sym is ∙ ap (λ (h : List ℕ). header_of (content h)) (header_same before other setup j i) ∙ of) in
+      ap (λ (d : Edition). least_broken d (text_of other)) one ∙ ap (λ (s : List (List ℕ)). least_broken edition (text_of s)) (setup_same before other setup j i)
+
+  rule_tells : content l ≡ codes "end" → (edition : Edition) → header_of (content i.header) ≡ Some edition → (rule : ℕ) → least_broken edition (text_of setup) ≡ Some rule
+      → Tells (Rule before (Some l)) (Some (BadConfig rule))
+  rule_tells e edition of rule r = ((setup, i, l, refl, e, edition, of, rule, r, refl), unique)
     where
       unique : (x : RecordError) → Rule before (Some l) x → x ≡ BadConfig rule
-      unique x h =
-          let same = setup_same before h.0 setup h.1 i in
-          let one : h.5 ≡ rule = some_same h.5 rule (sym h.6 ∙ ap (λ (s : List (List ℕ)). least_broken (text_of s)) same ∙ r) in
-          h.7 ∙ ap BadConfig one
+      unique x h = h.9 ∙ ap BadConfig (some_same h.7 rule (sym h.8 ∙ same_rule edition of h.0 h.1 h.5 h.6 ∙ r))
 
-  no_rule_tells : least_broken (text_of setup) ≡ None → Tells (Rule before (Some l)) None
-  no_rule_tells r x h =
-      let same = setup_same before h.0 setup h.1 i in
-      none_some h.5 (sym r ∙ ap (λ (s : List (List ℕ)). least_broken (text_of s)) (sym same) ∙ h.6)
+  no_rule_tells : (edition : Edition) → header_of (content i.header) ≡ Some edition → least_broken edition (text_of setup) ≡ None → Tells (Rule before (Some l)) None
+  no_rule_tells edition of r x h = none_some h.7 (sym r ∙ sym (same_rule edition of h.0 h.1 h.5 h.6) ∙ h.8)
 
   -- another line
   not_end : (content l ≡ codes "end" → ⊥) → (e : RecordError) → Rule before (Some l) e → ⊥
@@ -281,16 +284,16 @@ setup_ends edition (l ∷ ls) before setup p text i h x q n =
     by_fit (λ e t. go_on before l ls _ (setup_ends edition ls (before ++ l ∷ []) (setup ++ l ∷ []) (behind p l) (text ++ in_text l) (setup_more before setup l i e) h (ap (λ (y : List ℕ). y ++ in_text l) x ∙ sym (text_more setup l)) (place_further p before l q) (one_more before l n t)))
     (fits p l) refl
   where
-    by_rule : (e : content l ≡ codes "end") → (IsOver before (Some l) → ⊥) → (rule : Option ℕ) (config : Option Config) → least_broken text ≡ rule → option_map (config_of edition) (document_of text) ≡ config
+    by_rule : (e : content l ≡ codes "end") → (IsOver before (Some l) → ⊥) → (rule : Option ℕ) (config : Option Config) → least_broken edition text ≡ rule → option_map (config_of edition) (document_of text) ≡ config
         → Ends (before ++ l ∷ ls) (refusal_behind (opened_unless rule config ls (behind p l)))
     by_rule e over (Some rule) config r s =
-        stop_here before l ls (BadConfig rule) n (at_end before setup l i over e (Some (BadConfig rule)) (rule_tells before setup l i over e rule (ap least_broken (sym x) ∙ r)))
+        stop_here before l ls (BadConfig rule) n (at_end before setup l i over e (Some (BadConfig rule)) (rule_tells before setup l i over e edition h rule (ap (least_broken edition) (sym x) ∙ r)))
     by_rule e over None None r s = absurd (configuration_there edition text r s)
     by_rule e over None (Some config) r s =
         let same = edition_of edition (document_of text) config s in
         let says : option_map (config_of config.edition) (document_of (text_of setup)) ≡ Some config =
         ap (λ (d : Edition). option_map (config_of d) (document_of (text_of setup))) (sym same) ∙ ap (λ (y : List ℕ). option_map (config_of edition) (document_of y)) (sym x) ∙ s in
-        let t = at_end before setup l i over e None (no_rule_tells before setup l i over (ap least_broken (sym x) ∙ r)) in
+        let t = at_end before setup l i over e None (no_rule_tells before setup l i over edition h (ap (least_broken edition) (sym x) ∙ r)) in
         go_on before l ls _
         (body config ls (before ++ l ∷ []) [] (behind p l) (fresh config.start.0) (first_event before setup l config i (h ∙ ap Some same) e says) (first_counts config) (place_further p before l q) (one_more before l n t))
 
@@ -310,7 +313,7 @@ setup_ends edition (l ∷ ls) before setup p text i h x q n =
     by_end : (IsOver before (Some l) → ⊥) → ((e : content l ≡ codes "end" → ⊥) → Tells (Refuses before (Some l)) None → Ends (before ++ l ∷ ls) (refusal_behind (setup_of edition ls (behind p l) (text ++ in_text l))))
         → (b : Bool) → same (content l) (codes "end") ≡ b
         → Ends (before ++ l ∷ ls) (refusal_behind (if b then configured edition text ls (behind p l) else unless_word (length before + 1) (setup_word (length text + size_in_text l) l) (setup_of edition ls (behind p l) (text ++ in_text l))))
-    by_end over ih true e = by_rule ((same_text (content l) (codes "end")).0 e) over (least_broken text) (option_map (config_of edition) (document_of text)) refl refl
+    by_end over ih true e = by_rule ((same_text (content l) (codes "end")).0 e) over (least_broken edition text) (option_map (config_of edition) (document_of text)) refl refl
     by_end over ih false e =
         let never : content l ≡ codes "end" → ⊥ = λ is. true_false (sym ((same_text (content l) (codes "end")).1 is) ∙ e) in
         by_word never over (ih never) (nat_lt 1048576 (length text + size_in_text l)) (is_long l) refl refl

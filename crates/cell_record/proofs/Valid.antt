@@ -130,7 +130,7 @@ reads_setup edition (l ∷ ls) body last p text h e s t =
     let rest = reads_setup edition ls body last (behind p l) (text ++ in_text l) h.2 e (omega (arith, s, ap length more)) (omega (arith, t)) in
     rw (fit p l (omega (arith, t)), no_end l h.1, few, h.0) (rest ∙ ap (λ (x : List ℕ). configured edition x body (behind (place_after (behind p l) ls) last)) more)
 
-configured_is : (edition : Edition) (text : List ℕ) (config : Config) (lines : List (List ℕ)) (p : Place) → least_broken text ≡ None → option_map (config_of edition) (document_of text) ≡ Some config → configured edition text lines p ≡ opened config lines p
+configured_is : (edition : Edition) (text : List ℕ) (config : Config) (lines : List (List ℕ)) (p : Place) → least_broken edition text ≡ None → option_map (config_of edition) (document_of text) ≡ Some config → configured edition text lines p ≡ opened config lines p
 configured_is edition text config lines p r s = rw (r, s) refl
 
 octets_after : (setup body : List (List ℕ)) (last : List ℕ) (p : Place) → (behind (place_after p setup) last).octets + total body ≡ p.octets + total (setup ++ last ∷ body)
@@ -261,13 +261,13 @@ pub record IsSetup (edition : Edition) (lines : List (List ℕ)) (p : Place) (te
   pub short : AreShort setup
   pub small : length (text ++ text_of setup) ≤ 1048576
   pub is_end : content last ≡ codes "end"
-  pub rules : least_broken (text ++ text_of setup) ≡ None
+  pub rules : least_broken edition (text ++ text_of setup) ≡ None
   pub says : option_map (config_of edition) (document_of (text ++ text_of setup)) ≡ Some o.config
   pub octets : o.place.octets + total o.rest ≡ p.octets + total lines
   pub most : o.place.octets ≤ 4294967296
 
 pub record IsConfigured (edition : Edition) (text : List ℕ) (lines : List (List ℕ)) (p : Place) (o : Opened) : Type 0 where
-  pub rules : least_broken text ≡ None
+  pub rules : least_broken edition text ≡ None
   pub says : option_map (config_of edition) (document_of text) ≡ Some o.config
   pub rest : lines ≡ o.rest
   pub place : p ≡ o.place
@@ -285,9 +285,9 @@ place_in (Ok o) = o.place
 place_in (Err e) = front
 
 is_configured : (edition : Edition) (text : List ℕ) (lines : List (List ℕ)) (p : Place) (o : Opened) → configured edition text lines p ≡ Ok o → IsConfigured edition text lines p o
-is_configured edition text lines p o h = by_rule (least_broken text) (option_map (config_of edition) (document_of text)) refl refl h
+is_configured edition text lines p o h = by_rule (least_broken edition text) (option_map (config_of edition) (document_of text)) refl refl h
   where
-    by_rule : (rule : Option ℕ) (config : Option Config) → least_broken text ≡ rule → option_map (config_of edition) (document_of text) ≡ config → opened_unless rule config lines p ≡ Ok o → IsConfigured edition text lines p o
+    by_rule : (rule : Option ℕ) (config : Option Config) → least_broken edition text ≡ rule → option_map (config_of edition) (document_of text) ≡ config → opened_unless rule config lines p ≡ Ok o → IsConfigured edition text lines p o
     by_rule (Some rule) config r s e = cc
     by_rule None None r s e = cc
     by_rule None (Some config) r s e =
@@ -316,7 +316,7 @@ read_setup edition (l ∷ ls) p text o s h =
           short = tt;
           small = omega (arith, s, ap length none);
           is_end = (same_text (content l) (codes "end")).0 e;
-          rules = ap least_broken none ∙ x.rules;
+          rules = ap (least_broken edition) none ∙ x.rules;
           says = ap (λ (t : List ℕ). option_map (config_of edition) (document_of t)) none ∙ x.says;
           octets = let a = ap (λ (q : Place). q.octets) x.place in let b = ap total x.rest in omega (arith, a, b);
           most = let a = ap (λ (q : Place). q.octets) x.place in omega (arith, a, f);
@@ -334,7 +334,7 @@ read_setup edition (l ∷ ls) p text o s h =
           short = (t.1, (λ is. true_false (sym ((same_text (content l) (codes "end")).1 is) ∙ e)), i.short);
           small = omega (arith, i.small, ap length more);
           is_end = i.is_end;
-          rules = ap least_broken (sym more) ∙ i.rules;
+          rules = ap (least_broken edition) (sym more) ∙ i.rules;
           says = ap (λ (t : List ℕ). option_map (config_of edition) (document_of t)) (sym more) ∙ i.says;
           octets = omega (arith, i.octets);
           most = i.most;
@@ -399,7 +399,7 @@ is_recording text phases o x h =
       is_config = b.is;
       short = s.short;
       small = s.small;
-      rules = s.rules;
+      rules = subst (λ (e : Edition). least_broken e (text_of s.setup) ≡ None) edition s.rules;
       says = subst (λ (e : Edition). option_map (config_of e) (document_of (text_of s.setup)) ≡ Some o.config) edition s.says;
       is_end = s.is_end;
       each = i.each;

@@ -68,7 +68,7 @@ pub record ReadsRecording (text : List ℕ) (configured : Config) (phases : List
   pub is_config : content config ≡ codes "config"
   pub short : AreShort setup
   pub small : length (text_of setup) ≤ 1048576
-  pub rules : least_broken (text_of setup) ≡ None
+  pub rules : least_broken configured.edition (text_of setup) ≡ None
   pub says : option_map (config_of configured.edition) (document_of (text_of setup)) ≡ Some configured
   pub is_end : content last ≡ codes "end"
   pub each : Says configured body said

@@ -196,7 +196,7 @@ opened_unless None (Some config) lines p = opened config lines p
 
 -- the line `end` was read, behind a configuration's text
 abbrev pub configured : Edition → List ℕ → List (List ℕ) → Place → Opening
-configured edition text = opened_unless (least_broken text) (option_map (config_of edition) (document_of text))
+configured edition text = opened_unless (least_broken edition text) (option_map (config_of edition) (document_of text))
 
 -- the configuration's lines, up to the line `end`, behind those that have this text
 abbrev pub setup_of : Edition → List (List ℕ) → Place → List ℕ → Opening

@@ -150,11 +150,12 @@ IsMuchPhase config said line = (event : CellEvent) × (said_of config line ≡ O
     × ((16384 < length (last_phase (phases_of said)) + 1)
     ⊎ (67108864 < pdu_octets (last_phase (phases_of said)) + octets_in event))
 
--- the line is the first `end`, and the configuration's text breaks rules, the least of them this one
+-- the line is the first `end`, and the configuration's text breaks rules in the edition of the header, the least of them this one
 abbrev pub BreaksRule : List (List ℕ) → Option (List ℕ) → RecordError → Type 0
-BreaksRule before here e = (setup : List (List ℕ)) × InSetup before setup
+BreaksRule before here e = (setup : List (List ℕ)) × (behind : InSetup before setup)
     × (line : List ℕ) × (here ≡ Some line) × (content line ≡ codes "end")
-    × (rule : ℕ) × (least_broken (text_of setup) ≡ Some rule) × (e ≡ BadConfig rule)
+    × (edition : Edition) × (header_of (content behind.header) ≡ Some edition)
+    × (rule : ℕ) × (least_broken edition (text_of setup) ≡ Some rule) × (e ≡ BadConfig rule)
 
 -- ---- the first of them
 

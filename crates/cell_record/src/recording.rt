@@ -52,6 +52,12 @@ impl Model for Recording {
 
     ghost Value = { Progress };
 
+    ghost use Rattle.std.specs.Coded.{codes};
+    ghost use Rattle.mms_types.specs.DatumCode.{datum_code};
+    ghost use Rattle.mms_types.specs.ShapeCode.{shape_code};
+
+    ghost coded = { Prim.hlevel (codes, datum_code, shape_code) };
+
     ghost view = { λ s. record {
       held = s.lines.held;
       config = s.config;

@@ -1,6 +1,6 @@
 use Rattle.std.proofs.Common.{◌∙◌, sym}
 use Rattle.std.proofs.lemmas.Map.Text.{is_eq-slice_cmp}
-use Rattle.cell_config.proofs.read.is_key.Goals as goal
+use Rattle.cell_config.proofs.keys.is_key.Goals as goal
 
 pub returns : goal.returns
 returns c = c.eq.ensures ∙ sym (is_eq-slice_cmp c.args.name.now c.args.key.now)
