@@ -1,0 +1,25 @@
+//! Laws over all semaphores. Each function has no body: its contract is the law.
+
+ghost use Rattle.std.specs.Prelude.{◌≡◌, All, List, None, Some, [], false, filter};
+ghost use Rattle.mms_types.specs.declared.moment.Moment.{Moment};
+ghost use Rattle.token_sem.specs.Semaphore.{IsSem, Sem, after_freeing, before, deadlines, first_deadline, is_queued, next, numbered, owner_from, sooner};
+ghost use Rattle.token_sem.specs.declared.entry.Deadline.{Deadline};
+ghost use Rattle.token_sem.specs.declared.entry.SemEntry.{SemEntry};
+
+/// A freed token goes to the queued entry of least rank at that moment, by priority and then by number: it is owner
+/// then, and no entry that waited comes before it. Where none waits, the token is free and no entry changes.
+pub fn a_freed_token_is_served()
+    ensures owner { (s : Sem) (now : Moment) (e : SemEntry) → IsSem s → next s.entries ≡ Some e
+        → numbered e.number (after_freeing now s.entries) ≡ Some (owner_from now e) }
+    ensures best { (s : Sem) (e : SemEntry) → next s.entries ≡ Some e
+        → All (λ x. before x e ≡ false) (filter is_queued s.entries) }
+    ensures none { (s : Sem) → next s.entries ≡ None → filter is_queued s.entries ≡ [] }
+    ensures free { (s : Sem) (now : Moment) → next s.entries ≡ None
+        → after_freeing now s.entries ≡ s.entries }
+{}
+
+/// No deadline of a semaphore is met before the first: by moment, then by kind, then by the entry's number.
+pub fn the_first_deadline_is_the_least()
+    ensures { (entries : List SemEntry) (d : Deadline) → first_deadline entries ≡ Some d
+        → All (λ x. sooner x d ≡ false) (deadlines entries) }
+{}
