@@ -40,3 +40,18 @@ granted-at low high now (x ∷ es) e r (inr a) =
 pub freed-served : (s : Sem) (now : Moment) (e : SemEntry) → IsSem s → next s.entries ≡ Some e → numbered e.number (after_freeing now s.entries) ≡ Some (owner_from now e)
 freed-served s now e is f =
     ap (λ o. numbered e.number (granted_to o now s.entries)) f ∙ granted-at 0 s.made now s.entries e is.rises (among-next s.entries e f).0
+
+-- the entry of that number is the one that stands there
+numbered-at : (low high : ℕ) (es : List SemEntry) (e : SemEntry) → Rises low es high → Among es e → numbered e.number es ≡ Some e
+numbered-at low high [] e r a = absurd a
+numbered-at low high (x ∷ es) e r (inl same) =
+    let t : (x.number == e.number) ≡ true = (let n : x.number ≡ e.number = ap (λ y. y.number) same in grind (arith, nat_tests)) in
+    ap (λ b. cond b (Some x) (numbered e.number es)) t ∙ ap (λ y. Some y) same
+numbered-at low high (x ∷ es) e r (inr a) =
+    let lt = (rises-above x.number high es e r.1 a).0 in
+    let t : (x.number == e.number) ≡ false = grind (arith, nat_tests) in
+    ap (λ b. cond b (Some x) (numbered e.number es)) t ∙ numbered-at x.number high es e r.1 a
+
+-- the entry that is served waited
+pub next-waits : (s : Sem) (e : SemEntry) → IsSem s → next s.entries ≡ Some e → (numbered e.number s.entries ≡ Some e) × (is_queued e ≡ true)
+next-waits s e is f = let a = among-next s.entries e f in (numbered-at 0 s.made s.entries e is.rises a.0, a.1)

@@ -151,7 +151,7 @@ impl Deadline {
     pub const ACCEPTABLE_DELAY: u8 = 1;
 
     /// Whether the deadline is met before the other.
-    pub fn sooner(&self, other: &Deadline) -> bool
+    pub(crate) fn sooner(&self, other: &Deadline) -> bool
         ensures { result ≡ sooner self.now other.now }
     {
         self.at.0 < other.at.0
@@ -181,28 +181,28 @@ impl SemEntry {
     }
 
     /// Whether it waits for a token.
-    pub fn is_queued(&self) -> bool
+    pub(crate) fn is_queued(&self) -> bool
         ensures { result ≡ is_queued self.now }
     {
         matches!(self.state, SemState::Queued)
     }
 
     /// Whether it has a token, and its client an association.
-    pub fn is_owner(&self) -> bool
+    pub(crate) fn is_owner(&self) -> bool
         ensures { result ≡ is_owner self.now }
     {
         matches!(self.state, SemState::Owner)
     }
 
     /// Whether it has a token, and its client no association.
-    pub fn is_hung(&self) -> bool
+    pub(crate) fn is_hung(&self) -> bool
         ensures { result ≡ is_hung self.now }
     {
         matches!(self.state, SemState::Hung)
     }
 
     /// Whether it has a token.
-    pub fn holds(&self) -> bool
+    pub(crate) fn holds(&self) -> bool
         ensures { result ≡ holds self.now }
     {
         !matches!(self.state, SemState::Queued)

@@ -1,14 +1,17 @@
 //! Laws over all semaphores. Each function has no body: its contract is the law.
 
-ghost use Rattle.std.specs.Prelude.{◌≡◌, All, List, None, Some, [], false, filter};
+ghost use Rattle.std.specs.Prelude.{◌≡◌, All, List, None, Some, [], false, filter, true};
 ghost use Rattle.mms_types.specs.declared.moment.Moment.{Moment};
 ghost use Rattle.token_sem.specs.Semaphore.{IsSem, Sem, after_freeing, before, deadlines, first_deadline, is_queued, next, numbered, owner_from, sooner};
 ghost use Rattle.token_sem.specs.declared.entry.Deadline.{Deadline};
 ghost use Rattle.token_sem.specs.declared.entry.SemEntry.{SemEntry};
 
-/// A freed token goes to the queued entry of least rank at that moment, by priority and then by number: it is owner
-/// then, and no entry that waited comes before it. Where none waits, the token is free and no entry changes.
+/// A freed token goes to the queued entry of least rank at that moment, by priority and then by number: it is one of
+/// those that wait, it is owner then, and no entry that waited comes before it. Where none waits, the token is free
+/// and no entry changes.
 pub fn a_freed_token_is_served()
+    ensures waited { (s : Sem) (e : SemEntry) → IsSem s → next s.entries ≡ Some e
+        → (numbered e.number s.entries ≡ Some e) × (is_queued e ≡ true) }
     ensures owner { (s : Sem) (now : Moment) (e : SemEntry) → IsSem s → next s.entries ≡ Some e
         → numbered e.number (after_freeing now s.entries) ≡ Some (owner_from now e) }
     ensures best { (s : Sem) (e : SemEntry) → next s.entries ≡ Some e
