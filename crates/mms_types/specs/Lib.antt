@@ -7,6 +7,7 @@ pub mod Moments
 pub mod Classes
 pub mod AccessErrors
 pub mod DeleteScopes
+pub mod Semaphores
 pub mod Errors
 pub mod FirstCause
 pub mod Serves

@@ -22,6 +22,7 @@ mod object_name;
 mod octets;
 mod pdu;
 mod refuse;
+mod semaphore;
 mod service_error;
 mod status;
 mod type_spec;
@@ -48,6 +49,12 @@ pub use object_name::{ObjectName, ObjectNames};
 pub use octets::Octets;
 pub use pdu::{Answer, Pdu, Reject, RejectReason, Request};
 pub use refuse::Refuse;
+pub use semaphore::{
+    DefineSemaphore, EntryClass, EntryNumber, EntryState, EntryStatus, EntryStatuses, NamedToken,
+    NamedTokens, PoolStatus, RelinquishControl, ReportPoolSemaphoreStatus,
+    ReportSemaphoreEntryStatus, SemaphoreClass, SemaphoreEntries, SemaphoreStatus, TakeControl,
+    TakeControlAnswer,
+};
 pub use service_error::{CancelError, ConfirmedError, ServiceError, StateInfo};
 pub use status::{IdentifyAnswer, Status, StatusAnswer};
 pub use type_spec::{Component, TypeKind, TypeSpec};
