@@ -1,0 +1,4 @@
+pub mod Control
+pub mod Definitions
+pub mod Pools
+pub mod Entries
