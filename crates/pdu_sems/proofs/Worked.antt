@@ -77,6 +77,7 @@ no_takes : Answers (read take_control) (
     (130 ∷ 1 ∷ 10 ∷ 160 ∷ 3 ∷ 128 ∷ 1 ∷ 84 ∷ [], Err fault.malformed) ∷
     (160 ∷ 3 ∷ 128 ∷ 1 ∷ 84 ∷ 129 ∷ 0 ∷ [], Err fault.malformed) ∷
     (160 ∷ 3 ∷ 128 ∷ 1 ∷ 84 ∷ 129 ∷ 1 ∷ 48 ∷ [], Err fault.malformed) ∷
+    (160 ∷ 3 ∷ 128 ∷ 1 ∷ 84 ∷ 129 ∷ 33 ∷ 84 ∷ 84 ∷ 84 ∷ 84 ∷ 84 ∷ 84 ∷ 84 ∷ 84 ∷ 84 ∷ 84 ∷ 84 ∷ 84 ∷ 84 ∷ 84 ∷ 84 ∷ 84 ∷ 84 ∷ 84 ∷ 84 ∷ 84 ∷ 84 ∷ 84 ∷ 84 ∷ 84 ∷ 84 ∷ 84 ∷ 84 ∷ 84 ∷ 84 ∷ 84 ∷ 84 ∷ 84 ∷ 84 ∷ [], Err fault.malformed) ∷
     (160 ∷ 3 ∷ 128 ∷ 1 ∷ 84 ∷ 130 ∷ 0 ∷ [], Err fault.malformed) ∷
     (160 ∷ 3 ∷ 128 ∷ 1 ∷ 84 ∷ 130 ∷ 1 ∷ 128 ∷ [], Err fault.malformed) ∷
     (160 ∷ 3 ∷ 128 ∷ 1 ∷ 84 ∷ 130 ∷ 1 ∷ 255 ∷ [], Err fault.malformed) ∷
