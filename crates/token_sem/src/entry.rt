@@ -34,6 +34,7 @@ pub struct SemEntry {
     pub abort: Option<bool>,
     /// Whether the token is kept where its client is lost: relinquishIfConnectionLost is FALSE.
     pub keep: bool,
+    /// Whether it waits for a token or has one.
     pub state: SemState,
     /// The moment at which it stops waiting, or at which its token is freed. None: it has none.
     pub deadline: Option<Moment>,
@@ -65,6 +66,7 @@ pub struct Ask {
 /// A token is granted: the client is to be answered.
 #[derive(Clone, Copy, Debug, PartialEq, Eq)]
 pub struct Grant {
+    /// The client that owns it.
     pub client: u32,
     /// The invokeID of the request that is answered.
     pub invoke: u32,
@@ -136,6 +138,7 @@ pub struct Expired {
 /// A deadline of an entry.
 #[derive(Clone, Copy, Debug, PartialEq, Eq)]
 pub struct Deadline {
+    /// When it is met.
     pub at: Moment,
     /// [`Deadline::CONTROL_TIME_OUT`] or [`Deadline::ACCEPTABLE_DELAY`].
     pub kind: u8,
