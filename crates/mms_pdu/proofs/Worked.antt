@@ -1,6 +1,14 @@
--- Worked examples of PDUs that no service sends yet: octets typed from ITU-T X.690 and ISO 9506-2.
-use Rattle.std.specs.Prelude.{◌≡◌, List, [], ◌∷◌, map, Some, None}
+-- Worked examples of PDUs that no service sends yet, with octets typed from ITU-T X.690 and ISO 9506-2, and of how deep requests nest.
+use Rattle.std.specs.Prelude.{◌≡◌, pos, true, false, List, [], ◌∷◌, map, Option, Some, None}
 use Rattle.std.proofs.Common.{refl}
+use Rattle.mms_types.specs.Datum.{Datum, row}
+use Rattle.mms_types.specs.Datum as datum
+use Rattle.mms_types.specs.Shape.{Shape, no_field, field}
+use Rattle.mms_types.specs.Shape as shape
+use Rattle.mms_types.specs.declared.object_name.ObjectName.TheVariants.{Vmd}
+use Rattle.mms_types.specs.declared.variable.Access.TheVariants as access
+use Rattle.mms_types.specs.declared.pdu.Request.TheVariants as request
+use Rattle.mms_types.specs.declared.pdu.Pdu.{Pdu}
 use Rattle.mms_types.specs.declared.pdu.Pdu.TheVariants as pdu
 use Rattle.mms_types.specs.declared.pdu.RejectReason.TheVariants.{InvalidInvokeId}
 use Rattle.mms_types.specs.declared.service_error.ServiceError.{ServiceError}
@@ -9,6 +17,7 @@ use Rattle.ber_core.specs.Spelling.{digits, identifier_octets, length_octets, el
 use Rattle.pdu_assoc.specs.ServiceErrors.{numbered}
 use Rattle.mms_pdu.specs.Services.{requests, answers}
 use Rattle.mms_pdu.specs.Pdus.{pdu_octets}
+use Rattle.mms_pdu.specs.Hearing.{depth_of}
 
 -- a function answers each row of a table with its second column
 abbrev Answers : {A B : Type 0} → (A → B) → List (A × B) → Type 0
@@ -29,3 +38,29 @@ sent : Answers pdu_octets (
     [])
 unfolding requests answers numbered element_octets identifier_octets length_octets digits
 sent = refl
+
+-- ---- how deep requests nest
+
+abbrev write : List Datum → Pdu
+write values = pdu.ConfirmedRequest 1 (request.Write (record { access = access.List (Vmd (76 ∷ [])); values = values }))
+
+abbrev define : Option Shape → Pdu
+define of = pdu.ConfirmedRequest 1 (request.DefineNamedVariable (record { name = Vmd (65 ∷ []); address = 0; of = of }))
+
+abbrev seven : Datum
+seven = datum.integer (pos 7)
+
+-- an array or a structure is one more than its deepest part, and 1 where it has none; what is deepest counts, wherever it stands
+nests : Answers depth_of (
+    (write [], 0) ∷
+    (write (seven ∷ seven ∷ []), 0) ∷
+    (write (datum.array (row []) ∷ seven ∷ []), 1) ∷
+    (write (seven ∷ datum.structure (row (seven ∷ datum.array (row (seven ∷ [])) ∷ [])) ∷ datum.array (row []) ∷ []), 2) ∷
+    (define None, 0) ∷
+    (define (Some shape.boolean), 0) ∷
+    (define (Some (shape.structure false no_field)), 1) ∷
+    (define (Some (shape.array false 2 (shape.structure true (field None shape.boolean (field (Some (65 ∷ [])) (shape.array false 0 shape.boolean) no_field))))), 3) ∷
+    (pdu.ConfirmedRequest 1 (request.GetNamedVariableListAttributes (Vmd (76 ∷ []))), 0) ∷
+    (pdu.CancelRequest 1, 0) ∷
+    [])
+nests = refl

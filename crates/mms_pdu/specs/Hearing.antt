@@ -12,7 +12,11 @@ use Rattle.ber_forms.specs.Form.{Form, Alternatives, unsigned32, universal, or, 
 use Rattle.ber_forms.specs.ByNumber.{form_at, read_as}
 use Rattle.ber_forms.specs.Reading.{◌>>=◌, is_tag, has_tag, at_end, part_at, optional_part, required_at, reading, alternatives}
 use Rattle.mms_types.specs.declared.identifier.Edition.{Edition}
+use Rattle.mms_types.specs.declared.pdu.Request.{Request}
+use Rattle.mms_types.specs.declared.pdu.Request.TheVariants as request
 use Rattle.mms_types.specs.declared.pdu.Pdu.{Pdu}
+use Rattle.mms_types.specs.declared.pdu.Pdu.TheVariants as pdu
+use Rattle.mms_types.specs.Depths.{write_depth, definition_depth}
 use Rattle.pdu_names.specs.Said.{natural_of}
 use Rattle.pdu_assoc.specs.Heard.{unconfirmed_form, heard_cancel_form, heard_cancel_error_form, heard_error, heard_reject_form, answered}
 use Rattle.mms_pdu.specs.declared.refusal.Refusal.{Refusal}
@@ -128,8 +132,24 @@ module _ (lengths : Lengths) (edition : Edition) where
   unfoldable pub heard : List ℕ → Result Value Refusal
   heard octets = and_then (valid (sole_part lengths octets)) part_told
 
--- How deep the data and the type of a request nest: of the services that are offered none has any.
+-- How deep the data and the type of a request nest (ISO 9506-2, nestingLevel): the data that is written, and the type of a variable that
+-- is defined. The other requests have none.
+abbrev pub request_depth : Request → ℕ
+request_depth (request.Status x) = 0
+request_depth (request.GetNameList x) = 0
+request_depth request.Identify = 0
+request_depth (request.Read x) = 0
+request_depth (request.Write x) = write_depth x
+request_depth (request.GetVariableAccessAttributes x) = 0
+request_depth (request.DefineNamedVariable x) = definition_depth x
+request_depth (request.DeleteVariableAccess x) = 0
+request_depth (request.DefineNamedVariableList x) = 0
+request_depth (request.GetNamedVariableListAttributes x) = 0
+request_depth (request.DeleteNamedVariableList x) = 0
+
+-- and those of a PDU
 abbrev pub depth_of : Pdu → ℕ
+depth_of (pdu.ConfirmedRequest invoke request) = request_depth request
 depth_of p = 0
 
 -- The refusal is the one that was told, unless it is want of memory.

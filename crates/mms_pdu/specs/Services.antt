@@ -8,9 +8,17 @@ use Rattle.mms_types.specs.declared.pdu.Request.{Request}
 use Rattle.mms_types.specs.declared.pdu.Request.TheVariants as request
 use Rattle.mms_types.specs.declared.pdu.Answer.{Answer}
 use Rattle.mms_types.specs.declared.pdu.Answer.TheVariants as answer
-use Rattle.pdu_names.specs.Kinds.{Kind, Choice, Arms, null, or, no_other, alternatives, made_of}
+use Rattle.pdu_names.specs.Kinds.{Kind, Choice, Arms, null, choice, or, no_other, alternatives, made_of}
+use Rattle.pdu_names.specs.Names.{names, names_sound}
 use Rattle.pdu_assoc.specs.Status.{status, status_answer, identify_answer}
 use Rattle.pdu_assoc.specs.NameList.{name_list, name_list_answer}
+use Rattle.pdu_data.specs.Data.{data_sound}
+use Rattle.pdu_data.specs.Types.{type_sound}
+use Rattle.pdu_vars.specs.Variables.{specifications, specifications_sound, accesses_sound}
+use Rattle.pdu_vars.specs.Results.{write_answer, access_results_sound}
+use Rattle.pdu_vars.specs.ReadWrite.{read_request, read_answer, write_request}
+use Rattle.pdu_vars.specs.Named.{define_variable, variable_attributes, delete_names, deleted_names}
+use Rattle.pdu_vars.specs.Lists.{define_list, list_attributes}
 
 -- services: their numbers, and the two choices that they make
 pub record Services : Type 0 where
@@ -31,12 +39,22 @@ abbrev none : Services
 none = record { numbers = []; requests = no_other request.Identify; answers = no_other (answer.Status (record { logical = 0; physical = 0 })) }
 
 -- The services that are offered, in the order of their numbers. From this list follow what isn't offered, the services that an
--- initiate-Response names, and both choices. VMD support: Status, GetNameList, Identify.
+-- initiate-Response names, and both choices. VMD support: Status, GetNameList, Identify. Variable access: Read, Write,
+-- GetVariableAccessAttributes, DefineNamedVariable, DeleteVariableAccess, DefineNamedVariableList, GetNamedVariableListAttributes,
+-- DeleteNamedVariableList.
 abbrev pub services : Services
 services =
     service 0 status request.Status status_answer answer.Status (
     service 1 name_list request.GetNameList name_list_answer answer.GetNameList (
-    service 2 null (λ _. request.Identify) identify_answer answer.Identify none))
+    service 2 null (λ _. request.Identify) identify_answer answer.Identify (
+    service 4 read_request request.Read read_answer answer.Read (
+    service 5 write_request request.Write write_answer answer.Write (
+    service 6 (choice specifications) request.GetVariableAccessAttributes variable_attributes answer.GetVariableAccessAttributes (
+    service 7 define_variable request.DefineNamedVariable null (λ _. answer.DefineNamedVariable) (
+    service 10 delete_names request.DeleteVariableAccess deleted_names answer.DeleteVariableAccess (
+    service 11 define_list request.DefineNamedVariableList null (λ _. answer.DefineNamedVariableList) (
+    service 12 (choice names) request.GetNamedVariableListAttributes list_attributes answer.GetNamedVariableListAttributes (
+    service 13 delete_names request.DeleteNamedVariableList deleted_names answer.DeleteNamedVariableList none))))))))))
 
 -- ---- ConfirmedServiceRequest: each service by its number, with its argument
 
@@ -44,18 +62,34 @@ abbrev request_value : Request → Value
 request_value (request.Status x) = chosen 0 (status.value x)
 request_value (request.GetNameList x) = chosen 1 (name_list.value x)
 request_value request.Identify = chosen 2 (null.value tt)
+request_value (request.Read x) = chosen 4 (read_request.value x)
+request_value (request.Write x) = chosen 5 (write_request.value x)
+request_value (request.GetVariableAccessAttributes x) = chosen 6 ((choice specifications).value x)
+request_value (request.DefineNamedVariable x) = chosen 7 (define_variable.value x)
+request_value (request.DeleteVariableAccess x) = chosen 10 (delete_names.value x)
+request_value (request.DefineNamedVariableList x) = chosen 11 (define_list.value x)
+request_value (request.GetNamedVariableListAttributes x) = chosen 12 ((choice names).value x)
+request_value (request.DeleteNamedVariableList x) = chosen 13 (delete_names.value x)
 
 pub request_again : (r : Request) → made_of services.requests (request_value r) ≡ r
 request_again (request.Status x) = ap request.Status (status.again x)
 request_again (request.GetNameList x) = ap request.GetNameList (name_list.again x)
 request_again request.Identify = refl
+request_again (request.Read x) = ap request.Read (read_request.again x)
+request_again (request.Write x) = ap request.Write (write_request.again x)
+request_again (request.GetVariableAccessAttributes x) = ap request.GetVariableAccessAttributes ((choice specifications).again x)
+request_again (request.DefineNamedVariable x) = ap request.DefineNamedVariable (define_variable.again x)
+request_again (request.DeleteVariableAccess x) = ap request.DeleteVariableAccess (delete_names.again x)
+request_again (request.DefineNamedVariableList x) = ap request.DefineNamedVariableList (define_list.again x)
+request_again (request.GetNamedVariableListAttributes x) = ap request.GetNamedVariableListAttributes ((choice names).again x)
+request_again (request.DeleteNamedVariableList x) = ap request.DeleteNamedVariableList (delete_names.again x)
 
 unfoldable pub requests : Choice Request
 requests = alternatives services.requests request_value request_again
 
 pub requests_sound : (e : Edition) → sound_alternatives (requests.alternatives e) ≡ true
 unfolding requests
-requests_sound e = refl
+requests_sound e = rw (accesses_sound e, data_sound e, specifications_sound e, names_sound e, type_sound e) refl
 
 -- ---- ConfirmedServiceResponse: each service by its number, with its answer
 
@@ -63,15 +97,31 @@ abbrev answer_value : Answer → Value
 answer_value (answer.Status x) = chosen 0 (status_answer.value x)
 answer_value (answer.GetNameList x) = chosen 1 (name_list_answer.value x)
 answer_value (answer.Identify x) = chosen 2 (identify_answer.value x)
+answer_value (answer.Read x) = chosen 4 (read_answer.value x)
+answer_value (answer.Write x) = chosen 5 (write_answer.value x)
+answer_value (answer.GetVariableAccessAttributes x) = chosen 6 (variable_attributes.value x)
+answer_value answer.DefineNamedVariable = chosen 7 (null.value tt)
+answer_value (answer.DeleteVariableAccess x) = chosen 10 (deleted_names.value x)
+answer_value answer.DefineNamedVariableList = chosen 11 (null.value tt)
+answer_value (answer.GetNamedVariableListAttributes x) = chosen 12 (list_attributes.value x)
+answer_value (answer.DeleteNamedVariableList x) = chosen 13 (deleted_names.value x)
 
 pub answer_again : (a : Answer) → made_of services.answers (answer_value a) ≡ a
 answer_again (answer.Status x) = ap answer.Status (status_answer.again x)
 answer_again (answer.GetNameList x) = ap answer.GetNameList (name_list_answer.again x)
 answer_again (answer.Identify x) = ap answer.Identify (identify_answer.again x)
+answer_again (answer.Read x) = ap answer.Read (read_answer.again x)
+answer_again (answer.Write x) = ap answer.Write (write_answer.again x)
+answer_again (answer.GetVariableAccessAttributes x) = ap answer.GetVariableAccessAttributes (variable_attributes.again x)
+answer_again answer.DefineNamedVariable = refl
+answer_again (answer.DeleteVariableAccess x) = ap answer.DeleteVariableAccess (deleted_names.again x)
+answer_again answer.DefineNamedVariableList = refl
+answer_again (answer.GetNamedVariableListAttributes x) = ap answer.GetNamedVariableListAttributes (list_attributes.again x)
+answer_again (answer.DeleteNamedVariableList x) = ap answer.DeleteNamedVariableList (deleted_names.again x)
 
 unfoldable pub answers : Choice Answer
 answers = alternatives services.answers answer_value answer_again
 
 pub answers_sound : (e : Edition) → sound_alternatives (answers.alternatives e) ≡ true
 unfolding answers
-answers_sound e = refl
+answers_sound e = rw (accesses_sound e, access_results_sound e, type_sound e, specifications_sound e) refl

@@ -1,6 +1,7 @@
 //! Whole PDUs in octets, both ways (ISO 9506-2, MMSpdu), and the order in which what a client sends is refused.
 #![tactic(auto)]
 
+mod depth;
 mod laws;
 mod reading;
 mod refusal;

@@ -9,6 +9,7 @@ ghost use Rattle.mms_pdu.specs.Heard.{IsHeard, pdu_heard};
 ghost use Rattle.mms_pdu.specs.Refused.{RefusesFirst};
 ghost use Rattle.mms_pdu.specs.Hearing.{Hears, is_pdu, kept_pdus, noted_pdus, valid, invalid_of, and_then, asked_at, request_told, reject_told, part_told, heard, depth_of};
 
+use crate::depth::depth;
 use crate::refusal::Refusal;
 use crate::request::{asked, request, sole};
 use crate::response::response;
@@ -163,5 +164,6 @@ pub fn read_pdu(alloc: Global, octets: &[u8], edition: Edition) -> Result<Read, 
     ensures depth { IfOk result (λ r. r.depth ≡ depth_of r.pdu) }
 {
     let pdu = whole(alloc, octets, edition)?;
-    Ok(Read { pdu, depth: 0 })
+    let depth = depth(&pdu);
+    Ok(Read { pdu, depth })
 }

@@ -20,6 +20,11 @@ use ber_forms::{Cursor, Unread};
 use mms_types::{Edition, Pdu, Request};
 use pdu_assoc::{GetNameListRequest, StatusRequest};
 use pdu_names::{Formed, Null, cursor, read_as};
+use pdu_vars::{
+    DefineNamedVariableListRequest, DefineNamedVariableRequest, DeleteNamedVariableListRequest,
+    DeleteVariableAccessRequest, GetNamedVariableListAttributesRequest,
+    GetVariableAccessAttributesRequest, ReadRequest, WriteRequest,
+};
 use std::alloc::Global;
 
 /// The last element: nothing follows it.
@@ -105,6 +110,26 @@ fn served(
             argument::<Null>(alloc, invoke, service, edition)?;
             Ok(Request::Identify)
         }
+        4 => Ok(Request::Read(argument::<ReadRequest>(alloc, invoke, service, edition)?)),
+        5 => Ok(Request::Write(argument::<WriteRequest>(alloc, invoke, service, edition)?)),
+        6 => Ok(Request::GetVariableAccessAttributes(argument::<GetVariableAccessAttributesRequest>(
+            alloc, invoke, service, edition,
+        )?)),
+        7 => Ok(Request::DefineNamedVariable(argument::<DefineNamedVariableRequest>(
+            alloc, invoke, service, edition,
+        )?)),
+        10 => Ok(Request::DeleteVariableAccess(argument::<DeleteVariableAccessRequest>(
+            alloc, invoke, service, edition,
+        )?)),
+        11 => Ok(Request::DefineNamedVariableList(argument::<DefineNamedVariableListRequest>(
+            alloc, invoke, service, edition,
+        )?)),
+        12 => Ok(Request::GetNamedVariableListAttributes(argument::<
+            GetNamedVariableListAttributesRequest,
+        >(alloc, invoke, service, edition)?)),
+        13 => Ok(Request::DeleteNamedVariableList(argument::<DeleteNamedVariableListRequest>(
+            alloc, invoke, service, edition,
+        )?)),
         _ => Err(Refusal::Service { invoke }),
     }
 }
@@ -141,5 +166,17 @@ pub(crate) fn put_argument(out: &mut Writer, request: &Request) -> Result<(), Fu
         Request::Status(x) => StatusRequest::put_part(out, 0, x),
         Request::GetNameList(x) => GetNameListRequest::put_part(out, 1, x),
         Request::Identify => Null::put_part(out, 2, &()),
+        Request::Read(x) => ReadRequest::put_part(out, 4, x),
+        Request::Write(x) => WriteRequest::put_part(out, 5, x),
+        Request::GetVariableAccessAttributes(x) => {
+            GetVariableAccessAttributesRequest::put_part(out, 6, x)
+        }
+        Request::DefineNamedVariable(x) => DefineNamedVariableRequest::put_part(out, 7, x),
+        Request::DeleteVariableAccess(x) => DeleteVariableAccessRequest::put_part(out, 10, x),
+        Request::DefineNamedVariableList(x) => DefineNamedVariableListRequest::put_part(out, 11, x),
+        Request::GetNamedVariableListAttributes(x) => {
+            GetNamedVariableListAttributesRequest::put_part(out, 12, x)
+        }
+        Request::DeleteNamedVariableList(x) => DeleteNamedVariableListRequest::put_part(out, 13, x),
     }
 }

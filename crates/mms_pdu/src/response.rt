@@ -13,7 +13,12 @@ use ber_core::{Element, Memory as Full, Writer};
 use ber_forms::Unread;
 use mms_types::{Answer, Edition};
 use pdu_assoc::{GetNameListResponse, IdentifyResponse, StatusResponse};
-use pdu_names::{Chosen, Formed, OneOf, Own, cursor, read_as};
+use pdu_names::{Chosen, Formed, Null, OneOf, Own, cursor, read_as};
+use pdu_vars::{
+    DeleteNamedVariableListResponse, DeleteVariableAccessResponse,
+    GetNamedVariableListAttributesResponse, GetVariableAccessAttributesResponse, ReadResponse,
+    WriteResponse,
+};
 use std::alloc::Global;
 
 /// The answer of the service of that number.
@@ -27,6 +32,28 @@ fn answered(alloc: Global, service: Element<'_>, edition: Edition) -> Result<Ans
         0 => Ok(Answer::Status(read_as::<StatusResponse>(alloc, service, edition)?)),
         1 => Ok(Answer::GetNameList(read_as::<GetNameListResponse>(alloc, service, edition)?)),
         2 => Ok(Answer::Identify(read_as::<IdentifyResponse>(alloc, service, edition)?)),
+        4 => Ok(Answer::Read(read_as::<ReadResponse>(alloc, service, edition)?)),
+        5 => Ok(Answer::Write(read_as::<WriteResponse>(alloc, service, edition)?)),
+        6 => Ok(Answer::GetVariableAccessAttributes(read_as::<GetVariableAccessAttributesResponse>(
+            alloc, service, edition,
+        )?)),
+        7 => {
+            read_as::<Null>(alloc, service, edition)?;
+            Ok(Answer::DefineNamedVariable)
+        }
+        10 => Ok(Answer::DeleteVariableAccess(read_as::<DeleteVariableAccessResponse>(
+            alloc, service, edition,
+        )?)),
+        11 => {
+            read_as::<Null>(alloc, service, edition)?;
+            Ok(Answer::DefineNamedVariableList)
+        }
+        12 => Ok(Answer::GetNamedVariableListAttributes(read_as::<
+            GetNamedVariableListAttributesResponse,
+        >(alloc, service, edition)?)),
+        13 => Ok(Answer::DeleteNamedVariableList(read_as::<DeleteNamedVariableListResponse>(
+            alloc, service, edition,
+        )?)),
         _ => Err(Unread::Malformed),
     }
 }
@@ -51,6 +78,20 @@ impl Chosen for Answers {
             Answer::Status(x) => StatusResponse::put_part(out, 0, x),
             Answer::GetNameList(x) => GetNameListResponse::put_part(out, 1, x),
             Answer::Identify(x) => IdentifyResponse::put_part(out, 2, x),
+            Answer::Read(x) => ReadResponse::put_part(out, 4, x),
+            Answer::Write(x) => WriteResponse::put_part(out, 5, x),
+            Answer::GetVariableAccessAttributes(x) => {
+                GetVariableAccessAttributesResponse::put_part(out, 6, x)
+            }
+            Answer::DefineNamedVariable => Null::put_part(out, 7, &()),
+            Answer::DeleteVariableAccess(x) => DeleteVariableAccessResponse::put_part(out, 10, x),
+            Answer::DefineNamedVariableList => Null::put_part(out, 11, &()),
+            Answer::GetNamedVariableListAttributes(x) => {
+                GetNamedVariableListAttributesResponse::put_part(out, 12, x)
+            }
+            Answer::DeleteNamedVariableList(x) => {
+                DeleteNamedVariableListResponse::put_part(out, 13, x)
+            }
         }
     }
 

@@ -1,6 +1,8 @@
 use crate::{
-    CancelError, ConfirmedError, GetNameList, GetNameListAnswer, IdentifyAnswer, Initiate,
-    InitiateAnswer, ServiceError, Status, StatusAnswer,
+    CancelError, ConfirmedError, DefineNamedVariable, DefineNamedVariableList, DeleteNames,
+    Deleted, GetNameList, GetNameListAnswer, IdentifyAnswer, Initiate, InitiateAnswer,
+    ListAttributes, ObjectName, Read, ReadAnswer, ServiceError, Spec, Status, StatusAnswer,
+    VariableAttributes, Write, WriteAnswer,
 };
 
 /// What a client asks of the server (ISO 9506-2, ConfirmedServiceRequest): a variant for each service, with its
@@ -13,6 +15,22 @@ pub enum Request {
     GetNameList(GetNameList),
     /// Who made the device, which one it is and its revision.
     Identify,
+    /// The data of variables.
+    Read(Read),
+    /// New data for variables.
+    Write(Write),
+    /// What a variable is.
+    GetVariableAccessAttributes(Spec),
+    /// A name for a cell.
+    DefineNamedVariable(DefineNamedVariable),
+    /// The deletion of names of variables.
+    DeleteVariableAccess(DeleteNames),
+    /// A name for a list of variables.
+    DefineNamedVariableList(DefineNamedVariableList),
+    /// What a list of variables is: that of this name.
+    GetNamedVariableListAttributes(ObjectName),
+    /// The deletion of names of lists of variables.
+    DeleteNamedVariableList(DeleteNames),
 }
 
 /// What the server answers to a request (ISO 9506-2, ConfirmedServiceResponse): a variant for each service, with what
@@ -25,6 +43,22 @@ pub enum Answer {
     GetNameList(GetNameListAnswer),
     /// The texts that identify the device.
     Identify(IdentifyAnswer),
+    /// What was read of each variable.
+    Read(ReadAnswer),
+    /// What became of each variable that was to be written.
+    Write(WriteAnswer),
+    /// What the variable is.
+    GetVariableAccessAttributes(VariableAttributes),
+    /// The cell has the name.
+    DefineNamedVariable,
+    /// How many names of variables there were, and how many of them were deleted.
+    DeleteVariableAccess(Deleted),
+    /// The list of variables has the name.
+    DefineNamedVariableList,
+    /// What the list of variables is.
+    GetNamedVariableListAttributes(ListAttributes),
+    /// How many names of lists of variables there were, and how many of them were deleted.
+    DeleteNamedVariableList(Deleted),
 }
 
 /// Why a PDU is rejected (ISO 9506-2, RejectPDU): the reasons that the server gives.

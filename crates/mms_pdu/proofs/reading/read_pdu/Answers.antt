@@ -14,4 +14,4 @@ returns-in_err-pdu-clause-refused c =
 
 pub returns-clause-refused : goal.returns-clause-refused
 returns-clause-refused c =
-    refuses_first (lengths_of c.args.edition) c.args.edition c.args.octets.now (λ (r : Read). pdu_value r.pdu) (Ok (record { pdu = c.in_ok-pdu.pdu; depth = 0 })) (λ i. omega (arith, c.type_inv.octets i)) c.in_ok-pdu.ensures.told
+    refuses_first (lengths_of c.args.edition) c.args.edition c.args.octets.now (λ (r : Read). pdu_value r.pdu) (Ok (record { pdu = c.in_ok-pdu.pdu; depth = c.depth-depth.result })) (λ i. omega (arith, c.type_inv.octets i)) c.in_ok-pdu.ensures.told

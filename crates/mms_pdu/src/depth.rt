@@ -1,0 +1,36 @@
+//! How deep what a PDU has nests.
+
+ghost use Rattle.std.specs.Prelude.{◌≡◌};
+ghost use Rattle.mms_pdu.specs.Hearing.{request_depth, depth_of};
+
+use mms_types::{Pdu, Request};
+
+/// How deep the data and the type of a request nest: the data that is written, and the type of a variable that is
+/// defined.
+fn request_depth(request: &Request) -> u8
+    ensures { result ≡ request_depth request.now }
+{
+    match request {
+        Request::Write(x) => x.depth(),
+        Request::DefineNamedVariable(x) => x.depth(),
+        Request::Status(_)
+        | Request::GetNameList(_)
+        | Request::Identify
+        | Request::Read(_)
+        | Request::GetVariableAccessAttributes(_)
+        | Request::DeleteVariableAccess(_)
+        | Request::DefineNamedVariableList(_)
+        | Request::GetNamedVariableListAttributes(_)
+        | Request::DeleteNamedVariableList(_) => 0,
+    }
+}
+
+/// How deep the data and the type of the request nest that the PDU is, and 0 where it is none.
+pub(crate) fn depth(pdu: &Pdu) -> u8
+    ensures { result ≡ depth_of pdu.now }
+{
+    match pdu {
+        Pdu::ConfirmedRequest { request, .. } => request_depth(request),
+        _ => 0,
+    }
+}
