@@ -1,12 +1,12 @@
 -- What holds of a semaphore at any time stays so.
-use Rattle.std.proofs.Common.{option_map, ◌≡◌, ℕ, ◌+◌, ◌<◌, ◌≤◌, ◌⊎◌, inl, inr, Bool, true, false, not, cond, ◌==◌, ◌&&◌, List, [], ◌∷◌, map, filter, find, fold, Option, None, Some, refl, sym, ◌∙◌, ap, ap₂, subst, arith}
+use Rattle.std.proofs.Common.{option_map, ◌≡◌, ℕ, ◌+◌, ◌<◌, ◌≤◌, ◌⊎◌, inl, inr, Bool, true, false, not, cond, ◌==◌, ◌&&◌, List, [], ◌∷◌, map, filter, find, fold, count_by, Option, None, Some, refl, sym, ◌∙◌, ap, ap₂, subst, arith}
 use Rattle.std.proofs.lemmas.List.Sums.{sum_by-cons}
 use Rattle.std.proofs.lemmas.Bool.Decides.{nat_tests}
 use Rattle.mms_types.specs.declared.moment.Moment.{Moment}
 use Rattle.token_sem.specs.declared.entry.SemEntry.{SemEntry}
 use Rattle.token_sem.specs.declared.entry.SemState.{SemState}
 use Rattle.token_sem.specs.declared.entry.SemState.TheVariants.{Queued, Owner, Hung}
-use Rattle.token_sem.specs.Semaphore.{is_owner_state, is_queued_state, Sem, IsSem, Rises, is_queued, is_owner, holds, tokens_held, without, granted_entry, owner_from, after_freeing, granted_to, next, least, earlier, before, owner_of, after_relinquish, after_giving_back, after_expire, expired_entry, numbered, after_cancel}
+use Rattle.token_sem.specs.Semaphore.{is_owner_state, is_hung_state, is_hung, is_queued_state, Sem, IsSem, Rises, is_queued, is_owner, holds, tokens_held, without, granted_entry, owner_from, after_freeing, granted_to, next, least, earlier, before, owner_of, after_relinquish, after_giving_back, after_expire, expired_entry, numbered, after_cancel}
 
 -- the entry stands in the list
 abbrev pub Among : List SemEntry → SemEntry → Type 0
@@ -275,3 +275,26 @@ cancel-keeps s number is f = by_entry (numbered number s.entries) refl f
         let a = among-find (λ e. e.number == number) s.entries o t in
         let same : o.number ≡ number = (let h : (o.number == number) ≡ true = a.1 in grind (arith, nat_tests)) in
         subst (λ n. IsSem (after_cancel s n)) same (cancelled s o is a.0 (cc g))
+
+-- a token that is held is owned or hung
+owned-and-hung : (es : List SemEntry) → count_by is_owner es + count_by is_hung es ≡ tokens_held es
+owned-and-hung [] = refl
+owned-and-hung (e ∷ es) =
+    let owned = sum_by-cons (λ (x : SemEntry). cond (is_owner x) 1 0) e es in
+    let hung = sum_by-cons (λ (x : SemEntry). cond (is_hung x) 1 0) e es in
+    let held = held-cons e es in
+    let rest = owned-and-hung es in
+    let here = weights e.state in
+    omega arith
+  where
+    weights : (state : SemState) → cond (is_owner_state state) 1 0 + cond (is_hung_state state) 1 0 ≡ cond (not (is_queued_state state)) 1 0
+    weights Queued = refl
+    weights Owner = refl
+    weights Hung = refl
+
+-- and so no more are owned than there are, nor hung
+pub few-owned : (s : Sem) → IsSem s → count_by is_owner s.entries ≤ s.tokens
+few-owned s is = omega (arith, owned-and-hung s.entries, is.few)
+
+pub few-hung : (s : Sem) → IsSem s → count_by is_hung s.entries ≤ s.tokens
+few-hung s is = omega (arith, owned-and-hung s.entries, is.few)

@@ -1,13 +1,14 @@
 -- A after_freeing token goes to the waiter of best rank.
-use Rattle.std.proofs.Common.{◌≡◌, ◌==◌, ℕ, ◌<◌, inl, inr, true, false, cond, List, [], ◌∷◌, map, filter, length, get_or, Some, zero, suc, refl, ◌∙◌, ap, arith}
+use Rattle.std.proofs.Common.{◌≡◌, ◌==◌, ℕ, ◌<◌, inl, inr, true, false, cond, List, [], ◌∷◌, map, filter, length, get_or, Option, None, Some, IfSome, option_and_then, zero, suc, refl, sym, ◌∙◌, ap, arith}
+use Rattle.std.specs.List.{cons_option}
 use Rattle.std.specs.List.{All}
 use Rattle.std.proofs.lemmas.Bool.Decides.{nat_tests}
 use Rattle.mms_types.specs.declared.moment.Moment.{Moment}
 use Rattle.token_sem.specs.declared.entry.Deadline.{Deadline}
 use Rattle.token_sem.specs.declared.entry.SemEntry.{SemEntry}
-use Rattle.token_sem.specs.Semaphore.{Sem, IsSem, Rises, before, next, is_queued, numbered, after_freeing, granted_to, granted_entry, owner_from, sooner, deadlines, first_deadline}
+use Rattle.token_sem.specs.Semaphore.{Sem, IsSem, Rises, before, next, is_queued, numbered, after_freeing, granted_to, granted_entry, owner_from, sooner, deadlines, deadline_at, deadline_with, first_deadline}
 use Rattle.token_sem.proofs.Keeping.{Among, among-next, rises-above}
-use Rattle.token_sem.proofs.Least.{Stands, least-first, before-order, sooner-order}
+use Rattle.token_sem.proofs.Least.{Stands, least-first, least-stands, before-order, sooner-order}
 
 stands-get_or : {A : Type 0} (xs : List A) (k : ℕ) (d : A) → k < length xs → Stands xs (get_or xs k d)
 stands-get_or [] k d lt = absurd (omega arith)
@@ -55,3 +56,29 @@ numbered-at low high (x ∷ es) e r (inr a) =
 -- the entry that is served waited
 pub next-waits : (s : Sem) (e : SemEntry) → IsSem s → next s.entries ≡ Some e → (numbered e.number s.entries ≡ Some e) × (is_queued e ≡ true)
 next-waits s e is f = let a = among-next s.entries e f in (numbered-at 0 s.made s.entries e is.rises a.0, a.1)
+
+-- a deadline is that of an entry
+deadline-of-entry : (es : List SemEntry) (d : Deadline) → Stands (deadlines es) d → (e : SemEntry) × Among es e × (e.number ≡ d.number) × (e.deadline ≡ Some d.at)
+deadline-of-entry [] d h = absurd h
+deadline-of-entry (e ∷ es) d h = by_deadline e.deadline refl (λ k. later (deadline-of-entry es d k)) h
+  where
+    later : (x : SemEntry) × Among es x × (x.number ≡ d.number) × (x.deadline ≡ Some d.at) → (x : SemEntry) × Among (e ∷ es) x × (x.number ≡ d.number) × (x.deadline ≡ Some d.at)
+    later found = (found.0, inr found.1, found.2, found.3)
+
+    by_deadline : (o : Option Moment) → e.deadline ≡ o → (Stands (deadlines es) d → (x : SemEntry) × Among (e ∷ es) x × (x.number ≡ d.number) × (x.deadline ≡ Some d.at))
+        → Stands (cons_option (deadline_with o e) (deadlines es)) d → (x : SemEntry) × Among (e ∷ es) x × (x.number ≡ d.number) × (x.deadline ≡ Some d.at)
+    by_deadline None is rest k = rest k
+    by_deadline (Some at) is rest (inl same) = (e, inl refl, ap (λ (x : Deadline). x.number) same, is ∙ ap (λ (x : Deadline). Some x.at) same)
+    by_deadline (Some at) is rest (inr k) = rest k
+
+-- the first deadline is that of the entry of its number
+pub first_stands : (s : Sem) → IsSem s → IfSome (first_deadline s.entries) (λ d. deadline_at d.number s.entries ≡ Some d.at)
+first_stands s is = by_first (first_deadline s.entries) refl
+  where
+    by_first : (o : Option Deadline) → first_deadline s.entries ≡ o → IfSome o (λ d. deadline_at d.number s.entries ≡ Some d.at)
+    by_first None f = tt
+    by_first (Some d) f =
+        let found = deadline-of-entry s.entries d (least-stands sooner (deadlines s.entries) d f) in
+        ap (λ (n : ℕ). deadline_at n s.entries) (sym found.2)
+        ∙ ap (option_and_then (λ (e : SemEntry). e.deadline)) (numbered-at 0 s.made s.entries found.0 is.rises found.1)
+        ∙ found.3

@@ -1,8 +1,8 @@
 //! What is done on the entries of a semaphore.
 
-ghost use Rattle.std.specs.Prelude.{◌≡◌, ◌+◌, ◌≤◌, ◌<◌, [], ◌∷◌, ◌++◌, Err, IfOk, OnErr, OnOk, filter, fold, length, map, not, option_map, vec_capacity, vec_len};
+ghost use Rattle.std.specs.Prelude.{◌≡◌, ◌+◌, ◌≤◌, ◌<◌, [], ◌∷◌, ◌++◌, Err, IfOk, OnErr, OnOk, count_by, filter, fold, length, map, not, option_map, vec_capacity, vec_len};
 ghost use Rattle.mms_types.specs.Moments.{IsDated};
-ghost use Rattle.token_sem.specs.Semaphore.{aborts, after, after_freeing, before, deadline_after, earlier, entry_of, first_deadline, grant_of, grant_to, granted_entry, has_claim, hung_entry, hung_of, hung_to_preempt, loss_of_one, next, numbered, outcome_later, owned_by, owner_of, sooner, tokens_held, waits_for, without};
+ghost use Rattle.token_sem.specs.Semaphore.{aborts, after, after_freeing, before, deadline_after, earlier, entry_of, first_deadline, grant_of, grant_to, granted_entry, has_claim, hung_entry, hung_of, hung_to_preempt, is_hung, is_owner, loss_of_one, next, numbered, outcome_later, owned_by, owner_of, sooner, tokens_held, waits_for, without};
 ghost use Rattle.token_sem.specs.declared.entry.SemState.TheVariants.{Owner, Queued};
 ghost use Rattle.token_sem.specs.declared.entry.TakeRefused.TheVariants.{Memory as OutOfMemory};
 
@@ -79,6 +79,18 @@ fn grant(entries: &mut [SemEntry], number: u64, now: Moment)
     }
 }
 
+/// Who is told that a token was granted.
+fn granted(entry: &SemEntry) -> Grant
+    ensures { result ≡ grant_of entry.now }
+{
+    Grant {
+        client: entry.client,
+        invoke: entry.invoke,
+        entry: entry.number,
+        token: None,
+    }
+}
+
 /// A token is freed: who gets it.
 pub(crate) fn free(entries: &mut Vec<SemEntry>, now: Moment) -> Option<Grant>
     requires { IsDated now }
@@ -89,12 +101,7 @@ pub(crate) fn free(entries: &mut Vec<SemEntry>, now: Moment) -> Option<Grant>
         None => None,
         Some(first) => {
             grant(entries, first.number, now);
-            Some(Grant {
-                client: first.client,
-                invoke: first.invoke,
-                entry: first.number,
-                token: None,
-            })
+            Some(granted(&first))
         }
     }
 }
@@ -114,6 +121,41 @@ pub(crate) fn tokens_held(entries: &[SemEntry]) -> usize
     ensures { result ≡ tokens_held entries.now }
 {
     entries.iter().filter(|entry| entry.holds()).count()
+}
+
+/// The entry that gets the next token but for the entry of that number.
+fn next_without(number: u64, entries: &[SemEntry]) -> Option<SemEntry>
+    ensures { result ≡ next (without number entries.now) }
+{
+    entries
+        .iter()
+        .filter(|entry| entry.number != number)
+        .filter(|entry| entry.is_queued())
+        .fold(None, |best, entry| earlier(best, entry))
+}
+
+/// Who gets the token where the entry of that number goes.
+pub(crate) fn heir(number: u64, entries: &[SemEntry]) -> Option<Grant>
+    ensures { result ≡ option_map grant_of (next (without number entries.now)) }
+{
+    match next_without(number, entries) {
+        None => None,
+        Some(first) => Some(granted(&first)),
+    }
+}
+
+/// How many tokens are owned.
+pub(crate) fn owned(entries: &[SemEntry]) -> usize
+    ensures { result ≡ count_by is_owner entries.now }
+{
+    entries.iter().filter(|entry| entry.is_owner()).count()
+}
+
+/// How many tokens are hung.
+pub(crate) fn hung(entries: &[SemEntry]) -> usize
+    ensures { result ≡ count_by is_hung entries.now }
+{
+    entries.iter().filter(|entry| entry.is_hung()).count()
 }
 
 /// Whether the client waits for a token or owns one.
