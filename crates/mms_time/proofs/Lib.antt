@@ -1,0 +1,11 @@
+pub mod Changed
+pub mod EachLost
+pub mod KeyOrder
+pub mod Listed
+pub mod Names
+pub mod NextDeadline
+pub mod Soonest
+pub mod Told
+pub mod Unowned
+pub mod Unopposed
+mod Worked

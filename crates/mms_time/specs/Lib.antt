@@ -1,0 +1,5 @@
+pub mod Deadlines
+pub mod Loss
+pub mod Semaphores
+pub mod Services
+pub mod Statuses

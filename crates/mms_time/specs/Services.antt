@@ -1,0 +1,152 @@
+-- The services for semaphores: why each is refused, what it answers, and the table after it (ISO 9506-1 and ISO 9506-2, semaphore management).
+use Rattle.std.specs.Prelude.{ℕ, ◌+◌, Bool, true, false, not, ◌&&◌, ◌==◌, nat_le, List, [], ◌∷◌, ◌++◌, Option, None, Some, is_some, length, if◌then◌else◌}
+use Rattle.std.specs.List.{list_any}
+use Rattle.std.specs.Map.{remove_entry}
+use Rattle.mms_types.specs.Errors.{first_of, capability_unavailable, object_access_denied, object_constraint_conflict, object_non_existent, object_state_conflict, timeout, type_inconsistent}
+use Rattle.mms_types.specs.Order.{key_eq, key_of}
+use Rattle.mms_types.specs.declared.key.Key.{Key}
+use Rattle.mms_types.specs.declared.moment.Moment.{Moment}
+use Rattle.mms_types.specs.declared.object_name.ObjectName.{ObjectName}
+use Rattle.mms_types.specs.declared.semaphore.DefineSemaphore.{DefineSemaphore}
+use Rattle.mms_types.specs.declared.semaphore.RelinquishControl.{RelinquishControl}
+use Rattle.mms_types.specs.declared.semaphore.TakeControl.{TakeControl}
+use Rattle.mms_types.specs.declared.semaphore.TakeControlAnswer.TheVariants.{NoResult}
+use Rattle.mms_types.specs.declared.service_error.ServiceError.{ServiceError}
+use Rattle.object_names.specs.NewName.{new_name}
+use Rattle.token_sem.specs.Semaphore.{after_cancel, after_relinquish, after_take, has_claim, has_token, heir_of, owned_by, owner_of}
+use Rattle.token_sem.specs.declared.entry.Ask.{Ask}
+use Rattle.token_sem.specs.declared.entry.Grant.{Grant}
+use Rattle.mms_time.specs.Semaphores.{Rows, changed, entries_of, semaphore}
+use Rattle.mms_time.specs.declared.row.Semaphore.{Semaphore}
+use Rattle.mms_time.specs.declared.row.Semaphore.TheVariants.{Token}
+use Rattle.mms_time.specs.declared.row.SemaphoreRow.{SemaphoreRow}
+use Rattle.mms_time.specs.declared.taking.TakeDone.{TakeDone}
+use Rattle.mms_time.specs.declared.taking.TakeDone.TheVariants.{Answered, Waits}
+
+-- ---- TakeControl
+
+-- an acceptable delay of 0: the client doesn't wait; without one it waits for ever
+abbrev pub is_zero : Option ℕ → Bool
+is_zero None = false
+is_zero (Some ms) = ms == 0
+
+-- a token of a token semaphore has no name; who waits for a token or owns one can't take another; no token is to be had, and the client doesn't wait
+abbrev pub take_conditions_in : ℕ → TakeControl → Semaphore → List (Bool × ServiceError)
+take_conditions_in client asked (Token s) =
+    (is_some asked.token, type_inconsistent)
+    ∷ (has_claim client s.entries, object_state_conflict)
+    ∷ (not (has_token asked.preempt s) && is_zero asked.delay, timeout) ∷ []
+
+abbrev pub take_conditions : ℕ → TakeControl → Option SemaphoreRow → List (Bool × ServiceError)
+take_conditions client asked None = (true, object_non_existent) ∷ []
+take_conditions client asked (Some row) = take_conditions_in client asked row.semaphore
+
+abbrev pub take_cause : ℕ → TakeControl → Rows → Option ServiceError
+take_cause client asked rows = first_of (take_conditions client asked (semaphore client asked.name rows))
+
+-- a client that gets a token is answered; one that waits isn't yet, and has the next entry
+abbrev pub take_told_in : TakeControl → Semaphore → TakeDone
+take_told_in asked (Token s) = if has_token asked.preempt s then Answered NoResult else Waits (s.made + 1)
+
+abbrev pub take_told_of : TakeControl → Option SemaphoreRow → Option TakeDone
+take_told_of asked None = None
+take_told_of asked (Some row) = Some (take_told_in asked row.semaphore)
+
+abbrev pub take_told : ℕ → TakeControl → Rows → Option TakeDone
+take_told client asked rows = take_told_of asked (semaphore client asked.name rows)
+
+-- the request on one semaphore
+abbrev pub ask_of : ℕ → ℕ → TakeControl → Ask
+ask_of client invoke asked = record {
+  client = client;
+  invoke = invoke;
+  token = None;
+  priority = asked.priority;
+  delay = asked.delay;
+  control = asked.control;
+  abort = asked.abort;
+  keep = not asked.relinquish;
+  preempt = asked.preempt;
+}
+
+abbrev pub with_take : Ask → Moment → Semaphore → Semaphore
+with_take ask now (Token s) = Token (after_take s ask now)
+
+abbrev pub take_after : ℕ → ℕ → Moment → TakeControl → Rows → Rows
+take_after client invoke now asked rows = changed (with_take (ask_of client invoke asked) now) (key_of client asked.name) rows
+
+-- ---- RelinquishControl
+
+-- a token of a token semaphore has no name; only an owner can give back
+abbrev pub relinquish_conditions_in : ℕ → RelinquishControl → Semaphore → List (Bool × ServiceError)
+relinquish_conditions_in client asked (Token s) =
+    (is_some asked.token, type_inconsistent)
+    ∷ (not (list_any (owned_by client) s.entries), object_state_conflict) ∷ []
+
+abbrev pub relinquish_conditions : ℕ → RelinquishControl → Option SemaphoreRow → List (Bool × ServiceError)
+relinquish_conditions client asked None = (true, object_non_existent) ∷ []
+relinquish_conditions client asked (Some row) = relinquish_conditions_in client asked row.semaphore
+
+abbrev pub relinquish_cause : ℕ → RelinquishControl → Rows → Option ServiceError
+relinquish_cause client asked rows = first_of (relinquish_conditions client asked (semaphore client asked.name rows))
+
+abbrev pub relinquish_grant_in : ℕ → Semaphore → Option Grant
+relinquish_grant_in client (Token s) = heir_of (owner_of client s.entries) s.entries
+
+abbrev pub relinquish_grant_of : ℕ → Option SemaphoreRow → Option (Option Grant)
+relinquish_grant_of client None = None
+relinquish_grant_of client (Some row) = Some (relinquish_grant_in client row.semaphore)
+
+-- who is granted the token, if anyone is
+abbrev pub relinquish_grant : ℕ → RelinquishControl → Rows → Option (Option Grant)
+relinquish_grant client asked rows = relinquish_grant_of client (semaphore client asked.name rows)
+
+abbrev pub with_token_back : ℕ → Moment → Semaphore → Semaphore
+with_token_back client now (Token s) = Token (after_relinquish s client now)
+
+-- in the semaphore of that name
+abbrev pub relinquished : Key → ℕ → Moment → Rows → Rows
+relinquished key client now rows = changed (with_token_back client now) key rows
+
+abbrev pub relinquish_after : ℕ → Moment → RelinquishControl → Rows → Rows
+relinquish_after client now asked rows = relinquished (key_of client asked.name) client now rows
+
+-- ---- Cancel of a TakeControl: the queued entry of that number goes
+
+abbrev pub without_entry : ℕ → Semaphore → Semaphore
+without_entry number (Token s) = Token (after_cancel s number)
+
+abbrev pub cancel_after : Key → ℕ → Rows → Rows
+cancel_after key number rows = changed (without_entry number) key rows
+
+-- ---- DefineSemaphore, with whether the domain of the name's scope is live
+
+-- the most semaphores (this profile's limit)
+abbrev pub most_semaphores : ℕ
+most_semaphores = 256
+
+abbrev pub define_cause : Bool → ℕ → DefineSemaphore → Rows → Option ServiceError
+define_cause live client asked rows =
+    first_of (new_name live asked.name (is_some (semaphore client asked.name rows)) ++ (nat_le most_semaphores (length rows), capability_unavailable) ∷ [])
+
+-- its tokens are free
+abbrev pub new_semaphore : ℕ → Semaphore
+new_semaphore tokens = Token (record { tokens = tokens; made = 0; entries = [] })
+
+abbrev pub define_after : ℕ → DefineSemaphore → Rows → Rows
+define_after client asked rows = rows ++ (key_of client asked.name, record { configured = false; semaphore = new_semaphore asked.tokens }) ∷ []
+
+-- ---- DeleteSemaphore
+
+abbrev pub delete_conditions : Option SemaphoreRow → List (Bool × ServiceError)
+delete_conditions None = (true, object_non_existent) ∷ []
+delete_conditions (Some row) = (row.configured, object_access_denied) ∷ (not (length (entries_of row) == 0), object_constraint_conflict) ∷ []
+
+abbrev pub delete_cause : ℕ → ObjectName → Rows → Option ServiceError
+delete_cause client name rows = first_of (delete_conditions (semaphore client name rows))
+
+abbrev pub deleted : Key → Rows → Rows
+deleted key rows = remove_entry (key_eq key) rows
+
+abbrev pub delete_after : ℕ → ObjectName → Rows → Rows
+delete_after client name rows = deleted (key_of client name) rows

@@ -1,0 +1,66 @@
+//! Laws over all semaphores of a device.
+
+ghost use Rattle.std.specs.Prelude.{◌≡◌, ◌+◌, ◌<◌, ◌≤◌, ℕ, All, None, Ok, Some, false, if◌then◌else◌};
+ghost use Rattle.mms_types.specs.Errors.{first_of};
+ghost use Rattle.mms_types.specs.declared.moment.Moment.{Moment as Instant};
+ghost use Rattle.mms_types.specs.declared.semaphore.RelinquishControl.{RelinquishControl};
+ghost use Rattle.mms_types.specs.declared.semaphore.TakeControl.{TakeControl};
+ghost use Rattle.token_sem.specs.Semaphore.{Sem, grant_to, has_token, relinquish_answer, take_answer};
+ghost use Rattle.token_sem.specs.declared.entry.Taken.TheVariants.{Granted, Waits};
+ghost use Rattle.mms_time.specs.Deadlines.{NamedDeadline, all_deadlines, due_sooner, next_due};
+ghost use Rattle.mms_time.specs.Semaphores.{IsSound, Rows};
+ghost use Rattle.mms_time.specs.Services.{ask_of, relinquish_conditions_in, relinquish_grant_in, take_conditions_in};
+ghost use Rattle.mms_time.specs.declared.row.Semaphore.TheVariants.{Token};
+
+use crate::{Semaphore, SemaphoreRow};
+use object_names::Named;
+
+/// What holds of a semaphore.
+fn semaphore_is_sound(row: &SemaphoreRow)
+    ensures { IsSound row.now.semaphore }
+{
+    match &row.semaphore {
+        Semaphore::Token(tokens) => {
+            let _ = tokens.tokens();
+        }
+    }
+}
+
+/// Of every semaphore of a device it holds at any time, so after each call too: its entries are distinct and in order
+/// of number, no more tokens are owned or hung than there are, and where one is free no entry waits.
+pub fn each_semaphore_is_sound(semaphores: &Named<SemaphoreRow>)
+    ensures { All (λ row. IsSound row.1.semaphore) semaphores.now }
+{
+    for place in 0..semaphores.len() {
+        let Some((_, row)) = semaphores.at(place) else {
+            unreachable!()
+        };
+        semaphore_is_sound(row);
+    }
+}
+
+/// The next deadline is met by the moment that is asked for, and no deadline of any semaphore comes before it. Where
+/// there is none, all deadlines come after that moment.
+pub fn the_next_deadline_is_the_least()
+    ensures least { (until : Instant) (rows : Rows) (d : NamedDeadline) → next_due until rows ≡ Some d
+        → All (λ x. due_sooner x d ≡ false) (all_deadlines rows) }
+    ensures by_then { (until : Instant) (rows : Rows) (d : NamedDeadline) → next_due until rows ≡ Some d
+        → d.at.0 ≤ until.0 }
+    ensures none { (until : Instant) (rows : Rows) → next_due until rows ≡ None
+        → All (λ x. until.0 < x.at.0) (all_deadlines rows) }
+{}
+
+/// What a client is told before anything changes is what becomes of its request: where nothing stands against a
+/// request for a token, the semaphore grants one exactly where the client is told that it has one, and else the client
+/// waits in the entry that it is told.
+pub fn a_take_is_as_told()
+    ensures { (s : Sem) (client invoke : ℕ) (asked : TakeControl) (now : Instant) → first_of (take_conditions_in client asked (Token s)) ≡ None
+        → take_answer s (ask_of client invoke asked) now ≡ Ok (if has_token asked.preempt s
+        then Granted (grant_to (s.made + 1) (ask_of client invoke asked)) else Waits (s.made + 1)) }
+{}
+
+/// And where nothing stands against a token that is given back, it is granted to whom it is told.
+pub fn a_grant_is_as_told()
+    ensures { (s : Sem) (client : ℕ) (asked : RelinquishControl) → first_of (relinquish_conditions_in client asked (Token s)) ≡ None
+        → relinquish_answer s client ≡ Ok (relinquish_grant_in client (Token s)) }
+{}

@@ -1,0 +1,149 @@
+//! The loss of a client.
+
+ghost use Rattle.std.specs.Prelude.{◌≡◌, IfOk, OnErr, OnOk, Some, map};
+ghost use Rattle.std.specs.Map.{keys_of, lookup};
+ghost use Rattle.mms_types.specs.Moments.{IsDated};
+ghost use Rattle.mms_types.specs.Order.{key_eq};
+ghost use Rattle.mms_time.specs.Loss.{grants_of, left_by, lost, lost_grants, sorted_keys, without_client};
+
+use crate::{Semaphore, SemaphoreRow};
+use mms_types::{Key, Memory, Moment, Scope};
+use object_names::Named;
+use std::alloc::Global;
+use token_sem::Grant;
+
+/// Names in order.
+#[tactic(auto, using(crate::proofs::KeyOrder::sort_gives))]
+fn in_order<'a>(mut keys: Vec<&'a Key>) -> Vec<&'a Key>
+    ensures { map (λ key. key.now) result.items ≡ sorted_keys (map (λ key. key.now) keys.entry.items) }
+{
+    keys.sort_unstable();
+    keys
+}
+
+/// The names of the semaphores, in order.
+fn sorted_keys<'a>(
+    alloc: Global,
+    semaphores: &'a Named<SemaphoreRow>,
+) -> Result<Vec<&'a Key>, Memory>
+    ensures { IfOk result (λ keys. map (λ key. key.now) keys.items ≡ sorted_keys (keys_of semaphores.now)) }
+{
+    let mut keys = Vec::new(alloc);
+    for place in 0..semaphores.len() {
+        let Some((key, _)) = semaphores.at(place) else {
+            unreachable!()
+        };
+        keys.push(key)?;
+    }
+    Ok(in_order(keys))
+}
+
+impl SemaphoreRow {
+    /// Who is granted a token where a client is lost.
+    #[tactic(auto, using(crate::proofs::Unowned::none_granted))]
+    fn grants(&self, alloc: Global, client: u32, now: Moment) -> Result<Vec<Grant>, Memory>
+        requires { IsDated now }
+        ensures { IfOk result (λ grants. grants.items ≡ grants_of client now (Some self.now)) }
+    {
+        match &self.semaphore {
+            Semaphore::Token(tokens) => {
+                if !tokens.owns(client) {
+                    return Ok(Vec::new(alloc));
+                }
+                let mut left = tokens.copy(alloc)?;
+                left.lose(alloc, client, now)
+            }
+        }
+    }
+
+    /// A client is lost. What is left where there is no memory isn't said.
+    fn lose(&mut self, alloc: Global, client: u32, now: Moment) -> Result<(), Memory>
+        requires { IsDated now }
+        ensures { OnOk result (self.new ≡ record self.old { semaphore = without_client client now self.old.semaphore }) }
+    {
+        match &mut self.semaphore {
+            Semaphore::Token(tokens) => {
+                tokens.lose(alloc, client, now)?;
+            }
+        }
+        Ok(())
+    }
+}
+
+/// Who is granted a token in the semaphore of that name where a client is lost.
+fn grants_at(
+    alloc: Global,
+    semaphores: &Named<SemaphoreRow>,
+    key: &Key,
+    client: u32,
+    now: Moment,
+) -> Result<Vec<Grant>, Memory>
+    requires { IsDated now }
+    ensures { IfOk result (λ grants. grants.items ≡ grants_of client now (lookup (key_eq key.now) semaphores.now)) }
+{
+    match semaphores.get(key) {
+        None => Ok(Vec::new(alloc)),
+        Some(row) => row.grants(alloc, client, now),
+    }
+}
+
+/// Who is granted a token where a client is lost, by name of semaphore and number of the client's entry.
+fn lost_grants(
+    alloc: Global,
+    semaphores: &Named<SemaphoreRow>,
+    client: u32,
+    now: Moment,
+) -> Result<Vec<Grant>, Memory>
+    requires { IsDated now }
+    ensures { IfOk result (λ grants. grants.items ≡ lost_grants client now semaphores.now) }
+{
+    let keys = sorted_keys(alloc, semaphores)?;
+    let mut grants = Vec::new(alloc);
+    for key in &keys {
+        let more = grants_at(alloc, semaphores, *key, client, now)?;
+        grants.extend_from_slice(&more)?;
+    }
+    Ok(grants)
+}
+
+/// Each semaphore loses a client. What is left where there is no memory isn't said.
+fn lose_each(
+    alloc: Global,
+    semaphores: &mut Named<SemaphoreRow>,
+    client: u32,
+    now: Moment,
+) -> Result<(), Memory>
+    requires { IsDated now }
+    ensures { OnOk result (semaphores.new ≡ map (left_by client now) semaphores.old) }
+{
+    for place in 0..semaphores.len() {
+        let Some(row) = semaphores.at_mut(place) else {
+            unreachable!()
+        };
+        row.lose(alloc, client, now)?;
+    }
+    Ok(())
+}
+
+/// A client is lost (ISO 9506-1, TakeControl, relinquishIfConnectionLost): its queued entries go; then each of its owner
+/// entries becomes hung where its token is kept, and else goes, and its token is granted to the entry that is served
+/// next, or is free; then the semaphores of its association go. Who is granted a token is told by name of semaphore and
+/// number of the client's entry. The one refusal is want of memory; then all is as before.
+pub fn lose(
+    semaphores: &mut Named<SemaphoreRow>,
+    alloc: Global,
+    client: u32,
+    now: Moment,
+) -> Result<Vec<Grant>, Memory>
+    requires { IsDated now }
+    ensures grants { IfOk result (λ grants. grants.items ≡ lost_grants client now semaphores.old) }
+    ensures lost { OnOk result (semaphores.new ≡ lost client now semaphores.old) }
+    ensures kept { OnErr result (semaphores.new ≡ semaphores.old) }
+{
+    let grants = lost_grants(alloc, semaphores, client, now)?;
+    let mut left = semaphores.copy(alloc)?;
+    lose_each(alloc, &mut left, client, now)?;
+    left.remove_all_of(&Scope::Association(client));
+    *semaphores = left;
+    Ok(grants)
+}

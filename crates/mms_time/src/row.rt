@@ -1,0 +1,32 @@
+use mms_types::Memory;
+use object_names::Copied;
+use std::alloc::Global;
+use token_sem::TokenSem;
+
+/// A semaphore, by its kind (ISO 9506-1, semaphore, class).
+#[derive(Drop)]
+pub enum Semaphore {
+    /// One whose tokens are equal.
+    Token(TokenSem),
+}
+
+/// A semaphore of a device.
+#[derive(Drop)]
+pub struct SemaphoreRow {
+    /// Whether it was configured: then it can't be deleted.
+    pub configured: bool,
+    /// Its tokens and its entries.
+    pub semaphore: Semaphore,
+}
+
+impl Copied for SemaphoreRow {
+    fn copied(&self, alloc: Global) -> Result<SemaphoreRow, Memory> {
+        let semaphore = match &self.semaphore {
+            Semaphore::Token(tokens) => Semaphore::Token(tokens.copy(alloc)?),
+        };
+        Ok(SemaphoreRow {
+            configured: self.configured,
+            semaphore,
+        })
+    }
+}

@@ -1,0 +1,178 @@
+//! ReportSemaphoreStatus, ReportPoolSemaphoreStatus and ReportSemaphoreEntryStatus.
+
+ghost use Rattle.std.specs.Prelude.{◌≡◌, ◌≤◌, ◌<◌, ◌^◌, All, IfOk, IfSome, None, Some, count_by, length, option_map};
+ghost use Rattle.mms_types.specs.Serves.{Serves};
+ghost use Rattle.token_sem.specs.Semaphore.{is_hung, is_owner};
+ghost use Rattle.mms_time.specs.Semaphores.{entries_of, semaphore};
+ghost use Rattle.mms_time.specs.Statuses.{IsAhead, comes_after, entry_status, entry_status_answer, entry_status_cause, entry_statuses, is_in_state, is_listed, pool_status_cause, status, status_cause, status_in};
+
+use crate::{Semaphore, SemaphoreRow};
+use mms_types::{
+    EntryClass, EntryNumber, EntryState, EntryStatus, EntryStatuses, Listed, Memory, Moment,
+    ObjectName, Octets, PoolStatus, Refuse, ReportPoolSemaphoreStatus, ReportSemaphoreEntryStatus,
+    SemaphoreClass, SemaphoreStatus, ServiceError,
+};
+use object_names::Named;
+use std::alloc::Global;
+use token_sem::{SemEntry, SemState};
+
+/// The most entries that are told at once.
+const MOST_ENTRIES: usize = 6;
+
+impl SemaphoreRow {
+    /// What the semaphore is and has.
+    fn status(&self) -> SemaphoreStatus
+        ensures { result ≡ status_in self.now.configured self.now.semaphore }
+    {
+        match &self.semaphore {
+            Semaphore::Token(tokens) => SemaphoreStatus {
+                deletable: !self.configured,
+                class: SemaphoreClass::Token,
+                tokens: tokens.tokens(),
+                owned: tokens.owned(),
+                hung: tokens.hung(),
+            },
+        }
+    }
+
+    /// The entries, in order of number.
+    pub fn entries(&self) -> &[SemEntry]
+        ensures { result.now ≡ entries_of self.now }
+    {
+        match &self.semaphore {
+            Semaphore::Token(tokens) => tokens.entries(),
+        }
+    }
+}
+
+/// What a semaphore is and has (ISO 9506-2, ReportSemaphoreStatus). Object-non-existent where it is missing.
+pub fn report_semaphore_status(
+    semaphores: &Named<SemaphoreRow>,
+    client: u32,
+    name: &ObjectName,
+) -> Result<SemaphoreStatus, Refuse>
+    ensures { Serves result (status_cause client name.now semaphores.now) (status client name.now semaphores.now) }
+{
+    match semaphores.named(client, name) {
+        None => Err(Refuse::Service(ServiceError::OBJECT_NON_EXISTENT)),
+        Some(row) => Ok(row.status()),
+    }
+}
+
+/// The tokens of a pool (ISO 9506-2, ReportPoolSemaphoreStatus). Object-non-existent where the semaphore is missing;
+/// type-inconsistent where it is a token semaphore, which all semaphores are as yet.
+pub fn report_pool_semaphore_status(
+    semaphores: &Named<SemaphoreRow>,
+    client: u32,
+    asked: &ReportPoolSemaphoreStatus,
+) -> Result<PoolStatus, Refuse>
+    ensures { Serves result (pool_status_cause client asked.now.name semaphores.now) None }
+{
+    let Some(row) = semaphores.named(client, &asked.name) else {
+        return Err(Refuse::Service(ServiceError::OBJECT_NON_EXISTENT));
+    };
+    match &row.semaphore {
+        Semaphore::Token(_) => Err(Refuse::Service(ServiceError::TYPE_INCONSISTENT)),
+    }
+}
+
+/// Whether the entry has the state.
+fn is_in_state(entry: &SemEntry, state: EntryState) -> bool
+    ensures { result ≡ is_in_state state entry.now }
+{
+    match state {
+        EntryState::Queued => matches!(entry.state, SemState::Queued),
+        EntryState::Owner => matches!(entry.state, SemState::Owner),
+        EntryState::Hung => matches!(entry.state, SemState::Hung),
+    }
+}
+
+/// Whether the entry has the state, and its number is greater.
+fn is_listed(entry: &SemEntry, state: EntryState, after: Option<EntryNumber>) -> bool
+    ensures { result ≡ is_listed state after entry.now }
+{
+    if !is_in_state(entry, state) {
+        return false;
+    }
+    match after {
+        None => true,
+        Some(number) => u64::from_be_bytes(number.octets) < entry.number,
+    }
+}
+
+/// How many milliseconds are left until the deadline.
+fn remaining(entry: &SemEntry, now: Moment) -> Option<u32>
+    requires { IsAhead now entry.now }
+    ensures { result ≡ (entry_status now entry.now).remaining }
+{
+    match entry.deadline {
+        None => None,
+        Some(at) => Some((at.0 - now.0) as u32),
+    }
+}
+
+/// What is told of an entry.
+fn entry_status(alloc: Global, entry: &SemEntry, now: Moment) -> Result<EntryStatus, Memory>
+    requires { IsAhead now entry.now }
+    ensures { IfOk result (λ told. told ≡ entry_status now entry.now) }
+{
+    Ok(EntryStatus {
+        number: Octets::from_slice(alloc, &entry.number.to_be_bytes())?,
+        class: EntryClass::Simple,
+        client: entry.client,
+        token: None,
+        priority: entry.priority,
+        remaining: remaining(entry, now),
+        abort: entry.abort,
+        relinquish: !entry.keep,
+    })
+}
+
+/// The first of the entries that are listed, and whether there are more.
+#[tactic(auto, using(crate::proofs::Listed::listed_more, crate::proofs::Listed::listed_all))]
+fn entry_statuses(
+    alloc: Global,
+    entries: &[SemEntry],
+    now: Moment,
+    state: EntryState,
+    after: Option<EntryNumber>,
+) -> Result<EntryStatuses, Memory>
+    requires { All (IsAhead now) entries.now }
+    ensures { IfOk result (λ told. told ≡ entry_statuses now state after entries.now) }
+{
+    let mut list = Listed::new(alloc);
+    for entry in entries {
+        if is_listed(entry, state, after) {
+            if list.len() == MOST_ENTRIES {
+                return Ok(EntryStatuses {
+                    entries: list,
+                    more: true,
+                });
+            }
+            list.push(entry_status(alloc, entry, now)?)?;
+        }
+    }
+    Ok(EntryStatuses {
+        entries: list,
+        more: false,
+    })
+}
+
+/// The entries of a semaphore that have a state (ISO 9506-2, ReportSemaphoreEntryStatus), in order of number after the
+/// one that is given, which need not be there: the first 6 of them, and whether there are more. Object-non-existent
+/// where the semaphore is missing.
+pub fn report_semaphore_entry_status(
+    semaphores: &Named<SemaphoreRow>,
+    alloc: Global,
+    client: u32,
+    now: Moment,
+    asked: &ReportSemaphoreEntryStatus,
+) -> Result<EntryStatuses, Refuse>
+    requires ahead { (row : SemaphoreRow) → semaphore client asked.now.name semaphores.now ≡ Some row → All (IsAhead now) (entries_of row) }
+    ensures { Serves result (entry_status_cause client asked.now semaphores.now) (entry_status_answer client now asked.now semaphores.now) }
+{
+    let Some(row) = semaphores.named(client, &asked.name) else {
+        return Err(Refuse::Service(ServiceError::OBJECT_NON_EXISTENT));
+    };
+    Ok(entry_statuses(alloc, row.entries(), now, asked.state, asked.after)?)
+}

@@ -1,0 +1,235 @@
+//! TakeControl, RelinquishControl, and Cancel of a TakeControl.
+
+ghost use Rattle.std.specs.Prelude.{◌≡◌, ◌^◌, ◌<◌, OnErr, OnOk, Some, is_none, option_and_then, option_map, true};
+ghost use Rattle.std.specs.Map.{lookup};
+ghost use Rattle.mms_types.specs.Errors.{first_of};
+ghost use Rattle.mms_types.specs.Moments.{IsDated};
+ghost use Rattle.mms_types.specs.Order.{key_eq};
+ghost use Rattle.mms_types.specs.Serves.{Serves};
+ghost use Rattle.token_sem.specs.Semaphore.{is_queued, numbered};
+ghost use Rattle.mms_time.specs.Semaphores.{entries_in, entries_of, made_in, made_of, semaphore};
+ghost use Rattle.mms_time.specs.Services.{ask_of, cancel_after, relinquish_cause, relinquish_conditions_in, relinquish_grant, relinquish_grant_in, relinquished, take_after, take_cause, take_conditions_in, take_told, take_told_in, with_take, with_token_back, without_entry};
+
+use crate::{Semaphore, SemaphoreRow};
+use mms_types::{
+    Key, Memory, Moment, Refuse, RelinquishControl, ServiceError, TakeControl, TakeControlAnswer,
+};
+use object_names::Named;
+use std::alloc::Global;
+use token_sem::{Ask, Grant, TakeRefused, TokenSem};
+
+/// What comes of a TakeControl that is not refused.
+#[derive(Debug, PartialEq, Eq, Drop)]
+pub enum TakeDone {
+    /// The client has a token, and is answered.
+    Answered(TakeControlAnswer),
+    /// The client waits in the entry of this number, and is not answered yet.
+    Waits(u64),
+}
+
+/// Why no token of a semaphore is taken.
+fn take_cause(semaphore: &Semaphore, client: u32, asked: &TakeControl) -> Option<ServiceError>
+    ensures { result ≡ first_of (take_conditions_in client asked.now semaphore.now) }
+{
+    match semaphore {
+        Semaphore::Token(tokens) => {
+            if asked.token.is_some() {
+                return Some(ServiceError::TYPE_INCONSISTENT);
+            }
+            if tokens.has_claim(client) {
+                return Some(ServiceError::OBJECT_STATE_CONFLICT);
+            }
+            if !tokens.has_token(asked.preempt) && asked.delay == Some(0) {
+                return Some(ServiceError::TIMEOUT);
+            }
+            None
+        }
+    }
+}
+
+/// Whether the client has a token or waits.
+fn take_told(semaphore: &Semaphore, asked: &TakeControl) -> TakeDone
+    requires { made_in semaphore.now < 2 ^ 63 }
+    ensures { result ≡ take_told_in asked.now semaphore.now }
+{
+    match semaphore {
+        Semaphore::Token(tokens) => {
+            if tokens.has_token(asked.preempt) {
+                TakeDone::Answered(TakeControlAnswer::NoResult)
+            } else {
+                TakeDone::Waits(tokens.made() + 1)
+            }
+        }
+    }
+}
+
+/// What a client is told that asks for a token (ISO 9506-2, TakeControl): that it has one, or nothing yet, where it
+/// waits. Object-non-existent where the semaphore is missing; type-inconsistent where a token of a token semaphore is
+/// named; object-state-conflict where the client waits for a token of it or owns one; timeout where no token is to be
+/// had and the client does not wait. Nothing is taken yet.
+pub fn take_control_told(
+    semaphores: &Named<SemaphoreRow>,
+    client: u32,
+    asked: &TakeControl,
+) -> Result<TakeDone, Refuse>
+    requires { made_of (semaphore client asked.now.name semaphores.now) < 2 ^ 63 }
+    ensures { Serves result (take_cause client asked.now semaphores.now) (take_told client asked.now semaphores.now) }
+{
+    let Some(row) = semaphores.named(client, &asked.name) else {
+        return Err(Refuse::Service(ServiceError::OBJECT_NON_EXISTENT));
+    };
+    match take_cause(&row.semaphore, client, asked) {
+        Some(error) => Err(Refuse::Service(error)),
+        None => Ok(take_told(&row.semaphore, asked)),
+    }
+}
+
+/// The request on one semaphore.
+fn ask_of(client: u32, invoke: u32, asked: &TakeControl) -> Ask
+    ensures { result ≡ ask_of client invoke asked.now }
+{
+    Ask {
+        client,
+        invoke,
+        token: None,
+        priority: asked.priority,
+        delay: asked.delay,
+        control: asked.control,
+        abort: asked.abort,
+        keep: !asked.relinquish,
+        preempt: asked.preempt,
+    }
+}
+
+impl SemaphoreRow {
+    /// A token is asked for.
+    fn take(&mut self, ask: &Ask, now: Moment) -> Result<(), Memory>
+        requires unnamed { is_none ask.now.token ≡ true }
+        requires made { made_in self.old.semaphore < 2 ^ 63 }
+        requires now { IsDated now }
+        ensures taken { OnOk result (self.new ≡ record self.old { semaphore = with_take ask.now now self.old.semaphore }) }
+        ensures kept { OnErr result (self.new ≡ self.old) }
+    {
+        match &mut self.semaphore {
+            Semaphore::Token(tokens) => match tokens.take(ask, now) {
+                Err(TakeRefused::Memory) => Err(Memory),
+                _ => Ok(()),
+            },
+        }
+    }
+
+    /// A token is given back.
+    fn relinquish(&mut self, client: u32, now: Moment)
+        requires { IsDated now }
+        ensures { self.new ≡ record self.old { semaphore = with_token_back client now self.old.semaphore } }
+    {
+        match &mut self.semaphore {
+            Semaphore::Token(tokens) => {
+                let _ = tokens.relinquish(client, None, now);
+            }
+        }
+    }
+
+    /// A queued entry goes.
+    fn cancel(&mut self, entry: u64)
+        requires { option_map is_queued (numbered entry (entries_of self.old)) ≡ Some true }
+        ensures { self.new ≡ record self.old { semaphore = without_entry entry self.old.semaphore } }
+    {
+        match &mut self.semaphore {
+            Semaphore::Token(tokens) => tokens.cancel(entry),
+        }
+    }
+}
+
+/// Asks for a token (ISO 9506-1, TakeControl): the client has it, or waits. The one refusal is want of memory; then all
+/// is as before.
+pub fn take_control(
+    semaphores: &mut Named<SemaphoreRow>,
+    alloc: Global,
+    client: u32,
+    invoke: u32,
+    now: Moment,
+    asked: &TakeControl,
+) -> Result<(), Memory>
+    requires made { made_of (semaphore client asked.now.name semaphores.old) < 2 ^ 63 }
+    requires now { IsDated now }
+    ensures taken { OnOk result (semaphores.new ≡ take_after client invoke now asked.now semaphores.old) }
+    ensures kept { OnErr result (semaphores.new ≡ semaphores.old) }
+{
+    let key = asked.name.key(alloc, client)?;
+    let ask = ask_of(client, invoke, asked);
+    match semaphores.get_mut(&key) {
+        None => Ok(()),
+        Some(row) => row.take(&ask, now),
+    }
+}
+
+/// Why a token is not given back.
+fn relinquish_cause(
+    semaphore: &Semaphore,
+    client: u32,
+    asked: &RelinquishControl,
+) -> Option<ServiceError>
+    ensures { result ≡ first_of (relinquish_conditions_in client asked.now semaphore.now) }
+{
+    match semaphore {
+        Semaphore::Token(tokens) => {
+            if asked.token.is_some() {
+                return Some(ServiceError::TYPE_INCONSISTENT);
+            }
+            if !tokens.owns(client) {
+                return Some(ServiceError::OBJECT_STATE_CONFLICT);
+            }
+            None
+        }
+    }
+}
+
+/// Who is granted the token that the client gives back.
+fn relinquish_grant(semaphore: &Semaphore, client: u32) -> Option<Grant>
+    ensures { result ≡ relinquish_grant_in client semaphore.now }
+{
+    match semaphore {
+        Semaphore::Token(tokens) => tokens.heir(client),
+    }
+}
+
+/// Who is granted the token that a client gives back (ISO 9506-2, RelinquishControl), if anyone is; the client itself
+/// is answered at once. Object-non-existent where the semaphore is missing; type-inconsistent where a token of a token
+/// semaphore is named; object-state-conflict where the client owns none. Nothing is given back yet.
+pub fn relinquish_control_told(
+    semaphores: &Named<SemaphoreRow>,
+    client: u32,
+    asked: &RelinquishControl,
+) -> Result<Option<Grant>, Refuse>
+    ensures { Serves result (relinquish_cause client asked.now semaphores.now) (relinquish_grant client asked.now semaphores.now) }
+{
+    let Some(row) = semaphores.named(client, &asked.name) else {
+        return Err(Refuse::Service(ServiceError::OBJECT_NON_EXISTENT));
+    };
+    match relinquish_cause(&row.semaphore, client, asked) {
+        Some(error) => Err(Refuse::Service(error)),
+        None => Ok(relinquish_grant(&row.semaphore, client)),
+    }
+}
+
+/// Gives the client's token of the semaphore of that name back (ISO 9506-1, RelinquishControl): it is granted to the
+/// entry that is served next, or is free. It takes no memory.
+pub fn relinquish_control(semaphores: &mut Named<SemaphoreRow>, key: &Key, client: u32, now: Moment)
+    requires { IsDated now }
+    ensures { semaphores.new ≡ relinquished key.now client now semaphores.old }
+{
+    if let Some(row) = semaphores.get_mut(key) {
+        row.relinquish(client, now);
+    }
+}
+
+/// Takes a queued entry out of the semaphore of that name (ISO 9506-1, Cancel of a TakeControl). It takes no memory.
+pub fn cancel_take(semaphores: &mut Named<SemaphoreRow>, key: &Key, entry: u64)
+    requires { option_map is_queued (option_and_then (λ row. numbered entry (entries_of row)) (lookup (key_eq key.now) semaphores.old)) ≡ Some true }
+    ensures { semaphores.new ≡ cancel_after key.now entry semaphores.old }
+{
+    if let Some(row) = semaphores.get_mut(key) {
+        row.cancel(entry);
+    }
+}
