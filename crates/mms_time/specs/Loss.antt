@@ -10,7 +10,7 @@ use Rattle.mms_types.specs.declared.moment.Moment.{Moment}
 use Rattle.object_names.specs.Scopes.{without_all_of}
 use Rattle.token_sem.specs.Semaphore.{after_lose, loss_of}
 use Rattle.token_sem.specs.declared.entry.Grant.{Grant}
-use Rattle.mms_time.specs.Semaphores.{Rows, entries_of}
+use Rattle.mms_time.specs.Semaphores.{Rows, changed_row, entries_of}
 use Rattle.mms_time.specs.declared.row.Semaphore.{Semaphore}
 use Rattle.mms_time.specs.declared.row.Semaphore.TheVariants.{Token}
 use Rattle.mms_time.specs.declared.row.SemaphoreRow.{SemaphoreRow}
@@ -22,7 +22,7 @@ abbrev pub without_client : ℕ → Moment → Semaphore → Semaphore
 without_client client now (Token s) = Token (after_lose s client now)
 
 abbrev pub left_by : ℕ → Moment → Key × SemaphoreRow → Key × SemaphoreRow
-left_by client now row = (row.0, record row.1 { semaphore = without_client client now row.1.semaphore })
+left_by client now row = (row.0, changed_row (without_client client now) row.1)
 
 -- and then the semaphores of its association go
 abbrev pub lost : ℕ → Moment → Rows → Rows

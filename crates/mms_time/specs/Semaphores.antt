@@ -1,10 +1,10 @@
 -- The semaphores of a device under their names, in the order in which they were made (ISO 9506-1, semaphore management).
-use Rattle.std.specs.Prelude.{ℕ, List, Option, None, Some}
+use Rattle.std.specs.Prelude.{ℕ, List, Option, None, Some, option_and_then}
 use Rattle.std.specs.Map.{lookup, set_value}
 use Rattle.mms_types.specs.Order.{key_eq, key_of}
 use Rattle.mms_types.specs.declared.key.Key.{Key}
 use Rattle.mms_types.specs.declared.object_name.ObjectName.{ObjectName}
-use Rattle.token_sem.specs.Semaphore.{IsSem}
+use Rattle.token_sem.specs.Semaphore.{IsSem, numbered}
 use Rattle.token_sem.specs.declared.entry.SemEntry.{SemEntry}
 use Rattle.mms_time.specs.declared.row.Semaphore.{Semaphore}
 use Rattle.mms_time.specs.declared.row.Semaphore.TheVariants.{Token}
@@ -28,6 +28,10 @@ entries_of row = entries_in row.semaphore
 abbrev pub IsSound : Semaphore → Type 0
 IsSound (Token s) = IsSem s
 
+-- the entry of that number in the semaphore of that name
+abbrev pub entry_in : Key → ℕ → Rows → Option SemEntry
+entry_in key number rows = option_and_then (λ row. numbered number (entries_of row)) (lookup (key_eq key) rows)
+
 -- how many entries were made
 abbrev pub made_in : Semaphore → ℕ
 made_in (Token s) = s.made
@@ -36,9 +40,13 @@ abbrev pub made_of : Option SemaphoreRow → ℕ
 made_of None = 0
 made_of (Some row) = made_in row.semaphore
 
+-- a row whose semaphore is changed
+abbrev pub changed_row : (Semaphore → Semaphore) → SemaphoreRow → SemaphoreRow
+changed_row change row = record row { semaphore = change row.semaphore }
+
 abbrev pub changed_to : Option SemaphoreRow → (Semaphore → Semaphore) → Key → Rows → Rows
 changed_to None change key rows = rows
-changed_to (Some row) change key rows = set_value (key_eq key) rows (record row { semaphore = change row.semaphore })
+changed_to (Some row) change key rows = set_value (key_eq key) rows (changed_row change row)
 
 -- the semaphore of that name is changed, where there is one, and all others stay
 abbrev pub changed : (Semaphore → Semaphore) → Key → Rows → Rows

@@ -1,5 +1,5 @@
 -- What a semaphore tells of itself and of its entries (ISO 9506-2, ReportSemaphoreStatus, ReportPoolSemaphoreStatus, ReportSemaphoreEntryStatus).
-use Rattle.std.specs.Prelude.{ℕ, ◌+◌, ◌-◌, ◌≤◌, Bool, true, not, ◌&&◌, nat_lt, List, [], ◌∷◌, take, map, filter, count_by, length, Option, None, Some, is_none, IfSome, option_map}
+use Rattle.std.specs.Prelude.{⊤, All, ℕ, ◌+◌, ◌-◌, ◌≤◌, Bool, true, not, ◌&&◌, nat_lt, List, [], ◌∷◌, take, map, filter, count_by, length, Option, None, Some, is_none, IfSome, option_map}
 use Rattle.std.specs.Int.{w64, to_be_bytes, from_be_bytes}
 use Rattle.mms_types.specs.Errors.{first_of, object_non_existent, type_inconsistent}
 use Rattle.mms_types.specs.declared.moment.Moment.{Moment}
@@ -100,3 +100,7 @@ entry_status_answer client now asked rows =
 -- a deadline that isn't over, and is no further than the longest time that a request can name
 abbrev pub IsAhead : Moment → SemEntry → Type 0
 IsAhead now e = IfSome e.deadline (λ at. (now.0 ≤ at.0) × (at.0 ≤ now.0 + 4294967295))
+
+abbrev pub AreAhead : Moment → Option SemaphoreRow → Type 0
+AreAhead now None = ⊤
+AreAhead now (Some row) = All (IsAhead now) (entries_of row)

@@ -40,8 +40,8 @@ pub fn define_semaphore_cause(
 /// want of memory; then all is as before.
 #[tactic(auto, using(crate::proofs::Unopposed::nothing_against))]
 pub fn define_semaphore(
-    semaphores: &mut Named<SemaphoreRow>,
     alloc: Global,
+    semaphores: &mut Named<SemaphoreRow>,
     client: u32,
     asked: &DefineSemaphore,
 ) -> Result<(), Memory>

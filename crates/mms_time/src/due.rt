@@ -6,7 +6,7 @@ ghost use Rattle.mms_types.specs.Moments.{IsDated};
 ghost use Rattle.mms_types.specs.Order.{key_eq};
 ghost use Rattle.token_sem.specs.Semaphore.{deadline_at, first_deadline, least};
 ghost use Rattle.mms_time.specs.Deadlines.{deadline_in, deadlines_of, due_meant, due_order, due_sooner, expire_after, expired, expired_in, first_due, next_due, pick, until_only, without_due};
-ghost use Rattle.mms_time.specs.Semaphores.{entries_in, entries_of};
+ghost use Rattle.mms_time.specs.Semaphores.{changed_row, entries_of};
 
 use crate::{Semaphore, SemaphoreRow};
 use mms_types::{Key, Moment};
@@ -39,7 +39,8 @@ fn due_order(a: &Due<'_>, b: &Due<'_>) -> Ordering
 
 /// The sooner of two.
 fn sooner_of<'a>(first: Option<Due<'a>>, next: Option<Due<'a>>) -> Option<Due<'a>>
-    ensures { option_map due_meant result ≡ pick due_sooner (option_map due_meant first.entry) (option_map due_meant next.entry) }
+    ensures { option_map due_meant result
+        ≡ pick due_sooner (option_map due_meant first.entry) (option_map due_meant next.entry) }
 {
     match (first, next) {
         (first, None) => first,
@@ -58,7 +59,8 @@ impl SemaphoreRow {
     /// The least deadline.
     fn deadline(&self) -> Option<Deadline>
         ensures least { result ≡ first_deadline (entries_of self.now) }
-        ensures stands { IfSome result (λ d. deadline_at d.number (entries_of self.now) ≡ Some d.at) }
+        ensures stands { IfSome result (λ d.
+            deadline_at d.number (entries_of self.now) ≡ Some d.at) }
     {
         match &self.semaphore {
             Semaphore::Token(tokens) => tokens.deadline(),
@@ -68,8 +70,10 @@ impl SemaphoreRow {
 
 /// The least deadline of the semaphore of that name.
 fn due_of<'a>(key: &'a Key, row: &SemaphoreRow) -> Option<Due<'a>>
-    ensures least { option_map due_meant result ≡ least due_sooner (deadlines_of (key.now, row.now)) }
-    ensures stands { IfSome result (λ due. deadline_at due.entry (entries_of row.now) ≡ Some due.at) }
+    ensures least { option_map due_meant result
+        ≡ least due_sooner (deadlines_of (key.now, row.now)) }
+    ensures stands { IfSome result (λ due.
+        deadline_at due.entry (entries_of row.now) ≡ Some due.at) }
     ensures key { IfSome result (λ due. due.key.now ≡ key.now) }
 {
     match row.deadline() {
@@ -86,7 +90,8 @@ fn due_of<'a>(key: &'a Key, row: &SemaphoreRow) -> Option<Due<'a>>
 /// The least deadline of all semaphores.
 fn first_due<'a>(semaphores: &'a Named<SemaphoreRow>) -> Option<Due<'a>>
     ensures least { option_map due_meant result ≡ first_due semaphores.now }
-    ensures stands { IfSome result (λ due. deadline_in due.key.now due.entry semaphores.now ≡ Some due.at) }
+    ensures stands { IfSome result (λ due.
+        deadline_in due.key.now due.entry semaphores.now ≡ Some due.at) }
 {
     let mut first = None;
     for place in 0..semaphores.len() {
@@ -103,7 +108,8 @@ fn first_due<'a>(semaphores: &'a Named<SemaphoreRow>) -> Option<Due<'a>>
 /// It takes no memory.
 pub fn next_due<'a>(semaphores: &'a Named<SemaphoreRow>, until: Moment) -> Option<Due<'a>>
     ensures least { option_map due_meant result ≡ next_due until semaphores.now }
-    ensures stands { IfSome result (λ due. deadline_in due.key.now due.entry semaphores.now ≡ Some due.at) }
+    ensures stands { IfSome result (λ due.
+        deadline_in due.key.now due.entry semaphores.now ≡ Some due.at) }
 {
     match first_due(semaphores) {
         None => None,
@@ -117,7 +123,7 @@ impl SemaphoreRow {
         requires due { deadline_at entry (entries_of self.old) ≡ Some now }
         requires now { IsDated now }
         ensures told { expired_in entry self.old ≡ Some result }
-        ensures row { self.new ≡ record self.old { semaphore = without_due entry now self.old.semaphore } }
+        ensures row { self.new ≡ changed_row (without_due entry now) self.old }
     {
         match &mut self.semaphore {
             Semaphore::Token(tokens) => tokens.expire(entry, now),
@@ -127,8 +133,8 @@ impl SemaphoreRow {
 
 /// Meets the deadline of an entry of the semaphore of that name (ISO 9506-1, TakeControl, acceptableDelay and
 /// controlTimeOut): the entry goes, and where it had a token, that is granted to the entry that is served next, or is
-/// free. It tells whose entry it was, whether it waited, whether its client is lost, and who gets the token. It takes no
-/// memory.
+/// free. It tells whose entry it was, whether it waited, whether its client is lost, and who gets the token. It takes
+/// no memory.
 pub fn expire(semaphores: &mut Named<SemaphoreRow>, key: &Key, entry: u64, now: Moment) -> Expired
     requires due { deadline_in key.now entry semaphores.old ≡ Some now }
     requires now { IsDated now }

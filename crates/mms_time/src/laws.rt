@@ -42,10 +42,10 @@ pub fn each_semaphore_is_sound(semaphores: &Named<SemaphoreRow>)
 /// The next deadline is met by the moment that is asked for, and no deadline of any semaphore comes before it. Where
 /// there is none, all deadlines come after that moment.
 pub fn the_next_deadline_is_the_least()
-    ensures least { (until : Instant) (rows : Rows) (d : NamedDeadline) → next_due until rows ≡ Some d
-        → All (λ x. due_sooner x d ≡ false) (all_deadlines rows) }
-    ensures by_then { (until : Instant) (rows : Rows) (d : NamedDeadline) → next_due until rows ≡ Some d
-        → d.at.0 ≤ until.0 }
+    ensures least { (until : Instant) (rows : Rows) (d : NamedDeadline)
+        → next_due until rows ≡ Some d → All (λ x. due_sooner x d ≡ false) (all_deadlines rows) }
+    ensures by_then { (until : Instant) (rows : Rows) (d : NamedDeadline)
+        → next_due until rows ≡ Some d → d.at.0 ≤ until.0 }
     ensures none { (until : Instant) (rows : Rows) → next_due until rows ≡ None
         → All (λ x. until.0 < x.at.0) (all_deadlines rows) }
 {}
@@ -54,13 +54,15 @@ pub fn the_next_deadline_is_the_least()
 /// request for a token, the semaphore grants one exactly where the client is told that it has one, and else the client
 /// waits in the entry that it is told.
 pub fn a_take_is_as_told()
-    ensures { (s : Sem) (client invoke : ℕ) (asked : TakeControl) (now : Instant) → first_of (take_conditions_in client asked (Token s)) ≡ None
+    ensures { (s : Sem) (client invoke : ℕ) (asked : TakeControl) (now : Instant)
+        → first_of (take_conditions_in client asked (Token s)) ≡ None
         → take_answer s (ask_of client invoke asked) now ≡ Ok (if has_token asked.preempt s
         then Granted (grant_to (s.made + 1) (ask_of client invoke asked)) else Waits (s.made + 1)) }
 {}
 
 /// And where nothing stands against a token that is given back, it is granted to whom it is told.
 pub fn a_grant_is_as_told()
-    ensures { (s : Sem) (client : ℕ) (asked : RelinquishControl) → first_of (relinquish_conditions_in client asked (Token s)) ≡ None
+    ensures { (s : Sem) (client : ℕ) (asked : RelinquishControl)
+        → first_of (relinquish_conditions_in client asked (Token s)) ≡ None
         → relinquish_answer s client ≡ Ok (relinquish_grant_in client (Token s)) }
 {}

@@ -4,6 +4,7 @@ ghost use Rattle.std.specs.Prelude.{◌≡◌, IfOk, OnErr, OnOk, Some, map};
 ghost use Rattle.std.specs.Map.{keys_of, lookup};
 ghost use Rattle.mms_types.specs.Moments.{IsDated};
 ghost use Rattle.mms_types.specs.Order.{key_eq};
+ghost use Rattle.mms_time.specs.Semaphores.{changed_row};
 ghost use Rattle.mms_time.specs.Loss.{grants_of, left_by, lost, lost_grants, sorted_keys, without_client};
 
 use crate::{Semaphore, SemaphoreRow};
@@ -15,7 +16,8 @@ use token_sem::Grant;
 /// Names in order.
 #[tactic(auto, using(crate::proofs::KeyOrder::sort_gives))]
 fn in_order<'a>(mut keys: Vec<&'a Key>) -> Vec<&'a Key>
-    ensures { map (λ key. key.now) result.items ≡ sorted_keys (map (λ key. key.now) keys.entry.items) }
+    ensures { map (λ key. key.now) result.items
+        ≡ sorted_keys (map (λ key. key.now) keys.entry.items) }
 {
     keys.sort_unstable();
     keys
@@ -26,7 +28,8 @@ fn sorted_keys<'a>(
     alloc: Global,
     semaphores: &'a Named<SemaphoreRow>,
 ) -> Result<Vec<&'a Key>, Memory>
-    ensures { IfOk result (λ keys. map (λ key. key.now) keys.items ≡ sorted_keys (keys_of semaphores.now)) }
+    ensures { IfOk result (λ keys.
+        map (λ key. key.now) keys.items ≡ sorted_keys (keys_of semaphores.now)) }
 {
     let mut keys = Vec::new(alloc);
     for place in 0..semaphores.len() {
@@ -59,7 +62,7 @@ impl SemaphoreRow {
     /// A client is lost. What is left where there is no memory isn't said.
     fn lose(&mut self, alloc: Global, client: u32, now: Moment) -> Result<(), Memory>
         requires { IsDated now }
-        ensures { OnOk result (self.new ≡ record self.old { semaphore = without_client client now self.old.semaphore }) }
+        ensures { OnOk result (self.new ≡ changed_row (without_client client now) self.old) }
     {
         match &mut self.semaphore {
             Semaphore::Token(tokens) => {
@@ -79,7 +82,8 @@ fn grants_at(
     now: Moment,
 ) -> Result<Vec<Grant>, Memory>
     requires { IsDated now }
-    ensures { IfOk result (λ grants. grants.items ≡ grants_of client now (lookup (key_eq key.now) semaphores.now)) }
+    ensures { IfOk result (λ grants.
+        grants.items ≡ grants_of client now (lookup (key_eq key.now) semaphores.now)) }
 {
     match semaphores.get(key) {
         None => Ok(Vec::new(alloc)),
@@ -125,13 +129,13 @@ fn lose_each(
     Ok(())
 }
 
-/// A client is lost (ISO 9506-1, TakeControl, relinquishIfConnectionLost): its queued entries go; then each of its owner
-/// entries becomes hung where its token is kept, and else goes, and its token is granted to the entry that is served
-/// next, or is free; then the semaphores of its association go. Who is granted a token is told by name of semaphore and
-/// number of the client's entry. The one refusal is want of memory; then all is as before.
+/// A client is lost (ISO 9506-1, TakeControl, relinquishIfConnectionLost): its queued entries go; then each of its
+/// owner entries becomes hung where its token is kept, and else goes, and its token is granted to the entry that is
+/// served next, or is free; then the semaphores of its association go. Who is granted a token is told by name of
+/// semaphore and number of the client's entry. The one refusal is want of memory; then all is as before.
 pub fn lose(
-    semaphores: &mut Named<SemaphoreRow>,
     alloc: Global,
+    semaphores: &mut Named<SemaphoreRow>,
     client: u32,
     now: Moment,
 ) -> Result<Vec<Grant>, Memory>

@@ -4,7 +4,7 @@ ghost use Rattle.std.specs.Prelude.{◌≡◌, ◌≤◌, ◌<◌, ◌^◌, All,
 ghost use Rattle.mms_types.specs.Serves.{Serves};
 ghost use Rattle.token_sem.specs.Semaphore.{is_hung, is_owner};
 ghost use Rattle.mms_time.specs.Semaphores.{entries_of, semaphore};
-ghost use Rattle.mms_time.specs.Statuses.{IsAhead, comes_after, entry_status, entry_status_answer, entry_status_cause, entry_statuses, is_in_state, is_listed, pool_status_cause, status, status_cause, status_in};
+ghost use Rattle.mms_time.specs.Statuses.{AreAhead, IsAhead, comes_after, entry_status, entry_status_answer, entry_status_cause, entry_statuses, is_in_state, is_listed, pool_status_cause, status, status_cause, status_in};
 
 use crate::{Semaphore, SemaphoreRow};
 use mms_types::{
@@ -51,7 +51,8 @@ pub fn report_semaphore_status(
     client: u32,
     name: &ObjectName,
 ) -> Result<SemaphoreStatus, Refuse>
-    ensures { Serves result (status_cause client name.now semaphores.now) (status client name.now semaphores.now) }
+    ensures { Serves result (status_cause client name.now semaphores.now)
+        (status client name.now semaphores.now) }
 {
     match semaphores.named(client, name) {
         None => Err(Refuse::Service(ServiceError::OBJECT_NON_EXISTENT)),
@@ -162,14 +163,15 @@ fn entry_statuses(
 /// one that is given, which need not be there: the first 6 of them, and whether there are more. Object-non-existent
 /// where the semaphore is missing.
 pub fn report_semaphore_entry_status(
-    semaphores: &Named<SemaphoreRow>,
     alloc: Global,
+    semaphores: &Named<SemaphoreRow>,
     client: u32,
     now: Moment,
     asked: &ReportSemaphoreEntryStatus,
 ) -> Result<EntryStatuses, Refuse>
-    requires ahead { (row : SemaphoreRow) → semaphore client asked.now.name semaphores.now ≡ Some row → All (IsAhead now) (entries_of row) }
-    ensures { Serves result (entry_status_cause client asked.now semaphores.now) (entry_status_answer client now asked.now semaphores.now) }
+    requires ahead { AreAhead now (semaphore client asked.now.name semaphores.now) }
+    ensures { Serves result (entry_status_cause client asked.now semaphores.now)
+        (entry_status_answer client now asked.now semaphores.now) }
 {
     let Some(row) = semaphores.named(client, &asked.name) else {
         return Err(Refuse::Service(ServiceError::OBJECT_NON_EXISTENT));

@@ -7,7 +7,7 @@ ghost use Rattle.mms_types.specs.Moments.{IsDated};
 ghost use Rattle.mms_types.specs.Order.{key_eq};
 ghost use Rattle.mms_types.specs.Serves.{Serves};
 ghost use Rattle.token_sem.specs.Semaphore.{is_queued, numbered};
-ghost use Rattle.mms_time.specs.Semaphores.{entries_in, entries_of, made_in, made_of, semaphore};
+ghost use Rattle.mms_time.specs.Semaphores.{changed_row, entries_of, entry_in, made_in, made_of, semaphore};
 ghost use Rattle.mms_time.specs.Services.{ask_of, cancel_after, relinquish_cause, relinquish_conditions_in, relinquish_grant, relinquish_grant_in, relinquished, take_after, take_cause, take_conditions_in, take_told, take_told_in, with_take, with_token_back, without_entry};
 
 use crate::{Semaphore, SemaphoreRow};
@@ -73,7 +73,8 @@ pub fn take_control_told(
     asked: &TakeControl,
 ) -> Result<TakeDone, Refuse>
     requires { made_of (semaphore client asked.now.name semaphores.now) < 2 ^ 63 }
-    ensures { Serves result (take_cause client asked.now semaphores.now) (take_told client asked.now semaphores.now) }
+    ensures { Serves result (take_cause client asked.now semaphores.now)
+        (take_told client asked.now semaphores.now) }
 {
     let Some(row) = semaphores.named(client, &asked.name) else {
         return Err(Refuse::Service(ServiceError::OBJECT_NON_EXISTENT));
@@ -107,7 +108,7 @@ impl SemaphoreRow {
         requires unnamed { is_none ask.now.token ≡ true }
         requires made { made_in self.old.semaphore < 2 ^ 63 }
         requires now { IsDated now }
-        ensures taken { OnOk result (self.new ≡ record self.old { semaphore = with_take ask.now now self.old.semaphore }) }
+        ensures taken { OnOk result (self.new ≡ changed_row (with_take ask.now now) self.old) }
         ensures kept { OnErr result (self.new ≡ self.old) }
     {
         match &mut self.semaphore {
@@ -121,7 +122,7 @@ impl SemaphoreRow {
     /// A token is given back.
     fn relinquish(&mut self, client: u32, now: Moment)
         requires { IsDated now }
-        ensures { self.new ≡ record self.old { semaphore = with_token_back client now self.old.semaphore } }
+        ensures { self.new ≡ changed_row (with_token_back client now) self.old }
     {
         match &mut self.semaphore {
             Semaphore::Token(tokens) => {
@@ -133,7 +134,7 @@ impl SemaphoreRow {
     /// A queued entry goes.
     fn cancel(&mut self, entry: u64)
         requires { option_map is_queued (numbered entry (entries_of self.old)) ≡ Some true }
-        ensures { self.new ≡ record self.old { semaphore = without_entry entry self.old.semaphore } }
+        ensures { self.new ≡ changed_row (without_entry entry) self.old }
     {
         match &mut self.semaphore {
             Semaphore::Token(tokens) => tokens.cancel(entry),
@@ -144,8 +145,8 @@ impl SemaphoreRow {
 /// Asks for a token (ISO 9506-1, TakeControl): the client has it, or waits. The one refusal is want of memory; then all
 /// is as before.
 pub fn take_control(
-    semaphores: &mut Named<SemaphoreRow>,
     alloc: Global,
+    semaphores: &mut Named<SemaphoreRow>,
     client: u32,
     invoke: u32,
     now: Moment,
@@ -153,7 +154,8 @@ pub fn take_control(
 ) -> Result<(), Memory>
     requires made { made_of (semaphore client asked.now.name semaphores.old) < 2 ^ 63 }
     requires now { IsDated now }
-    ensures taken { OnOk result (semaphores.new ≡ take_after client invoke now asked.now semaphores.old) }
+    ensures taken { OnOk result
+        (semaphores.new ≡ take_after client invoke now asked.now semaphores.old) }
     ensures kept { OnErr result (semaphores.new ≡ semaphores.old) }
 {
     let key = asked.name.key(alloc, client)?;
@@ -202,7 +204,8 @@ pub fn relinquish_control_told(
     client: u32,
     asked: &RelinquishControl,
 ) -> Result<Option<Grant>, Refuse>
-    ensures { Serves result (relinquish_cause client asked.now semaphores.now) (relinquish_grant client asked.now semaphores.now) }
+    ensures { Serves result (relinquish_cause client asked.now semaphores.now)
+        (relinquish_grant client asked.now semaphores.now) }
 {
     let Some(row) = semaphores.named(client, &asked.name) else {
         return Err(Refuse::Service(ServiceError::OBJECT_NON_EXISTENT));
@@ -226,7 +229,7 @@ pub fn relinquish_control(semaphores: &mut Named<SemaphoreRow>, key: &Key, clien
 
 /// Takes a queued entry out of the semaphore of that name (ISO 9506-1, Cancel of a TakeControl). It takes no memory.
 pub fn cancel_take(semaphores: &mut Named<SemaphoreRow>, key: &Key, entry: u64)
-    requires { option_map is_queued (option_and_then (λ row. numbered entry (entries_of row)) (lookup (key_eq key.now) semaphores.old)) ≡ Some true }
+    requires { option_map is_queued (entry_in key.now entry semaphores.old) ≡ Some true }
     ensures { semaphores.new ≡ cancel_after key.now entry semaphores.old }
 {
     if let Some(row) = semaphores.get_mut(key) {
