@@ -6,6 +6,7 @@ pub mod Names
 pub mod NextDeadline
 pub mod Soonest
 pub mod Told
+pub mod TwoSteps
 pub mod Unowned
 pub mod Unopposed
 mod Worked

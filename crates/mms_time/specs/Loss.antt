@@ -1,5 +1,5 @@
 -- The loss of a client in all semaphores (ISO 9506-1, TakeControl, relinquishIfConnectionLost).
-use Rattle.std.specs.Prelude.{ℕ, List, [], ◌∷◌, map, Option, None, Some, if◌then◌else◌}
+use Rattle.std.specs.Prelude.{ℕ, not, List, [], ◌∷◌, map, filter, fold, Option, None, Some, if◌then◌else◌}
 use Rattle.std.specs.List.{flat_map}
 use Rattle.std.specs.Map.{keys_of, lookup}
 use Rattle.std.specs.Ordering.{is_lt}
@@ -8,25 +8,34 @@ use Rattle.mms_types.specs.declared.key.Key.{Key}
 use Rattle.mms_types.specs.declared.key.Scope.TheVariants.{Association}
 use Rattle.mms_types.specs.declared.moment.Moment.{Moment}
 use Rattle.object_names.specs.Scopes.{without_all_of}
-use Rattle.token_sem.specs.Semaphore.{after_lose, loss_of}
+use Rattle.token_sem.specs.Semaphore.{Loss, after_lose, loss_of, loss_of_one, owned_by, waits_for}
 use Rattle.token_sem.specs.declared.entry.Grant.{Grant}
+use Rattle.token_sem.specs.declared.entry.SemEntry.{SemEntry}
 use Rattle.mms_time.specs.Semaphores.{Rows, changed_row, entries_of}
 use Rattle.mms_time.specs.declared.row.Semaphore.{Semaphore}
 use Rattle.mms_time.specs.declared.row.Semaphore.TheVariants.{Token}
 use Rattle.mms_time.specs.declared.row.SemaphoreRow.{SemaphoreRow}
 
--- First the client's queued entries go, in all semaphores; then each of its owner entries goes or becomes hung, in order of name and number. What is
--- done to one semaphore reads no other, so each may lose its queued entries right before its owners, as here.
+abbrev pub all_changed : (Semaphore → Semaphore) → Rows → Rows
+all_changed change rows = map (λ row. (row.0, changed_row change row.1)) rows
 
-abbrev pub without_client : ℕ → Moment → Semaphore → Semaphore
-without_client client now (Token s) = Token (after_lose s client now)
+-- ---- the steps: first the client's queued entries go, in all semaphores
 
-abbrev pub left_by : ℕ → Moment → Key × SemaphoreRow → Key × SemaphoreRow
-left_by client now row = (row.0, changed_row (without_client client now) row.1)
+abbrev pub without_waiters : ℕ → Semaphore → Semaphore
+without_waiters client (Token s) = Token (record s { entries = filter (λ e. not (waits_for client e)) s.entries })
+
+-- then each of its owner entries becomes hung, where its token is kept, or goes, and its token is granted or free, in order of number
+abbrev pub owners_lost : ℕ → Moment → List SemEntry → Loss
+owners_lost client now entries = fold (loss_of_one now) (record { entries = entries; grants = [] }) (filter (owned_by client) entries)
+
+abbrev pub without_owners : ℕ → Moment → Semaphore → Semaphore
+without_owners client now (Token s) = Token (record s { entries = (owners_lost client now s.entries).entries })
 
 -- and then the semaphores of its association go
 abbrev pub lost : ℕ → Moment → Rows → Rows
-lost client now rows = without_all_of (Association client) (map (left_by client now) rows)
+lost client now rows = without_all_of (Association client) (all_changed (without_owners client now) (all_changed (without_waiters client) rows))
+
+-- ---- who is granted a token
 
 -- names in order with one more at its place: before the first that does not come before it
 abbrev pub insert_key : Key → List Key → List Key
@@ -38,10 +47,22 @@ abbrev pub sorted_keys : List Key → List Key
 sorted_keys [] = []
 sorted_keys (key ∷ keys) = insert_key key (sorted_keys keys)
 
+abbrev pub owner_grants : ℕ → Moment → Option SemaphoreRow → List Grant
+owner_grants client now None = []
+owner_grants client now (Some row) = (owners_lost client now (entries_of row)).grants
+
+-- by name of semaphore and number of the client's entry, when its queued entries are gone
+abbrev pub lost_grants : ℕ → Moment → Rows → List Grant
+lost_grants client now rows = flat_map (λ key. owner_grants client now (lookup (key_eq key) (all_changed (without_waiters client) rows))) (sorted_keys (keys_of rows))
+
+-- ---- the same, each semaphore by itself: what is done to one reads no other
+
+abbrev pub without_client : ℕ → Moment → Semaphore → Semaphore
+without_client client now (Token s) = Token (after_lose s client now)
+
 abbrev pub grants_of : ℕ → Moment → Option SemaphoreRow → List Grant
 grants_of client now None = []
 grants_of client now (Some row) = (loss_of client now (entries_of row)).grants
 
--- who is granted a token, by name of semaphore and number of the client's entry
-abbrev pub lost_grants : ℕ → Moment → Rows → List Grant
-lost_grants client now rows = flat_map (λ key. grants_of client now (lookup (key_eq key) rows)) (sorted_keys (keys_of rows))
+abbrev pub grants_of_each : ℕ → Moment → Rows → List Grant
+grants_of_each client now rows = flat_map (λ key. grants_of client now (lookup (key_eq key) rows)) (sorted_keys (keys_of rows))

@@ -5,7 +5,7 @@ ghost use Rattle.std.specs.Map.{keys_of, lookup};
 ghost use Rattle.mms_types.specs.Moments.{IsDated};
 ghost use Rattle.mms_types.specs.Order.{key_eq};
 ghost use Rattle.mms_time.specs.Semaphores.{changed_row};
-ghost use Rattle.mms_time.specs.Loss.{grants_of, left_by, lost, lost_grants, sorted_keys, without_client};
+ghost use Rattle.mms_time.specs.Loss.{all_changed, grants_of, grants_of_each, lost, lost_grants, sorted_keys, without_client};
 
 use crate::{Semaphore, SemaphoreRow};
 use mms_types::{Key, Memory, Moment, Scope};
@@ -92,14 +92,14 @@ fn grants_at(
 }
 
 /// Who is granted a token where a client is lost, by name of semaphore and number of the client's entry.
-fn lost_grants(
+fn grants_of_each(
     alloc: Global,
     semaphores: &Named<SemaphoreRow>,
     client: u32,
     now: Moment,
 ) -> Result<Vec<Grant>, Memory>
     requires { IsDated now }
-    ensures { IfOk result (λ grants. grants.items ≡ lost_grants client now semaphores.now) }
+    ensures { IfOk result (λ grants. grants.items ≡ grants_of_each client now semaphores.now) }
 {
     let keys = sorted_keys(alloc, semaphores)?;
     let mut grants = Vec::new(alloc);
@@ -118,7 +118,8 @@ fn lose_each(
     now: Moment,
 ) -> Result<(), Memory>
     requires { IsDated now }
-    ensures { OnOk result (semaphores.new ≡ map (left_by client now) semaphores.old) }
+    ensures { OnOk result
+        (semaphores.new ≡ all_changed (without_client client now) semaphores.old) }
 {
     for place in 0..semaphores.len() {
         let Some(row) = semaphores.at_mut(place) else {
@@ -144,7 +145,7 @@ pub fn lose(
     ensures lost { OnOk result (semaphores.new ≡ lost client now semaphores.old) }
     ensures kept { OnErr result (semaphores.new ≡ semaphores.old) }
 {
-    let grants = lost_grants(alloc, semaphores, client, now)?;
+    let grants = grants_of_each(alloc, semaphores, client, now)?;
     let mut left = semaphores.copy(alloc)?;
     lose_each(alloc, &mut left, client, now)?;
     left.remove_all_of(&Scope::Association(client));

@@ -3,7 +3,7 @@ use Rattle.std.specs.List.{flat_map}
 use Rattle.std.specs.Map.{lookup}
 use Rattle.mms_types.specs.Order.{key_eq}
 use Rattle.mms_time.specs.Loss.{grants_of}
-use Rattle.mms_time.proofs.losing.lost_grants.Given as goal
+use Rattle.mms_time.proofs.losing.grants_of_each.Given as goal
 
 -- the grants of the names up to the index are there
 abbrev pub invariant-loop-key : goal.invariant-loop-key
