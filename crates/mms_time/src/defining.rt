@@ -2,7 +2,7 @@
 
 ghost use Rattle.std.specs.Prelude.{◌≡◌, ◌==◌, Bool, None, OnErr, OnOk, length, not};
 ghost use Rattle.mms_time.specs.Semaphores.{entries_of};
-ghost use Rattle.mms_time.specs.Services.{define_after, define_cause, delete_cause, deleted, new_semaphore};
+ghost use Rattle.mms_time.specs.Services.{define_after, define_cause, delete_cause, deleted};
 
 use crate::{Semaphore, SemaphoreRow};
 use mms_types::{DefineSemaphore, Key, Memory, ObjectName, ServiceError};

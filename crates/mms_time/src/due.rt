@@ -1,11 +1,9 @@
 //! The deadlines of all semaphores.
 
-ghost use Rattle.std.specs.Prelude.{◌≡◌, IfSome, Some, option_and_then, option_map};
-ghost use Rattle.std.specs.Map.{lookup};
+ghost use Rattle.std.specs.Prelude.{◌≡◌, IfSome, Some, option_map};
 ghost use Rattle.mms_types.specs.Moments.{IsDated};
-ghost use Rattle.mms_types.specs.Order.{key_eq};
 ghost use Rattle.token_sem.specs.Semaphore.{deadline_at, first_deadline, least};
-ghost use Rattle.mms_time.specs.Deadlines.{deadline_in, deadlines_of, due_meant, due_order, due_sooner, expire_after, expired, expired_in, first_due, next_due, pick, until_only, without_due};
+ghost use Rattle.mms_time.specs.Deadlines.{deadline_in, deadlines_of, due_meant, due_order, due_sooner, expire_after, expired, expired_in, first_due, next_due, pick, without_due};
 ghost use Rattle.mms_time.specs.Semaphores.{changed_row, entries_of};
 
 use crate::{Semaphore, SemaphoreRow};

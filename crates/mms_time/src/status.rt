@@ -1,10 +1,9 @@
 //! ReportSemaphoreStatus, ReportPoolSemaphoreStatus and ReportSemaphoreEntryStatus.
 
-ghost use Rattle.std.specs.Prelude.{◌≡◌, ◌≤◌, ◌<◌, ◌^◌, All, IfOk, IfSome, None, Some, count_by, length, option_map};
+ghost use Rattle.std.specs.Prelude.{◌≡◌, All, IfOk, None};
 ghost use Rattle.mms_types.specs.Serves.{Serves};
-ghost use Rattle.token_sem.specs.Semaphore.{is_hung, is_owner};
 ghost use Rattle.mms_time.specs.Semaphores.{entries_of, semaphore};
-ghost use Rattle.mms_time.specs.Statuses.{AreAhead, IsAhead, comes_after, entry_status, entry_status_answer, entry_status_cause, entry_statuses, is_in_state, is_listed, pool_status_cause, status, status_cause, status_in};
+ghost use Rattle.mms_time.specs.Statuses.{AreAhead, IsAhead, entry_status, entry_status_answer, entry_status_cause, entry_statuses, is_in_state, is_listed, pool_status_cause, status, status_cause, status_in};
 
 use crate::{Semaphore, SemaphoreRow};
 use mms_types::{

@@ -1,10 +1,8 @@
 //! TakeControl, RelinquishControl, and Cancel of a TakeControl.
 
-ghost use Rattle.std.specs.Prelude.{◌≡◌, ◌^◌, ◌<◌, OnErr, OnOk, Some, is_none, option_and_then, option_map, true};
-ghost use Rattle.std.specs.Map.{lookup};
+ghost use Rattle.std.specs.Prelude.{◌≡◌, ◌^◌, ◌<◌, OnErr, OnOk, Some, is_none, option_map, true};
 ghost use Rattle.mms_types.specs.Errors.{first_of};
 ghost use Rattle.mms_types.specs.Moments.{IsDated};
-ghost use Rattle.mms_types.specs.Order.{key_eq};
 ghost use Rattle.mms_types.specs.Serves.{Serves};
 ghost use Rattle.token_sem.specs.Semaphore.{is_queued, numbered};
 ghost use Rattle.mms_time.specs.Semaphores.{changed_row, entries_of, entry_in, made_in, made_of, semaphore};
