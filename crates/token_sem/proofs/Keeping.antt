@@ -31,14 +31,14 @@ among-find p (e ∷ es) o f = found (p e) refl (among-find p es o) f
     found false t ih g = (inr (ih g).0, (ih g).1)
 
 -- the least is one of them
-among-fold : (p : SemEntry → Bool) (es : List SemEntry) (best : Option SemEntry) (o : SemEntry) → fold (earlier before) best (filter p es) ≡ Some o → (best ≡ Some o) ⊎ (Among es o × (p o ≡ true))
-among-fold p [] best o f = inl f
-among-fold p (e ∷ es) best o f = kept (p e) refl (λ b. among-fold p es b o) f
+among-fold : (less : SemEntry → SemEntry → Bool) (p : SemEntry → Bool) (es : List SemEntry) (best : Option SemEntry) (o : SemEntry) → fold (earlier less) best (filter p es) ≡ Some o → (best ≡ Some o) ⊎ (Among es o × (p o ≡ true))
+among-fold less p [] best o f = inl f
+among-fold less p (e ∷ es) best o f = kept (p e) refl (λ b. among-fold less p es b o) f
   where
-    which : (best : Option SemEntry) → p e ≡ true → (earlier before best e ≡ Some o) ⊎ (Among es o × (p o ≡ true)) → (best ≡ Some o) ⊎ (Among (e ∷ es) o × (p o ≡ true))
+    which : (best : Option SemEntry) → p e ≡ true → (earlier less best e ≡ Some o) ⊎ (Among es o × (p o ≡ true)) → (best ≡ Some o) ⊎ (Among (e ∷ es) o × (p o ≡ true))
     which best t (inr h) = inr (inr h.0, h.1)
     which None t (inl h) = let same : e ≡ o = cc h in inr (inl same, ap p (sym same) ∙ t)
-    which (Some b) t (inl h) = first (before e b) h
+    which (Some b) t (inl h) = first (less e b) h
       where
         first : (c : Bool) → Some (cond c e b) ≡ Some o → (Some b ≡ Some o) ⊎ (Among (e ∷ es) o × (p o ≡ true))
         first true g = let same : e ≡ o = cc g in inr (inl same, ap p (sym same) ∙ t)
@@ -48,12 +48,15 @@ among-fold p (e ∷ es) best o f = kept (p e) refl (λ b. among-fold p es b o) f
     other best (inl h) = inl h
     other best (inr h) = inr (inr h.0, h.1)
 
-    kept : (b : Bool) → p e ≡ b → ((c : Option SemEntry) → fold (earlier before) c (filter p es) ≡ Some o → (c ≡ Some o) ⊎ (Among es o × (p o ≡ true))) → fold (earlier before) best (cond b (e ∷ filter p es) (filter p es)) ≡ Some o → (best ≡ Some o) ⊎ (Among (e ∷ es) o × (p o ≡ true))
-    kept true t ih g = which best t (ih (earlier before best e) g)
+    kept : (b : Bool) → p e ≡ b → ((c : Option SemEntry) → fold (earlier less) c (filter p es) ≡ Some o → (c ≡ Some o) ⊎ (Among es o × (p o ≡ true))) → fold (earlier less) best (cond b (e ∷ filter p es) (filter p es)) ≡ Some o → (best ≡ Some o) ⊎ (Among (e ∷ es) o × (p o ≡ true))
+    kept true t ih g = which best t (ih (earlier less best e) g)
     kept false t ih g = other best (ih best g)
 
+pub among-least : (less : SemEntry → SemEntry → Bool) (p : SemEntry → Bool) (es : List SemEntry) (o : SemEntry) → least less (filter p es) ≡ Some o → Among es o × (p o ≡ true)
+among-least less p es o f = elim (among-fold less p es None o f) [ inl h ↦ absurd (cc h) | inr h ↦ h ]
+
 pub among-next : (es : List SemEntry) (o : SemEntry) → next es ≡ Some o → Among es o × (is_queued o ≡ true)
-among-next es o f = elim (among-fold is_queued es None o f) [ inl h ↦ absurd (cc h) | inr h ↦ h ]
+among-next es o f = among-least before is_queued es o f
 
 -- there is a least unless there is none
 some-fold : (es : List SemEntry) (b : SemEntry) → fold (earlier before) (Some b) es ≡ None → ⊥
@@ -85,10 +88,10 @@ rises-above low high (e ∷ es) o r (inr a) =
     let next : e.number < o.number = rest.0 in
     (omega arith, rest.1)
 
-different : (a b : ℕ) → a < b → (a == b) ≡ false
+pub different : (a b : ℕ) → a < b → (a == b) ≡ false
 different a b lt = grind (arith, nat_tests)
 
-same_number : (a b : ℕ) → a ≡ b → (a == b) ≡ true
+pub same_number : (a b : ℕ) → a ≡ b → (a == b) ≡ true
 same_number a b e = grind (arith, nat_tests)
 
 pub without-other : (e : SemEntry) (n : ℕ) (es : List SemEntry) → e.number < n → without n (e ∷ es) ≡ e ∷ without n es

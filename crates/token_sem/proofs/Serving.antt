@@ -10,7 +10,7 @@ use Rattle.token_sem.specs.Semaphore.{Sem, IsSem, Rises, before, next, is_queued
 use Rattle.token_sem.proofs.Keeping.{Among, among-next, rises-above}
 use Rattle.token_sem.proofs.Least.{Stands, least-first, least-stands, before-order, sooner-order}
 
-stands-get_or : {A : Type 0} (xs : List A) (k : ℕ) (d : A) → k < length xs → Stands xs (get_or xs k d)
+pub stands-get_or : {A : Type 0} (xs : List A) (k : ℕ) (d : A) → k < length xs → Stands xs (get_or xs k d)
 stands-get_or [] k d lt = absurd (omega arith)
 stands-get_or (x ∷ xs) zero d lt = inl refl
 stands-get_or (x ∷ xs) (suc k) d lt = inr (stands-get_or xs k d (omega arith))
@@ -43,7 +43,7 @@ freed-served s now e is f =
     ap (λ o. numbered e.number (granted_to o now s.entries)) f ∙ granted-at 0 s.made now s.entries e is.rises (among-next s.entries e f).0
 
 -- the entry of that number is the one that stands there
-numbered-at : (low high : ℕ) (es : List SemEntry) (e : SemEntry) → Rises low es high → Among es e → numbered e.number es ≡ Some e
+pub numbered-at : (low high : ℕ) (es : List SemEntry) (e : SemEntry) → Rises low es high → Among es e → numbered e.number es ≡ Some e
 numbered-at low high [] e r a = absurd a
 numbered-at low high (x ∷ es) e r (inl same) =
     let t : (x.number == e.number) ≡ true = (let n : x.number ≡ e.number = ap (λ y. y.number) same in grind (arith, nat_tests)) in

@@ -1,4 +1,4 @@
-//! What is done on the entries of a semaphore.
+//! What is done on the entries of a semaphore, of equal tokens or of a pool.
 
 ghost use Rattle.std.specs.Prelude.{◌≡◌, ◌+◌, ◌≤◌, ◌<◌, [], ◌∷◌, ◌++◌, Err, IfOk, OnErr, OnOk, count_by, filter, fold, length, map, not, option_map, vec_capacity, vec_len};
 ghost use Rattle.mms_types.specs.Moments.{IsDated};
@@ -11,7 +11,7 @@ use mms_types::{Memory, Moment};
 use std::alloc::Global;
 
 /// The earlier of the best so far and one more.
-fn earlier(best: Option<SemEntry>, entry: &SemEntry) -> Option<SemEntry>
+pub fn earlier(best: Option<SemEntry>, entry: &SemEntry) -> Option<SemEntry>
     ensures { result ≡ earlier before best entry.now }
 {
     match best {
@@ -31,14 +31,14 @@ fn next_of(entries: &[SemEntry]) -> Option<SemEntry>
 }
 
 /// The entry of that number goes.
-pub(crate) fn remove(entries: &mut Vec<SemEntry>, number: u64)
+pub fn remove(entries: &mut Vec<SemEntry>, number: u64)
     ensures { entries.new.items ≡ without number entries.old.items }
 {
     entries.retain(|entry| entry.number != number);
 }
 
 /// So many milliseconds later.
-fn after(now: Moment, ms: u32) -> Moment
+pub fn after(now: Moment, ms: u32) -> Moment
     requires { IsDated now }
     ensures { result ≡ after now ms }
 {
@@ -57,7 +57,7 @@ fn deadline_after(now: Moment, control: Option<u32>) -> Option<Moment>
 }
 
 /// The entry, where it is the one of that number as owner.
-fn granted_entry(number: u64, now: Moment, entry: &SemEntry) -> SemEntry
+pub fn granted_entry(number: u64, now: Moment, entry: &SemEntry) -> SemEntry
     requires { IsDated now }
     ensures { result ≡ granted_entry number now entry.now }
 {
@@ -218,7 +218,7 @@ fn entry_of(number: u64, ask: &Ask, state: SemState, deadline: Option<Moment>) -
 }
 
 /// The entry of a request that gets a token.
-pub(crate) fn owner_entry(number: u64, ask: &Ask, now: Moment) -> SemEntry
+pub fn owner_entry(number: u64, ask: &Ask, now: Moment) -> SemEntry
     requires { IsDated now }
     ensures { result ≡ entry_of number ask.now Owner (deadline_after now ask.now.control) }
 {
@@ -227,14 +227,14 @@ pub(crate) fn owner_entry(number: u64, ask: &Ask, now: Moment) -> SemEntry
 }
 
 /// The entry of a request that waits.
-pub(crate) fn queued_entry(number: u64, ask: &Ask, deadline: Option<Moment>) -> SemEntry
+pub fn queued_entry(number: u64, ask: &Ask, deadline: Option<Moment>) -> SemEntry
     ensures { result ≡ entry_of number ask.now Queued deadline }
 {
     entry_of(number, ask, SemState::Queued, deadline)
 }
 
 /// Who is told that a request gets a token.
-pub(crate) fn grant_to(number: u64, ask: &Ask) -> Grant
+pub fn grant_to(number: u64, ask: &Ask) -> Grant
     ensures { result ≡ grant_to number ask.now }
 {
     Grant {
@@ -246,7 +246,7 @@ pub(crate) fn grant_to(number: u64, ask: &Ask) -> Grant
 }
 
 /// Appends an entry.
-pub(crate) fn add(entries: &mut Vec<SemEntry>, entry: SemEntry) -> Result<(), TakeRefused>
+pub fn add(entries: &mut Vec<SemEntry>, entry: SemEntry) -> Result<(), TakeRefused>
     ensures ok { OnOk result (entries.new.items ≡ entries.old.items ++ entry ∷ []) }
     ensures err { OnErr result (entries.new.items ≡ entries.old.items) }
     ensures memory { OnErr result (result ≡ Err OutOfMemory) }
@@ -258,14 +258,14 @@ pub(crate) fn add(entries: &mut Vec<SemEntry>, entry: SemEntry) -> Result<(), Ta
 }
 
 /// The entry of that number.
-pub(crate) fn numbered(number: u64, entries: &[SemEntry]) -> Option<SemEntry>
+pub fn numbered(number: u64, entries: &[SemEntry]) -> Option<SemEntry>
     ensures { result ≡ numbered number entries.now }
 {
     entries.iter().copied().find(|entry| entry.number == number)
 }
 
 /// Whether a request's client is lost where control times out.
-pub(crate) fn aborts(abort: Option<bool>) -> bool
+pub fn aborts(abort: Option<bool>) -> bool
     ensures { result ≡ aborts abort }
 {
     match abort {
@@ -289,7 +289,7 @@ fn soonest(best: Option<Deadline>, deadline: Deadline) -> Option<Deadline>
 }
 
 /// The least deadline.
-pub(crate) fn first_deadline(entries: &[SemEntry]) -> Option<Deadline>
+pub fn first_deadline(entries: &[SemEntry]) -> Option<Deadline>
     ensures { result ≡ first_deadline entries.now }
 {
     entries
@@ -299,11 +299,7 @@ pub(crate) fn first_deadline(entries: &[SemEntry]) -> Option<Deadline>
 }
 
 /// The owner entries of the client.
-pub(crate) fn owners_of(
-    alloc: Global,
-    client: u32,
-    entries: &[SemEntry],
-) -> Result<Vec<SemEntry>, Memory>
+pub fn owners_of(alloc: Global, client: u32, entries: &[SemEntry]) -> Result<Vec<SemEntry>, Memory>
     ensures { IfOk result (λ owners. owners.items ≡ filter (owned_by client) entries.now) }
 {
     let owners: Vec<SemEntry> = entries
@@ -315,7 +311,7 @@ pub(crate) fn owners_of(
 }
 
 /// The client's queued entries go.
-pub(crate) fn lose_waiters(entries: &mut Vec<SemEntry>, client: u32)
+pub fn lose_waiters(entries: &mut Vec<SemEntry>, client: u32)
     ensures { entries.new.items ≡ filter (λ e. not (waits_for client e)) entries.old.items }
 {
     entries.retain(|entry| !(entry.client == client && entry.is_queued()));
@@ -333,7 +329,7 @@ fn hung_entry(number: u64, entry: &SemEntry) -> SemEntry
 }
 
 /// The entry of that number becomes hung.
-fn hang(entries: &mut [SemEntry], number: u64)
+pub fn hang(entries: &mut [SemEntry], number: u64)
     ensures { entries.new ≡ map (hung_entry number) entries.old }
 {
     for place in 0..entries.len() {

@@ -1,7 +1,7 @@
 //! A token semaphore: equal tokens, and the entries that own one or wait for one (ISO 9506-1, semaphore management).
 #![tactic(auto)]
 
-mod entries;
+pub mod entries;
 mod entry;
 mod laws;
 mod sem;
