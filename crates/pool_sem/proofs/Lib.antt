@@ -1,0 +1,8 @@
+pub mod Counting
+pub mod Freeing
+pub mod Finding
+pub mod Taking
+pub mod Losing
+pub mod Serving
+pub mod Bounding
+mod Worked

@@ -1,0 +1,285 @@
+-- A pool, tokens that have names and a list of entries: ISO 9506-1, semaphore management. What a pool has in common with
+-- equal tokens, as entries, their rank and their deadlines, stands in `token_sem`.
+use Rattle.std.specs.Prelude.{◌≡◌, ℕ, ◌+◌, ◌<◌, ◌≤◌, Bool, true, false, not, ◌&&◌, ◌||◌, ◌==◌, nat_eq, nat_lt, if◌then◌else◌, List, [], ◌∷◌, ◌++◌, map, filter, find, fold, count_by, length, Option, None, Some, is_none, is_some, option_map, option_to_list, Result, Ok, Err}
+use Rattle.std.specs.List.{list_any, range_with_len, AllAdjacentBelow}
+use Rattle.std.specs.Option.{option_eq, option_cmp}
+use Rattle.std.specs.declared.cmp.Ordering.TheVariants.{Less}
+use Rattle.std.specs.Ordering.{is_lt, nat_cmp}
+use Rattle.mms_types.specs.declared.moment.Moment.{Moment}
+use Rattle.mms_types.specs.Order.{name_order}
+use Rattle.token_sem.specs.declared.entry.SemState.TheVariants.{Queued, Owner}
+use Rattle.token_sem.specs.declared.entry.SemEntry.{SemEntry}
+use Rattle.token_sem.specs.declared.entry.Ask.{Ask}
+use Rattle.token_sem.specs.declared.entry.Grant.{Grant}
+use Rattle.token_sem.specs.declared.entry.NotOwner.{NotOwner}
+use Rattle.token_sem.specs.declared.entry.Expired.{Expired}
+use Rattle.token_sem.specs.declared.entry.Taken.{Taken}
+use Rattle.token_sem.specs.declared.entry.Taken.TheVariants.{Granted, Waits, TimedOut}
+use Rattle.token_sem.specs.declared.entry.TakeRefused.{TakeRefused}
+use Rattle.token_sem.specs.declared.entry.TakeRefused.TheVariants.{Twice}
+use Rattle.token_sem.specs.Semaphore as of_tokens
+use Rattle.token_sem.specs.Semaphore.{is_queued, is_owner, is_hung, holds, before, least, without, numbered, after, deadline_after, hung_entry, waits_for, owned_by, aborts, Loss, Rises}
+use Rattle.pool_sem.specs.declared.outcome.PoolOutcome.{PoolOutcome}
+use Rattle.pool_sem.specs.declared.outcome.PoolOutcome.TheVariants.{Refused, Preempts, Gets, TimesOut, WaitsUntil, WaitsForEver}
+use Rattle.pool_sem.specs.declared.outcome.TokenState.{TokenState}
+use Rattle.pool_sem.specs.declared.outcome.TokenState.TheVariants as status
+
+-- the names of the tokens in order of octets, how many entries were made, and the entries in order of number. A token is
+-- told by its place in that order, from 0
+pub record Pool : Type 0 where
+  pub tokens : List (List ℕ)
+  pub made : ℕ
+  pub entries : List SemEntry
+
+-- a token was named, and it is that one
+abbrev pub names : Option ℕ → Option ℕ → Bool
+names asked token = is_some asked && option_eq nat_eq asked token
+
+-- no token was named, or it is that one
+abbrev pub suits : Option ℕ → Option ℕ → Bool
+suits asked token = is_none asked || option_eq nat_eq asked token
+
+-- the entry is owner of that token, or hung with it
+abbrev pub has : ℕ → SemEntry → Bool
+has token e = holds e && option_eq nat_eq e.token (Some token)
+
+-- the entry waits for that token, or for any
+abbrev pub wants : ℕ → SemEntry → Bool
+wants token e = is_queued e && suits e.token (Some token)
+
+-- nobody has the token
+abbrev pub is_free : ℕ → List SemEntry → Bool
+is_free token entries = not (list_any (has token) entries)
+
+-- the queued entry that is served first with that token
+abbrev pub next : ℕ → List SemEntry → Option SemEntry
+next token entries = least before (filter (wants token) entries)
+
+-- which token an answer names: the one that was got, where none was named (ISO 9506-1, TakeControl, namedToken)
+abbrev pub token_told : Option ℕ → Option ℕ → Option ℕ
+token_told asked got = if is_some asked then None else got
+
+-- the entry, when it becomes owner of that token
+abbrev pub owner_from : ℕ → Moment → SemEntry → SemEntry
+owner_from token now e = record (of_tokens.owner_from now e) { token = Some token }
+
+-- the entry of that number becomes owner of that token
+abbrev pub granted_entry : ℕ → ℕ → Moment → SemEntry → SemEntry
+granted_entry number token now e = if e.number == number then owner_from token now e else e
+
+abbrev pub granted_to : Option SemEntry → ℕ → Moment → List SemEntry → List SemEntry
+granted_to None token now entries = entries
+granted_to (Some first) token now entries = map (granted_entry first.number token now) entries
+
+-- a token is freed: the entry that is served first with it becomes its owner, or the token is free
+abbrev pub after_freeing : ℕ → Moment → List SemEntry → List SemEntry
+after_freeing token now entries = granted_to (next token entries) token now entries
+
+-- who is told that a token was granted
+abbrev pub grant_of : ℕ → SemEntry → Grant
+grant_of token e = record (of_tokens.grant_of e) { token = token_told e.token (Some token) }
+
+-- an entry goes, and the token that it has is freed
+
+abbrev pub after_freeing_of : Option ℕ → Moment → List SemEntry → List SemEntry
+after_freeing_of None now entries = entries
+after_freeing_of (Some token) now entries = after_freeing token now entries
+
+abbrev pub after_leaving : SemEntry → Moment → List SemEntry → List SemEntry
+after_leaving e now entries = after_freeing_of e.token now (without e.number entries)
+
+abbrev pub grant_freeing : Option ℕ → List SemEntry → Option Grant
+grant_freeing None entries = None
+grant_freeing (Some token) entries = option_map (grant_of token) (next token entries)
+
+abbrev pub grant_leaving : SemEntry → List SemEntry → Option Grant
+grant_leaving e entries = grant_freeing e.token (without e.number entries)
+
+-- RelinquishControl: the client's owner entry of that token goes, and the token is freed
+
+abbrev pub owner_of : ℕ → Option ℕ → List SemEntry → Option SemEntry
+owner_of client token entries = find (λ e. owned_by client e && names token e.token) entries
+
+abbrev pub after_giving_back : Option SemEntry → Moment → Pool → Pool
+after_giving_back None now p = p
+after_giving_back (Some owner) now p = record p { entries = after_leaving owner now p.entries }
+
+abbrev pub after_relinquish : Pool → ℕ → Option ℕ → Moment → Pool
+after_relinquish p client token now = after_giving_back (owner_of client token p.entries) now p
+
+abbrev pub answer_giving_back : Option SemEntry → List SemEntry → Result (Option Grant) NotOwner
+answer_giving_back None entries = Err (record {})
+answer_giving_back (Some owner) entries = Ok (grant_leaving owner entries)
+
+abbrev pub relinquish_answer : Pool → ℕ → Option ℕ → Result (Option Grant) NotOwner
+relinquish_answer p client token = answer_giving_back (owner_of client token p.entries) p.entries
+
+-- TakeControl: what a request comes to
+
+-- the client waits for a token of the pool, or owns the one that it names; a hung entry is no claim
+abbrev pub is_claim : Ask → SemEntry → Bool
+is_claim ask e = e.client == ask.client && (is_queued e || (is_owner e && names ask.token e.token))
+
+abbrev pub has_claim : Ask → List SemEntry → Bool
+has_claim ask entries = list_any (is_claim ask) entries
+
+-- of two entries the one whose token stands first in order of octets
+abbrev pub lower : SemEntry → SemEntry → Bool
+lower a b = is_lt (option_cmp nat_cmp a.token b.token)
+
+-- a hung entry of the client, with a token that suits
+abbrev pub is_hung_of : ℕ → Option ℕ → SemEntry → Bool
+is_hung_of client asked e = e.client == client && is_hung e && suits asked e.token
+
+-- the hung entry of the client that the request names (ISO 9506-1, TakeControl, applicationToPreempt), of those whose
+-- token suits the one with the least token
+abbrev pub hung_to_preempt : Option ℕ → Option ℕ → List SemEntry → Option SemEntry
+hung_to_preempt None asked entries = None
+hung_to_preempt (Some client) asked entries = least lower (filter (is_hung_of client asked) entries)
+
+-- a request is met by the token now
+abbrev pub meets : Option ℕ → List SemEntry → ℕ → Bool
+meets asked entries token = suits asked (Some token) && is_free token entries
+
+-- the free token of so many that was named, or the least one where none was
+abbrev pub free_token : Option ℕ → ℕ → List SemEntry → Option ℕ
+free_token asked count entries = find (meets asked entries) (range_with_len 0 count)
+
+-- no token is to be had now: ISO 9506-1, TakeControl, acceptableDelay
+abbrev pub outcome_later : Option ℕ → Moment → PoolOutcome
+outcome_later None now = WaitsForEver
+outcome_later (Some ms) now = if ms == 0 then TimesOut else WaitsUntil (after now ms)
+
+abbrev pub outcome_free : Option ℕ → Option ℕ → Moment → PoolOutcome
+outcome_free (Some token) delay now = Gets token
+outcome_free None delay now = outcome_later delay now
+
+abbrev pub outcome_now : Option SemEntry → Pool → Ask → Moment → PoolOutcome
+outcome_now (Some hung) p ask now = Preempts hung.number hung.token
+outcome_now None p ask now = outcome_free (free_token ask.token (length p.tokens) p.entries) ask.delay now
+
+-- a client with a claim is refused; else a hung token is preempted; else a free one is had; else the client waits
+abbrev pub outcome : Pool → Ask → Moment → PoolOutcome
+outcome p ask now =
+    if has_claim ask p.entries then Refused else outcome_now (hung_to_preempt ask.preempt ask.token p.entries) p ask now
+
+-- the request makes an entry
+abbrev pub makes_entry : PoolOutcome → Bool
+makes_entry Refused = false
+makes_entry (Preempts number token) = true
+makes_entry (Gets token) = true
+makes_entry TimesOut = false
+makes_entry (WaitsUntil deadline) = true
+makes_entry WaitsForEver = true
+
+-- the entry of a request that gets that token
+abbrev pub owner_entry : ℕ → Ask → Option ℕ → Moment → SemEntry
+owner_entry number ask token now = record (of_tokens.entry_of number ask Owner (deadline_after now ask.control)) { token = token }
+
+-- the entry of a request that waits
+abbrev pub queued_entry : ℕ → Ask → Option Moment → SemEntry
+queued_entry number ask deadline = record (of_tokens.entry_of number ask Queued deadline) { token = ask.token }
+
+abbrev pub with_entry : Pool → SemEntry → Pool
+with_entry p e = record p { made = p.made + 1; entries = p.entries ++ e ∷ [] }
+
+abbrev pub effect_of : PoolOutcome → Pool → Ask → Moment → Pool
+effect_of Refused p ask now = p
+effect_of (Preempts hung token) p ask now = with_entry (record p { entries = without hung p.entries }) (owner_entry (p.made + 1) ask token now)
+effect_of (Gets token) p ask now = with_entry p (owner_entry (p.made + 1) ask (Some token) now)
+effect_of TimesOut p ask now = p
+effect_of (WaitsUntil deadline) p ask now = with_entry p (queued_entry (p.made + 1) ask (Some deadline))
+effect_of WaitsForEver p ask now = with_entry p (queued_entry (p.made + 1) ask None)
+
+abbrev pub after_take : Pool → Ask → Moment → Pool
+after_take p ask now = effect_of (outcome p ask now) p ask now
+
+abbrev pub grant_to : ℕ → Ask → Option ℕ → Grant
+grant_to number ask token = record (of_tokens.grant_to number ask) { token = token_told ask.token token }
+
+abbrev pub answer_of : PoolOutcome → ℕ → Ask → Result Taken TakeRefused
+answer_of Refused number ask = Err Twice
+answer_of (Preempts hung token) number ask = Ok (Granted (grant_to number ask token))
+answer_of (Gets token) number ask = Ok (Granted (grant_to number ask (Some token)))
+answer_of TimesOut number ask = Ok TimedOut
+answer_of (WaitsUntil deadline) number ask = Ok (Waits number)
+answer_of WaitsForEver number ask = Ok (Waits number)
+
+abbrev pub take_answer : Pool → Ask → Moment → Result Taken TakeRefused
+take_answer p ask now = answer_of (outcome p ask now) (p.made + 1) ask
+
+-- Cancel: a queued entry goes
+abbrev pub after_cancel : Pool → ℕ → Pool
+after_cancel p number = record p { entries = without number p.entries }
+
+-- an entry's deadline ends: a queued one goes; one that has a token goes, and its token is freed
+abbrev pub expired_entry : Option SemEntry → Moment → Pool → Pool
+expired_entry None now p = p
+expired_entry (Some e) now p =
+    if is_queued e then after_cancel p e.number else record p { entries = after_leaving e now p.entries }
+
+abbrev pub after_expire : Pool → ℕ → Moment → Pool
+after_expire p number now = expired_entry (numbered number p.entries) now p
+
+abbrev pub expired_of : SemEntry → List SemEntry → Expired
+expired_of e entries = record {
+  client = e.client;
+  invoke = e.invoke;
+  waited = is_queued e;
+  abort = is_owner e && aborts e.abort;
+  grant = if is_queued e then None else grant_leaving e entries;
+}
+
+-- the loss of a client: ISO 9506-1, TakeControl, relinquishIfConnectionLost
+
+-- the client of an owner is lost: the entry becomes hung where its token is kept; else it goes, and its token is freed
+abbrev pub loss_of_one : Moment → Loss → SemEntry → Loss
+loss_of_one now l o =
+    if o.keep then record l { entries = map (hung_entry o.number) l.entries }
+    else record { entries = after_leaving o now l.entries; grants = l.grants ++ option_to_list (grant_leaving o l.entries) }
+
+-- a client is lost: its queued entries go, and then each of its owners is lost, in order of number
+abbrev pub loss_of : ℕ → Moment → List SemEntry → Loss
+loss_of client now entries =
+    fold (loss_of_one now) (record { entries = filter (λ e. not (waits_for client e)) entries; grants = [] }) (filter (owned_by client) entries)
+
+abbrev pub after_lose : Pool → ℕ → Moment → Pool
+after_lose p client now = record p { entries = (loss_of client now p.entries).entries }
+
+-- what ReportPoolSemaphoreStatus tells of a token: by the entry that has it, if one does
+
+abbrev pub state_with : Option SemEntry → TokenState
+state_with None = status.Free
+state_with (Some e) = if is_owner e then status.Owned else status.Hung
+
+abbrev pub token_state : ℕ → List SemEntry → TokenState
+token_state token entries = state_with (find (has token) entries)
+
+-- a given token is one of so many
+abbrev pub is_place : ℕ → Option ℕ → Bool
+is_place count None = true
+is_place count (Some token) = nat_lt token count
+
+-- the token that the entry has or wants is one of so many; only one that waits may name none
+abbrev pub is_placed : ℕ → SemEntry → Bool
+is_placed count e = is_place count e.token && (is_queued e || is_some e.token)
+
+-- each name comes before the next in order of octets
+abbrev pub NamesRise : List (List ℕ) → Type 0
+NamesRise tokens = AllAdjacentBelow (λ a b. name_order a b ≡ Less) tokens (length tokens)
+
+-- what holds of a pool at any time
+pub record IsPool (p : Pool) : Type 0 where
+  -- the names rise by octets, so none is there twice
+  pub sorted : NamesRise p.tokens
+  -- there are from 1 to 256 tokens
+  pub some : 1 ≤ length p.tokens
+  pub few : length p.tokens ≤ 256
+  -- entries are distinct, in order of number, and no more than were made
+  pub rises : Rises 0 p.entries p.made
+  -- each token that an entry has or wants is there, and an owner or a hung entry has one
+  pub placed : count_by (λ e. not (is_placed (length p.tokens) e)) p.entries ≡ 0
+  -- a token is owned by one entry at most, or one is hung with it
+  pub once : (token : ℕ) → count_by (has token) p.entries ≤ 1
+  -- a token that no entry has is wanted by none
+  pub served : (token : ℕ) → token < length p.tokens → count_by (has token) p.entries ≡ 0 → count_by (wants token) p.entries ≡ 0

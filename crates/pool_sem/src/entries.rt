@@ -1,0 +1,336 @@
+//! What is done on the entries of a pool. What equal tokens have in common with it stands in `token_sem`.
+
+ghost use Rattle.std.specs.Prelude.{◌≡◌, ◌+◌, ◌≤◌, ◌<◌, Some, [], count_by, find, fold, length, map, option_map, vec_capacity, vec_len};
+ghost use Rattle.std.specs.List.{list_any};
+ghost use Rattle.mms_types.specs.Moments.{IsDated};
+ghost use Rattle.token_sem.specs.Semaphore.{earlier, is_hung, is_owner};
+ghost use Rattle.pool_sem.specs.Pools.{after_freeing, after_freeing_of, free_token, grant_freeing, grant_of, grant_to, granted_entry, has, has_claim, hung_to_preempt, is_claim, is_free, is_hung_of, loss_of_one, lower, meets, names, next, outcome_later, owner_entry, owner_of, queued_entry, suits, token_state, token_told, wants};
+
+use crate::{PoolOutcome, TokenState};
+use mms_types::Moment;
+use token_sem::entries::{after, earlier, hang, remove};
+use token_sem::{Ask, Grant, SemEntry, entries as of_tokens};
+
+/// Whether a token was named, and it is that one.
+fn names(asked: Option<u32>, token: Option<u32>) -> bool
+    ensures { result ≡ names asked token }
+{
+    asked.is_some() && asked == token
+}
+
+/// Whether no token was named, or it is that one.
+fn suits(asked: Option<u32>, token: Option<u32>) -> bool
+    ensures { result ≡ suits asked token }
+{
+    asked.is_none() || asked == token
+}
+
+/// Whether the entry is owner of that token, or hung with it.
+fn has(token: u32, entry: &SemEntry) -> bool
+    ensures { result ≡ has token entry.now }
+{
+    entry.holds() && entry.token == Some(token)
+}
+
+/// Whether the entry waits for that token, or for any.
+fn wants(token: u32, entry: &SemEntry) -> bool
+    ensures { result ≡ wants token entry.now }
+{
+    entry.is_queued() && suits(entry.token, Some(token))
+}
+
+/// Whether an entry has the token.
+fn is_had(token: u32, entries: &[SemEntry]) -> bool
+    ensures { result ≡ list_any (has token) entries.now }
+{
+    entries.iter().any(|entry| has(token, entry))
+}
+
+/// Whether nobody has the token.
+fn is_free(token: u32, entries: &[SemEntry]) -> bool
+    ensures { result ≡ is_free token entries.now }
+{
+    !is_had(token, entries)
+}
+
+/// The entry that gets the token where it is freed.
+fn next_of(token: u32, entries: &[SemEntry]) -> Option<SemEntry>
+    ensures { result ≡ next token entries.now }
+{
+    entries
+        .iter()
+        .filter(|entry| wants(token, entry))
+        .fold(None, |best, entry| earlier(best, entry))
+}
+
+/// The entry, where it is the one of that number as owner of that token.
+fn granted_entry(number: u64, token: u32, now: Moment, entry: &SemEntry) -> SemEntry
+    requires { IsDated now }
+    ensures { result ≡ granted_entry number token now entry.now }
+{
+    let mut granted = of_tokens::granted_entry(number, now, entry);
+    if granted.number == number {
+        granted.token = Some(token);
+    }
+    granted
+}
+
+/// The entry of that number becomes owner of that token.
+fn grant(entries: &mut [SemEntry], number: u64, token: u32, now: Moment)
+    requires { IsDated now }
+    ensures { entries.new ≡ map (granted_entry number token now) entries.old }
+{
+    for place in 0..entries.len() {
+        entries[place] = granted_entry(number, token, now, &entries[place]);
+    }
+}
+
+/// Which token an answer names.
+fn token_told(asked: Option<u32>, got: Option<u32>) -> Option<u32>
+    ensures { result ≡ token_told asked got }
+{
+    if asked.is_some() { None } else { got }
+}
+
+/// A token is freed: who gets it.
+fn free(entries: &mut Vec<SemEntry>, token: u32, now: Moment) -> Option<Grant>
+    requires { IsDated now }
+    ensures grant { result ≡ option_map (grant_of token) (next token entries.old.items) }
+    ensures entries { entries.new.items ≡ after_freeing token now entries.old.items }
+{
+    match next_of(token, entries) {
+        None => None,
+        Some(first) => {
+            grant(entries, first.number, token, now);
+            Some(Grant {
+                client: first.client,
+                invoke: first.invoke,
+                entry: first.number,
+                token: token_told(first.token, Some(token)),
+            })
+        }
+    }
+}
+
+/// The token that an entry had is freed: who gets it.
+pub(crate) fn free_of(entries: &mut Vec<SemEntry>, token: Option<u32>, now: Moment) -> Option<Grant>
+    requires { IsDated now }
+    ensures grant { result ≡ grant_freeing token entries.old.items }
+    ensures entries { entries.new.items ≡ after_freeing_of token now entries.old.items }
+{
+    match token {
+        None => None,
+        Some(token) => free(entries, token, now),
+    }
+}
+
+/// The client's owner entry of that token.
+pub(crate) fn owner_of(client: u32, token: Option<u32>, entries: &[SemEntry]) -> Option<SemEntry>
+    ensures { result ≡ owner_of client token entries.now }
+{
+    entries.iter().copied().find(|entry| {
+        entry.client == client && entry.is_owner() && names(token, entry.token)
+    })
+}
+
+/// Whether the entry has the client refused.
+fn is_claim(ask: &Ask, entry: &SemEntry) -> bool
+    ensures { result ≡ is_claim ask.now entry.now }
+{
+    entry.client == ask.client
+        && (entry.is_queued() || (entry.is_owner() && names(ask.token, entry.token)))
+}
+
+/// Whether the client waits for a token of the pool, or owns the one that it names.
+pub(crate) fn has_claim(ask: &Ask, entries: &[SemEntry]) -> bool
+    ensures { result ≡ has_claim ask.now entries.now }
+{
+    entries.iter().any(|entry| is_claim(ask, entry))
+}
+
+/// Whether the token of the one stands before that of the other.
+fn lower(a: &SemEntry, b: &SemEntry) -> bool
+    ensures { result ≡ lower a.now b.now }
+{
+    a.token < b.token
+}
+
+/// Of the best so far and one more the one with the lower token.
+fn lowest(best: Option<SemEntry>, entry: &SemEntry) -> Option<SemEntry>
+    ensures { result ≡ earlier lower best entry.now }
+{
+    match best {
+        None => Some(*entry),
+        Some(found) => Some(if lower(entry, &found) { *entry } else { found }),
+    }
+}
+
+/// Whether it is a hung entry of the client, with a token that suits.
+fn is_hung_of(client: u32, asked: Option<u32>, entry: &SemEntry) -> bool
+    ensures { result ≡ is_hung_of client asked entry.now }
+{
+    entry.client == client && entry.is_hung() && suits(asked, entry.token)
+}
+
+/// Of the client's hung entries whose tokens suit the one with the least token.
+fn hung_of(client: u32, asked: Option<u32>, entries: &[SemEntry]) -> Option<SemEntry>
+    ensures { result ≡ hung_to_preempt (Some client) asked entries.now }
+{
+    entries
+        .iter()
+        .filter(|entry| is_hung_of(client, asked, entry))
+        .fold(None, |best, entry| lowest(best, entry))
+}
+
+/// The hung entry whose token a request takes that names that client.
+pub(crate) fn hung_to_preempt(
+    client: Option<u32>,
+    asked: Option<u32>,
+    entries: &[SemEntry],
+) -> Option<SemEntry>
+    ensures { result ≡ hung_to_preempt client asked entries.now }
+{
+    match client {
+        None => None,
+        Some(client) => hung_of(client, asked, entries),
+    }
+}
+
+/// Whether a request is met by the token now.
+fn meets(asked: Option<u32>, token: u32, entries: &[SemEntry]) -> bool
+    ensures { result ≡ meets asked entries.now token }
+{
+    suits(asked, Some(token)) && is_free(token, entries)
+}
+
+/// The free token of so many that was named, or the least one where none was.
+pub(crate) fn free_token(asked: Option<u32>, count: u32, entries: &[SemEntry]) -> Option<u32>
+    ensures { result ≡ free_token asked count entries.now }
+{
+    for token in 0..count {
+        if meets(asked, token, entries) {
+            return Some(token);
+        }
+    }
+    None
+}
+
+/// What a request comes to for which no token is there.
+pub(crate) fn outcome_later(delay: Option<u32>, now: Moment) -> PoolOutcome
+    requires { IsDated now }
+    ensures { result ≡ outcome_later delay now }
+{
+    match delay {
+        None => PoolOutcome::WaitsForEver,
+        Some(0) => PoolOutcome::TimesOut,
+        Some(ms) => PoolOutcome::WaitsUntil(after(now, ms)),
+    }
+}
+
+/// The entry of a request that gets that token.
+pub(crate) fn owner_entry(number: u64, ask: &Ask, token: Option<u32>, now: Moment) -> SemEntry
+    requires { IsDated now }
+    ensures { result ≡ owner_entry number ask.now token now }
+{
+    let mut entry = of_tokens::owner_entry(number, ask, now);
+    entry.token = token;
+    entry
+}
+
+/// The entry of a request that waits.
+pub(crate) fn queued_entry(number: u64, ask: &Ask, deadline: Option<Moment>) -> SemEntry
+    ensures { result ≡ queued_entry number ask.now deadline }
+{
+    let mut entry = of_tokens::queued_entry(number, ask, deadline);
+    entry.token = ask.token;
+    entry
+}
+
+/// Who is told that a request gets that token.
+pub(crate) fn grant_to(number: u64, ask: &Ask, token: Option<u32>) -> Grant
+    ensures { result ≡ grant_to number ask.now token }
+{
+    Grant {
+        client: ask.client,
+        invoke: ask.invoke,
+        entry: number,
+        token: token_told(ask.token, token),
+    }
+}
+
+/// How many tokens are owned.
+pub(crate) fn owned(entries: &[SemEntry]) -> usize
+    ensures { result ≡ count_by is_owner entries.now }
+{
+    entries.iter().filter(|entry| entry.is_owner()).count()
+}
+
+/// How many tokens are hung.
+pub(crate) fn hung(entries: &[SemEntry]) -> usize
+    ensures { result ≡ count_by is_hung entries.now }
+{
+    entries.iter().filter(|entry| entry.is_hung()).count()
+}
+
+/// What is told of a token.
+pub(crate) fn token_state(token: u32, entries: &[SemEntry]) -> TokenState
+    ensures { result ≡ token_state token entries.now }
+{
+    match holder(token, entries) {
+        None => TokenState::Free,
+        Some(entry) => {
+            if entry.is_owner() {
+                TokenState::Owned
+            } else {
+                TokenState::Hung
+            }
+        }
+    }
+}
+
+/// The entry that has the token.
+fn holder(token: u32, entries: &[SemEntry]) -> Option<SemEntry>
+    ensures { result ≡ find (has token) entries.now }
+{
+    entries.iter().copied().find(|entry| has(token, entry))
+}
+
+/// The client of an owner is lost. Who gets its token is appended, for which there is room.
+fn lose_one(entries: &mut Vec<SemEntry>, grants: &mut Vec<Grant>, owner: &SemEntry, now: Moment)
+    requires room { vec_len grants.old < vec_capacity grants.old }
+    requires now { IsDated now }
+    ensures is { loss_of_one now (record { entries = entries.old.items; grants = grants.old.items })
+        owner.now
+        ≡ record { entries = entries.new.items; grants = grants.new.items } }
+    ensures len { vec_len grants.new ≤ vec_len grants.old + 1 }
+    ensures capacity { vec_capacity grants.new ≡ vec_capacity grants.old }
+{
+    if owner.keep {
+        hang(entries, owner.number);
+    } else {
+        remove(entries, owner.number);
+        if let Some(grant) = free_of(entries, owner.token, now) {
+            grants.push_reserved(grant);
+        }
+    }
+}
+
+/// The client of these owners is lost.
+pub(crate) fn lose_owners(
+    entries: &mut Vec<SemEntry>,
+    grants: &mut Vec<Grant>,
+    owners: &[SemEntry],
+    now: Moment,
+)
+    requires empty { grants.old.items ≡ [] }
+    requires len { vec_len grants.old ≡ 0 }
+    requires room { length owners.now ≤ vec_capacity grants.old }
+    requires now { IsDated now }
+    ensures { fold (loss_of_one now) (record { entries = entries.old.items; grants = [] })
+        owners.now
+        ≡ record { entries = entries.new.items; grants = grants.new.items } }
+{
+    for owner in owners {
+        lose_one(entries, grants, owner, now);
+    }
+}

@@ -1,0 +1,288 @@
+ghost use Rattle.std.specs.Prelude.{◌≡◌, ◌≢◌, ◌==◌, ◌<◌, ◌≤◌, ◌^◌, Err, IfOk, None, OnErr, OnOk, Some, [], count_by, length, not, option_and_then, option_map, slice_get, true};
+ghost use Rattle.std.specs.List.{list_any};
+ghost use Rattle.std.specs.Option.{option_copied};
+ghost use Rattle.mms_types.specs.Moments.{IsDated};
+ghost use Rattle.token_sem.specs.declared.entry.SemEntry.{SemEntry};
+ghost use Rattle.token_sem.specs.declared.entry.TakeRefused.TheVariants.{Memory as OutOfMemory};
+ghost use Rattle.token_sem.specs.Semaphore.{first_deadline, is_hung, is_owner, is_queued, moment_and_entry, numbered, owned_by};
+ghost use Rattle.pool_sem.specs.Pools.{IsPool, NamesRise, after_cancel, after_expire, after_lose, after_relinquish, after_take, expired_of, is_place, is_placed, loss_of, makes_entry, outcome, relinquish_answer, take_answer, token_state};
+
+use crate::entries::{
+    free_of, free_token, grant_to, has_claim, hung, hung_to_preempt, lose_owners, outcome_later,
+    owned, owner_entry, owner_of, queued_entry, token_state,
+};
+use crate::{PoolOutcome, TokenState};
+use mms_types::{Identifier, Identifiers, Memory, Moment};
+use std::alloc::Global;
+use std::marker::Model;
+use token_sem::entries::{aborts, add, first_deadline, lose_waiters, numbered, owners_of, remove};
+use token_sem::{Ask, Expired, Grant, NotOwner, SemEntry, TakeRefused, Taken};
+
+/// A semaphore whose tokens have names (ISO 9506-1, pool semaphore). A token is told by its place in the list of their
+/// names, counted from 0 in order of octets. Contracts see the names, how many entries were made, and the entries in
+/// order of number. Each token is owned by one entry at most, or one is hung with it; where nobody has a token, no
+/// entry waits that wants it or any.
+#[derive(Drop)]
+pub struct PoolSem {
+    tokens: Identifiers,
+    made: u64,
+    entries: Vec<SemEntry>,
+}
+
+impl Model for PoolSem {
+    ghost use Rattle.pool_sem.specs.Pools.{Pool, IsPool};
+
+    ghost Value = { Pool };
+
+    ghost view = { λ p. record { tokens = p.tokens; made = p.made; entries = p.entries.items } };
+
+    ghost invariant = { λ p.
+        IsPool (record { tokens = p.tokens; made = p.made; entries = p.entries.items }) };
+}
+
+impl PoolSem {
+    /// A pool whose tokens are free. Nothing is allocated.
+    pub fn new(alloc: Global, tokens: Vec<Identifier>) -> PoolSem
+        requires sorted { NamesRise tokens.items }
+        requires some { 1 ≤ length tokens.items }
+        requires few { length tokens.items ≤ 256 }
+        ensures { result ≡ record { tokens = tokens.items; made = 0; entries = [] } }
+    {
+        PoolSem {
+            tokens: Identifiers::from(tokens),
+            made: 0,
+            entries: Vec::new(alloc),
+        }
+    }
+
+    /// The names of its tokens, owned, hung and free, from 1 to 256 of them in order of octets. Of every pool it holds
+    /// that each token is owned by one entry at most, or one is hung with it; that no entry wants a token that nobody
+    /// has; that each token that an entry has or wants is there; and that entries are distinct and in order of number.
+    pub fn tokens(&self) -> &[Identifier]
+        ensures tokens { result.now ≡ self.now.tokens }
+        ensures always { IsPool self.now }
+    {
+        self.tokens.as_slice()
+    }
+
+    /// How many tokens there are.
+    fn count(&self) -> u32
+        ensures { result ≡ length self.now.tokens }
+    {
+        self.tokens.len() as u32
+    }
+
+    /// What a request for a token comes to.
+    fn outcome(&self, ask: &Ask, now: Moment) -> PoolOutcome
+        requires { IsDated now }
+        ensures { result ≡ outcome self.now ask.now now }
+    {
+        if has_claim(ask, &self.entries) {
+            return PoolOutcome::Refused;
+        }
+        if let Some(hung) = hung_to_preempt(ask.preempt, ask.token, &self.entries) {
+            return PoolOutcome::Preempts(hung.number, hung.token);
+        }
+        match free_token(ask.token, self.count(), &self.entries) {
+            Some(token) => PoolOutcome::Gets(token),
+            None => outcome_later(ask.delay, now),
+        }
+    }
+
+    /// Asks for a token, by its place or any (ISO 9506-1, TakeControl). A client that waits for a token of the pool, or
+    /// that owns the token that it names, is refused, `Twice`, and all stays as it was; that it owns other tokens
+    /// refuses nothing. Where the client that is to be preempted has hung entries whose tokens suit, the one with the
+    /// least token goes and its token is granted; else the free token that is named is, or the least free one where
+    /// none is named; else the client waits until its acceptable delay ends, and with a delay of 0 it has timed out,
+    /// and all stays as it was. The grant tells the token where none was named. What gets a token or waits makes an
+    /// entry with the next number, and it alone may want memory; then all is as before.
+    pub fn take(&mut self, ask: &Ask, now: Moment) -> Result<Taken, TakeRefused>
+        requires place { is_place (length self.old.tokens) ask.now.token ≡ true }
+        requires made { self.old.made < 2 ^ 63 }
+        requires now { IsDated now }
+        ensures answer { (result ≢ Err OutOfMemory)
+            → result ≡ take_answer self.old ask.now now }
+        ensures state { (result ≢ Err OutOfMemory)
+            → self.new ≡ after_take self.old ask.now now }
+        ensures memory { result ≡ Err OutOfMemory → self.new ≡ self.old }
+        ensures wants { result ≡ Err OutOfMemory
+            → makes_entry (outcome self.old ask.now now) ≡ true }
+    {
+        let number = self.made + 1;
+        let outcome = self.outcome(ask, now);
+        match outcome {
+            PoolOutcome::Refused => Err(TakeRefused::Twice),
+            PoolOutcome::TimesOut => Ok(Taken::TimedOut),
+            PoolOutcome::Gets(token) => {
+                add(
+                    &mut self.entries,
+                    owner_entry(number, ask, Some(token), now),
+                )?;
+                self.made = number;
+                Ok(Taken::Granted(grant_to(number, ask, Some(token))))
+            }
+            PoolOutcome::Preempts(hung, token) => {
+                add(&mut self.entries, owner_entry(number, ask, token, now))?;
+                remove(&mut self.entries, hung);
+                self.made = number;
+                Ok(Taken::Granted(grant_to(number, ask, token)))
+            }
+            PoolOutcome::WaitsUntil(deadline) => {
+                add(&mut self.entries, queued_entry(number, ask, Some(deadline)))?;
+                self.made = number;
+                Ok(Taken::Waits(number))
+            }
+            PoolOutcome::WaitsForEver => {
+                add(&mut self.entries, queued_entry(number, ask, None))?;
+                self.made = number;
+                Ok(Taken::Waits(number))
+            }
+        }
+    }
+
+    /// The owner of a token gives it back (ISO 9506-1, RelinquishControl): its entry goes, and the token is granted to
+    /// the entry that is served next with it, which is told, or is free. `NotOwner` exactly where the client has no
+    /// owner entry of that token; then all stays as it was. A token is always named: without one the client is not
+    /// owner. It takes no memory.
+    pub fn relinquish(
+        &mut self,
+        client: u32,
+        token: Option<u32>,
+        now: Moment,
+    ) -> Result<Option<Grant>, NotOwner>
+        requires now { IsDated now }
+        ensures answer { result ≡ relinquish_answer self.old client token }
+        ensures state { self.new ≡ after_relinquish self.old client token now }
+    {
+        let Some(owner) = owner_of(client, token, &self.entries) else {
+            return Err(NotOwner);
+        };
+        remove(&mut self.entries, owner.number);
+        Ok(free_of(&mut self.entries, owner.token, now))
+    }
+
+    /// A queued entry goes (ISO 9506-1, Cancel of a TakeControl). It takes no memory.
+    pub fn cancel(&mut self, entry: u64)
+        requires queued { option_map is_queued (numbered entry self.old.entries) ≡ Some true }
+        ensures { self.new ≡ after_cancel self.old entry }
+    {
+        remove(&mut self.entries, entry);
+    }
+
+    /// An entry's deadline ends: the entry goes, and where it had a token, that is granted to the entry that is served
+    /// next with it, or is free. It takes no memory.
+    pub fn expire(&mut self, entry: u64, now: Moment) -> Expired
+        requires due { option_and_then (λ e. e.deadline) (numbered entry self.old.entries)
+            ≡ Some now }
+        requires now { IsDated now }
+        ensures told { (e : SemEntry) → numbered entry self.old.entries ≡ Some e
+            → result ≡ expired_of e self.old.entries }
+        ensures state { self.new ≡ after_expire self.old entry now }
+    {
+        let Some(ended) = numbered(entry, &self.entries) else {
+            unreachable!()
+        };
+        let waited = ended.is_queued();
+        remove(&mut self.entries, ended.number);
+        let grant = if waited {
+            None
+        } else {
+            free_of(&mut self.entries, ended.token, now)
+        };
+        Expired {
+            client: ended.client,
+            invoke: ended.invoke,
+            waited,
+            abort: ended.is_owner() && aborts(ended.abort),
+            grant,
+        }
+    }
+
+    /// A client is lost: its queued entries go. Then each of its owner entries, in order of number, becomes hung where
+    /// its token is kept, and else goes, and its token is freed. Who is granted a token is told in that order. The one
+    /// refusal is want of memory; then all is as before.
+    pub fn lose(&mut self, alloc: Global, client: u32, now: Moment) -> Result<Vec<Grant>, Memory>
+        requires { IsDated now }
+        ensures grants { IfOk result (λ grants.
+            grants.items ≡ (loss_of client now self.old.entries).grants) }
+        ensures state { OnOk result (self.new ≡ after_lose self.old client now) }
+        ensures err { OnErr result (self.new ≡ self.old) }
+    {
+        let owners = owners_of(alloc, client, &self.entries)?;
+        let mut grants = Vec::with_capacity(alloc, owners.len())?;
+        lose_waiters(&mut self.entries, client);
+        lose_owners(&mut self.entries, &mut grants, &owners, now);
+        Ok(grants)
+    }
+
+    /// Whether the client has an owner entry.
+    pub fn owns(&self, client: u32) -> bool
+        ensures { result ≡ list_any (owned_by client) self.now.entries }
+    {
+        self.entries
+            .iter()
+            .any(|entry| entry.client == client && entry.is_owner())
+    }
+
+    /// Whether there is any entry.
+    pub fn in_use(&self) -> bool
+        ensures { result ≡ not (length self.now.entries == 0) }
+    {
+        !self.entries.is_empty()
+    }
+
+    /// The least deadline, by moment, then that of an entry with a token before that of one that waits, then by
+    /// number: its moment and the number of its entry. None exactly where no entry has one.
+    pub fn first_deadline(&self) -> Option<(Moment, u64)>
+        ensures { result ≡ option_map moment_and_entry (first_deadline self.now.entries) }
+    {
+        match first_deadline(&self.entries) {
+            None => None,
+            Some(first) => Some((first.at, first.number)),
+        }
+    }
+
+    /// The entry at a place of the list, counted from 0 in order of number. None exactly where the place isn't below
+    /// their count. Its token is one of the pool's: that which an owner or a hung entry has, or that which a queued one
+    /// wants, where it named one.
+    pub fn entry_at(&self, place: usize) -> Option<&SemEntry>
+        ensures entry { option_copied result ≡ slice_get self.now.entries place }
+        ensures placed { (e : SemEntry) → option_copied result ≡ Some e
+            → is_placed (length self.now.tokens) e ≡ true }
+    {
+        self.entries.get(place)
+    }
+
+    /// How many tokens are owned (ISO 9506-1, ReportSemaphoreStatus).
+    pub fn owned(&self) -> u16
+        ensures { result ≡ count_by is_owner self.now.entries }
+    {
+        owned(&self.entries) as u16
+    }
+
+    /// How many tokens are hung (ISO 9506-1, ReportSemaphoreStatus).
+    pub fn hung(&self) -> u16
+        ensures { result ≡ count_by is_hung self.now.entries }
+    {
+        hung(&self.entries) as u16
+    }
+
+    /// Whether the token at a place of the list is owned, hung or free (ISO 9506-1, ReportPoolSemaphoreStatus).
+    pub fn token_state(&self, token: u32) -> TokenState
+        ensures { result ≡ token_state token self.now.entries }
+    {
+        token_state(token, &self.entries)
+    }
+
+    /// A copy. The one refusal is want of memory.
+    pub fn copy(&self, alloc: Global) -> Result<PoolSem, Memory>
+        ensures { IfOk result (λ p. p ≡ self.now) }
+    {
+        let entries: Vec<SemEntry> = self.entries.iter().copied().collect(alloc)?;
+        Ok(PoolSem {
+            tokens: self.tokens.copy(alloc)?,
+            made: self.made,
+            entries,
+        })
+    }
+}
