@@ -10,7 +10,7 @@ use Rattle.token_sem.specs.declared.entry.SemState.TheVariants.{Queued, Owner, H
 use Rattle.token_sem.specs.declared.entry.Taken.TheVariants.{Granted, Waits, TimedOut}
 use Rattle.token_sem.specs.declared.entry.TakeRefused.TheVariants.{Twice}
 use Rattle.pool_sem.specs.declared.outcome.TokenState.TheVariants as status
-use Rattle.pool_sem.specs.Pools.{Pool, after_expire, after_relinquish, after_take, expired_of, loss_of, relinquish_answer, take_answer, token_state}
+use Rattle.pool_sem.specs.Pools.{Pool, after_expire, after_relinquish, after_take, expired_of, loss_of, place_of, relinquish_answer, take_answer, token_state}
 
 -- a function answers each row of a table with its second column
 abbrev Answers : {A B : Type 0} → (A → B) → List (A × B) → Type 0
@@ -174,8 +174,19 @@ losses : Answers (λ (x : List SemEntry × ℕ). loss_of x.1 (at 100) x.0) (
     ((owner 1 1 0 ∷ owner 2 2 1 ∷ waiter 3 1 (Some 1) ∷ [], 1), record { entries = owner 2 2 1 ∷ []; grants = [] }) ∷ [])
 losses = refl
 
+-- what a status tells of tokens
 states : Answers (λ (x : ℕ × List SemEntry). token_state x.0 x.1) (
+    ((0, owner 1 1 0 ∷ owner 2 2 1 ∷ waiter 3 3 None ∷ []), status.Owned) ∷
+    ((1, owner 1 1 0 ∷ owner 2 2 1 ∷ waiter 3 3 None ∷ []), status.Owned) ∷
     ((0, owner 1 1 0 ∷ hung 2 2 1 ∷ []), status.Owned) ∷
     ((1, owner 1 1 0 ∷ hung 2 2 1 ∷ []), status.Hung) ∷
     ((1, owner 1 1 0 ∷ waiter 2 2 (Some 0) ∷ []), status.Free) ∷ [])
 states = refl
+
+-- R1, R2, R3 and R
+places : Answers (λ name. place_of name both.tokens) (
+    (82 ∷ 49 ∷ [], Some 0) ∷
+    (82 ∷ 50 ∷ [], Some 1) ∷
+    (82 ∷ 51 ∷ [], None) ∷
+    (82 ∷ [], None) ∷ [])
+places = refl

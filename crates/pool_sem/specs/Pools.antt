@@ -1,8 +1,9 @@
--- A pool, tokens that have names and a list of entries: ISO 9506-1, semaphore management. What a pool has in common with
--- equal tokens, as entries, their rank and their deadlines, stands in `token_sem`.
-use Rattle.std.specs.Prelude.{◌≡◌, ℕ, ◌+◌, ◌<◌, ◌≤◌, Bool, true, false, not, ◌&&◌, ◌||◌, ◌==◌, nat_eq, nat_lt, if◌then◌else◌, List, [], ◌∷◌, ◌++◌, map, filter, find, fold, count_by, length, Option, None, Some, is_none, is_some, option_map, option_to_list, Result, Ok, Err}
+-- A pool, tokens that have names and a list of entries: ISO 9506-1, semaphore management. What a pool has in common
+-- with equal tokens, as entries, their rank and their deadlines, stands in `token_sem`.
+use Rattle.std.specs.Prelude.{◌≡◌, ℕ, ◌+◌, ◌<◌, ◌≤◌, Bool, true, false, not, ◌&&◌, ◌||◌, ◌==◌, nat_eq, nat_lt, if◌then◌else◌, List, [], ◌∷◌, ◌++◌, map, filter, find, fold, count_by, length, position, Option, None, Some, is_none, is_some, option_map, option_to_list, Result, Ok, Err}
 use Rattle.std.specs.List.{list_any, range_with_len, AllAdjacentBelow}
 use Rattle.std.specs.Option.{option_eq, option_cmp}
+use Rattle.std.specs.Cmp.Lexicographic.{pointwise}
 use Rattle.std.specs.declared.cmp.Ordering.TheVariants.{Less}
 use Rattle.std.specs.Ordering.{is_lt, nat_cmp}
 use Rattle.mms_types.specs.declared.moment.Moment.{Moment}
@@ -24,8 +25,8 @@ use Rattle.pool_sem.specs.declared.outcome.PoolOutcome.TheVariants.{Refused, Pre
 use Rattle.pool_sem.specs.declared.outcome.TokenState.{TokenState}
 use Rattle.pool_sem.specs.declared.outcome.TokenState.TheVariants as status
 
--- the names of the tokens in order of octets, how many entries were made, and the entries in order of number. A token is
--- told by its place in that order, from 0
+-- the names of the tokens in order of octets, how many entries were made, and the entries in order of number. A token
+-- is told by its place among the names, counted from 0
 pub record Pool : Type 0 where
   pub tokens : List (List ℕ)
   pub made : ℕ
@@ -254,6 +255,10 @@ state_with (Some e) = if is_owner e then status.Owned else status.Hung
 
 abbrev pub token_state : ℕ → List SemEntry → TokenState
 token_state token entries = state_with (find (has token) entries)
+
+-- the place of the token of that name
+abbrev pub place_of : List ℕ → List (List ℕ) → Option ℕ
+place_of name tokens = position (pointwise nat_eq name) tokens
 
 -- a given token is one of so many
 abbrev pub is_place : ℕ → Option ℕ → Bool

@@ -4,10 +4,10 @@ ghost use Rattle.std.specs.Prelude.{◌≡◌, ◌+◌, ◌≤◌, ◌<◌, Some
 ghost use Rattle.std.specs.List.{list_any};
 ghost use Rattle.mms_types.specs.Moments.{IsDated};
 ghost use Rattle.token_sem.specs.Semaphore.{earlier, is_hung, is_owner};
-ghost use Rattle.pool_sem.specs.Pools.{after_freeing, after_freeing_of, free_token, grant_freeing, grant_of, grant_to, granted_entry, has, has_claim, hung_to_preempt, is_claim, is_free, is_hung_of, loss_of_one, lower, meets, names, next, outcome_later, owner_entry, owner_of, queued_entry, suits, token_state, token_told, wants};
+ghost use Rattle.pool_sem.specs.Pools.{after_freeing, after_freeing_of, free_token, grant_freeing, grant_of, grant_to, granted_entry, has, has_claim, hung_to_preempt, is_claim, is_free, is_hung_of, loss_of_one, lower, meets, names, next, outcome_later, owner_entry, owner_of, place_of, queued_entry, suits, token_state, token_told, wants};
 
 use crate::{PoolOutcome, TokenState};
-use mms_types::Moment;
+use mms_types::{Identifier, Moment};
 use token_sem::entries::{after, earlier, hang, remove};
 use token_sem::{Ask, Grant, SemEntry, entries as of_tokens};
 
@@ -333,4 +333,11 @@ pub(crate) fn lose_owners(
     for owner in owners {
         lose_one(entries, grants, owner, now);
     }
+}
+
+/// The place of the token of that name.
+pub(crate) fn place_of(name: &Identifier, tokens: &[Identifier]) -> Option<usize>
+    ensures place { result ≡ place_of name.now tokens.now }
+{
+    tokens.iter().position(|token| name == token)
 }

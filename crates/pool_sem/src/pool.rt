@@ -5,11 +5,11 @@ ghost use Rattle.mms_types.specs.Moments.{IsDated};
 ghost use Rattle.token_sem.specs.declared.entry.SemEntry.{SemEntry};
 ghost use Rattle.token_sem.specs.declared.entry.TakeRefused.TheVariants.{Memory as OutOfMemory};
 ghost use Rattle.token_sem.specs.Semaphore.{first_deadline, is_hung, is_owner, is_queued, moment_and_entry, numbered, owned_by};
-ghost use Rattle.pool_sem.specs.Pools.{IsPool, NamesRise, after_cancel, after_expire, after_lose, after_relinquish, after_take, expired_of, is_place, is_placed, loss_of, makes_entry, outcome, relinquish_answer, take_answer, token_state};
+ghost use Rattle.pool_sem.specs.Pools.{IsPool, NamesRise, after_cancel, after_expire, after_lose, after_relinquish, after_take, expired_of, is_place, is_placed, loss_of, makes_entry, outcome, place_of, relinquish_answer, take_answer, token_state};
 
 use crate::entries::{
     free_of, free_token, grant_to, has_claim, hung, hung_to_preempt, lose_owners, outcome_later,
-    owned, owner_entry, owner_of, queued_entry, token_state,
+    owned, owner_entry, owner_of, place_of, queued_entry, token_state,
 };
 use crate::{PoolOutcome, TokenState};
 use mms_types::{Identifier, Identifiers, Memory, Moment};
@@ -63,6 +63,17 @@ impl PoolSem {
         ensures always { IsPool self.now }
     {
         self.tokens.as_slice()
+    }
+
+    /// The place of the token of that name, counted from 0. None exactly where the pool has no such token.
+    pub fn place_of(&self, name: &Identifier) -> Option<u32>
+        ensures place { result ≡ place_of name.now self.now.tokens }
+        ensures there { is_place (length self.now.tokens) result ≡ true }
+    {
+        match place_of(name, self.tokens.as_slice()) {
+            None => None,
+            Some(place) => Some(place as u32),
+        }
     }
 
     /// How many tokens there are.

@@ -245,7 +245,7 @@ pub fn grant_to(number: u64, ask: &Ask) -> Grant
     }
 }
 
-/// Appends an entry.
+/// Appends an entry. The one refusal is want of memory; then the entries are as before.
 pub fn add(entries: &mut Vec<SemEntry>, entry: SemEntry) -> Result<(), TakeRefused>
     ensures ok { OnOk result (entries.new.items ≡ entries.old.items ++ entry ∷ []) }
     ensures err { OnErr result (entries.new.items ≡ entries.old.items) }
@@ -298,7 +298,7 @@ pub fn first_deadline(entries: &[SemEntry]) -> Option<Deadline>
         .fold(None, |best, deadline| soonest(best, deadline))
 }
 
-/// The owner entries of the client.
+/// The owner entries of the client. The one refusal is want of memory.
 pub fn owners_of(alloc: Global, client: u32, entries: &[SemEntry]) -> Result<Vec<SemEntry>, Memory>
     ensures { IfOk result (λ owners. owners.items ≡ filter (owned_by client) entries.now) }
 {
