@@ -280,7 +280,7 @@ cancel-keeps s number is f = by_entry (numbered number s.entries) refl f
         subst (λ n. IsSem (after_cancel s n)) same (cancelled s o is a.0 (cc g))
 
 -- a token that is held is owned or hung
-owned-and-hung : (es : List SemEntry) → count_by is_owner es + count_by is_hung es ≡ tokens_held es
+pub owned-and-hung : (es : List SemEntry) → count_by is_owner es + count_by is_hung es ≡ tokens_held es
 owned-and-hung [] = refl
 owned-and-hung (e ∷ es) =
     let owned = sum_by-cons (λ (x : SemEntry). cond (is_owner x) 1 0) e es in

@@ -145,14 +145,14 @@ pub(crate) fn heir(number: u64, entries: &[SemEntry]) -> Option<Grant>
 }
 
 /// How many tokens are owned.
-pub(crate) fn owned(entries: &[SemEntry]) -> usize
+pub fn owned(entries: &[SemEntry]) -> usize
     ensures { result ≡ count_by is_owner entries.now }
 {
     entries.iter().filter(|entry| entry.is_owner()).count()
 }
 
 /// How many tokens are hung.
-pub(crate) fn hung(entries: &[SemEntry]) -> usize
+pub fn hung(entries: &[SemEntry]) -> usize
     ensures { result ≡ count_by is_hung entries.now }
 {
     entries.iter().filter(|entry| entry.is_hung()).count()
