@@ -1,11 +1,10 @@
 -- No more tokens are owned or hung than there are.
-use Rattle.std.proofs.Common.{◌≡◌, ℕ, ◌+◌, ◌<◌, ◌≤◌, inl, Bool, true, false, not, cond, ◌==◌, List, [], ◌∷◌, length, zero, suc, refl, subst, arith}
+use Rattle.std.proofs.Common.{◌≡◌, ℕ, ◌+◌, ◌<◌, ◌≤◌, inl, Bool, true, false, ◌==◌, List, [], ◌∷◌, length, zero, suc, refl, subst, arith}
 use Rattle.std.specs.Prelude.{count_by}
 use Rattle.std.proofs.lemmas.Bool.Decides.{nat_tests}
 use Rattle.token_sem.specs.declared.entry.SemEntry.{SemEntry}
-use Rattle.token_sem.specs.declared.entry.SemState.{SemState}
-use Rattle.token_sem.specs.declared.entry.SemState.TheVariants.{Queued, Owner, Hung}
-use Rattle.token_sem.specs.Semaphore.{is_owner, is_hung, is_owner_state, is_hung_state, is_queued_state, holds}
+use Rattle.token_sem.specs.Semaphore.{is_owner, is_hung, holds}
+use Rattle.token_sem.proofs.Keeping.{owned-and-hung}
 use Rattle.pool_sem.specs.Pools.{Pool, IsPool, has}
 use Rattle.pool_sem.proofs.Counting.{weight, weight-yes, weight-no, count-cons, none-among}
 use Rattle.pool_sem.proofs.Freeing.{unplaced, same-token, holder-has, token-there}
@@ -56,21 +55,9 @@ holders-most n (e ∷ es) z = by_test (holds e) refl (holders-most n es (omega (
         omega (arith, count-cons holds e es, having-cons n e es, it, ih)
 
 -- an entry that has a token is owner or hung
-owners-and-hung : (es : List SemEntry) → count_by is_owner es + count_by is_hung es ≡ count_by holds es
-owners-and-hung [] = refl
-owners-and-hung (e ∷ es) =
-    let ih : count_by is_owner es + count_by is_hung es ≡ count_by holds es = owners-and-hung es in
-    let both : weight is_owner e + weight is_hung e ≡ weight holds e = by_state e.state in
-    omega (arith, count-cons is_owner e es, count-cons is_hung e es, count-cons holds e es, ih, both)
-  where
-    by_state : (s : SemState) → cond {A = ℕ} (is_owner_state s) 1 0 + cond {A = ℕ} (is_hung_state s) 1 0 ≡ cond {A = ℕ} (not (is_queued_state s)) 1 0
-    by_state Queued = refl
-    by_state Owner = refl
-    by_state Hung = refl
-
 pub held-most : (p : Pool) → IsPool p → count_by is_owner p.entries + count_by is_hung p.entries ≤ length p.tokens
 held-most p is =
-    let all : count_by is_owner p.entries + count_by is_hung p.entries ≡ count_by holds p.entries = owners-and-hung p.entries in
+    let all : count_by is_owner p.entries + count_by is_hung p.entries ≡ count_by holds p.entries = owned-and-hung p.entries in
     let most : count_by holds p.entries ≤ having (length p.tokens) p.entries = holders-most (length p.tokens) p.entries is.placed in
     let few : having (length p.tokens) p.entries ≤ length p.tokens = having-most (length p.tokens) p.entries is.once in
     omega (arith, all, most, few)

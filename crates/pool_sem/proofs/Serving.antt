@@ -1,15 +1,15 @@
 -- A freed token goes to the waiter of best rank.
 use Rattle.std.proofs.Common.{◌≡◌, ◌==◌, ◌&&◌, ℕ, ◌<◌, Bool, true, false, not, List, [], filter, length, get_or, Option, None, Some, refl, sym, ◌∙◌, ap, arith}
-use Rattle.std.specs.Prelude.{count_by, nat_eq}
+use Rattle.std.specs.Prelude.{count_by, nat_eq, IfSome}
 use Rattle.std.specs.Option.{option_eq}
 use Rattle.std.specs.List.{All}
 use Rattle.mms_types.specs.declared.moment.Moment.{Moment}
 use Rattle.token_sem.specs.declared.entry.SemEntry.{SemEntry}
-use Rattle.token_sem.specs.Semaphore.{before, holds, numbered, without}
+use Rattle.token_sem.specs.Semaphore.{before, deadline_at, first_deadline, holds, numbered, without}
 use Rattle.token_sem.proofs.Keeping.{Among, among-find, among-least, rises-without}
 use Rattle.token_sem.proofs.Losing.{among-filter, among-unique}
 use Rattle.token_sem.proofs.Least.{least-first, before-order}
-use Rattle.token_sem.proofs.Serving.{stands-get_or, numbered-at}
+use Rattle.token_sem.proofs.Serving.{stands-get_or, numbered-at, first_stands_in}
 use Rattle.pool_sem.specs.Pools.{Pool, IsPool, has, wants, is_free, next, owner_from, granted_to, after_freeing_of, after_leaving}
 use Rattle.pool_sem.proofs.Counting.{weight, weight-no, count-without, numbered-changed, none-among, none-filtered, among-all}
 use Rattle.pool_sem.proofs.Freeing.{Vacant, none-wanted, holder-wants, fair, vacated, token-there, unplaced, same-token}
@@ -100,3 +100,7 @@ had-once p t a b is fa fb ha hb = by_number (b.number == a.number) refl
         let v = gone p a t is in_a ha in
         let lacks : has t b ≡ false = none-among (has t) (without a.number p.entries) b (among-filter (λ e. not (e.number == a.number)) p.entries b in_b (ap not d)) v.none in
         cc (lacks, hb))
+
+-- the first deadline is that of the entry of its number
+pub first_stands : (p : Pool) → IsPool p → IfSome (first_deadline p.entries) (λ d. deadline_at d.number p.entries ≡ Some d.at)
+first_stands p is = first_stands_in p.made p.entries is.rises

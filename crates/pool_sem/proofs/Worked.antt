@@ -10,7 +10,7 @@ use Rattle.token_sem.specs.declared.entry.SemState.TheVariants.{Queued, Owner, H
 use Rattle.token_sem.specs.declared.entry.Taken.TheVariants.{Granted, Waits, TimedOut}
 use Rattle.token_sem.specs.declared.entry.TakeRefused.TheVariants.{Twice}
 use Rattle.pool_sem.specs.declared.outcome.TokenState.TheVariants as status
-use Rattle.pool_sem.specs.Pools.{Pool, after_expire, after_relinquish, after_take, expired_of, loss_of, place_of, relinquish_answer, take_answer, token_state}
+use Rattle.pool_sem.specs.Pools.{Pool, after_expire, after_relinquish, after_take, expired_of, has_token, loss_of, place_of, relinquish_answer, take_answer, token_state}
 
 -- a function answers each row of a table with its second column
 abbrev Answers : {A B : Type 0} → (A → B) → List (A × B) → Type 0
@@ -173,6 +173,16 @@ losses : Answers (λ (x : List SemEntry × ℕ). loss_of x.1 (at 100) x.0) (
     ((owner 1 1 0 ∷ owner 2 1 1 ∷ waiter 3 2 None ∷ waiter 4 3 None ∷ [], 1), record { entries = owner 3 2 0 ∷ owner 4 3 1 ∷ []; grants = granted 2 3 (Some 0) ∷ granted 3 4 (Some 1) ∷ [] }) ∷
     ((owner 1 1 0 ∷ owner 2 2 1 ∷ waiter 3 1 (Some 1) ∷ [], 1), record { entries = owner 2 2 1 ∷ []; grants = [] }) ∷ [])
 losses = refl
+
+-- whether a token is to be had at once, by whom a request may preempt and what it asks for
+at_once : Answers (λ (x : Pool × Option ℕ × Option ℕ). has_token x.1 x.2 x.0) (
+    ((both, None, None), false) ∷
+    ((robots 1 (owner 1 1 0 ∷ []), None, None), true) ∷
+    ((robots 1 (owner 1 1 0 ∷ []), None, Some 0), false) ∷
+    ((robots 2 (hung 1 1 0 ∷ owner 2 2 1 ∷ []), None, None), false) ∷
+    ((robots 2 (hung 1 1 0 ∷ owner 2 2 1 ∷ []), Some 1, None), true) ∷
+    ((robots 2 (hung 1 1 0 ∷ owner 2 2 1 ∷ []), Some 1, Some 1), false) ∷ [])
+at_once = refl
 
 -- what a status tells of tokens
 states : Answers (λ (x : ℕ × List SemEntry). token_state x.0 x.1) (

@@ -101,6 +101,11 @@ grant_leaving e entries = grant_freeing e.token (without e.number entries)
 abbrev pub owner_of : ℕ → Option ℕ → List SemEntry → Option SemEntry
 owner_of client token entries = find (λ e. owned_by client e && names token e.token) entries
 
+-- who gets the token of an owner whose entry goes
+abbrev pub heir_of : Option SemEntry → List SemEntry → Option Grant
+heir_of None entries = None
+heir_of (Some owner) entries = grant_leaving owner entries
+
 abbrev pub after_giving_back : Option SemEntry → Moment → Pool → Pool
 after_giving_back None now p = p
 after_giving_back (Some owner) now p = record p { entries = after_leaving owner now p.entries }
@@ -145,6 +150,10 @@ meets asked entries token = suits asked (Some token) && is_free token entries
 -- the free token of so many that was named, or the least one where none was
 abbrev pub free_token : Option ℕ → ℕ → List SemEntry → Option ℕ
 free_token asked count entries = find (meets asked entries) (range_with_len 0 count)
+
+-- a token that suits is to be had at once: that of a hung entry of the client that is named, or a free one
+abbrev pub has_token : Option ℕ → Option ℕ → Pool → Bool
+has_token client asked p = is_some (hung_to_preempt client asked p.entries) || is_some (free_token asked (length p.tokens) p.entries)
 
 -- no token is to be had now: ISO 9506-1, TakeControl, acceptableDelay
 abbrev pub outcome_later : Option ℕ → Moment → PoolOutcome

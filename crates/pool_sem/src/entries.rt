@@ -1,10 +1,10 @@
 //! What is done on the entries of a pool. What equal tokens have in common with it stands in `token_sem`.
 
-ghost use Rattle.std.specs.Prelude.{◌≡◌, ◌+◌, ◌≤◌, ◌<◌, Some, [], count_by, find, fold, length, map, option_map, vec_capacity, vec_len};
+ghost use Rattle.std.specs.Prelude.{◌≡◌, ◌+◌, ◌≤◌, ◌<◌, Some, [], find, fold, length, map, option_map, vec_capacity, vec_len};
 ghost use Rattle.std.specs.List.{list_any};
 ghost use Rattle.mms_types.specs.Moments.{IsDated};
-ghost use Rattle.token_sem.specs.Semaphore.{earlier, is_hung, is_owner};
-ghost use Rattle.pool_sem.specs.Pools.{after_freeing, after_freeing_of, free_token, grant_freeing, grant_of, grant_to, granted_entry, has, has_claim, hung_to_preempt, is_claim, is_free, is_hung_of, loss_of_one, lower, meets, names, next, outcome_later, owner_entry, owner_of, place_of, queued_entry, suits, token_state, token_told, wants};
+ghost use Rattle.token_sem.specs.Semaphore.{earlier, without};
+ghost use Rattle.pool_sem.specs.Pools.{after_freeing, after_freeing_of, free_token, grant_freeing, grant_leaving, grant_of, grant_to, granted_entry, has, has_claim, hung_to_preempt, is_claim, is_free, is_hung_of, loss_of_one, lower, meets, names, next, outcome_later, owner_entry, owner_of, place_of, queued_entry, suits, token_state, token_told, wants};
 
 use crate::{PoolOutcome, TokenState};
 use mms_types::{Identifier, Moment};
@@ -63,6 +63,38 @@ fn next_of(token: u32, entries: &[SemEntry]) -> Option<SemEntry>
         .fold(None, |best, entry| earlier(best, entry))
 }
 
+/// The entry that gets the token where the entry of that number goes.
+fn next_without(number: u64, token: u32, entries: &[SemEntry]) -> Option<SemEntry>
+    ensures { result ≡ next token (without number entries.now) }
+{
+    entries
+        .iter()
+        .filter(|entry| entry.number != number)
+        .filter(|entry| wants(token, entry))
+        .fold(None, |best, entry| earlier(best, entry))
+}
+
+/// Who is told that the token was granted.
+fn granted(token: u32, entry: &SemEntry) -> Grant
+    ensures { result ≡ grant_of token entry.now }
+{
+    Grant {
+        client: entry.client,
+        invoke: entry.invoke,
+        entry: entry.number,
+        token: token_told(entry.token, Some(token)),
+    }
+}
+
+/// Who gets the token of an entry where it goes.
+pub(crate) fn heir(entry: &SemEntry, entries: &[SemEntry]) -> Option<Grant>
+    ensures { result ≡ grant_leaving entry.now entries.now }
+{
+    let token = entry.token?;
+    let first = next_without(entry.number, token, entries)?;
+    Some(granted(token, &first))
+}
+
 /// The entry, where it is the one of that number as owner of that token.
 fn granted_entry(number: u64, token: u32, now: Moment, entry: &SemEntry) -> SemEntry
     requires { IsDated now }
@@ -102,12 +134,7 @@ fn free(entries: &mut Vec<SemEntry>, token: u32, now: Moment) -> Option<Grant>
         None => None,
         Some(first) => {
             grant(entries, first.number, token, now);
-            Some(Grant {
-                client: first.client,
-                invoke: first.invoke,
-                entry: first.number,
-                token: token_told(first.token, Some(token)),
-            })
+            Some(granted(token, &first))
         }
     }
 }
@@ -256,20 +283,6 @@ pub(crate) fn grant_to(number: u64, ask: &Ask, token: Option<u32>) -> Grant
         entry: number,
         token: token_told(ask.token, token),
     }
-}
-
-/// How many tokens are owned.
-pub(crate) fn owned(entries: &[SemEntry]) -> usize
-    ensures { result ≡ count_by is_owner entries.now }
-{
-    entries.iter().filter(|entry| entry.is_owner()).count()
-}
-
-/// How many tokens are hung.
-pub(crate) fn hung(entries: &[SemEntry]) -> usize
-    ensures { result ≡ count_by is_hung entries.now }
-{
-    entries.iter().filter(|entry| entry.is_hung()).count()
 }
 
 /// What is told of a token.

@@ -1,22 +1,24 @@
-ghost use Rattle.std.specs.Prelude.{◌≡◌, ◌≢◌, ◌==◌, ◌<◌, ◌≤◌, ◌^◌, Err, IfOk, None, OnErr, OnOk, Some, [], count_by, length, not, option_and_then, option_map, slice_get, true};
+ghost use Rattle.std.specs.Prelude.{◌≡◌, ◌≢◌, ◌==◌, ◌<◌, ◌≤◌, ◌^◌, Err, IfOk, IfSome, None, OnErr, OnOk, Some, [], count_by, length, not, option_and_then, option_map, slice_get, true};
 ghost use Rattle.std.specs.List.{list_any};
 ghost use Rattle.std.specs.Option.{option_copied};
 ghost use Rattle.mms_types.specs.Moments.{IsDated};
 ghost use Rattle.token_sem.specs.declared.entry.SemEntry.{SemEntry};
 ghost use Rattle.token_sem.specs.declared.entry.TakeRefused.TheVariants.{Memory as OutOfMemory};
-ghost use Rattle.token_sem.specs.Semaphore.{first_deadline, is_hung, is_owner, is_queued, moment_and_entry, numbered, owned_by};
-ghost use Rattle.pool_sem.specs.Pools.{IsPool, NamesRise, after_cancel, after_expire, after_lose, after_relinquish, after_take, expired_of, is_place, is_placed, loss_of, makes_entry, outcome, place_of, relinquish_answer, take_answer, token_state};
+ghost use Rattle.token_sem.specs.Semaphore.{deadline_at, first_deadline, is_hung, is_owner, is_queued, moment_and_entry, numbered, owned_by};
+ghost use Rattle.pool_sem.specs.Pools.{IsPool, NamesRise, after_cancel, after_expire, after_lose, after_relinquish, after_take, expired_of, has_claim, has_token, heir_of, is_place, is_placed, loss_of, makes_entry, outcome, owner_of, place_of, relinquish_answer, take_answer, token_state};
 
 use crate::entries::{
-    free_of, free_token, grant_to, has_claim, hung, hung_to_preempt, lose_owners, outcome_later,
-    owned, owner_entry, owner_of, place_of, queued_entry, token_state,
+    free_of, free_token, grant_to, has_claim, heir, hung_to_preempt, lose_owners, outcome_later,
+    owner_entry, owner_of, place_of, queued_entry, token_state,
 };
 use crate::{PoolOutcome, TokenState};
 use mms_types::{Identifier, Identifiers, Memory, Moment};
 use std::alloc::Global;
 use std::marker::Model;
-use token_sem::entries::{aborts, add, first_deadline, lose_waiters, numbered, owners_of, remove};
-use token_sem::{Ask, Expired, Grant, NotOwner, SemEntry, TakeRefused, Taken};
+use token_sem::entries::{
+    aborts, add, first_deadline, hung, lose_waiters, numbered, owned, owners_of, remove,
+};
+use token_sem::{Ask, Deadline, Expired, Grant, NotOwner, SemEntry, TakeRefused, Taken};
 
 /// A semaphore whose tokens have names (ISO 9506-1, pool semaphore). A token is told by its place in the list of their
 /// names, counted from 0 in order of octets. Contracts see the names, how many entries were made, and the entries in
@@ -172,6 +174,16 @@ impl PoolSem {
         Ok(free_of(&mut self.entries, owner.token, now))
     }
 
+    /// Who is granted the token that the client gives back, if anyone is. None also where the client isn't its owner.
+    pub fn heir(&self, client: u32, token: Option<u32>) -> Option<Grant>
+        ensures { result ≡ heir_of (owner_of client token self.now.entries) self.now.entries }
+    {
+        match owner_of(client, token, &self.entries) {
+            None => None,
+            Some(owner) => heir(&owner, &self.entries),
+        }
+    }
+
     /// A queued entry goes (ISO 9506-1, Cancel of a TakeControl). It takes no memory.
     pub fn cancel(&mut self, entry: u64)
         requires queued { option_map is_queued (numbered entry self.old.entries) ≡ Some true }
@@ -226,6 +238,36 @@ impl PoolSem {
         Ok(grants)
     }
 
+    /// How many entries were made.
+    pub fn made(&self) -> u64
+        ensures { result ≡ self.now.made }
+    {
+        self.made
+    }
+
+    /// The entries, in order of number.
+    pub fn entries(&self) -> &[SemEntry]
+        ensures { result.now ≡ self.now.entries }
+    {
+        &self.entries
+    }
+
+    /// Whether the client of the request waits for a token of the pool, or owns the one that the request names.
+    pub fn has_claim(&self, ask: &Ask) -> bool
+        ensures { result ≡ has_claim ask.now self.now.entries }
+    {
+        has_claim(ask, &self.entries)
+    }
+
+    /// Whether a request for that token, or for any, that may preempt that client gets one at once: that of a hung
+    /// entry of the client, or a free one.
+    pub fn has_token(&self, preempt: Option<u32>, asked: Option<u32>) -> bool
+        ensures { result ≡ has_token preempt asked self.now }
+    {
+        hung_to_preempt(preempt, asked, &self.entries).is_some()
+            || free_token(asked, self.count(), &self.entries).is_some()
+    }
+
     /// Whether the client has an owner entry.
     pub fn owns(&self, client: u32) -> bool
         ensures { result ≡ list_any (owned_by client) self.now.entries }
@@ -251,6 +293,15 @@ impl PoolSem {
             None => None,
             Some(first) => Some((first.at, first.number)),
         }
+    }
+
+    /// The least deadline, with its kind: that of the entry of that number. None exactly where no entry has one.
+    #[tactic(auto, using(crate::proofs::Serving::first_stands))]
+    pub fn deadline(&self) -> Option<Deadline>
+        ensures least { result ≡ first_deadline self.now.entries }
+        ensures stands { IfSome result (λ d. deadline_at d.number self.now.entries ≡ Some d.at) }
+    {
+        first_deadline(&self.entries)
     }
 
     /// The entry at a place of the list, counted from 0 in order of number. None exactly where the place isn't below
