@@ -1,5 +1,6 @@
 pub mod Digits
 mod Kept
+pub mod Pairs
 pub mod Prefixes
 mod Reading
 pub mod Texts

@@ -10,6 +10,7 @@ mod in_memory;
 mod laws;
 mod lines;
 mod outside;
+mod spelled;
 mod text;
 mod want;
 mod whole_write;

@@ -100,6 +100,30 @@ impl Lines {
         self.given
     }
 
+    /// What was taken from the source and not yet given: nothing after its end was seen.
+    pub fn held(&self) -> &[u8]
+        ensures octets { self.now.ended ≡ false → result.now ≡ self.now.octets }
+        ensures none { self.now.ended ≡ true → result.now ≡ [] }
+    {
+        if self.ended {
+            &[]
+        } else {
+            &self.chunk[self.start..self.end]
+        }
+    }
+
+    /// Gives so many octets of what is held: a line that the caller read in its place.
+    pub fn pass(&mut self, size: usize)
+        requires held { size ≤ length self.old.octets }
+        requires most { self.old.given + size ≤ 4294967296 }
+        ensures octets { self.new.octets ≡ drop size self.old.octets }
+        ensures given { self.new.given ≡ self.old.given + size }
+        ensures ended { self.new.ended ≡ self.old.ended }
+    {
+        self.start += size;
+        self.given += size as u64;
+    }
+
     /// Puts the next line in place of what `line` has, with its line feed where it has one: the
     /// first 196,612 octets of it, while the others are only counted. True where there is a line,
     /// false at the end of the input. After a `Stop` part of a line may have been passed over.

@@ -5,6 +5,7 @@ ghost use Rattle.cell_io.specs.Hex.{upper};
 ghost use Rattle.cell_io.specs.Prefix.{AppendsPrefix, AppendsBefore};
 
 use crate::hex::encode;
+use crate::spelled::{Spelled, WIDTH};
 use crate::{Failed, Memory, Sink, write_all};
 use itoa::Buffer;
 use std::alloc::Global;
@@ -23,6 +24,8 @@ const ROOM: usize = 1 << 22;
 pub struct Text {
     buffer: Vec<u8>,
     end: usize,
+    /// The digits of the number of tens that was spelled last. Ten numbers in a row have the same.
+    tens: Spelled,
 }
 
 impl Model for Text {
@@ -55,6 +58,7 @@ fn lengthen(buffer: &mut Vec<u8>, end: usize, more: usize) -> Result<usize, Memo
 }
 
 /// Makes room in a buffer for so many octets more behind `end`. Tells where these end.
+#[inline(always)]
 fn room(buffer: &mut Vec<u8>, end: usize, more: usize) -> Result<usize, Memory>
     requires { end ≤ vec_len buffer.old }
     ensures end { IfOk result (λ new. new ≡ end + more) }
@@ -68,6 +72,19 @@ fn room(buffer: &mut Vec<u8>, end: usize, more: usize) -> Result<usize, Memory>
     Ok(end + more)
 }
 
+/// Puts the digits of a number behind `end`. Tells where they end.
+fn put_spelled(buffer: &mut Vec<u8>, end: usize, number: &Spelled) -> Result<usize, Memory>
+    requires { end ≤ vec_len buffer.old }
+    ensures within { IfOk result (λ new. new ≤ vec_len buffer.new) }
+    ensures text { IfOk result (λ new. take new buffer.new.items ≡ take end buffer.old.items ++ decimal number.now) }
+    ensures longer { vec_len buffer.old ≤ vec_len buffer.new }
+    ensures kept { OnErr result (take end buffer.new.items ≡ take end buffer.old.items) }
+{
+    let most = room(buffer, end, WIDTH)?;
+    let size = number.put(&mut buffer.as_mut_slice()[end..most]);
+    Ok(end + size)
+}
+
 impl Text {
     /// Nothing waits, and there is room for many pieces.
     pub fn new(alloc: Global) -> Result<Text, Memory>
@@ -75,10 +92,15 @@ impl Text {
     {
         let mut buffer = Vec::with_capacity(alloc, ROOM)?;
         buffer.resize(2 * PIECE, 0)?;
-        Ok(Text { buffer, end: 0 })
+        Ok(Text {
+            buffer,
+            end: 0,
+            tens: Spelled::new(),
+        })
     }
 
     /// Puts octets to the end.
+    #[inline(always)]
     pub fn put(&mut self, octets: &[u8]) -> Result<(), Memory>
         ensures ok { OnOk result (self.new ≡ self.old ++ octets.now) }
         ensures err { OnErr result (self.new ≡ self.old) }
@@ -102,17 +124,24 @@ impl Text {
     }
 
     /// Puts a number's decimal digits and a blank to the end.
+    #[inline(always)]
     pub fn put_number_before_blank(&mut self, n: u64) -> Result<(), Memory>
         ensures { OnOk result (self.new ≡ self.old ++ decimal n ++ 32 ∷ []) }
     {
+        let last = b'0' + (n % 10) as u8;
         if n < 10 {
-            return self.put(&[b'0' + n as u8, b' ']);
+            return self.put(&[last, b' ']);
         }
-        self.put(Buffer::new().format(n).as_bytes())?;
-        self.put(b" ")
+        if n < 100 {
+            return self.put(&[b'0' + (n / 10) as u8, last, b' ']);
+        }
+        self.tens.spell(n / 10);
+        self.end = put_spelled(&mut self.buffer, self.end, &self.tens)?;
+        self.put(&[last, b' '])
     }
 
     /// Puts octets as pairs of hexadecimal digits in upper case, and a line feed, to the end.
+    #[inline(always)]
     pub fn put_hex_line(&mut self, octets: &[u8]) -> Result<(), Memory>
         ensures ok { OnOk result (self.new ≡ self.old ++ upper octets.now ++ 10 ∷ []) }
         ensures err { OnErr result (self.new ≡ self.old) }
@@ -127,6 +156,7 @@ impl Text {
 
     /// Writes what waits, where it is a piece or more, so that less than a piece waits afterwards. After `Failed` a prefix
     /// of it may have been written.
+    #[inline(always)]
     pub fn pass<K: Sink>(&mut self, out: &mut K) -> Result<(), Failed>
         ensures whole { OnOk result (AppendsBefore (K.held out.old) (K.held out.new) self.new self.old) }
         ensures few { OnOk result (length self.new < 16384) }

@@ -1,7 +1,12 @@
-use Rattle.std.proofs.Common.{rules}
-use Rattle.cell_io.proofs.Digits.{digit_and_blank}
+use Rattle.std.proofs.Common.{rules, arith}
+use Rattle.cell_io.proofs.Digits.{digit_and_blank, two_and_blank, last_and_blank}
 use Rattle.cell_io.proofs.text.Text.put_number_before_blank.Goals as goal
 
--- src/text.rt:110:13
 pub returns-then-n-lt10 : goal.returns-then-n-lt10
 returns-then-n-lt10 c = rw (digit_and_blank c.args.self.now c.args.n c.if-n-lt10.true) (search rules)
+
+pub returns-then-n-lt100 : goal.returns-then-n-lt100
+returns-then-n-lt100 c = rw (two_and_blank c.args.self.now c.args.n (omega (arith, c.if-n-lt10.false)) c.if-n-lt100.true) (search rules)
+
+pub returns : goal.returns
+returns c = rw (last_and_blank c.args.self.now c.args.n (omega (arith, c.if-n-lt10.false)) (omega (arith, c.ranges.n))) (search rules)
