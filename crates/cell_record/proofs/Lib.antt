@@ -1,4 +1,5 @@
 pub mod Table
+pub mod Plain
 mod Examples
 pub mod Trims
 pub mod OneFurther

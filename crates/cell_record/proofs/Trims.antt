@@ -17,7 +17,7 @@ onto_end : (x : ℕ) (xs : List ℕ) (b : ℕ) → onto_kept x (xs ++ b ∷ []) 
 onto_end x [] b = refl
 onto_end x (y ∷ ys) b = refl
 
-back_kept : (xs : List ℕ) (b : ℕ) → is_blank b ≡ false → trim_back (xs ++ b ∷ []) ≡ xs ++ b ∷ []
+pub back_kept : (xs : List ℕ) (b : ℕ) → is_blank b ≡ false → trim_back (xs ++ b ∷ []) ≡ xs ++ b ∷ []
 back_kept [] b e = rw e refl
 back_kept (x ∷ xs) b e = ap (onto_kept x) (back_kept xs b e) ∙ onto_end x xs b
 

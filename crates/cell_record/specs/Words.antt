@@ -83,6 +83,10 @@ number_of digits = if between 1 9 (length digits) && list_all is_digit digits th
 abbrev pub nibble_of : ℕ → ℕ
 nibble_of b = if between 48 57 b then b - 48 else (if between 65 70 b then b - 55 else (if between 97 102 b then b - 87 else 255))
 
+-- a hexadecimal digit of either case
+abbrev pub is_hex : ℕ → Bool
+is_hex b = nat_le (nibble_of b) 15
+
 -- the octet of two digits in front of the others
 abbrev pub with_octet : ℕ → ℕ → Option (List ℕ) → Option (List ℕ)
 with_octet high low None = None

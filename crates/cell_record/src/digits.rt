@@ -46,7 +46,7 @@ static VALUES: [u8; 256] = [
 
 /// The value of a hexadecimal digit of either case, and 255 for other octets.
 #[tactic(auto, using(crate::proofs::Table::value_is))]
-fn nibble(octet: u8) -> u8
+pub fn nibble(octet: u8) -> u8
     ensures value { result ≡ nibble_of octet }
     ensures small { result ≤ 255 }
 {
@@ -73,7 +73,7 @@ fn decode(text: &[u8], count: usize, to: &mut [u8]) -> bool
 }
 
 /// Whether one of the two is no value of a digit.
-fn is_broken(high: u8, low: u8) -> bool
+pub fn is_broken(high: u8, low: u8) -> bool
     ensures broken { result ≡ (nat_lt 15 high || nat_lt 15 low) }
     ensures whole { result ≡ false → (high ≤ 15) × (low ≤ 15) }
 {

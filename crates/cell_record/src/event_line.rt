@@ -19,7 +19,11 @@ const MOST_IN_PDU: usize = 65_000;
 const MOST_IN_TICK: u32 = 3_600_000;
 
 /// That a client sent octets.
-fn heard(config: &Config, client: Option<u32>, octets: Option<Octets>) -> Result<Said, LineError>
+pub fn heard(
+    config: &Config,
+    client: Option<u32>,
+    octets: Option<Octets>,
+) -> Result<Said, LineError>
     ensures says { IfOk result (λ s. heard_of config.now client octets ≡ Ok s) }
     ensures bad { IfErr result (λ e. IsCause (heard_of config.now client octets) e) }
     ensures may { IfOk result (MayHappen config.now) }

@@ -2,6 +2,7 @@
 #![tactic(auto)]
 
 mod counts;
+mod cut;
 mod digits;
 mod event_line;
 mod laws;

@@ -1,8 +1,9 @@
 //! The lines of a source with their numbers.
 
-ghost use Rattle.std.specs.Prelude.{◌≡◌, ◌+◌, ◌<◌, ◌≤◌, [], true, false, length, IfOk, IfErr, IfSome};
+ghost use Rattle.std.specs.Prelude.{◌≡◌, ◌+◌, ◌<◌, ◌≤◌, ℕ, List, [], true, false, length, take, drop, IfOk, IfErr, IfSome};
+ghost use Rattle.std.specs.declared.option.Option.{Option};
 ghost use Rattle.cell_io.specs.Faults.{Rose};
-ghost use Rattle.cell_io.specs.Lines.{first_line, has_feed};
+ghost use Rattle.cell_io.specs.Lines.{first_line, after_line, has_feed};
 ghost use Rattle.cell_io.specs.Held.{ahead, IsEndSeen, FailsInLine};
 ghost use Rattle.cell_record.specs.Words.{content as content_of};
 ghost use Rattle.cell_record.specs.EventLine.{same};
@@ -85,6 +86,35 @@ impl NumberedLines {
         ensures { result.now ≡ self.now.line }
     {
         &self.line
+    }
+
+    /// What is held of the lines to come, as `Lines::held` tells it.
+    pub fn held(&self) -> &[u8]
+        ensures octets { self.now.held.ended ≡ false → result.now ≡ self.now.held.octets }
+        ensures none { self.now.held.ended ≡ true → result.now ≡ [] }
+    {
+        self.lines.held()
+    }
+
+    /// Goes on behind the next line, which is held whole and has so many octets: the caller read it in its place, and
+    /// nothing is kept of it.
+    pub fn pass(&mut self, size: usize)
+        requires unended { self.old.held.ended ≡ false }
+        requires feed { has_feed self.old.held.octets ≡ true }
+        requires line { first_line self.old.held.octets ≡ take size self.old.held.octets }
+        requires rest { after_line self.old.held.octets ≡ drop size self.old.held.octets }
+        requires within { (1 ≤ size) × (size ≤ length self.old.held.octets) × (size ≤ 196608) }
+        requires few { self.old.held.given + size ≤ 4294967296 }
+        ensures gives { (left : Option (List ℕ)) → Gives (ahead self.old.held left) (ahead self.new.held left) (first_line self.old.held.octets) self.old.held.given self.new.held.given }
+        ensures feed { (left : Option (List ℕ)) → IfSome (ahead self.old.held left) (λ text. has_feed text ≡ true) }
+        ensures unended { self.new.held.ended ≡ false }
+        ensures count { self.new.lines ≡ self.old.lines + 1 }
+        ensures grows { self.old.held.given < self.new.held.given }
+        ensures most { self.new.held.given ≤ 4294967296 }
+    {
+        let _given = self.lines.given();
+        self.lines.pass(size);
+        self.count += 1;
     }
 
     /// Goes to the next line: false at the end of the input.

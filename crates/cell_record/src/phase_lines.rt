@@ -1,9 +1,13 @@
 //! The lines of one phase.
 
-ghost use Rattle.std.specs.Prelude.{◌≡◌, ◌+◌, ◌<◌, ◌≤◌, ◌^◌, [], true, false, length, IfOk, IfErr, IfSome, MatchOption, All, ⊤};
+ghost use Rattle.std.specs.Prelude.{◌≡◌, ◌+◌, ◌<◌, ◌≤◌, ◌^◌, ℕ, List, [], true, false, length, take, drop, Some, IfOk, IfErr, IfSome, MatchOption, All, ⊤};
+ghost use Rattle.std.specs.declared.option.Option.{Option};
 ghost use Rattle.cell_io.specs.Faults.{Rose};
+ghost use Rattle.cell_io.specs.Lines.{first_line, after_line, has_feed};
 ghost use Rattle.cell_io.specs.Held.{IsEndSeen};
-ghost use Rattle.cell_record.specs.EventLine.{MayHappen, IsRecorded};
+ghost use Rattle.cell_record.specs.EventLine.{MayHappen, IsRecorded, said_of, heard_of};
+ghost use Rattle.cell_record.specs.Words.{content as content_of};
+ghost use Rattle.cell_config.specs.declared.config.Config.{Config as ConfigOf};
 ghost use Rattle.cell_record.specs.Recording.{makes, moved, whole, refused, with_phase};
 ghost use Rattle.cell_record.specs.Grammar.{phase_ms};
 ghost use Rattle.cell_record.specs.Numbered.{IsPart, at, place_at, phases, after_phase, IsWithin};
@@ -12,7 +16,8 @@ ghost use Rattle.cell_record.specs.Progress.{Becomes, IsStated};
 
 use crate::RecordError;
 use crate::counts::Counts;
-use crate::event_line::said;
+use crate::cut::{Sent, first_sent};
+use crate::event_line::{heard, said};
 use crate::numbered::NumberedLines;
 use crate::said::{LineError, Said};
 use cell_config::Config;
@@ -27,9 +32,49 @@ pub struct Piece {
     pub last: bool,
 }
 
-/// Reads the next line, and tells what it says: None at the end of the input. The buffer is for
+/// Goes on behind the line that `sent` was read from where it is held, and tells what it says.
+#[inline(always)]
+fn held_said(
+    lines: &mut NumberedLines,
+    config: &Config,
+    counts: &mut Counts,
+    sent: Sent,
+) -> Result<Said, RecordError>
+    requires counts { IsWithin counts.old }
+    requires unended { lines.old.held.ended ≡ false }
+    requires feed { has_feed lines.old.held.octets ≡ true }
+    requires within { (1 ≤ sent.size) × (sent.size ≤ length lines.old.held.octets) × (sent.size ≤ 196608) }
+    requires few { lines.old.held.given + sent.size ≤ 4294967296 }
+    requires line { first_line lines.old.held.octets ≡ take sent.size lines.old.held.octets }
+    requires rest { after_line lines.old.held.octets ≡ drop sent.size lines.old.held.octets }
+    requires says { (config : ConfigOf) → said_of config (content_of (first_line lines.old.held.octets)) ≡ heard_of config (Some sent.client) (Some sent.octets) }
+    ensures says { IfOk result (λ s. (left : Option (List ℕ)) → Becomes (at (phases config.now counts.old) lines.old left) (makes s) (at (phases config.now counts.new) lines.new left)) }
+    ensures leads { IfOk result (λ s. (left : Option (List ℕ)) → Leads (phases config.now counts.old) lines.old.held (place_at lines.old) left (makes s)
+        (phases config.now counts.new) lines.new.held (place_at lines.new) left) }
+    ensures may { IfOk result (MayHappen config.now) }
+    ensures counts { IfOk result (λ s. counts.new ≡ moved counts.old s) }
+    ensures within { IfOk result (λ _. IsWithin counts.new) }
+    ensures refused { IfErr result (λ e. IsStated e → (left : Option (List ℕ)) → IfSome (at (phases config.now counts.old) lines.old left) (λ r. r ≡ refused e)) }
+    ensures unread { IfErr result (λ e. ¬ (e ≡ RecordError.ReadFault)) }
+    ensures unended { lines.new.held.ended ≡ false }
+    ensures grows { lines.old.held.given < lines.new.held.given }
+    ensures most { lines.new.held.given ≤ 4294967296 }
+{
+    let number = lines.count() + 1;
+    lines.pass(sent.size);
+    match heard(config, Some(sent.client), Some(sent.octets)) {
+        Ok(said) => match counts.count(number, &said) {
+            None => Ok(said),
+            Some(refusal) => Err(refusal),
+        },
+        Err(LineError::Bad(word)) => Err(RecordError::Bad { line: number, word }),
+        Err(LineError::Memory) => Err(RecordError::Memory),
+    }
+}
+
+/// Reads the next line into a buffer of its own, and tells what it says: None at the end of the input. The buffer is for
 /// `said`.
-fn next_said<S: Source>(
+fn copied_said<S: Source>(
     alloc: Global,
     lines: &mut NumberedLines,
     config: &Config,
@@ -72,7 +117,52 @@ fn next_said<S: Source>(
     }
 }
 
-/// Reads the lines up to the phase's end. The buffer is for `said`.
+/// Reads the next line, and tells what it says: None at the end of the input. Most lines are cut and decoded where they
+/// are held, and aren't copied. The buffer is for the octets of a line; what it holds is of no account.
+#[inline(always)]
+fn next_said<S: Source>(
+    alloc: Global,
+    lines: &mut NumberedLines,
+    config: &Config,
+    counts: &mut Counts,
+    buffer: &mut Vec<u8>,
+    input: &mut S,
+) -> Result<Option<Said>, RecordError>
+    requires { IsWithin counts.old }
+    ensures says { IfOk result (λ o. MatchOption o
+        (IfSome (at (phases config.now counts.old) lines.old (S.left input.old)) (λ r. (r ≡ whole) × (at (phases config.now counts.old) lines.new (S.left input.new) ≡ Some r)))
+        (λ s. Becomes (at (phases config.now counts.old) lines.old (S.left input.old)) (makes s) (at (phases config.now counts.new) lines.new (S.left input.new)))) }
+    ensures leads { IfOk result (λ o. MatchOption o ⊤ (λ s. Leads (phases config.now counts.old) lines.old.held (place_at lines.old) (S.left input.old) (makes s)
+        (phases config.now counts.new) lines.new.held (place_at lines.new) (S.left input.new))) }
+    ensures may { IfOk result (λ o. MatchOption o ⊤ (MayHappen config.now)) }
+    ensures counts { IfOk result (λ o. MatchOption o (counts.new ≡ counts.old) (λ s. counts.new ≡ moved counts.old s)) }
+    ensures within { IfOk result (λ _. IsWithin counts.new) }
+    ensures over { IfOk result (λ o. MatchOption o (lines.new.held.ended ≡ true) (λ _. ⊤)) }
+    ensures refused { IfErr result (λ e. IsStated e → IfSome (at (phases config.now counts.old) lines.old (S.left input.old)) (λ r. r ≡ refused e)) }
+    ensures fault { IfErr result (λ e. e ≡ RecordError.ReadFault → Rose (S.faults input.old) (S.faults input.new)) }
+    ensures stops { IfErr result (λ e. e ≡ RecordError.ReadFault → StopsInPhase (phases config.now counts.old) lines.old.held (place_at lines.old) (S.left input.old) (S.left input.new)) }
+    ensures seen { IsEndSeen lines.old.held (S.left input.old) → IsEndSeen lines.new.held (S.left input.new) }
+    ensures grows { IfOk result (λ o. MatchOption o ⊤ (λ _. lines.old.held.given < lines.new.held.given)) }
+    ensures order { lines.old.held.given ≤ lines.new.held.given }
+    ensures most { lines.new.held.given ≤ 4294967296 }
+    ensures left { IsPart (S.left input.old) (S.left input.new) }
+    ensures later { S.faults input.old ≤ S.faults input.new }
+{
+    let given = lines.given();
+    match first_sent(alloc, lines.held(), buffer)? {
+        Some(sent) if sent.size as u64 <= MOST - given => {
+            match held_said(lines, config, counts, sent) {
+                Ok(said) => Ok(Some(said)),
+                Err(refusal) => Err(refusal),
+            }
+        }
+        _ => copied_said(alloc, lines, config, counts, buffer, input),
+    }
+}
+
+/// Reads the lines up to the phase's end. The buffer is for `said`. It is a function of its own in the program too, so
+/// that its loop has the registers for itself.
+#[inline(never)]
 pub fn read_phase<S: Source>(
     alloc: Global,
     lines: &mut NumberedLines,

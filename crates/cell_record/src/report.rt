@@ -31,6 +31,7 @@ fn put_word(text: &mut Text, word: &[u8], number: u32) -> Result<(), Memory>
 }
 
 /// Puts an event as its line says it, and a line feed.
+#[inline(always)]
 fn put_event(text: &mut Text, event: &CellEvent) -> Result<(), Memory>
     ensures { OnOk result (text.new ≡ text.old ++ event_text event.now ++ 10 ∷ []) }
 {
@@ -51,6 +52,7 @@ fn put_event(text: &mut Text, event: &CellEvent) -> Result<(), Memory>
 }
 
 /// Puts the line of an event at its place.
+#[inline(always)]
 fn put_placed(text: &mut Text, place: u64, event: &CellEvent) -> Result<(), Memory>
     ensures { OnOk result (text.new ≡ text.old ++ placed_line place event.now) }
 {
@@ -62,6 +64,7 @@ fn put_placed(text: &mut Text, place: u64, event: &CellEvent) -> Result<(), Memo
 }
 
 /// Puts the line of what is sent.
+#[inline(always)]
 fn put_output(text: &mut Text, output: &What) -> Result<(), Memory>
     ensures { OnOk result (text.new ≡ text.old ++ output_text output.now) }
 {
@@ -92,7 +95,8 @@ fn put_client(text: &mut Text, client: u64) -> Result<(), Memory>
     text.put(b"\n")
 }
 
-/// Writes the lines of events.
+/// Writes the lines of events. It is a function of its own in the program too, as `write_outputs`.
+#[inline(never)]
 #[tactic(auto, using(crate::proofs::ReportLemmas::flat_rest))]
 fn write_served<K: Sink>(
     text: &mut Text,
@@ -113,6 +117,7 @@ fn write_served<K: Sink>(
 }
 
 /// Writes the lines of what is sent.
+#[inline(never)]
 #[tactic(auto, using(crate::proofs::ReportLemmas::flat_rest))]
 fn write_outputs<K: Sink>(text: &mut Text, out: &mut K, outputs: &[What]) -> Result<(), WriteError>
     ensures whole { OnOk result (AppendsBefore (K.held out.old) (K.held out.new) text.new (text.old ++ flat_map output_text outputs.now)) }
