@@ -39,6 +39,7 @@ impl Spelled {
     }
 
     /// Spells a number, where it isn't spelled already.
+    #[inline(always)]
     pub fn spell(&mut self, number: u64)
         ensures { self.new ≡ number }
     {
@@ -61,6 +62,7 @@ impl Spelled {
 
     /// Puts the number's digits to the front of a piece, and tells how many they are. What stands behind them is of no
     /// account: so many octets are written as a number has at most, since a copy of known length costs least.
+    #[inline(always)]
     pub fn put(&self, to: &mut [u8]) -> usize
         requires { length to.old ≡ 20 }
         ensures digits { take result to.new ≡ decimal self.now }

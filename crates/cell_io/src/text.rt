@@ -73,6 +73,7 @@ fn room(buffer: &mut Vec<u8>, end: usize, more: usize) -> Result<usize, Memory>
 }
 
 /// Puts the digits of a number behind `end`. Tells where they end.
+#[inline(always)]
 fn put_spelled(buffer: &mut Vec<u8>, end: usize, number: &Spelled) -> Result<usize, Memory>
     requires { end ≤ vec_len buffer.old }
     ensures within { IfOk result (λ new. new ≤ vec_len buffer.new) }

@@ -82,9 +82,9 @@ fn front_pairs(text: &[u8], to: &mut [u8]) -> usize
     count
 }
 
-/// Cuts the first line off a text, where it is a client's number, one blank and pairs of digits for which there is room.
-/// None tells nothing of the line. It is a function of its own in the program too, so that its loops have the registers
-/// for themselves.
+/// Cuts the first line off a text, where it is a client's number, one blank and pairs of digits for which there is
+/// room. None tells nothing of the line. It is a function of its own in the program too, so that its loops have the
+/// registers for themselves.
 #[inline(never)]
 fn cut_line(text: &[u8], to: &mut [u8]) -> Option<Cut>
     ensures feed { IfSome result (λ _. has_feed text.now ≡ true) }
@@ -112,8 +112,8 @@ fn cut_line(text: &[u8], to: &mut [u8]) -> Option<Cut>
     })
 }
 
-/// That a client sent octets, where the first line of a text says it in the form that `cut_line` cuts: None tells nothing of
-/// the line. The buffer is kept from line to line; what it holds is of no account.
+/// That a client sent octets, where the first line of a text says it in the form that `cut_line` cuts: None tells
+/// nothing of the line. The buffer is kept from line to line; what it holds is of no account.
 #[inline(always)]
 pub fn first_sent(alloc: Global, text: &[u8], buffer: &mut Vec<u8>) -> Result<Option<Sent>, Memory>
     ensures feed { IfOk result (λ o. IfSome o (λ _. has_feed text.now ≡ true)) }

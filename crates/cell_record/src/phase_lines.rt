@@ -72,8 +72,8 @@ fn held_said(
     }
 }
 
-/// Reads the next line into a buffer of its own, and tells what it says: None at the end of the input. The buffer is for
-/// `said`.
+/// Reads the next line into a buffer of its own, and tells what it says: None at the end of the input. The buffer is
+/// for `said`.
 fn copied_said<S: Source>(
     alloc: Global,
     lines: &mut NumberedLines,
