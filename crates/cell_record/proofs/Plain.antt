@@ -1,6 +1,6 @@
 -- A line `<client> <hex>`, as it is cut in one pass.
 use Rattle.cell_config.specs.declared.config.Config.{Config}
-use Rattle.std.proofs.Common.{◌≡◌, ℕ, suc, zero, ◌+◌, ◌-◌, ◌*◌, ◌<◌, ◌≤◌, ◌==◌, ◌&&◌, ◌||◌, Bool, true, false, if◌then◌else◌, List, [], ◌∷◌, ◌++◌, length, take, drop, set, get_or, refl, sym, ap, ap₂, ◌∙◌, subst, arith, append_assoc, length-append, Some, None, nat_lt, nat_le}
+use Rattle.std.proofs.Common.{◌≡◌, ℕ, suc, ◌+◌, ◌-◌, ◌*◌, ◌<◌, ◌≤◌, ◌==◌, ◌&&◌, Bool, true, false, List, [], ◌∷◌, ◌++◌, length, take, drop, set, get_or, refl, sym, ap, ap₂, ◌∙◌, arith, append_assoc, length-append, Some, None, nat_lt}
 use Rattle.std.proofs.lemmas.Bool.Decides.{nat_tests}
 use Rattle.std.proofs.lemmas.Grind.{common_steps}
 use Rattle.std.proofs.lemmas.List.{drop_more, take_more, take_more_set, take_all, length-take-le, take-append-drop, length-drop}
@@ -14,7 +14,7 @@ use Rattle.std.specs.Io.KnownBytes.{prepend_known}
 use Rattle.std.specs.Prelude.{IfSome}
 use Rattle.cell_record.specs.Numbered.{Gives}
 use Rattle.cell_io.proofs.Texts.{first_later, after_later, feed_later, first_here, after_here, feed_here}
-use Rattle.cell_record.specs.Words.{is_blank, in_word, ends_with, content, trim, trim_front, trim_back, word_of, argument_of, is_digit, is_hex, value_of, number_of, nibble_of, pairs_of, with_octet}
+use Rattle.cell_record.specs.Words.{is_blank, in_word, content, trim, trim_front, trim_back, word_of, argument_of, is_digit, is_hex, value_of, number_of, nibble_of, pairs_of}
 use Rattle.cell_record.specs.EventLine.{said_of, heard_of}
 use Rattle.cell_record.proofs.Trims.{back_kept}
 

@@ -1,4 +1,4 @@
-use Rattle.std.proofs.Common.{ℕ, List, ◌++◌, take, ap, ap₂, sym, ◌∙◌, arith}
+use Rattle.std.proofs.Common.{ℕ, List, ◌++◌, take, ap, ap₂, ◌∙◌, arith}
 use Rattle.cell_io.proofs.Digits.{copied_behind}
 use Rattle.cell_io.proofs.text.put_spelled.Goals as goal
 

@@ -1,4 +1,4 @@
-use Rattle.std.proofs.Common.{◌≡◌, false, ℕ, List, sym, ap, ◌∙◌}
+use Rattle.std.proofs.Common.{ℕ, List, sym, ap, ◌∙◌}
 use Rattle.cell_io.specs.Lines.{first_line}
 use Rattle.cell_record.specs.Words.{content}
 use Rattle.cell_record.specs.EventLine.{said_of}

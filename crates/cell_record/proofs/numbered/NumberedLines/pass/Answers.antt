@@ -1,4 +1,4 @@
-use Rattle.std.proofs.Common.{◌≡◌, ap, ◌∙◌, drop, ◌+◌, List, ℕ}
+use Rattle.std.proofs.Common.{◌≡◌, ap, ◌∙◌, drop, ◌+◌}
 use Rattle.cell_io.specs.Held.{Held}
 use Rattle.cell_record.specs.Numbered.{Numbered}
 use Rattle.cell_record.proofs.Plain.{passed_gives, passed_feed}
