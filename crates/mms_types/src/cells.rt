@@ -1,6 +1,9 @@
 //! The cells of a device and the names that it is configured with.
 
-use crate::{Data, Identifier, Listed, TypeSpec};
+ghost use Rattle.std.specs.Prelude.{◌≡◌, IfOk};
+
+use crate::{Data, Identifier, Listed, Memory, TypeSpec};
+use std::alloc::Global;
 
 /// A cell, as it is configured: a variable that has an address and no name of its own (ISO 9506-1, unnamed variable).
 #[derive(Debug, PartialEq, Eq, Drop)]
@@ -27,3 +30,36 @@ pub struct NamedCell {
 
 /// Configured variables in order. Contracts see the list of them.
 pub type NamedCells = Listed<NamedCell>;
+
+impl Listed<CellRow> {
+    /// A copy. Memory where memory runs out.
+    pub fn copy(&self, alloc: Global) -> Result<Cells, Memory>
+        ensures { IfOk result (λ cells. cells ≡ self.now) }
+    {
+        let mut cells = Listed::new(alloc);
+        for cell in self.as_slice() {
+            cells.push(CellRow {
+                number: cell.number,
+                of: cell.of.copy(alloc)?,
+                value: cell.value.copy(alloc)?,
+            })?;
+        }
+        Ok(cells)
+    }
+}
+
+impl Listed<NamedCell> {
+    /// A copy. Memory where memory runs out.
+    pub fn copy(&self, alloc: Global) -> Result<NamedCells, Memory>
+        ensures { IfOk result (λ variables. variables ≡ self.now) }
+    {
+        let mut variables = Listed::new(alloc);
+        for variable in self.as_slice() {
+            variables.push(NamedCell {
+                name: variable.name.copy(alloc)?,
+                cell: variable.cell,
+            })?;
+        }
+        Ok(variables)
+    }
+}

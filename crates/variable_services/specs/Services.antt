@@ -5,6 +5,8 @@ use Rattle.std.specs.List.{zip}
 use Rattle.mms_types.specs.Datum.{Datum}
 use Rattle.mms_types.specs.Errors.{first_of, type_inconsistent, object_non_existent}
 use Rattle.mms_types.specs.declared.access_result.WriteResult.{WriteResult}
+use Rattle.mms_types.specs.declared.cells.CellRow.{CellRow}
+use Rattle.mms_types.specs.declared.cells.NamedCell.{NamedCell}
 use Rattle.mms_types.specs.declared.object_name.ObjectName.{ObjectName}
 use Rattle.mms_types.specs.declared.service_error.ServiceError.{ServiceError}
 use Rattle.mms_types.specs.declared.variable.Access.{Access}
@@ -25,6 +27,7 @@ use Rattle.object_names.specs.Deletion.{selects}
 use Rattle.variables.specs.Access.{reads, writes}
 use Rattle.variables.specs.Definitions as variables
 use Rattle.variables.specs.Rows as rows
+use Rattle.variables.specs.Start.{start}
 use Rattle.variable_lists.specs.Lists as lists
 use Rattle.variable_services.specs.declared.tables.VariableTables.{VariableTables}
 
@@ -118,6 +121,16 @@ delete_lists_answer client asked t = lists.deletion (selects client asked) t.lis
 
 abbrev pub delete_lists_after : ℕ → DeleteNames → VariableTables → VariableTables
 delete_lists_after client asked t = record t { lists = lists.without (selects client asked) t.lists }
+
+-- ---- the start
+
+-- no cell, no variable and no list
+abbrev pub no_variables : VariableTables
+no_variables = record { vars = record { cells = []; variables = [] }; lists = [] }
+
+-- the cells and the variables of a configuration, and no list yet
+abbrev pub configured : List CellRow → List NamedCell → VariableTables
+configured cells named = record { vars = start cells named; lists = [] }
 
 -- ---- the loss of a client
 

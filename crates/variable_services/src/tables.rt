@@ -1,8 +1,9 @@
 ghost use Rattle.std.specs.Prelude.{◌≡◌, IfOk};
 ghost use Rattle.std.specs.Option.{option_copied};
-ghost use Rattle.variable_services.specs.Services.{accessed_in, lost};
+ghost use Rattle.variables.specs.Start.{AreApart};
+ghost use Rattle.variable_services.specs.Services.{accessed_in, configured, lost, no_variables};
 
-use mms_types::{Access, Memory, Spec};
+use mms_types::{Access, Cells, Memory, NamedCells, Spec};
 use std::alloc::Global;
 use variable_lists::Lists;
 use variables::Vars;
@@ -27,6 +28,27 @@ pub(crate) fn accessed<'a>(lists: &'a Lists, client: u32, access: &'a Access) ->
 }
 
 impl VariableTables {
+    /// No cell, no variable and no list. Nothing is allocated.
+    pub fn empty(alloc: Global) -> VariableTables
+        ensures { result ≡ no_variables }
+    {
+        VariableTables {
+            vars: Vars::empty(alloc),
+            lists: Lists::new(alloc),
+        }
+    }
+
+    /// The cells and the variables of a configuration, and no list. The one refusal is want of memory.
+    pub fn new(alloc: Global, cells: Cells, variables: NamedCells) -> Result<VariableTables, Memory>
+        requires { AreApart cells variables }
+        ensures { IfOk result (λ tables. tables ≡ configured cells variables) }
+    {
+        Ok(VariableTables {
+            vars: Vars::new(alloc, cells, variables)?,
+            lists: Lists::new(alloc),
+        })
+    }
+
     /// A client is lost: the names of its association are removed. It takes no memory.
     pub fn lose(&mut self, client: u32)
         ensures { self.new ≡ lost client self.old }

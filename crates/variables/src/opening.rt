@@ -65,6 +65,16 @@ fn named(alloc: Global, rows: Vec<NamedCell>) -> Result<Named<Variable>, Memory>
 }
 
 impl Vars {
+    /// No cells and no variables. Nothing is allocated.
+    pub fn empty(alloc: Global) -> Vars
+        ensures { result ≡ record { cells = []; variables = [] } }
+    {
+        Vars {
+            cells: IndexMap::new(alloc),
+            variables: Named::new(alloc),
+        }
+    }
+
     /// The cells and the variables of a configuration, in its order. The one refusal is want of memory.
     pub fn new(alloc: Global, cells: Cells, variables: NamedCells) -> Result<Vars, Memory>
         requires { AreApart cells variables }
