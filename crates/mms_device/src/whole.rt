@@ -41,6 +41,11 @@ impl Model for Whole {
 
     ghost Value = { Served };
 
+    ghost use Rattle.std.specs.Coded.{codes};
+    ghost use Rattle.variable_services.specs.contracts.tables.VariableTables as kept;
+
+    ghost coded = { Prim.hlevel (codes, kept.the_row.coded) };
+
     ghost view = { λ device. record { state = state_in device.hand; count = device.count } };
 
     ghost invariant = { λ device. (device.hand ≡ map Some (parts_of (state_in device.hand))) × IsSound device.count (state_in device.hand) };

@@ -1,6 +1,6 @@
 -- Nothing is needed where all parts are held.
 use Rattle.std.specs.Prelude.{◌≡◌, ℕ, ◌<◌, ◌≤◌, nat_lt, ◌==◌, Bool, true, false, ◌&&◌, ◌||◌, Some, List, [], ◌∷◌, ◌++◌, map, length, refl}
-use Rattle.std.specs.List.{list_all}
+use Rattle.std.specs.List.{list_all, list_any}
 use Rattle.std.proofs.Common.{arith}
 use Rattle.std.proofs.lemmas.Bool.Decides.{nat_tests}
 use Rattle.mms_types.specs.Actors.{IsAmong, actor_of}
@@ -23,7 +23,7 @@ use Rattle.mms_step.specs.declared.part.Part.{Part}
 use Rattle.mms_step.specs.State.{State}
 use Rattle.mms_step.specs.Tables.{Tables}
 use Rattle.mms_step.specs.Association.{Verdict, Takes, verdict}
-use Rattle.mms_step.specs.Services.{class_tables, listing}
+use Rattle.mms_step.specs.Services.{class_tables, listing, variable_asks, is_of_domain, specifies_domain, accesses_domain, deletes_domain}
 use Rattle.mms_step.specs.Serving.{heard_asks, heard_more, loss_asks, services}
 use Rattle.mms_step.specs.Step.{step}
 use Rattle.mms_step.specs.Partition.{cell, parts_of, state_in}
@@ -69,8 +69,20 @@ listing_below : (s : ObjectScope) (c : ObjectClass) → are_tables (listing s c)
 listing_below (scope.Domain domain) c = class_below c
 listing_below s c = class_below c
 
+variables_below : (of_domain : Bool) → are_tables (variable_asks of_domain) ≡ true
+variables_below true = refl
+variables_below false = refl
+
 asks_below : (v : Verdict) → are_tables (heard_asks v) ≡ true
 asks_below (Takes invoke (request.GetNameList x)) = listing_below x.scope x.class
+asks_below (Takes invoke (request.Read x)) = variables_below (accesses_domain x.access)
+asks_below (Takes invoke (request.Write x)) = variables_below (accesses_domain x.access)
+asks_below (Takes invoke (request.GetVariableAccessAttributes x)) = variables_below (specifies_domain x)
+asks_below (Takes invoke (request.DefineNamedVariable x)) = variables_below (is_of_domain x.name)
+asks_below (Takes invoke (request.DeleteVariableAccess x)) = variables_below (deletes_domain x)
+asks_below (Takes invoke (request.DefineNamedVariableList x)) = variables_below (is_of_domain x.name || list_any specifies_domain x.variables)
+asks_below (Takes invoke (request.GetNamedVariableListAttributes x)) = variables_below (is_of_domain x)
+asks_below (Takes invoke (request.DeleteNamedVariableList x)) = variables_below (deletes_domain x)
 asks_below (Takes invoke asked) = refl
 asks_below v = refl
 

@@ -5,11 +5,12 @@ use Rattle.association.specs.Client.{ClientRow, Client as RoomyRow}
 use Rattle.part_table.specs.Held.{held_at}
 use Rattle.part_table.specs.HeldLaws.{held_within}
 use Rattle.mms_step.specs.declared.part.Part.{Part}
-use Rattle.mms_step.specs.declared.part.Part.TheVariants.{Clock, Client}
+use Rattle.mms_step.specs.declared.part.Part.TheVariants.{Clock, Client, Variables}
+use Rattle.variable_services.specs.declared.tables.VariableTables.{VariableTables}
 use Rattle.parted_state.specs.Served.{change}
-use Rattle.mms_step.specs.Partition.{settled, on_client, on_clock}
+use Rattle.mms_step.specs.Partition.{settled, clock_or, variables_or, on_client, on_clock, on_variables}
 
-changed_part : {P : Type 0} (f : P → P) (hand : List (Option P)) (i : ℕ) (x : P) → held_at hand i ≡ Some x
+pub changed_part : {P : Type 0} (f : P → P) (hand : List (Option P)) (i : ℕ) (x : P) → held_at hand i ≡ Some x
     → set (set hand i None) i (Some (f x)) ≡ change (option_map f) hand i
 changed_part f [] i x held = refl
 changed_part {P} f (h ∷ hand) zero x held = ap (λ (o : Option P). option_map f o ∷ hand) (sym held)
@@ -86,7 +87,32 @@ pub clock_arm : (now : ℕ) (hand taken new : List (Option Part)) (place : ℕ) 
 clock_arm now hand taken new place part value was after held out same is done back =
     part_changed (on_clock (λ n. now)) hand taken new place part (Clock after) held out (ap Clock done ∙ ap (on_clock (λ n. now)) (sym is ∙ same)) back
 
--- a part that is no clock stays as it is
+-- a part that is no clock stays as it is, and has no moment
 pub no_clock : (f : ℕ → ℕ) (part : Part) → ((now : ℕ) → part ≡ Clock now → ⊥) → on_clock f part ≡ part
 no_clock f (Clock now) other = absurd (other now refl)
 no_clock f part other = refl
+
+pub no_moment : (now : ℕ) (part : Part) → ((was : ℕ) → part ≡ Clock was → ⊥) → clock_or now (Some part) ≡ now
+no_moment now (Clock was) other = absurd (other was refl)
+no_moment now part other = refl
+
+-- of which that has the variables
+pub variables_arm : (now : VariableTables) (hand taken new : List (Option Part)) (place : ℕ) (part value : Part) (was after : VariableTables)
+    → Some part ≡ held_at hand place → taken ≡ set hand place None → value ≡ part → value ≡ Variables was → after ≡ now
+    → new ≡ set taken place (Some (Variables after)) → new ≡ change (option_map (on_variables (λ n. now))) hand place
+variables_arm now hand taken new place part value was after held out same is done back =
+    part_changed (on_variables (λ n. now)) hand taken new place part (Variables after) held out (ap Variables done ∙ ap (on_variables (λ n. now)) (sym is ∙ same)) back
+
+-- a part that has none stays as it is
+pub no_variables_held : (f : VariableTables → VariableTables) (part : Part) → ((now : VariableTables) → part ≡ Variables now → ⊥) → on_variables f part ≡ part
+no_variables_held f (Variables now) other = absurd (other now refl)
+no_variables_held f part other = refl
+
+pub no_variables_shown : (now : VariableTables) (part : Part) → ((was : VariableTables) → part ≡ Variables was → ⊥) → variables_or now (Some part) ≡ now
+no_variables_shown now (Variables was) other = absurd (other was refl)
+no_variables_shown now part other = refl
+
+-- what is told of a part that is held
+pub told_of : {A : Type 0} (f : Option Part → A) (hand : List (Option Part)) (place : ℕ) (part value : Part) → Some part ≡ held_at hand place → value ≡ part
+    → f (Some value) ≡ f (held_at hand place)
+told_of f hand place part value held same = ap f (ap Some same ∙ held)

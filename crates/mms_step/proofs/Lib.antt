@@ -8,3 +8,4 @@ pub mod Sound
 pub mod ToldLaws
 pub mod ServeLaws
 pub mod PlanLaws
+mod Configured

@@ -22,7 +22,9 @@ use Rattle.mms_step.specs.Tables.{Tables}
 use Rattle.mms_step.specs.Effects.{Effect, felt, felt_all, tell}
 use Rattle.mms_step.specs.Association.{Verdict, Takes, verdict, loss_told}
 use Rattle.mms_step.specs.Services.{cause, effect, request_told}
-use Rattle.mms_step.specs.Serving.{size_of, is_served, tables_heard, own_told, also_told, serves, services}
+use Rattle.association.specs.declared.negotiation.Association.{Association}
+use Rattle.association.specs.declared.negotiation.Association.TheVariants.{Idle, Open}
+use Rattle.mms_step.specs.Serving.{size_of, is_served, tables_lost, tables_heard, own_told, also_told, serves, services}
 use Rattle.mms_step.specs.Meant.{no_tables}
 use Rattle.mms_step.specs.Partition.{cell, parts_of, client_part, client_place, on_client, no_client}
 use Rattle.mms_step.specs.AfterLaws.{is_device}
@@ -78,7 +80,7 @@ client_changed s client f some there =
     let rest : change (on_client f) (map client_part s.clients ++ Semaphores ∷ []) (client - 1) ≡ map client_part (change f s.clients (client - 1)) ++ Semaphores ∷ [] =
     change-append (on_client f) (map client_part s.clients) (Semaphores ∷ []) (client - 1) within
     ∙ ap (λ (l : List Part). l ++ Semaphores ∷ []) (change-map (on_client f) f client_part (λ x. refl) s.clients (client - 1)) in
-    ap (λ (l : List Part). Clock s.now ∷ Variables ∷ Domains ∷ Programs ∷ Conditions ∷ Journals ∷ l) (sym rest)
+    ap (λ (l : List Part). Clock s.now ∷ Variables s.variables ∷ Domains ∷ Programs ∷ Conditions ∷ Journals ∷ l) (sym rest)
     ∙ ap (λ (i : ℕ). change (on_client f) (parts_of s) i) (sym (in_front client some))
 
 -- ---- what is told to one client changes its row
@@ -113,6 +115,11 @@ now_heard t row (Takes invoke asked) = by_test (is_served t row invoke asked)
     by_test false = refl
 now_heard t row other = refl
 
+-- nor does a loss
+now_lost : (a : Association) (client : ℕ) (t : Tables) → (tables_lost a client t).now ≡ t.now
+now_lost Idle client t = refl
+now_lost (Open values) client t = refl
+
 append_none : {A : Type 0} (xs : List A) → xs ++ [] ≡ xs
 append_none [] = refl
 append_none {A} (x ∷ xs) = ap (λ (l : List A). x ∷ l) (append_none xs)
@@ -132,7 +139,7 @@ step_drained s (suc i) some there =
     ap (λ (k : ℕ). at (change drained_row s.clients k)) (sym first)
   where
     at : List ClientRow → State
-    at rows = record { now = s.now; clients = rows }
+    at rows = record { now = s.now; variables = s.variables; clients = rows }
 
 -- as many clients
 pub step_sized : (s : State) (event : CellEvent) → length (step s event).clients ≡ length s.clients
@@ -157,7 +164,10 @@ length-start config = length-map (clients_to config.clients) (λ c. new_row c (d
 
 step_dated : (s : State) (event : CellEvent) → HasDate s → MayCome s event → HasDate (step s event)
 step_dated s (Heard client octets) dated may = let still = step_still s client octets in omega (arith, still, dated)
-step_dated s (Lost client) dated may = dated
+step_dated s (Lost client) dated may =
+    let row = parted.row_of cell services s (Lost client) in
+    let still = now_lost row.association row.client (cell.tables_of s) in
+    omega (arith, still, dated)
 step_dated s (Tick ms) dated may = may.time
 step_dated s (Ends name) dated may = dated
 step_dated s (Drain client) dated may = dated

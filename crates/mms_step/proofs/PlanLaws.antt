@@ -18,7 +18,12 @@ use Rattle.mms_step.specs.Association.{Verdict, Tells, Takes, Concludes, Cancels
 use Rattle.mms_step.specs.Services.{Outcome, answers, cause, effect, plain_answer, fits, is_done, request_told}
 use Rattle.mms_step.specs.Serving.{hears, own_told, size_of}
 use Rattle.mms_step.specs.Meant.{no_tables, row_after, IsPlainlyHeard}
-use Rattle.mms_step.specs.Acts.{IsActOf}
+use Rattle.mms_types.specs.declared.pdu.Answer.TheVariants as answer
+use Rattle.mms_types.specs.declared.variable.Read.{Read}
+use Rattle.mms_types.specs.declared.variable.Write.{Write}
+use Rattle.variable_services.specs.declared.tables.VariableTables.{VariableTables}
+use Rattle.variable_services.specs.Services.{read_answer, read_cause, write_after, write_answer, write_cause}
+use Rattle.mms_step.specs.Acts.{IsActOf, IsDoneOn}
 use Rattle.mms_step.specs.Partition.{client_place, settled, IsClient}
 
 append_none : {A : Type 0} (xs : List A) → xs ++ [] ≡ xs
@@ -26,13 +31,14 @@ append_none [] = refl
 append_none {A} (x ∷ xs) = ap (λ (l : List A). x ∷ l) (append_none xs)
 
 no_cause : (t : Tables) (row : ClientRow) (asked : Request) (a : Answer) → plain_answer row asked ≡ Some a → cause t row asked ≡ None
-no_cause t row (request.GetNameList x) a is = absurd (cc is)
-no_cause t row asked a is = refl
+no_cause t row (request.Status y) a is = refl
+no_cause t row request.Identify a is = refl
+no_cause t row asked a is = absurd (cc is)
 
 plain_effect : (t : Tables) (row : ClientRow) (asked : Request) (a : Answer) → plain_answer row asked ≡ Some a → effect t row asked ≡ answers t (Some a)
-plain_effect t row (request.GetNameList x) a is = absurd (cc is)
 plain_effect t row (request.Status y) a is = ap (answers t) is
 plain_effect t row request.Identify a is = ap (answers t) is
+plain_effect t row asked a is = absurd (cc is)
 
 plain_own : (t : Tables) (row : ClientRow) (invoke : ℕ) (asked : Request) (a : Answer) → plain_answer row asked ≡ Some a
     → own_told t row (Takes invoke asked) ≡ request_told (size_of row.association) invoke None (Some a)
@@ -72,6 +78,91 @@ plainly_answered row new invoke asked a is told = record {
     at : Tables → List (ℕ × Effect) → Done Tables Effect
     at x l = record { tables = x; told = l }
 
+-- ---- reads and writes of variables
+
+read_heard : (t : Tables) (row : ClientRow) (client invoke : ℕ) (x : Read) → hears t row client (Takes invoke (request.Read x))
+    ≡ record { tables = t; told = tell client (request_told (size_of row.association) invoke (read_cause row.client x t.variables) (Some (answer.Read (read_answer row.client x t.variables)))) }
+read_heard t row client invoke x =
+    by_test (is_done (size_of row.association) invoke (read_cause row.client x t.variables) (Some (answer.Read (read_answer row.client x t.variables))))
+    ∙ ap (λ (l : List (ℕ × Effect)). at t l) (append_none told)
+  where
+    at : Tables → List (ℕ × Effect) → Done Tables Effect
+    at u l = record { tables = u; told = l }
+
+    told : List (ℕ × Effect)
+    told = tell client (request_told (size_of row.association) invoke (read_cause row.client x t.variables) (Some (answer.Read (read_answer row.client x t.variables))))
+
+    by_test : (b : Bool) → at (if b then t else t) (told ++ (if b then [] else [])) ≡ at t (told ++ [])
+    by_test true = refl
+    by_test false = refl
+
+write_heard : (t : Tables) (row : ClientRow) (client invoke : ℕ) (x : Write) → hears t row client (Takes invoke (request.Write x))
+    ≡ record {
+      tables = record t {
+        variables = if is_done (size_of row.association) invoke (write_cause row.client x t.variables) (Some (answer.Write (write_answer row.client x t.variables)))
+            then write_after row.client x t.variables else t.variables;
+      };
+      told = tell client (request_told (size_of row.association) invoke (write_cause row.client x t.variables) (Some (answer.Write (write_answer row.client x t.variables))));
+    }
+write_heard t row client invoke x =
+    by_test (is_done (size_of row.association) invoke (write_cause row.client x t.variables) (Some (answer.Write (write_answer row.client x t.variables))))
+    ∙ ap (λ (l : List (ℕ × Effect)). at (written (is_done (size_of row.association) invoke (write_cause row.client x t.variables) (Some (answer.Write (write_answer row.client x t.variables))))) l) (append_none told)
+  where
+    at : Tables → List (ℕ × Effect) → Done Tables Effect
+    at u l = record { tables = u; told = l }
+
+    written : Bool → Tables
+    written b = record t { variables = if b then write_after row.client x t.variables else t.variables }
+
+    told : List (ℕ × Effect)
+    told = tell client (request_told (size_of row.association) invoke (write_cause row.client x t.variables) (Some (answer.Write (write_answer row.client x t.variables))))
+
+    by_test : (b : Bool) → at (if b then record t { variables = write_after row.client x t.variables } else t) (told ++ (if b then [] else [])) ≡ at (written b) (told ++ [])
+    by_test true = refl
+    by_test false = refl
+
+pub read_done : (row : ClientRow) (variables : VariableTables) (new : RoomyRow) (invoke : ℕ) (x : Read)
+    → new ≡ settled (felt_all (request_told (size_of row.association) invoke (read_cause row.client x variables) (Some (answer.Read (read_answer row.client x variables)))) row)
+    → IsDoneOn row variables variables new (Takes invoke (request.Read x))
+read_done row variables new invoke x is = record {
+  effects = request_told (size_of row.association) invoke (read_cause row.client x variables) (Some (answer.Read (read_answer row.client x variables)));
+  is = is;
+  done = λ t client same. read_heard t row client invoke x
+      ∙ ap (λ (v : VariableTables). at t client v) same;
+}
+  where
+    at : Tables → ℕ → VariableTables → Done Tables Effect
+    at t client v = record {
+      tables = record t { variables = v };
+      told = tell client (request_told (size_of row.association) invoke (read_cause row.client x v) (Some (answer.Read (read_answer row.client x v))));
+    }
+
+pub write_done : (row : ClientRow) (was now : VariableTables) (new : RoomyRow) (invoke : ℕ) (x : Write)
+    → new ≡ settled (felt_all (request_told (size_of row.association) invoke (write_cause row.client x was) (Some (answer.Write (write_answer row.client x was)))) row)
+    → now ≡ (if is_done (size_of row.association) invoke (write_cause row.client x was) (Some (answer.Write (write_answer row.client x was))) then write_after row.client x was else was)
+    → IsDoneOn row was now new (Takes invoke (request.Write x))
+write_done row was now new invoke x is becomes = record {
+  effects = request_told (size_of row.association) invoke (write_cause row.client x was) (Some (answer.Write (write_answer row.client x was)));
+  is = is;
+  done = λ t client same. write_heard t row client invoke x
+      ∙ ap (λ (v : VariableTables). at t client v) same
+      ∙ ap (λ (v : VariableTables). with_told t client v) (sym becomes);
+}
+  where
+    with_told : Tables → ℕ → VariableTables → Done Tables Effect
+    with_told t client v = record {
+      tables = record t { variables = v };
+      told = tell client (request_told (size_of row.association) invoke (write_cause row.client x was) (Some (answer.Write (write_answer row.client x was))));
+    }
+
+    at : Tables → ℕ → VariableTables → Done Tables Effect
+    at t client v = record {
+      tables = record t {
+        variables = if is_done (size_of row.association) invoke (write_cause row.client x v) (Some (answer.Write (write_answer row.client x v))) then write_after row.client x v else v;
+      };
+      told = tell client (request_told (size_of row.association) invoke (write_cause row.client x v) (Some (answer.Write (write_answer row.client x v))));
+    }
+
 pub plainly_told : (row : ClientRow) (new : RoomyRow) (effects : List Effect) → new ≡ settled (felt_all effects row) → IsPlainlyHeard row new (Tells effects)
 plainly_told row new effects told = record { is = told; alone = λ t client. ap (λ (l : List (ℕ × Effect)). at t l) (append_none (tell client effects)) }
   where
@@ -84,6 +175,7 @@ pub request_left : (client : ℕ) (row : ClientRow) (invoke : ℕ) (asked : Bor 
 request_left client row invoke asked v is = record {
   done = λ t hand same. ap₂ (λ (r : ClientRow) (w : Verdict). hears t r client w) same is;
   own = λ hand own. own;
+  among = λ n among. among;
   time = λ t. tt;
 }
 
@@ -91,6 +183,7 @@ pub conclusion_left : (client : ℕ) (row : ClientRow) (v : Verdict) → Conclud
 conclusion_left client row v is = record {
   done = λ t hand same. ap₂ (λ (r : ClientRow) (w : Verdict). hears t r client w) same is;
   own = λ hand own. own;
+  among = λ n among. tt;
   time = λ t. tt;
 }
 
@@ -98,6 +191,7 @@ pub cancel_left : (client : ℕ) (row : ClientRow) (invoke : ℕ) (v : Verdict) 
 cancel_left client row invoke v is = record {
   done = λ t hand same. ap₂ (λ (r : ClientRow) (w : Verdict). hears t r client w) same is;
   own = λ hand own. own;
+  among = λ n among. tt;
   time = λ t. tt;
 }
 
@@ -105,6 +199,7 @@ pub abort_left : (client : ℕ) (row : ClientRow) (v : Verdict) → Aborts ≡ v
 abort_left client row v is = record {
   done = λ t hand same. ap₂ (λ (r : ClientRow) (w : Verdict). hears t r client w) same is;
   own = λ hand own. own;
+  among = λ n among. tt;
   time = λ t. tt;
 }
 

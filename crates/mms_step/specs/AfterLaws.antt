@@ -1,5 +1,9 @@
 -- Laws of what an event makes of the parts that are held: the device is one of tables and clients, and each event reads and changes the tables that it uses alone.
-use Rattle.std.specs.Prelude.{◌≡◌, ℕ, zero, suc, Bool, true, false, ◌++◌, Option, Some, List, [], if◌then◌else◌, slice_get, refl}
+use Rattle.std.specs.List.{list_any}
+use Rattle.std.specs.Option.{option_map}
+use Rattle.variable_services.specs.declared.tables.VariableTables.{VariableTables}
+use Rattle.variable_services.specs.Services as variable
+use Rattle.std.specs.Prelude.{◌≡◌, ℕ, zero, suc, Bool, true, false, ◌||◌, ◌++◌, Option, Some, List, [], if◌then◌else◌, slice_get, refl}
 use Rattle.std.proofs.Common.{ap, ap₂, sym, ◌∙◌, arith}
 use Rattle.mms_types.specs.declared.event.CellEvent.{CellEvent}
 use Rattle.mms_types.specs.declared.event.CellEvent.TheVariants.{Heard, Lost, Tick, Ends, Drain}
@@ -7,6 +11,14 @@ use Rattle.mms_types.specs.declared.service_error.ServiceError.{ServiceError}
 use Rattle.mms_types.specs.declared.pdu.Request.{Request}
 use Rattle.mms_types.specs.declared.pdu.Request.TheVariants as request
 use Rattle.mms_types.specs.declared.pdu.Answer.{Answer}
+use Rattle.mms_types.specs.declared.pdu.Answer.TheVariants as answer
+use Rattle.mms_types.specs.declared.key.Scope.{Scope}
+use Rattle.mms_types.specs.declared.name_list.ObjectClass.{ObjectClass}
+use Rattle.mms_types.specs.declared.name_list.ObjectClass.TheVariants as class
+use Rattle.mms_types.specs.declared.name_list.ObjectScope.{ObjectScope}
+use Rattle.mms_types.specs.declared.name_list.ObjectScope.TheVariants as scope
+use Rattle.association.specs.declared.negotiation.Association.{Association}
+use Rattle.association.specs.declared.negotiation.Association.TheVariants.{Idle, Open}
 use Rattle.association.specs.Client.{ClientRow}
 use Rattle.part_table.specs.Held.{held_at, places_held, laid_over, IsHandOf}
 use Rattle.parted_state.specs.Cut.{IsFramed}
@@ -14,14 +26,14 @@ use Rattle.parted_state.specs.Served.{Done, IsDevice, IsServed}
 use Rattle.parted_state.specs.Served as parted
 use Rattle.parted_state.specs.ServedLaws as served
 use Rattle.mms_step.specs.declared.part.Part.{Part}
-use Rattle.mms_step.specs.declared.part.Part.TheVariants.{Clock}
+use Rattle.mms_step.specs.declared.part.Part.TheVariants.{Clock, Variables}
 use Rattle.mms_step.specs.State.{State}
 use Rattle.mms_step.specs.Tables.{Tables}
 use Rattle.mms_step.specs.Effects.{Effect, tell}
-use Rattle.mms_step.specs.Association.{Verdict, Tells, Takes, verdict}
-use Rattle.mms_step.specs.Services.{Outcome, cause, effect, request_asks, request_more, is_done, request_told}
-use Rattle.mms_step.specs.Serving.{size_of, is_served, tables_heard, own_told, also_told, hears, heard_asks, heard_more, loss_asks, serves, services}
-use Rattle.mms_step.specs.Partition.{cell, clock_in, parts_of}
+use Rattle.mms_step.specs.Association.{Verdict, Tells, Takes, verdict, loss_told}
+use Rattle.mms_step.specs.Services.{Outcome, answers, becomes, variable_asks, is_of_domain, specifies_domain, accesses_domain, deletes_domain, cause, effect, listed, listing, names_in, request_asks, request_more, is_done, request_told, scope_of}
+use Rattle.mms_step.specs.Serving.{size_of, is_served, tables_lost, tables_heard, own_told, also_told, hears, heard_asks, heard_more, loss_asks, serves, services}
+use Rattle.mms_step.specs.Partition.{cell, clock_in, variables_in, parts_of}
 use Rattle.mms_step.specs.Step.{step}
 use Rattle.mms_step.specs.Needs.{need, wants}
 use Rattle.mms_step.specs.After.{after, parts_after}
@@ -31,7 +43,8 @@ use Rattle.mms_step.specs.After.{after, parts_after}
 by_place : (one other : List (Option Part)) (table : ℕ) → held_at one table ≡ held_at other table
     → slice_get (cell.table_parts (cell.tables_in one)) table ≡ slice_get (cell.table_parts (cell.tables_in other)) table
 by_place one other zero same = ap (λ (o : Option Part). Some (Clock (clock_in o))) same
-by_place one other (suc table) same = refl
+by_place one other (suc zero) same = ap (λ (o : Option Part). Some (Variables (variables_in o))) same
+by_place one other (suc (suc table)) same = refl
 
 pub is_device : IsDevice cell
 is_device = record {
@@ -62,8 +75,19 @@ more_law : (us : List ℕ) (t : Tables) (row : ClientRow) (asked : Request) → 
 more_law us t row (request.GetNameList x) = refl
 more_law us t row asked = refl
 
+-- the variables are used, whether or not a domain is written
+variables_same : (of_domain : Bool) (t : Tables) → (alone (variable_asks of_domain ++ ([] ++ [])) t).variables ≡ t.variables
+variables_same true t = refl
+variables_same false t = refl
+
 cause_law : (t : Tables) (row : ClientRow) (asked : Request) → cause (alone (request_uses t row asked) t) row asked ≡ cause t row asked
-cause_law t row (request.GetNameList x) = refl
+cause_law t row (request.Read x) = ap (variable.read_cause row.client x) (variables_same (accesses_domain x.access) t)
+cause_law t row (request.Write x) = ap (variable.write_cause row.client x) (variables_same (accesses_domain x.access) t)
+cause_law t row (request.GetVariableAccessAttributes x) = ap (variable.attributes_cause row.client x) (variables_same (specifies_domain x) t)
+cause_law t row (request.DefineNamedVariable x) = ap (variable.define_cause false row.client x) (variables_same (is_of_domain x.name) t)
+cause_law t row (request.DefineNamedVariableList x) =
+    ap (variable.define_list_cause false row.client x) (variables_same (is_of_domain x.name || list_any specifies_domain x.variables) t)
+cause_law t row (request.GetNamedVariableListAttributes x) = ap (variable.list_attributes_cause row.client x) (variables_same (is_of_domain x) t)
 cause_law t row asked = refl
 
 -- an outcome with these tables alone, beside the others
@@ -78,8 +102,54 @@ listed_law us t told also = ap (λ (x : Tables). at x) (sym (as_it_was us t))
     at : Tables → Outcome
     at x = record { tables = x; answer = told; also = also }
 
+-- what is told of the variables, and what becomes of them
+told_law : (of_domain : Bool) (t : Tables) (told : VariableTables → Option Answer)
+    → answers t (told t.variables)
+    ≡ outcome_within (variable_asks of_domain ++ ([] ++ [])) t
+    (answers (alone (variable_asks of_domain ++ ([] ++ [])) t) (told (alone (variable_asks of_domain ++ ([] ++ [])) t).variables))
+told_law true t told = refl
+told_law false t told = refl
+
+become_law : (of_domain : Bool) (t : Tables) (after : VariableTables → VariableTables) (told : VariableTables → Answer)
+    → becomes t (after t.variables) (told t.variables)
+    ≡ outcome_within (variable_asks of_domain ++ ([] ++ [])) t
+    (becomes (alone (variable_asks of_domain ++ ([] ++ [])) t) (after (alone (variable_asks of_domain ++ ([] ++ [])) t).variables)
+    (told (alone (variable_asks of_domain ++ ([] ++ [])) t).variables))
+become_law true t after told = refl
+become_law false t after told = refl
+
+-- from the table of their class
+names_same : (t : Tables) (s : ObjectScope) (c : ObjectClass) (of : Scope) (after : Option (List ℕ)) → names_in (alone (listing s c ++ ([] ++ [])) t) of c after ≡ names_in t of c after
+names_same t (scope.Domain domain) class.NamedVariable of after = refl
+names_same t (scope.Domain domain) class.NamedVariableList of after = refl
+names_same t (scope.Domain domain) c of after = refl
+names_same t s class.NamedVariable of after = refl
+names_same t s class.NamedVariableList of after = refl
+names_same t s c of after = refl
+
 effect_law : (t : Tables) (row : ClientRow) (asked : Request) → effect t row asked ≡ outcome_within (request_uses t row asked) t (effect (alone (request_uses t row asked) t) row asked)
-effect_law t row (request.GetNameList x) = listed_law (request_uses t row (request.GetNameList x)) t (effect t row (request.GetNameList x)).answer []
+effect_law t row (request.GetNameList x) =
+    listed_law (request_uses t row (request.GetNameList x)) t (effect t row (request.GetNameList x)).answer []
+    ∙ ap (λ (names : List (List ℕ)). told names) (sym (names_same t x.scope x.class (scope_of row.client x.scope) x.after))
+  where
+    told : List (List ℕ) → Outcome
+    told names = outcome_within (request_uses t row (request.GetNameList x)) t
+        (answers (alone (request_uses t row (request.GetNameList x)) t) (Some (answer.GetNameList (listed names))))
+effect_law t row (request.Read x) = told_law (accesses_domain x.access) t (λ v. Some (answer.Read (variable.read_answer row.client x v)))
+effect_law t row (request.Write x) =
+    become_law (accesses_domain x.access) t (variable.write_after row.client x) (λ v. answer.Write (variable.write_answer row.client x v))
+effect_law t row (request.GetVariableAccessAttributes x) =
+    told_law (specifies_domain x) t (λ v. option_map answer.GetVariableAccessAttributes (variable.attributes_answer row.client x v))
+effect_law t row (request.DefineNamedVariable x) =
+    become_law (is_of_domain x.name) t (variable.define_after row.client x) (λ v. answer.DefineNamedVariable)
+effect_law t row (request.DeleteVariableAccess x) =
+    become_law (deletes_domain x) t (variable.delete_after row.client x) (λ v. answer.DeleteVariableAccess (variable.delete_answer row.client x v))
+effect_law t row (request.DefineNamedVariableList x) =
+    become_law (is_of_domain x.name || list_any specifies_domain x.variables) t (variable.define_list_after row.client x) (λ v. answer.DefineNamedVariableList)
+effect_law t row (request.GetNamedVariableListAttributes x) =
+    told_law (is_of_domain x) t (λ v. option_map answer.GetNamedVariableListAttributes (variable.list_attributes_answer row.client x v))
+effect_law t row (request.DeleteNamedVariableList x) =
+    become_law (deletes_domain x) t (variable.delete_lists_after row.client x) (λ v. answer.DeleteNamedVariableList (variable.delete_lists_answer row.client x v))
 effect_law t row asked = refl
 
 -- ---- settled once for all requests
@@ -126,6 +196,13 @@ hears_law t row client (Takes invoke asked) = takes_law t row client invoke aske
 hears_law t row client (Tells effects) = refl
 hears_law t row client other = refl
 
+-- where there is an association, what belongs to it is gone
+lost_law : (t : Tables) (number client : ℕ) (a : Association)
+    → record { tables = tables_lost a number t; told = tell client (loss_told a) }
+    ≡ parted.done_within cell (loss_asks a ++ []) t (record { tables = tables_lost a number (alone (loss_asks a ++ []) t); told = tell client (loss_told a) })
+lost_law t number client Idle = served.unchanged cell is_device [] t []
+lost_law t number client (Open values) = refl
+
 pub each_served : (event : CellEvent) → IsServed cell services event
 each_served (Heard client octets) = record {
   stages = λ t row. (refl, (heard_more_law t row (verdict row octets), tt));
@@ -133,7 +210,7 @@ each_served (Heard client octets) = record {
 }
 each_served (Lost client) = record {
   stages = λ t row. (refl, tt);
-  within = λ t row. served.unchanged cell is_device (loss_asks row.association ++ []) t (serves t row (Lost client)).told;
+  within = λ t row. lost_law t row.client client row.association;
 }
 each_served (Tick ms) = record { stages = λ t row. tt; within = λ t row. refl }
 each_served (Ends name) = record { stages = λ t row. tt; within = λ t row. refl }

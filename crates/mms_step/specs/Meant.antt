@@ -11,6 +11,7 @@ use Rattle.mms_step.specs.declared.verdict.Found.TheVariants as found
 use Rattle.mms_step.specs.Effects.{Effect, Sends, felt_all, tell}
 use Rattle.mms_step.specs.Partition.{settled}
 use Rattle.mms_step.specs.Tables.{Tables}
+use Rattle.variable_services.specs.Services.{no_variables}
 use Rattle.mms_step.specs.Association.{Verdict, Tells, Takes, Concludes, Cancels, Aborts, sends, negotiated, further_error, unknown_error}
 use Rattle.mms_step.specs.Serving.{own_told, hears}
 
@@ -31,7 +32,7 @@ meant found.Aborts = Aborts
 
 -- where no table is used, what is heard is the same with none
 abbrev pub no_tables : Tables
-no_tables = record { now = 0 }
+no_tables = record { now = 0; variables = no_variables }
 
 -- the row of a client after a verdict that uses none
 abbrev pub row_after : Verdict → ClientRow → ClientRow

@@ -12,6 +12,8 @@ use Rattle.mms_step.specs.declared.part.Part.TheVariants.{Clock, Variables, Doma
 use Rattle.mms_step.specs.State.{State}
 use Rattle.mms_step.specs.Effects.{Effect, felt}
 use Rattle.mms_step.specs.Tables.{Tables}
+use Rattle.variable_services.specs.declared.tables.VariableTables.{VariableTables}
+use Rattle.variable_services.specs.Services.{no_variables}
 
 -- With n clients there are n + 7 parts: 0 the clock, 1 variables and their lists, 2 domains and uploads, 3 program invocations, 4 event conditions and
 -- enrolments, 5 journals, 5 + c client c, 6 + n semaphores.
@@ -41,14 +43,25 @@ client_part row = Client (settled row)
 
 -- the parts of a state
 abbrev pub parts_of : State → List Part
-parts_of s = Clock s.now ∷ Variables ∷ Domains ∷ Programs ∷ Conditions ∷ Journals ∷ (map client_part s.clients ++ Semaphores ∷ [])
+parts_of s = Clock s.now ∷ Variables s.variables ∷ Domains ∷ Programs ∷ Conditions ∷ Journals ∷ (map client_part s.clients ++ Semaphores ∷ [])
 
 -- ---- what held parts show
 
--- the moment, where the clock is held
+-- the moment, where the clock is held, and else this one
+abbrev pub clock_or : ℕ → Option Part → ℕ
+clock_or now (Some (Clock held)) = held
+clock_or now other = now
+
 abbrev pub clock_in : Option Part → ℕ
-clock_in (Some (Clock now)) = now
-clock_in other = 0
+clock_in part = clock_or 0 part
+
+-- the variables, where they are held, and else these
+abbrev pub variables_or : VariableTables → Option Part → VariableTables
+variables_or variables (Some (Variables held)) = held
+variables_or variables other = variables
+
+abbrev pub variables_in : Option Part → VariableTables
+variables_in part = variables_or no_variables part
 
 -- what stands where there is no client
 abbrev pub no_device : Constants
@@ -72,7 +85,7 @@ abbrev pub client_in : Option Part → RoomyRow
 client_in (Some (Client client)) = client
 client_in other = settled no_client
 
--- the part of a client with its row changed, and the clock with its moment changed
+-- the part of a client with its row changed, the clock with its moment changed, and variables that are changed
 abbrev pub on_client : (ClientRow → ClientRow) → Part → Part
 on_client f (Client client) = client_part (f client.row)
 on_client f other = other
@@ -80,6 +93,10 @@ on_client f other = other
 abbrev pub on_clock : (ℕ → ℕ) → Part → Part
 on_clock f (Clock now) = Clock (f now)
 on_clock f other = other
+
+abbrev pub on_variables : (VariableTables → VariableTables) → Part → Part
+on_variables f (Variables variables) = Variables (f variables)
+on_variables f other = other
 
 -- a client's part is held
 abbrev pub IsClient : Option Part → Type 0
@@ -90,19 +107,19 @@ IsClient part = part ≡ Some (Client (client_in part))
 -- Where a part isn't held, its table is empty in what is shown.
 abbrev pub cell : Device State Tables ClientRow Effect Part
 cell = record {
-  tables_of = λ s. record { now = s.now };
+  tables_of = λ s. record { now = s.now; variables = s.variables };
   clients_of = λ s. s.clients;
-  state_of = λ t rows. record { now = t.now; clients = rows };
-  table_parts = λ t. Clock t.now ∷ Variables ∷ Domains ∷ Programs ∷ Conditions ∷ Journals ∷ Semaphores ∷ [];
+  state_of = λ t rows. record { now = t.now; variables = t.variables; clients = rows };
+  table_parts = λ t. Clock t.now ∷ Variables t.variables ∷ Domains ∷ Programs ∷ Conditions ∷ Journals ∷ Semaphores ∷ [];
   tables = tables_many;
   last = 5;
   client_part = client_part;
-  tables_in = λ hand. record { now = clock_in (held_at hand 0) };
+  tables_in = λ hand. record { now = clock_in (held_at hand 0); variables = variables_in (held_at hand 1) };
   row_in = row_in;
   nobody = no_client;
   felt = felt;
 }
 
--- the state that held parts show: the moment, and the rows of the clients
+-- the state that held parts show: the moment, the variables, and the rows of the clients
 abbrev pub state_in : List (Option Part) → State
 state_in hand = parted.state_in cell hand

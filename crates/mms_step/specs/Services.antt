@@ -1,5 +1,20 @@
--- The confirmed services: why a request is refused, and what it does otherwise (ISO 9506-1, VMD support).
-use Rattle.std.specs.Prelude.{ℕ, Bool, true, false, List, [], ◌∷◌, Option, None, Some, nat_le, length, if◌then◌else◌}
+-- The confirmed services: why a request is refused, and what it does otherwise (ISO 9506-1, VMD support and variable access).
+use Rattle.std.specs.Prelude.{ℕ, Bool, true, false, ◌||◌, List, [], ◌∷◌, Option, None, Some, is_some, nat_le, nat_lt, take, length, if◌then◌else◌}
+use Rattle.std.specs.List.{list_any}
+use Rattle.std.specs.Option.{option_map}
+use Rattle.mms_types.specs.declared.object_name.ObjectName.{ObjectName}
+use Rattle.mms_types.specs.declared.object_name.ObjectName.TheVariants as name
+use Rattle.mms_types.specs.declared.variable.Access.{Access}
+use Rattle.mms_types.specs.declared.variable.Access.TheVariants as access
+use Rattle.mms_types.specs.declared.variable.DeleteNames.{DeleteNames}
+use Rattle.mms_types.specs.declared.variable.Spec.{Spec}
+use Rattle.mms_types.specs.declared.variable.Spec.TheVariants as spec
+use Rattle.variable_services.specs.declared.tables.VariableTables.{VariableTables}
+use Rattle.variable_services.specs.Services as variable
+use Rattle.mms_types.specs.declared.key.Scope.{Scope}
+use Rattle.mms_types.specs.declared.key.Scope.TheVariants as key_scope
+use Rattle.mms_types.specs.declared.name_list.GetNameListAnswer.{GetNameListAnswer}
+use Rattle.object_names.specs.Listing.{names_after}
 use Rattle.mms_types.specs.declared.service_error.ServiceError.{ServiceError}
 use Rattle.mms_types.specs.declared.name_list.ObjectClass.{ObjectClass}
 use Rattle.mms_types.specs.declared.name_list.ObjectClass.TheVariants as class
@@ -24,34 +39,93 @@ pub record Outcome : Type 0 where
 
 -- ---- each service
 
+-- the scope that a client means
+abbrev pub scope_of : ℕ → ObjectScope → Scope
+scope_of client scope.Vmd = key_scope.Vmd
+scope_of client (scope.Domain domain) = key_scope.Domain domain
+scope_of client scope.Association = key_scope.Association client
+
 -- names are not listed where the domain of their scope is not live: there are no domains yet, so none is
 abbrev pub scope_cause : ObjectScope → Option ServiceError
 scope_cause (scope.Domain domain) = Some missing_error
 scope_cause scope.Vmd = None
 scope_cause scope.Association = None
 
+-- whether the domain of a name's scope is live: there are no domains yet
+abbrev live : Bool
+live = false
+
 -- the first condition for which a request is refused
 abbrev pub cause : Tables → ClientRow → Request → Option ServiceError
 cause t row (request.GetNameList x) = scope_cause x.scope
 cause t row (request.Status asked) = None
 cause t row request.Identify = None
+cause t row (request.Read x) = variable.read_cause row.client x t.variables
+cause t row (request.Write x) = variable.write_cause row.client x t.variables
+cause t row (request.GetVariableAccessAttributes x) = variable.attributes_cause row.client x t.variables
+cause t row (request.DefineNamedVariable x) = variable.define_cause live row.client x t.variables
+cause t row (request.DeleteVariableAccess x) = variable.delete_cause live x
+cause t row (request.DefineNamedVariableList x) = variable.define_list_cause live row.client x t.variables
+cause t row (request.GetNamedVariableListAttributes x) = variable.list_attributes_cause row.client x t.variables
+cause t row (request.DeleteNamedVariableList x) = variable.delete_cause live x
 
 -- a request is answered, and nothing changes
 abbrev pub answers : Tables → Option Answer → Outcome
 answers t told = record { tables = t; answer = told; also = [] }
+
+-- a request is answered, and the variables become these
+abbrev pub becomes : Tables → VariableTables → Answer → Outcome
+becomes t variables told = record { tables = record t { variables = variables }; answer = Some told; also = [] }
+
+-- the device's texts
+abbrev pub identity : ClientRow → Answer
+identity row = answer.Identify (record { vendor = row.constants.vendor; model = row.constants.model; revision = row.constants.revision })
 
 -- The answer to a request that is never refused and that the row of its client alone answers: Status with state-changes-allowed and operational, Identify with the
 -- device's texts. Another has none here.
 abbrev pub plain_answer : ClientRow → Request → Option Answer
 plain_answer row (request.GetNameList x) = None
 plain_answer row (request.Status asked) = Some (answer.Status (record { logical = 0; physical = 0 }))
-plain_answer row request.Identify = Some (answer.Identify (record { vendor = row.constants.vendor; model = row.constants.model; revision = row.constants.revision }))
+plain_answer row request.Identify = Some (identity row)
+plain_answer row (request.Read x) = None
+plain_answer row (request.Write x) = None
+plain_answer row (request.GetVariableAccessAttributes x) = None
+plain_answer row (request.DefineNamedVariable x) = None
+plain_answer row (request.DeleteVariableAccess x) = None
+plain_answer row (request.DefineNamedVariableList x) = None
+plain_answer row (request.GetNamedVariableListAttributes x) = None
+plain_answer row (request.DeleteNamedVariableList x) = None
 
--- what a request does; no class has a name yet
+-- the names of a class and a scope that come after that one, in order of octets; other classes have no names yet
+abbrev pub names_in : Tables → Scope → ObjectClass → Option (List ℕ) → List (List ℕ)
+names_in t s class.NamedVariable after = names_after s after t.variables.vars.variables
+names_in t s class.NamedVariableList after = names_after s after t.variables.lists
+names_in t s c after = []
+
+-- the most names that one answer has (this profile's limit)
+abbrev pub most_names : ℕ
+most_names = 12
+
+abbrev pub listed : List (List ℕ) → GetNameListAnswer
+listed names = record { names = take most_names names; more = nat_lt most_names (length names) }
+
+-- what a request does
 abbrev pub effect : Tables → ClientRow → Request → Outcome
-effect t row (request.GetNameList x) = answers t (Some (answer.GetNameList (record { names = []; more = false })))
+effect t row (request.GetNameList x) = answers t (Some (answer.GetNameList (listed (names_in t (scope_of row.client x.scope) x.class x.after))))
 effect t row (request.Status asked) = answers t (plain_answer row (request.Status asked))
 effect t row request.Identify = answers t (plain_answer row request.Identify)
+effect t row (request.Read x) = answers t (Some (answer.Read (variable.read_answer row.client x t.variables)))
+effect t row (request.Write x) = becomes t (variable.write_after row.client x t.variables) (answer.Write (variable.write_answer row.client x t.variables))
+effect t row (request.GetVariableAccessAttributes x) =
+    answers t (option_map answer.GetVariableAccessAttributes (variable.attributes_answer row.client x t.variables))
+effect t row (request.DefineNamedVariable x) = becomes t (variable.define_after row.client x t.variables) answer.DefineNamedVariable
+effect t row (request.DeleteVariableAccess x) =
+    becomes t (variable.delete_after row.client x t.variables) (answer.DeleteVariableAccess (variable.delete_answer row.client x t.variables))
+effect t row (request.DefineNamedVariableList x) = becomes t (variable.define_list_after row.client x t.variables) answer.DefineNamedVariableList
+effect t row (request.GetNamedVariableListAttributes x) =
+    answers t (option_map answer.GetNamedVariableListAttributes (variable.list_attributes_answer row.client x t.variables))
+effect t row (request.DeleteNamedVariableList x) =
+    becomes t (variable.delete_lists_after row.client x t.variables) (answer.DeleteNamedVariableList (variable.delete_lists_answer row.client x t.variables))
 
 -- ---- the tables that each service reads or changes
 
@@ -75,17 +149,58 @@ abbrev pub listing : ObjectScope → ObjectClass → List ℕ
 listing (scope.Domain domain) c = domains_table ∷ class_tables c
 listing s c = class_tables c
 
+-- a name of a domain is written in a request
+abbrev pub is_of_domain : ObjectName → Bool
+is_of_domain (name.Domain domain item) = true
+is_of_domain (name.Vmd item) = false
+is_of_domain (name.Association item) = false
+
+abbrev pub specifies_domain : Spec → Bool
+specifies_domain (spec.Name name) = is_of_domain name
+specifies_domain (spec.Address number) = false
+
+abbrev pub accesses_domain : Access → Bool
+accesses_domain (access.Specs variables) = list_any specifies_domain variables
+accesses_domain (access.List name) = is_of_domain name
+
+abbrev pub lists_domain : Option (List ObjectName) → Bool
+lists_domain None = false
+lists_domain (Some names) = list_any is_of_domain names
+
+abbrev pub deletes_domain : DeleteNames → Bool
+deletes_domain x = is_some x.domain || lists_domain x.names
+
+-- the table with the variables, and that of the domains where one is written in the request
+abbrev pub variable_asks : Bool → List ℕ
+variable_asks of_domain = if of_domain then domains_table ∷ variables_table ∷ [] else variables_table ∷ []
+
 -- by the words of the request
 abbrev pub request_asks : Request → List ℕ
 request_asks (request.GetNameList x) = listing x.scope x.class
 request_asks (request.Status asked) = []
 request_asks request.Identify = []
+request_asks (request.Read x) = variable_asks (accesses_domain x.access)
+request_asks (request.Write x) = variable_asks (accesses_domain x.access)
+request_asks (request.GetVariableAccessAttributes x) = variable_asks (specifies_domain x)
+request_asks (request.DefineNamedVariable x) = variable_asks (is_of_domain x.name)
+request_asks (request.DeleteVariableAccess x) = variable_asks (deletes_domain x)
+request_asks (request.DefineNamedVariableList x) = variable_asks (is_of_domain x.name || list_any specifies_domain x.variables)
+request_asks (request.GetNamedVariableListAttributes x) = variable_asks (is_of_domain x)
+request_asks (request.DeleteNamedVariableList x) = variable_asks (deletes_domain x)
 
 -- by what these tables show
 abbrev pub request_more : Tables → ClientRow → Request → List ℕ
 request_more t row (request.GetNameList x) = []
 request_more t row (request.Status asked) = []
 request_more t row request.Identify = []
+request_more t row (request.Read x) = []
+request_more t row (request.Write x) = []
+request_more t row (request.GetVariableAccessAttributes x) = []
+request_more t row (request.DefineNamedVariable x) = []
+request_more t row (request.DeleteVariableAccess x) = []
+request_more t row (request.DefineNamedVariableList x) = []
+request_more t row (request.GetNamedVariableListAttributes x) = []
+request_more t row (request.DeleteNamedVariableList x) = []
 
 -- ---- settled once for all services
 

@@ -7,6 +7,7 @@ use Rattle.mms_types.specs.declared.pdu.Request.{Request}
 use Rattle.association.specs.declared.negotiation.Association.{Association}
 use Rattle.association.specs.declared.negotiation.Association.TheVariants.{Idle, Open}
 use Rattle.association.specs.Client.{ClientRow}
+use Rattle.variable_services.specs.Services.{lost}
 use Rattle.parted_state.specs.Served.{Done, Services}
 use Rattle.mms_step.specs.Effects.{Effect, Drains, tell}
 use Rattle.mms_step.specs.Tables.{Tables, clock_table, variables_table, domains_table, programs_table, conditions_table, journals_table, semaphores_table, loss_tables}
@@ -18,6 +19,16 @@ abbrev pub size_of : Association → ℕ
 size_of Idle = 0
 size_of (Open values) = values.size
 
+-- ---- the loss of a client: what belongs to its association is gone
+
+abbrev pub without_client : ℕ → Tables → Tables
+without_client client t = record t { variables = lost client t.variables }
+
+-- where there is an association
+abbrev pub tables_lost : Association → ℕ → Tables → Tables
+tables_lost Idle client t = t
+tables_lost (Open values) client t = without_client client t
+
 -- ---- what is heard
 
 -- a request that is taken is done, or its tables stay as they are
@@ -27,9 +38,9 @@ is_served t row invoke asked = is_done (size_of row.association) invoke (cause t
 abbrev pub tables_heard : Tables → ClientRow → Verdict → Tables
 tables_heard t row (Takes invoke asked) = if is_served t row invoke asked then (effect t row asked).tables else t
 tables_heard t row (Tells effects) = t
-tables_heard t row Concludes = t
+tables_heard t row Concludes = without_client row.client t
 tables_heard t row (Cancels invoke) = t
-tables_heard t row Aborts = t
+tables_heard t row Aborts = without_client row.client t
 
 -- what is told to the client itself
 abbrev pub own_told : Tables → ClientRow → Verdict → List Effect
@@ -65,7 +76,10 @@ heard_more t row (Tells effects) = []
 heard_more t row (Cancels invoke) = []
 heard_more t row Aborts = []
 
--- ---- loss
+-- ---- a client that is lost
+
+abbrev pub loses : Tables → ClientRow → ℕ → Done Tables Effect
+loses t row client = record { tables = tables_lost row.association row.client t; told = tell client (loss_told row.association) }
 
 abbrev pub loss_asks : Association → List ℕ
 loss_asks Idle = []
@@ -93,7 +107,7 @@ asks (Drain client) = []
 -- to be sent to a client is taken away.
 abbrev pub serves : Tables → ClientRow → CellEvent → Done Tables Effect
 serves t row (Heard client octets) = hears t row client (verdict row octets)
-serves t row (Lost client) = record { tables = t; told = tell client (loss_told row.association) }
+serves t row (Lost client) = loses t row client
 serves t row (Tick ms) = record { tables = record t { now = t.now + ms }; told = [] }
 serves t row (Ends name) = record { tables = t; told = [] }
 serves t row (Drain client) = record { tables = t; told = tell client (Drains ∷ []) }

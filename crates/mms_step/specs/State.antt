@@ -6,10 +6,14 @@ use Rattle.association.specs.Client.{ClientRow, new_row}
 use Rattle.association.specs.declared.constants.Constants.{Constants}
 use Rattle.association.specs.declared.waiting.Waiting.{Waiting}
 use Rattle.cell_config.specs.declared.config.Config.{Config}
+use Rattle.variable_services.specs.declared.tables.VariableTables.{VariableTables}
+use Rattle.variable_services.specs.Services.{configured}
 
 pub record State : Type 0 where
   -- the moment, in milliseconds since the beginning of 1 January 1984
   pub now : ℕ
+  -- cells, named variables and their lists
+  pub variables : VariableTables
   -- the rows of clients 1 to n, in this order
   pub clients : List ClientRow
 
@@ -21,9 +25,9 @@ device_of config = record { edition = config.edition; vendor = config.vendor; mo
 abbrev pub first_rows : Config → ℕ → List ClientRow
 first_rows config n = map (λ c. new_row c (device_of config)) (clients_to n)
 
--- the start: it is the configured moment, and there are as many clients as are configured
+-- the start: it is the configured moment, there are the configured cells and variables, and as many clients as are configured
 abbrev pub start : Config → State
-start config = record { now = config.start.0; clients = first_rows config config.clients }
+start config = record { now = config.start.0; variables = configured config.cells config.variables; clients = first_rows config config.clients }
 
 -- the last millisecond of day 65,535 (ISO 9506-2, TimeOfDay)
 abbrev pub last_moment : ℕ

@@ -1,10 +1,13 @@
 -- The tables of the device: all rows of its state but those of the clients (ISO 9506-1, the virtual manufacturing device).
 use Rattle.std.specs.Prelude.{ℕ, List, [], ◌∷◌}
+use Rattle.variable_services.specs.declared.tables.VariableTables.{VariableTables}
 
 -- A table's rows are a field here; of each that isn't here yet there are none.
 pub record Tables : Type 0 where
   -- the moment, in milliseconds since the beginning of 1 January 1984
   pub now : ℕ
+  -- cells, named variables and their lists
+  pub variables : VariableTables
 
 -- Tables are numbered as their parts are with no clients: 0 the clock, 1 variables and their lists, 2 domains and uploads, 3 program invocations, 4 event
 -- conditions and enrolments, 5 journals, 6 semaphores.

@@ -1,6 +1,6 @@
 //! One event on the parts that are held.
 
-ghost use Rattle.std.specs.Prelude.{◌≡◌, ℕ, ◌+◌, ◌≤◌, [], length, OnOk, OnErr, OnSome, IfOk, IfNone, IfSome};
+ghost use Rattle.std.specs.Prelude.{◌≡◌, ℕ, ◌+◌, ◌<◌, ◌≤◌, false, true, [], length, slice_set, None, Some, OnOk, OnErr, OnSome, IfOk, IfNone, IfSome};
 ghost use Rattle.std.specs.Option.{option_map};
 ghost use Rattle.mms_types.specs.Actors.{IsAmong};
 ghost use Rattle.mms_types.specs.declared.event.CellEvent.TheVariants.{Drain};
@@ -9,12 +9,12 @@ ghost use Rattle.part_table.specs.Held.{held_at, places_held, IsHandOf};
 ghost use Rattle.parted_state.specs.Lifted.{put_in_place, tables_shown};
 ghost use Rattle.parted_state.specs.Served.{change};
 ghost use Rattle.mms_step.specs.State.{State, IsSound};
-ghost use Rattle.mms_step.specs.Association.{verdict};
+ghost use Rattle.mms_step.specs.Association.{verdict, Takes};
 ghost use Rattle.mms_step.specs.Step.{step, IsInTime};
 ghost use Rattle.mms_step.specs.Partition.{cell, parts_of, clients_among, clock_in, client_place, outbox_held, on_client, IsClient};
 ghost use Rattle.mms_step.specs.Needs.{need};
 ghost use Rattle.mms_step.specs.Reads.{IsDeep, IsReadOf, IsReadingOf};
-ghost use Rattle.mms_step.specs.Acts.{row_held, verdict_read, IsActOf, IsHeardInPlace};
+ghost use Rattle.mms_step.specs.Acts.{act_done, row_held, verdict_read, AreDone, HoldsOwn, IsActOf, IsActTimely, IsHeardInPlace, IsOwnAmong};
 ghost use Rattle.mms_step.specs.Serving.{hears};
 ghost use Rattle.mms_step.specs.After.{after};
 
@@ -25,9 +25,32 @@ use crate::serving::serve;
 use crate::tables::{BEFORE_CLIENTS, clients_of};
 use crate::{Cell, Part};
 use mms_pdu::{Read, Refusal};
-use mms_types::{CellEvent, Memory, What};
+use mms_types::{CellEvent, Memory, Request, What};
 use part_table::Hand;
 use std::alloc::Global;
+
+/// Takes the part of a client out of its place, where it is held.
+fn take_client(held: &mut Hand<Cell>, client: u32) -> Box<Part>
+    requires small { client ≤ 64 }
+    requires held { IsClient (held_at held.old (client_place client)) }
+    ensures part { Some result.value ≡ held_at held.old (client_place client) }
+    ensures left { held.new ≡ slice_set held.old (client_place client) None }
+    ensures place { client_place client < length held.new }
+{
+    let Some(part) = held.take(BEFORE_CLIENTS + client) else {
+        unreachable!()
+    };
+    part
+}
+
+/// Puts the part of a client into its place.
+fn put_client(held: &mut Hand<Cell>, client: u32, part: Box<Part>)
+    requires small { client ≤ 64 }
+    requires place { client_place client < length held.old }
+    ensures { held.new ≡ slice_set held.old (client_place client) (Some part.value) }
+{
+    held.put(BEFORE_CLIENTS + client, part);
+}
 
 /// Lets a client hear what was read from it. Where no table is used, all of it is done; otherwise that is answered
 /// which is to be done on the tables, and all is as before, as it is without memory.
@@ -49,16 +72,125 @@ fn hear_own<'a>(
     ensures same { IfOk result (λ left. OnSome left (held.new ≡ held.old)) }
     ensures kept { OnErr result (held.new ≡ held.old) }
 {
-    let place = BEFORE_CLIENTS + client;
-    let Some(mut part) = held.take(place) else {
-        unreachable!()
-    };
+    let mut part = take_client(held, client);
     let heard = match &mut *part {
         Part::Client(own) => own.hear(alloc, client, read),
         _ => unreachable!(),
     };
-    held.put(place, part);
+    put_client(held, client, part);
     heard
+}
+
+/// Serves a request that reads or writes variables on the part of its client and theirs. False for any other request,
+/// and where they are other parts; then all is as before.
+fn serve_parts(
+    alloc: Global,
+    part: &mut Part,
+    table: &mut Part,
+    invoke: u32,
+    asked: &Request,
+) -> Result<bool, Memory>
+    ensures served { IfOk result (λ done. done ≡ true
+        → AreDone (Takes invoke asked.now) part.old table.old part.new table.new) }
+    ensures same { IfOk result (λ done. done ≡ false
+        → (part.new ≡ part.old) × (table.new ≡ table.old)) }
+    ensures kept { OnErr result (part.new ≡ part.old) }
+    ensures left { OnErr result (table.new ≡ table.old) }
+{
+    match (part, table) {
+        (Part::Client(own), Part::Variables(variables)) => {
+            own.serve_on(alloc, variables, invoke, asked)
+        }
+        _ => Ok(false),
+    }
+}
+
+/// Serves a client's request that reads or writes variables, which are asked most, on its part and theirs as they are
+/// held, without lifting tables. False for any other request, and where the variables aren't held; then all is as before.
+fn serve_on_variables(
+    alloc: Global,
+    held: &mut Hand<Cell>,
+    client: u32,
+    invoke: u32,
+    asked: &Request,
+) -> Result<bool, Memory>
+    requires of { (s : State) × IsHandOf held.old (parts_of s) }
+    requires few { client ≤ 64 }
+    requires among { (1 ≤ client) × (client ≤ clients_among (length held.old)) }
+    requires held { IsClient (held_at held.old (client_place client)) }
+    ensures served { IfOk result (λ done. done ≡ true → held.new ≡ put_in_place cell
+        (hears (tables_shown cell held.old) (row_held held.old client) client
+        (Takes invoke asked.now)) held.old) }
+    ensures same { IfOk result (λ done. done ≡ false → held.new ≡ held.old) }
+    ensures kept { OnErr result (held.new ≡ held.old) }
+{
+    let place = BEFORE_CLIENTS + client;
+    let Some(mut part) = held.take(place) else {
+        unreachable!()
+    };
+    let Some(mut table) = held.take(1) else {
+        held.put(place, part);
+        return Ok(false);
+    };
+    let done = serve_parts(alloc, &mut part, &mut table, invoke, asked);
+    held.put(1, table);
+    held.put(place, part);
+    done
+}
+
+/// Serves a request of a client whose part is held.
+fn finish_request(
+    alloc: Global,
+    held: &mut Hand<Cell>,
+    clients: u32,
+    client: u32,
+    invoke: u32,
+    asked: &Request,
+) -> Result<(), Memory>
+    requires of { (s : State) × IsHandOf held.old (parts_of s) }
+    requires many { clients ≡ clients_among (length held.old) }
+    requires few { clients ≤ 64 }
+    requires among { (1 ≤ client) × (client ≤ clients) }
+    requires held { IsClient (held_at held.old (client_place client)) }
+    ensures put { OnOk result (held.new ≡ put_in_place cell
+        (hears (tables_shown cell held.old) (row_held held.old client) client
+        (Takes invoke asked.now)) held.old) }
+    ensures kept { OnErr result (held.new ≡ held.old) }
+{
+    match serve_on_variables(alloc, held, client, invoke, asked) {
+        Err(error) => Err(error),
+        Ok(true) => Ok(()),
+        Ok(false) => {
+            let act = Act::Request {
+                client,
+                invoke,
+                asked,
+            };
+            serve(alloc, held, clients, &act)
+        }
+    }
+}
+
+/// Does what is left of what a client sent, whose part is held.
+fn finish(alloc: Global, held: &mut Hand<Cell>, clients: u32, act: &Act<'_>) -> Result<(), Memory>
+    requires of { (s : State) × IsHandOf held.old (parts_of s) }
+    requires many { clients ≡ clients_among (length held.old) }
+    requires few { clients ≤ 64 }
+    requires own { HoldsOwn act.now held.old }
+    requires among { IsOwnAmong clients act.now }
+    requires time { IsActTimely act.now (tables_shown cell held.old) }
+    ensures put { OnOk result (held.new
+        ≡ put_in_place cell (act_done (tables_shown cell held.old) held.old act.now) held.old) }
+    ensures kept { OnErr result (held.new ≡ held.old) }
+{
+    match *act {
+        Act::Request {
+            client,
+            invoke,
+            asked,
+        } => finish_request(alloc, held, clients, client, invoke, asked),
+        _ => serve(alloc, held, clients, act),
+    }
 }
 
 /// Lets a client hear what was read from it.
@@ -82,7 +214,7 @@ fn hear_read(
 {
     match hear_own(alloc, held, client, read)? {
         None => Ok(()),
-        Some(act) => serve(alloc, held, clients, &act),
+        Some(act) => finish(alloc, held, clients, &act),
     }
 }
 

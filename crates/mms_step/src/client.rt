@@ -4,13 +4,14 @@ ghost use Rattle.std.specs.Prelude.{◌≡◌, ◌≤◌, nat_le, length, true, 
 ghost use Rattle.association.specs.Client.{closed_row, drained_row, new_row};
 ghost use Rattle.association.specs.Negotiation.{negotiation};
 ghost use Rattle.mms_pdu.specs.Pdus.{pdu_octets};
-ghost use Rattle.mms_step.specs.Acts.{IsActOf};
-ghost use Rattle.mms_step.specs.Association.{negotiated, sends, verdict_by, Takes};
+ghost use Rattle.variable_services.specs.Services.{read_answer, read_cause, write_after, write_answer, write_cause};
+ghost use Rattle.mms_step.specs.Acts.{IsActOf, IsDoneOn};
+ghost use Rattle.mms_step.specs.Association.{further_error, negotiated, sends, unknown_error, verdict_by, Takes};
 ghost use Rattle.mms_step.specs.Effects.{felt, felt_all, Sends};
 ghost use Rattle.mms_step.specs.Meant.{effects_of, meant, row_after, IsPlainlyHeard};
 ghost use Rattle.mms_step.specs.Partition.{settled};
 ghost use Rattle.mms_step.specs.Reads.{pdu_read, IsDeep};
-ghost use Rattle.mms_step.specs.Services.{refuses, request_told};
+ghost use Rattle.mms_step.specs.Services.{fits, is_done, refuses, request_told};
 ghost use Rattle.mms_step.specs.Serving.{size_of};
 ghost use Rattle.mms_step.specs.Telling.{effect_of, output_count, told_row};
 
@@ -21,10 +22,12 @@ use crate::verdict::{Found, Said, verdict_of};
 use association::{ClientPart, Constants, outcome_of};
 use mms_pdu::{Read, Refusal, Writer, put_pdu};
 use mms_types::{
-    Answer, CancelError, ConfirmedError, Initiate, Memory, Octets, Pdu, Request, ServiceError, What,
+    Answer, CancelError, ConfirmedError, Initiate, InitiateAnswer, Memory, Octets, Pdu,
+    Read as VariableRead, Refuse, Reject, Request, ServiceError, What, Write,
 };
 use std::alloc::Global;
 use std::marker::Model;
+use variable_services::VariableTables;
 
 /// The part of a client: its association, and what is to be sent to it. Contracts see it as they see a `ClientPart`.
 #[derive(Drop)]
@@ -80,6 +83,21 @@ impl Client {
         Octets::from_slice(alloc, self.out.octets())
     }
 
+    /// The octets of a positive answer.
+    fn spelled_answer(
+        &mut self,
+        alloc: Global,
+        invoke: u32,
+        answer: Answer,
+    ) -> Result<Octets, Memory>
+        ensures octets { IfOk result (λ octets.
+            octets ≡ pdu_octets (Pdu.ConfirmedResponse invoke answer)) }
+        ensures kept { self.new ≡ self.old }
+    {
+        let response = Pdu::ConfirmedResponse { invoke, answer };
+        self.spelled(alloc, &response)
+    }
+
     /// Appends a PDU to what is to be sent.
     fn send(&mut self, alloc: Global, pdu: &Pdu) -> Result<(), Memory>
         ensures sent { OnOk result (self.new ≡ settled (felt (sends pdu.now) self.old.row)) }
@@ -101,6 +119,24 @@ impl Client {
         Ok(())
     }
 
+    /// The octets of the answer to a proposal.
+    fn spelled_opening(&mut self, alloc: Global, answer: InitiateAnswer) -> Result<Octets, Memory>
+        ensures octets { IfOk result (λ octets.
+            octets ≡ pdu_octets (Pdu.InitiateResponse answer)) }
+        ensures kept { self.new ≡ self.old }
+    {
+        self.spelled(alloc, &Pdu::InitiateResponse(answer))
+    }
+
+    /// Refuses a proposal.
+    fn decline(&mut self, alloc: Global, error: ServiceError) -> Result<(), Memory>
+        ensures sent { OnOk result (self.new
+            ≡ settled (felt (sends (Pdu.InitiateError error)) self.old.row)) }
+        ensures kept { OnErr result (self.new ≡ self.old) }
+    {
+        self.send(alloc, &Pdu::InitiateError(error))
+    }
+
     /// Negotiates a proposal.
     fn negotiate(&mut self, alloc: Global, proposal: &Initiate) -> Result<(), Memory>
         ensures negotiated { OnOk result
@@ -108,15 +144,45 @@ impl Client {
         ensures kept { OnErr result (self.new ≡ self.old) }
     {
         match outcome_of(proposal) {
-            Err(error) => self.send(alloc, &Pdu::InitiateError(error)),
+            Err(error) => self.decline(alloc, error),
             Ok(answer) => {
-                let octets = self.spelled(alloc, &Pdu::InitiateResponse(answer))?;
+                let octets = self.spelled_opening(alloc, answer)?;
                 self.part.reserve(1, 0)?;
                 let _ = self.part.negotiate(proposal);
                 self.part.push(What::Octets(octets));
                 Ok(())
             }
         }
+    }
+
+    /// Rejects what was sent.
+    fn reject(&mut self, alloc: Global, reject: Reject) -> Result<(), Memory>
+        ensures sent { OnOk result (self.new
+            ≡ settled (felt (sends (Pdu.Reject reject)) self.old.row)) }
+        ensures kept { OnErr result (self.new ≡ self.old) }
+    {
+        self.send(alloc, &Pdu::Reject(reject))
+    }
+
+    /// Refuses a conclusion.
+    fn keep_open(&mut self, alloc: Global) -> Result<(), Memory>
+        ensures sent { OnOk result (self.new
+            ≡ settled (felt (sends (Pdu.ConcludeError further_error)) self.old.row)) }
+        ensures kept { OnErr result (self.new ≡ self.old) }
+    {
+        let error = ServiceError::FURTHER_COMMUNICATION_REQUIRED;
+        self.send(alloc, &Pdu::ConcludeError(error))
+    }
+
+    /// Refuses to cancel a request that doesn't wait.
+    fn deny_cancel(&mut self, alloc: Global, invoke: u32) -> Result<(), Memory>
+        ensures sent { OnOk result (self.new ≡ settled (felt
+            (sends (Pdu.CancelError (record { invoke = invoke; error = unknown_error })))
+            self.old.row)) }
+        ensures kept { OnErr result (self.new ≡ self.old) }
+    {
+        let error = ServiceError::INVOKE_ID_UNKNOWN;
+        self.send(alloc, &Pdu::CancelError(CancelError { invoke, error }))
     }
 
     /// Tells the client something.
@@ -131,16 +197,10 @@ impl Client {
                 Ok(())
             }
             Said::Abort => self.abort(),
-            Said::Reject(reject) => self.send(alloc, &Pdu::Reject(reject)),
+            Said::Reject(reject) => self.reject(alloc, reject),
             Said::Negotiation(proposal) => self.negotiate(alloc, proposal),
-            Said::NoConclusion => {
-                let error = ServiceError::FURTHER_COMMUNICATION_REQUIRED;
-                self.send(alloc, &Pdu::ConcludeError(error))
-            }
-            Said::NoCancel(invoke) => {
-                let error = ServiceError::INVOKE_ID_UNKNOWN;
-                self.send(alloc, &Pdu::CancelError(CancelError { invoke, error }))
-            }
+            Said::NoConclusion => self.keep_open(alloc),
+            Said::NoCancel(invoke) => self.deny_cancel(alloc, invoke),
         }
     }
 
@@ -166,19 +226,21 @@ impl Client {
         size: u32,
         invoke: u32,
         answer: Answer,
-    ) -> Result<(), Memory>
+    ) -> Result<bool, Memory>
         ensures sent { OnOk result (self.new
             ≡ settled (felt_all (request_told size invoke None (Some answer)) self.old.row)) }
+        // Whether it is answered.
+        ensures fits { IfOk result (λ answered. answered ≡ fits size invoke (Some answer)) }
         ensures kept { OnErr result (self.new ≡ self.old) }
     {
-        let response = Pdu::ConfirmedResponse { invoke, answer };
-        let octets = self.spelled(alloc, &response)?;
+        let octets = self.spelled_answer(alloc, invoke, answer)?;
         if octets.len() > size as usize {
-            return self.refuse(alloc, invoke, ServiceError::OTHER);
+            self.refuse(alloc, invoke, ServiceError::OTHER)?;
+            return Ok(false);
         }
         self.part.reserve(1, 0)?;
         self.part.push(What::Octets(octets));
-        Ok(())
+        Ok(true)
     }
 
     /// Answers a request that the row of the client alone answers. False for any other, where all stays as it was.
@@ -192,9 +254,101 @@ impl Client {
             None => Ok(false),
             Some(answer) => {
                 let size = size_of(&self.part);
-                self.answer(alloc, size, invoke, answer)?;
+                let _answered = self.answer(alloc, size, invoke, answer)?;
                 Ok(true)
             }
+        }
+    }
+
+    /// Answers a read of those variables, or refuses it.
+    fn read(
+        &mut self,
+        alloc: Global,
+        variables: &VariableTables,
+        invoke: u32,
+        asked: &VariableRead,
+    ) -> Result<bool, Memory>
+        ensures told { OnOk result (self.new ≡ settled (felt_all
+            (request_told (size_of self.old.row.association) invoke
+            (read_cause self.old.row.client asked.now variables.now)
+            (Some (Answer.Read (read_answer self.old.row.client asked.now variables.now))))
+            self.old.row)) }
+        ensures done { IfOk result (λ done. done ≡ true) }
+        ensures kept { OnErr result (self.new ≡ self.old) }
+    {
+        match variables.read(alloc, self.part.client(), asked) {
+            Err(Refuse::Memory) => Err(Memory),
+            Err(Refuse::Service(error)) => {
+                self.refuse(alloc, invoke, error)?;
+                Ok(true)
+            }
+            Ok(read) => {
+                let size = size_of(&self.part);
+                let _answered = self.answer(alloc, size, invoke, Answer::Read(read))?;
+                Ok(true)
+            }
+        }
+    }
+
+    /// Answers a write of those variables and writes them, or refuses it, where nothing is written.
+    fn write(
+        &mut self,
+        alloc: Global,
+        variables: &mut VariableTables,
+        invoke: u32,
+        asked: &Write,
+    ) -> Result<bool, Memory>
+        ensures told { OnOk result (self.new ≡ settled (felt_all
+            (request_told (size_of self.old.row.association) invoke
+            (write_cause self.old.row.client asked.now variables.old)
+            (Some (Answer.Write (write_answer self.old.row.client asked.now variables.old))))
+            self.old.row)) }
+        ensures written { OnOk result (variables.new
+            ≡ (if is_done (size_of self.old.row.association) invoke
+            (write_cause self.old.row.client asked.now variables.old)
+            (Some (Answer.Write (write_answer self.old.row.client asked.now variables.old)))
+            then write_after self.old.row.client asked.now variables.old else variables.old)) }
+        ensures done { IfOk result (λ done. done ≡ true) }
+        ensures kept { OnErr result (self.new ≡ self.old) }
+        ensures same { OnErr result (variables.new ≡ variables.old) }
+    {
+        let client = self.part.client();
+        match variables.write_results(alloc, client, asked) {
+            Err(Refuse::Memory) => Err(Memory),
+            Err(Refuse::Service(error)) => {
+                self.refuse(alloc, invoke, error)?;
+                Ok(true)
+            }
+            Ok(results) => {
+                let values = asked.values.copy(alloc)?;
+                let size = size_of(&self.part);
+                if self.answer(alloc, size, invoke, Answer::Write(results))? {
+                    variables.write(client, asked, values);
+                }
+                Ok(true)
+            }
+        }
+    }
+
+    /// Serves a request that reads or writes variables. False for any other, where all stays as it was.
+    pub(crate) fn serve_on(
+        &mut self,
+        alloc: Global,
+        variables: &mut VariableTables,
+        invoke: u32,
+        asked: &Request,
+    ) -> Result<bool, Memory>
+        ensures served { IfOk result (λ done. done ≡ true → IsDoneOn self.old.row
+            variables.old variables.new self.new (Takes invoke asked.now)) }
+        ensures same { IfOk result (λ done. done ≡ false
+            → (self.new ≡ self.old) × (variables.new ≡ variables.old)) }
+        ensures kept { OnErr result (self.new ≡ self.old) }
+        ensures written { OnErr result (variables.new ≡ variables.old) }
+    {
+        match asked {
+            Request::Read(asked) => self.read(alloc, variables, invoke, asked),
+            Request::Write(asked) => self.write(alloc, variables, invoke, asked),
+            _ => Ok(false),
         }
     }
 

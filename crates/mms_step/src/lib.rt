@@ -3,6 +3,7 @@
 #![tactic(auto)]
 
 mod applying;
+mod asks;
 mod cell;
 mod client;
 mod clock;

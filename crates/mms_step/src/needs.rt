@@ -14,8 +14,8 @@ ghost use Rattle.mms_step.specs.Association.{verdict_by};
 ghost use Rattle.mms_step.specs.Needs.{footprint, heard_need, need, placed, two_stages, verdict_need};
 ghost use Rattle.mms_step.specs.Reads.{pdu_read, IsDeep, IsReadOf, IsReadingOf};
 
+use crate::asks::{request_asks, request_more};
 use crate::reading::{Reading, read};
-use crate::service::{request_asks, request_more};
 use crate::tables::{
     BEFORE_CLIENTS, CLOCK, CONDITIONS, DOMAINS, JOURNALS, PROGRAMS, VARIABLES, clients_of,
     semaphores,
@@ -105,6 +105,13 @@ fn loss_asks(part: &ClientPart, clients: u32) -> Parts
     }
 }
 
+/// Those of the parts that are not held.
+fn unheld(parts: &Parts, held: &Hand<Cell>) -> Parts
+    ensures { IsSetOf result (missing held.now parts.now) }
+{
+    parts.missing(held)
+}
+
 /// Those of the parts that are not held, and where all of them are, those of the further ones.
 fn missing_of(first: &Parts, second: &Parts, held: &Hand<Cell>) -> Parts
     ensures { IsSetOf result (two_stages held.now first.now second.now) }
@@ -189,7 +196,7 @@ fn need_more(
         }
         CellEvent::Lost { client } => {
             let part = client_held(held, *client);
-            Ok(loss_asks(part, clients).missing(held))
+            Ok(unheld(&loss_asks(part, clients), held))
         }
         CellEvent::Tick { .. } => Ok(Parts::new()),
         CellEvent::Ends { .. } => Ok(Parts::new()),
@@ -212,7 +219,7 @@ pub fn need_read(
     ensures { IfOk result (λ parts. IsSetOf parts (need event.now held.now)) }
 {
     let clients = clients_of(held);
-    let missing = footprint(event, clients).missing(held);
+    let missing = unheld(&footprint(event, clients), held);
     if missing.is_empty() {
         need_more(alloc, event, reading, clients, held)
     } else {

@@ -3,6 +3,7 @@
 ghost use Rattle.std.specs.Prelude.{◌≡◌, IfOk, OnOk, map, [], ◌∷◌, ◌++◌};
 ghost use Rattle.std.specs.Box.{box_value};
 ghost use Rattle.cell_config.specs.Said.{IsConfig};
+ghost use Rattle.variable_services.specs.Services.{configured};
 ghost use Rattle.mms_step.specs.State.{start, device_of};
 ghost use Rattle.mms_step.specs.Partition.{parts_of};
 
@@ -11,6 +12,7 @@ use association::Constants;
 use cell_config::Config;
 use mms_types::Memory;
 use std::alloc::Global;
+use variable_services::VariableTables;
 
 /// What never changes of the device.
 fn device(alloc: Global, config: &Config) -> Result<Constants, Memory>
@@ -24,6 +26,16 @@ fn device(alloc: Global, config: &Config) -> Result<Constants, Memory>
     })
 }
 
+/// The cells and variables that are configured.
+fn variables(alloc: Global, config: &Config) -> Result<VariableTables, Memory>
+    requires config { IsConfig config.now }
+    ensures { IfOk result (λ tables. tables
+        ≡ configured config.now.cells config.now.variables) }
+{
+    let cells = config.cells.copy(alloc)?;
+    VariableTables::new(alloc, cells, config.variables.copy(alloc)?)
+}
+
 /// Appends a part.
 fn put(alloc: Global, parts: &mut Vec<Box<Part>>, part: Part) -> Result<(), Memory>
     ensures { OnOk result (map box_value parts.new.items
@@ -33,8 +45,8 @@ fn put(alloc: Global, parts: &mut Vec<Box<Part>>, part: Part) -> Result<(), Memo
     Ok(())
 }
 
-/// The parts of a configured device at the start: it is the configured moment, there are as many clients as are
-/// configured, no association is open, nothing waits and nothing is to be sent.
+/// The parts of a configured device at the start: it is the configured moment, there are the configured cells and
+/// variables, and as many clients as are configured, no association is open, nothing waits and nothing is to be sent.
 #[tactic(auto, using(crate::proofs::PartsAfter::start_more))]
 pub fn start_parts(alloc: Global, config: &Config) -> Result<Vec<Box<Part>>, Memory>
     requires config { IsConfig config.now }
@@ -42,7 +54,11 @@ pub fn start_parts(alloc: Global, config: &Config) -> Result<Vec<Box<Part>>, Mem
 {
     let mut parts = Vec::with_capacity(alloc, config.clients as usize + 7)?;
     put(alloc, &mut parts, Part::Clock(Clock::new(config.start)))?;
-    put(alloc, &mut parts, Part::Variables)?;
+    put(
+        alloc,
+        &mut parts,
+        Part::Variables(variables(alloc, config)?),
+    )?;
     put(alloc, &mut parts, Part::Domains)?;
     put(alloc, &mut parts, Part::Programs)?;
     put(alloc, &mut parts, Part::Conditions)?;

@@ -1,14 +1,15 @@
 //! The parts of the device.
 
 use crate::{Client, Clock};
+use variable_services::VariableTables;
 
 /// A part of the device. With n clients there are n + 7 of them, in this order, with a part for each client.
 #[derive(Drop)]
 pub enum Part {
     /// Part 0.
     Clock(Clock),
-    /// Part 1: variables and lists of variables. There are none yet.
-    Variables,
+    /// Part 1: cells, named variables and lists of variables.
+    Variables(VariableTables),
     /// Part 2: domains and uploads. There are none yet.
     Domains,
     /// Part 3: program invocations. There are none yet.

@@ -36,6 +36,11 @@ impl Model for Reading {
 
     ghost Value = { Kept };
 
+    ghost use Rattle.std.specs.Coded.{codes};
+    ghost use Rattle.mms_pdu.specs.contracts.reading.Read as told;
+
+    ghost coded = { Prim.hlevel (codes, told.the_row.coded) };
+
     ghost view = { λ reading. reading.kept };
 }
 

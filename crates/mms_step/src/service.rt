@@ -1,45 +1,37 @@
-//! The confirmed services (ISO 9506-1, VMD support): why a request is refused, its answer, and the tables that it uses.
+//! The confirmed services (ISO 9506-1, VMD support and variable access): why a request is refused, and what it does.
 
-ghost use Rattle.std.specs.Prelude.{◌≡◌, ◌≤◌, [], ◌∷◌, IfOk, MatchOption, Some};
-ghost use Rattle.parted_state.specs.Sets.{IsSetOf};
-ghost use Rattle.mms_step.specs.Meant.{no_tables};
-ghost use Rattle.mms_step.specs.Needs.{placed};
-ghost use Rattle.mms_step.specs.Acts.{outcome_of};
-ghost use Rattle.mms_step.specs.Changes.{IsTimely};
-ghost use Rattle.mms_step.specs.Services.{cause, class_tables, effect, listing, plain_answer, request_asks, request_more, scope_cause};
+ghost use Rattle.std.specs.Prelude.{◌≡◌, false, [], IfOk, Some};
+ghost use Rattle.variable_services.specs.Services.{define_after, define_cause, define_list_after, define_list_cause, delete_after, delete_answer, delete_cause, delete_lists_after, delete_lists_answer, write_after, write_answer, write_cause};
+ghost use Rattle.mms_step.specs.Acts.{outcome_of, Settles};
+ghost use Rattle.mms_step.specs.Changes.{MayChange};
+ghost use Rattle.mms_step.specs.Services.{becomes, cause, effect, identity, listed, names_in, plain_answer, scope_cause, scope_of};
 
 use crate::lifted::{Change, Tables};
-use crate::tables::{CONDITIONS, DOMAINS, JOURNALS, PROGRAMS, VARIABLES, semaphores};
 use crate::telling::Told;
 use association::ClientPart;
 use mms_types::{
-    Answer, GetNameListAnswer, Identifiers, IdentifyAnswer, Memory, ObjectClass, ObjectScope,
-    Request, ServiceError, StatusAnswer,
+    Answer, DefineNamedVariable, DefineNamedVariableList, DeleteNames, GetNameList,
+    GetNameListAnswer, Identifiers, IdentifyAnswer, Memory, ObjectClass, ObjectScope, Refuse,
+    Request, Scope, ServiceError, StatusAnswer, Write,
 };
-use parted_state::Parts;
+use object_names::{Names, Selection};
 use std::alloc::Global;
+use variable_services::delete_cause;
 
-/// Why names of a scope are not listed: there is no domain yet.
-fn scope_cause(scope: &ObjectScope) -> Option<ServiceError>
-    ensures { result ≡ scope_cause scope.now }
-{
-    match scope {
-        ObjectScope::Domain(_) => Some(ServiceError::OBJECT_NON_EXISTENT),
-        ObjectScope::Vmd | ObjectScope::Association => None,
-    }
-}
+/// The most names that one answer has.
+const MOST_NAMES: usize = 12;
 
 /// What a request does that is not refused: how the tables change, its answer or none yet, and what else is told to
 /// whom.
 #[derive(Drop)]
-pub(crate) struct Outcome {
-    pub(crate) change: Change,
+pub(crate) struct Outcome<'a> {
+    pub(crate) change: Change<'a>,
     pub(crate) answer: Option<Answer>,
     pub(crate) also: Vec<(u32, Told)>,
 }
 
 /// A request is answered, and nothing changes.
-fn answers(alloc: Global, answer: Answer) -> Outcome
+fn answers<'a>(alloc: Global, answer: Answer) -> Outcome<'a>
     ensures change { result.change ≡ Change.Nothing }
     ensures answer { result.answer ≡ Some answer }
     ensures nobody { result.also.items ≡ [] }
@@ -51,16 +43,27 @@ fn answers(alloc: Global, answer: Answer) -> Outcome
     }
 }
 
-/// The first condition for which a request is refused.
-pub(crate) fn cause(tables: &Tables, part: &ClientPart, asked: &Request) -> Option<ServiceError>
-    ensures { result ≡ cause tables.now part.now.row asked.now }
+/// State changes are allowed, and the device is operational (ISO 9506-2, Status).
+fn status() -> Answer
+    ensures { result ≡ Answer.Status (record { logical = 0; physical = 0 }) }
 {
-    let _tables = tables;
-    let _part = part;
-    match asked {
-        Request::GetNameList(asked) => scope_cause(&asked.scope),
-        Request::Status(_) | Request::Identify => None,
-    }
+    Answer::Status(StatusAnswer {
+        logical: 0,
+        physical: 0,
+    })
+}
+
+/// The device's texts (ISO 9506-2, Identify).
+#[inline(always)]
+fn identity(alloc: Global, part: &ClientPart) -> Result<Answer, Memory>
+    ensures { IfOk result (λ answer. answer ≡ identity part.now.row) }
+{
+    let device = part.constants();
+    Ok(Answer::Identify(IdentifyAnswer {
+        vendor: device.vendor.copy(alloc)?,
+        model: device.model.copy(alloc)?,
+        revision: device.revision.copy(alloc)?,
+    }))
 }
 
 /// The answer to a request that is never refused and that the row of its client alone answers, and None for any other.
@@ -73,99 +76,227 @@ pub(crate) fn plain_answer(
     ensures { IfOk result (λ answer. answer ≡ plain_answer part.now.row asked.now) }
 {
     match asked {
-        Request::Status(_) => Ok(Some(Answer::Status(StatusAnswer {
-            logical: 0,
-            physical: 0,
-        }))),
-        Request::Identify => {
-            let device = part.constants();
-            Ok(Some(Answer::Identify(IdentifyAnswer {
-                vendor: device.vendor.copy(alloc)?,
-                model: device.model.copy(alloc)?,
-                revision: device.revision.copy(alloc)?,
-            })))
-        }
-        Request::GetNameList(_) => Ok(None),
+        Request::Status(_) => Ok(Some(status())),
+        Request::Identify => Ok(Some(identity(alloc, part)?)),
+        Request::GetNameList(_)
+        | Request::Read(_)
+        | Request::Write(_)
+        | Request::GetVariableAccessAttributes(_)
+        | Request::DefineNamedVariable(_)
+        | Request::DeleteVariableAccess(_)
+        | Request::DefineNamedVariableList(_)
+        | Request::GetNamedVariableListAttributes(_)
+        | Request::DeleteNamedVariableList(_) => Ok(None),
     }
 }
 
-/// What a request does that is not refused. No class has a name yet.
-pub(crate) fn effect(
+/// The scope that a client means by one whose names it asks for. Names of a domain aren't listed: there is none yet.
+fn scope_of(client: u32, scope: &ObjectScope) -> Result<Scope, Refuse>
+    ensures { Settles result (scope_cause scope.now) (λ s. s ≡ scope_of client scope.now) }
+{
+    match scope {
+        ObjectScope::Vmd => Ok(Scope::Vmd),
+        ObjectScope::Association => Ok(Scope::Association(client)),
+        ObjectScope::Domain(_) => Err(Refuse::Service(ServiceError::OBJECT_NON_EXISTENT)),
+    }
+}
+
+/// The names of a class and a scope that come after that one.
+fn names_in(
+    alloc: Global,
+    tables: &Tables,
+    scope: &Scope,
+    asked: &GetNameList,
+) -> Result<GetNameListAnswer, Memory>
+    ensures { IfOk result (λ told. told
+        ≡ listed (names_in tables.now scope.now asked.now.class asked.now.after)) }
+{
+    let after = asked.after.as_ref();
+    let variables = &tables.variables;
+    let names = match asked.class {
+        ObjectClass::NamedVariable => variables.vars.names_after(alloc, scope, after, MOST_NAMES)?,
+        ObjectClass::NamedVariableList => {
+            variables
+                .lists
+                .names_after(alloc, scope, after, MOST_NAMES)?
+        }
+        _ => Names {
+            list: Identifiers::new(alloc),
+            more: false,
+        },
+    };
+    Ok(GetNameListAnswer {
+        names: names.list,
+        more: names.more,
+    })
+}
+
+/// A request is answered, and the tables change.
+fn becomes<'a>(alloc: Global, change: Change<'a>, answer: Answer) -> Outcome<'a>
+    ensures change { result.change ≡ change.entry }
+    ensures answer { result.answer ≡ Some answer }
+    ensures nobody { result.also.items ≡ [] }
+{
+    Outcome {
+        change,
+        answer: Some(answer),
+        also: Vec::new(alloc),
+    }
+}
+
+/// Variables are written.
+fn write<'a>(
+    alloc: Global,
+    tables: &Tables,
+    client: u32,
+    asked: &'a Write,
+) -> Result<Outcome<'a>, Refuse>
+    ensures outcome { Settles result (write_cause client asked.now tables.now.variables)
+        (λ o. becomes tables.now (write_after client asked.now tables.now.variables)
+        (Answer.Write (write_answer client asked.now tables.now.variables))
+        ≡ outcome_of tables.now o.change o.answer o.also.items) }
+    ensures may { IfOk result (λ o. MayChange o.change tables.now) }
+{
+    let results = tables.variables.write_results(alloc, client, asked)?;
+    let values = asked.values.copy(alloc)?;
+    let change = Change::Writes {
+        client,
+        asked,
+        values,
+    };
+    Ok(becomes(alloc, change, Answer::Write(results)))
+}
+
+/// A variable is defined.
+fn define<'a>(
+    alloc: Global,
+    tables: &Tables,
+    client: u32,
+    asked: &'a DefineNamedVariable,
+) -> Result<Outcome<'a>, Refuse>
+    ensures outcome { Settles result (define_cause false client asked.now tables.now.variables)
+        (λ o. becomes tables.now (define_after client asked.now tables.now.variables)
+        Answer.DefineNamedVariable
+        ≡ outcome_of tables.now o.change o.answer o.also.items) }
+    ensures may { IfOk result (λ o. MayChange o.change tables.now) }
+{
+    match tables.variables.define_cause(client, asked, false) {
+        Some(error) => Err(Refuse::Service(error)),
+        None => {
+            let change = Change::Defines { client, asked };
+            Ok(becomes(alloc, change, Answer::DefineNamedVariable))
+        }
+    }
+}
+
+/// A list of variables is defined.
+fn define_list<'a>(
+    alloc: Global,
+    tables: &Tables,
+    client: u32,
+    asked: &'a DefineNamedVariableList,
+) -> Result<Outcome<'a>, Refuse>
+    ensures outcome { Settles result (define_list_cause false client asked.now tables.now.variables)
+        (λ o. becomes tables.now (define_list_after client asked.now tables.now.variables)
+        Answer.DefineNamedVariableList
+        ≡ outcome_of tables.now o.change o.answer o.also.items) }
+    ensures may { IfOk result (λ o. MayChange o.change tables.now) }
+{
+    match tables.variables.define_list_cause(client, asked, false) {
+        Some(error) => Err(Refuse::Service(error)),
+        None => {
+            let change = Change::DefinesList { client, asked };
+            Ok(becomes(alloc, change, Answer::DefineNamedVariableList))
+        }
+    }
+}
+
+/// Names of variables are deleted.
+fn delete<'a>(
+    alloc: Global,
+    tables: &Tables,
+    client: u32,
+    asked: &'a DeleteNames,
+) -> Result<Outcome<'a>, Refuse>
+    ensures outcome { Settles result (delete_cause false asked.now)
+        (λ o. becomes tables.now (delete_after client asked.now tables.now.variables)
+        (Answer.DeleteVariableAccess (delete_answer client asked.now tables.now.variables))
+        ≡ outcome_of tables.now o.change o.answer o.also.items) }
+    ensures may { IfOk result (λ o. MayChange o.change tables.now) }
+{
+    if let Some(error) = delete_cause(asked, false) {
+        return Err(Refuse::Service(error));
+    }
+    let selection = Selection::of(alloc, client, asked)?;
+    let told = tables.variables.vars.deletion(&selection);
+    let change = Change::Deletes(selection);
+    Ok(becomes(alloc, change, Answer::DeleteVariableAccess(told)))
+}
+
+/// Names of lists are deleted.
+fn delete_lists<'a>(
+    alloc: Global,
+    tables: &Tables,
+    client: u32,
+    asked: &'a DeleteNames,
+) -> Result<Outcome<'a>, Refuse>
+    ensures outcome { Settles result (delete_cause false asked.now)
+        (λ o. becomes tables.now (delete_lists_after client asked.now tables.now.variables)
+        (Answer.DeleteNamedVariableList (delete_lists_answer client asked.now tables.now.variables))
+        ≡ outcome_of tables.now o.change o.answer o.also.items) }
+    ensures may { IfOk result (λ o. MayChange o.change tables.now) }
+{
+    if let Some(error) = delete_cause(asked, false) {
+        return Err(Refuse::Service(error));
+    }
+    let selection = Selection::of(alloc, client, asked)?;
+    let told = tables.variables.lists.deletion(&selection);
+    let change = Change::DeletesLists(selection);
+    Ok(becomes(alloc, change, Answer::DeleteNamedVariableList(told)))
+}
+
+/// What a request comes to: the first condition for which it is refused, or what it does. Nothing changes.
+pub(crate) fn served<'a>(
     alloc: Global,
     tables: &Tables,
     part: &ClientPart,
-    asked: &Request,
-) -> Result<Outcome, Memory>
-    ensures outcome { IfOk result (λ outcome. effect tables.now part.now.row asked.now
-        ≡ outcome_of tables.now outcome.change outcome.answer outcome.also.items) }
-    ensures time { IfOk result (λ outcome. IsTimely outcome.change tables.now) }
-{
-    let _tables = tables;
-    match plain_answer(alloc, part, asked)? {
-        Some(answer) => Ok(answers(alloc, answer)),
-        None => Ok(answers(
-            alloc,
-            Answer::GetNameList(GetNameListAnswer {
-                names: Identifiers::new(alloc),
-                more: false,
-            }),
-        )),
-    }
-}
-
-/// The part with the names of a class, where it has one.
-fn class_part(clients: u32, class: ObjectClass) -> Option<u8>
-    requires few { clients ≤ 64 }
-    ensures { MatchOption result (class_tables class ≡ [])
-        (λ part. placed clients (class_tables class) ≡ part ∷ []) }
-{
-    match class {
-        ObjectClass::NamedVariable | ObjectClass::NamedVariableList => Some(VARIABLES),
-        ObjectClass::Semaphore => Some(semaphores(clients)),
-        ObjectClass::EventCondition | ObjectClass::EventEnrollment => Some(CONDITIONS),
-        ObjectClass::Journal => Some(JOURNALS),
-        ObjectClass::Domain => Some(DOMAINS),
-        ObjectClass::ProgramInvocation => Some(PROGRAMS),
-        ObjectClass::ScatteredAccess
-        | ObjectClass::NamedType
-        | ObjectClass::EventAction
-        | ObjectClass::OperatorStation => None,
-    }
-}
-
-/// The parts from which names of a class are listed in a scope.
-fn listing(scope: &ObjectScope, class: ObjectClass, clients: u32) -> Parts
-    requires few { clients ≤ 64 }
-    ensures { IsSetOf result (placed clients (listing scope.now class)) }
-{
-    match (scope, class_part(clients, class)) {
-        (ObjectScope::Domain(_), Some(part)) => Parts::of(&[DOMAINS, part]),
-        (ObjectScope::Domain(_), None) => Parts::of(&[DOMAINS]),
-        (_, Some(part)) => Parts::of(&[part]),
-        (_, None) => Parts::new(),
-    }
-}
-
-/// The parts of the tables that a request uses, by its words, with so many clients.
-pub(crate) fn request_asks(asked: &Request, clients: u32) -> Parts
-    requires few { clients ≤ 64 }
-    ensures { IsSetOf result (placed clients (request_asks asked.now)) }
+    asked: &'a Request,
+) -> Result<Outcome<'a>, Refuse>
+    ensures outcome { Settles result (cause tables.now part.now.row asked.now)
+        (λ o. effect tables.now part.now.row asked.now
+        ≡ outcome_of tables.now o.change o.answer o.also.items) }
+    ensures may { IfOk result (λ o. MayChange o.change tables.now) }
 {
     match asked {
-        Request::GetNameList(asked) => listing(&asked.scope, asked.class, clients),
-        Request::Status(_) | Request::Identify => Parts::new(),
-    }
-}
-
-/// The parts of the tables that a request uses beside those, by what they show.
-pub(crate) fn request_more(part: &ClientPart, asked: &Request, clients: u32) -> Parts
-    requires few { clients ≤ 64 }
-    ensures { IsSetOf result
-        (placed clients (request_more no_tables part.now.row asked.now)) }
-{
-    let _asks = part;
-    let _clients = clients;
-    match asked {
-        Request::GetNameList(_) | Request::Status(_) | Request::Identify => Parts::new(),
+        Request::GetNameList(asked) => {
+            let scope = scope_of(part.client(), &asked.scope)?;
+            let listed = names_in(alloc, tables, &scope, asked)?;
+            Ok(answers(alloc, Answer::GetNameList(listed)))
+        }
+        Request::Status(_) => Ok(answers(alloc, status())),
+        Request::Identify => Ok(answers(alloc, identity(alloc, part)?)),
+        Request::Read(asked) => {
+            let read = tables.variables.read(alloc, part.client(), asked)?;
+            Ok(answers(alloc, Answer::Read(read)))
+        }
+        Request::Write(asked) => write(alloc, tables, part.client(), asked),
+        Request::GetVariableAccessAttributes(asked) => {
+            let told = tables.variables.attributes(alloc, part.client(), asked)?;
+            Ok(answers(alloc, Answer::GetVariableAccessAttributes(told)))
+        }
+        Request::DefineNamedVariable(asked) => define(alloc, tables, part.client(), asked),
+        Request::DeleteVariableAccess(asked) => delete(alloc, tables, part.client(), asked),
+        Request::DefineNamedVariableList(asked) => {
+            define_list(alloc, tables, part.client(), asked)
+        }
+        Request::GetNamedVariableListAttributes(asked) => {
+            let told = tables
+                .variables
+                .list_attributes(alloc, part.client(), asked)?;
+            Ok(answers(alloc, Answer::GetNamedVariableListAttributes(told)))
+        }
+        Request::DeleteNamedVariableList(asked) => {
+            delete_lists(alloc, tables, part.client(), asked)
+        }
     }
 }

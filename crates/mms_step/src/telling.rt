@@ -88,7 +88,7 @@ fn release(held: &mut Hand<Cell>, client: u32)
 }
 
 /// Gives up the room in the parts of all clients.
-fn release_all(held: &mut Hand<Cell>, clients: u32)
+pub(crate) fn release_all(held: &mut Hand<Cell>, clients: u32)
     requires few { clients ≤ 64 }
     ensures { held.new ≡ without_rooms (clients + 1) held.old }
 {

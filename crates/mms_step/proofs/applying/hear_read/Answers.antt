@@ -23,8 +23,8 @@ returns-in-Some-clause-heard c =
     let left = if_some
     (IsActOf c.args.client (row_held c.args.held.now c.args.client) (verdict_read (row_held c.args.held.now c.args.client) c.args.read.now))
     c.in_ok-hear_own.field-0 c.in-Some.act c.in-Some.is c.in_ok-hear_own.ensures.left in
-    on_ok_weaker c.serve.result
+    on_ok_weaker c.finish.result
     (λ put. put
     ∙ ap (λ (h : List (Option Part)). put_in_place cell (act_done (tables_shown cell h) h c.in-Some.act) h) same
     ∙ ap (λ (d : Done Tables Effect). put_in_place cell d c.args.held.now) (left.done (tables_shown cell c.args.held.now) c.args.held.now refl))
-    c.serve.ensures.put
+    c.finish.ensures.put

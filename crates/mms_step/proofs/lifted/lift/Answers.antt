@@ -1,17 +1,22 @@
-use Rattle.std.proofs.Common.{◌∙◌}
-use Rattle.mms_step.specs.Partition.{on_clock}
-use Rattle.mms_step.proofs.Changed.{clock_arm, other_arm, free_changed, no_clock}
+use Rattle.std.proofs.Common.{ℕ, List, Option, ap, ap₂, ◌∙◌, arith}
+use Rattle.std.specs.Option.{option_map}
+use Rattle.part_table.specs.Held.{held_at}
+use Rattle.parted_state.specs.LiftedLaws.{held_else}
+use Rattle.variable_services.specs.declared.tables.VariableTables.{VariableTables}
+use Rattle.mms_step.specs.declared.part.Part.{Part}
+use Rattle.mms_step.specs.Partition.{clock_or, on_clock, variables_in, variables_or}
+use Rattle.mms_step.specs.Tables.{Tables}
 use Rattle.mms_step.proofs.lifted.lift.Goals as goal
 
-pub returns-in_default-clause-left : goal.returns-in_default-clause-left
-returns-in_default-clause-left c = free_changed (on_clock (λ was. 0)) c.args.held.now c.take.new.self 0 c.in_default.ensures.part c.in_default.ensures.left
-
-pub returns-in-Clock-clause-left : goal.returns-in-Clock-clause-left
-returns-in-Clock-clause-left c =
-    clock_arm 0 c.args.held.now c.take.new.self c.put.new.self 0 c.in-Some.part.value c.deref_mut.result.now c.in-Clock.clock c.replace-clock.new.dest
-    c.in-Some.ensures.part c.in-Some.ensures.left c.deref_mut.ensures.value c.in-Clock.is (c.replace-clock.ensures.after ∙ c.no_clock-in-Clock.ensures) c.put.ensures
-
-pub returns-clause-left : goal.returns-clause-left
-returns-clause-left c =
-    other_arm (on_clock (λ was. 0)) c.args.held.now c.take.new.self c.put-2.new.self 0 c.in-Some.part.value c.deref_mut.result.now
-    c.in-Some.ensures.part c.in-Some.ensures.left c.deref_mut.ensures.value (no_clock (λ was. 0) c.deref_mut.result.now c.in_default-deref_mut.not-Clock) c.put-2.ensures
+pub returns-clause-tables : goal.returns-clause-tables
+returns-clause-tables c =
+    ap₂ (λ (n : ℕ) (v : VariableTables). at n v)
+    (c.exchange_clock.ensures.clock ∙ ap (λ (n : ℕ). clock_or n (held_at c.args.held.now 0)) c.new-clock.ensures)
+    (c.exchange_variables.ensures.variables
+    ∙ ap (λ (v : VariableTables). variables_or v (held_at c.exchange_clock.new.held 1)) c.empty-variables.ensures
+    ∙ ap variables_in
+    (ap (λ (h : List (Option Part)). held_at h 1) c.exchange_clock.ensures.part
+    ∙ held_else (option_map (on_clock (λ was. c.new-clock.result))) c.args.held.now 0 1 (λ same. omega (arith, same))))
+  where
+    at : ℕ → VariableTables → Tables
+    at n v = record { now = n; variables = v }

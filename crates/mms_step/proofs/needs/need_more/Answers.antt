@@ -39,11 +39,11 @@ returns-in-Heard c =
 pub returns-in-Lost : goal.returns-in-Lost
 returns-in-Lost c =
     let among = subst (λ (e : CellEvent). IsAmong c.args.clients e) c.in-Lost.is c.requires.among in
-    subst (IsSetOf c.missing.result)
+    subst (IsSetOf c.unheld.result)
     (sym (need_lost c.args.held.now c.in-Lost.client c.args.clients c.client_held-part-in-Lost.result.now c.requires.clients
     (subst (λ (e : CellEvent). missing c.args.held.now (footprint c.args.clients e) ≡ []) c.in-Lost.is c.requires.words) among.0 among.1 c.client_held-part-in-Lost.ensures)
     ∙ ap (λ (e : CellEvent). need e c.args.held.now) (sym c.in-Lost.is))
-    (missing_set c.args.held.now c.loss_asks.result _ c.missing.result c.loss_asks.ensures c.missing.ensures)
+    (missing_set c.args.held.now c.loss_asks.result _ c.unheld.result c.loss_asks.ensures c.unheld.ensures)
 
 pub returns-in-Tick : goal.returns-in-Tick
 returns-in-Tick c =
