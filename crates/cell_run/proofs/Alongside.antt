@@ -7,7 +7,13 @@ use Rattle.mms_types.specs.declared.event.What.{What}
 use Rattle.mms_types.specs.declared.event.CellEvent.{CellEvent}
 use Rattle.mms_types.specs.declared.event.CellEvent.TheVariants.{Heard, Lost, Tick, Ends, Drain}
 use Rattle.cell_config.specs.declared.config.Config.{Config}
+use Rattle.association.specs.declared.negotiation.Association.{Association}
+use Rattle.association.specs.declared.negotiation.Association.TheVariants.{Idle, Open}
+use Rattle.parted_state.specs.Served as parted
+use Rattle.mms_step.specs.Partition.{cell}
+use Rattle.mms_step.specs.Serving.{services, tables_lost}
 use Rattle.mms_step.specs.State.{State, start, last_moment}
+use Rattle.mms_step.specs.Tables.{Tables}
 use Rattle.mms_step.specs.Step.{step, replay, said, outbox_of, MayCome, IsInTime}
 use Rattle.mms_step.proofs.PartsAfter.{length-start, step_still}
 use Rattle.mms_step.proofs.PartsAfter.{step_sized as as_many_clients}
@@ -26,10 +32,18 @@ use Rattle.cell_run.specs.Along.{AreRecorded, along, taken_along, phase_told}
 pub step_sized : (s : State) (e : CellEvent) → length (step s e).clients ≡ length s.clients
 step_sized s e = as_many_clients s e
 
+-- a loss leaves the moment as it is
+lost_still : (a : Association) (client : ℕ) (t : Tables) → (tables_lost a client t).now ≡ t.now
+lost_still Idle client t = refl
+lost_still (Open values) client t = refl
+
 -- as much time as the event takes
 pub step_now : (s : State) (e : CellEvent) → (step s e).now ≡ s.now + ms_in e
 step_now s (Heard client octets) = let still = step_still s client octets in omega (arith, still)
-step_now s (Lost client) = omega arith
+step_now s (Lost client) =
+    let row = parted.row_of cell services s (Lost client) in
+    let still = lost_still row.association row.client (cell.tables_of s) in
+    omega (arith, still)
 step_now s (Tick ms) = refl
 step_now s (Ends name) = omega arith
 step_now s (Drain client) = omega arith
