@@ -24,7 +24,7 @@ use Rattle.token_sem.specs.declared.entry.SemState.TheVariants.{Queued, Owner, H
 use Rattle.mms_time.specs.Deadlines.{expire_after, expired, next_due}
 use Rattle.mms_time.specs.Loss.{lost, lost_grants}
 use Rattle.mms_time.specs.Semaphores.{Rows}
-use Rattle.mms_time.specs.Services.{cancel_after, define_after, define_cause, delete_after, delete_cause, relinquish_after, relinquish_cause, relinquish_grant, take_after, take_cause, take_told}
+use Rattle.mms_time.specs.Services.{cancelled, define_after, define_cause, delete_after, delete_cause, relinquish_after, relinquish_cause, relinquish_grant, take_after, take_cause, take_told}
 use Rattle.mms_time.specs.Statuses.{entry_status_answer, pool_status_cause, status, status_cause}
 use Rattle.mms_time.specs.declared.row.Semaphore.TheVariants.{Token}
 use Rattle.mms_time.specs.declared.row.SemaphoreRow.{SemaphoreRow}
@@ -232,9 +232,9 @@ preempting = refl
 preempted : take_after 3 10 (at 7) naming (take_after 2 10 (at 6) (plain t) kept) ≡ row t_key false 3 (entry 2 2 Queued None ∷ entry 3 3 Owner None ∷ []) ∷ []
 preempted = refl
 
--- client 2 no longer waits
-cancelled : cancel_after t_key 2 waited ≡ row t_key false 2 (entry 1 1 Owner None ∷ []) ∷ []
-cancelled = refl
+-- client 2 no longer waits; an owner doesn't wait, and stays
+waits_no_more : cancelled t_key 2 waited ∷ cancelled t_key 1 waited ∷ [] ≡ (row t_key false 2 (entry 1 1 Owner None ∷ []) ∷ []) ∷ waited ∷ []
+waits_no_more = refl
 
 -- names in order of octets
 named : names_after scope.Vmd None (row u_key false 0 [] ∷ owned) ≡ (84 ∷ []) ∷ (85 ∷ []) ∷ []

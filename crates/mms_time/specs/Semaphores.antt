@@ -1,10 +1,10 @@
 -- The semaphores of a device under their names, in the order in which they were made (ISO 9506-1, semaphore management).
-use Rattle.std.specs.Prelude.{ℕ, List, Option, None, Some, option_and_then}
+use Rattle.std.specs.Prelude.{ℕ, Bool, false, List, Option, None, Some, option_and_then}
 use Rattle.std.specs.Map.{lookup, set_value}
 use Rattle.mms_types.specs.Order.{key_eq, key_of}
 use Rattle.mms_types.specs.declared.key.Key.{Key}
 use Rattle.mms_types.specs.declared.object_name.ObjectName.{ObjectName}
-use Rattle.token_sem.specs.Semaphore.{IsSem, numbered}
+use Rattle.token_sem.specs.Semaphore.{IsSem, is_queued, numbered}
 use Rattle.token_sem.specs.declared.entry.SemEntry.{SemEntry}
 use Rattle.mms_time.specs.declared.row.Semaphore.{Semaphore}
 use Rattle.mms_time.specs.declared.row.Semaphore.TheVariants.{Token}
@@ -31,6 +31,11 @@ IsSound (Token s) = IsSem s
 -- the entry of that number in the semaphore of that name
 abbrev pub entry_in : Key → ℕ → Rows → Option SemEntry
 entry_in key number rows = option_and_then (λ row. numbered number (entries_of row)) (lookup (key_eq key) rows)
+
+-- an entry that is there and waits
+abbrev pub entry_waits : Option SemEntry → Bool
+entry_waits None = false
+entry_waits (Some e) = is_queued e
 
 -- how many entries were made
 abbrev pub made_in : Semaphore → ℕ

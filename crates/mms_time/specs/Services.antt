@@ -16,7 +16,7 @@ use Rattle.object_names.specs.NewName.{new_name}
 use Rattle.token_sem.specs.Semaphore.{after_cancel, after_relinquish, after_take, has_claim, has_token, heir_of, owned_by, owner_of}
 use Rattle.token_sem.specs.declared.entry.Ask.{Ask}
 use Rattle.token_sem.specs.declared.entry.Grant.{Grant}
-use Rattle.mms_time.specs.Semaphores.{Rows, changed, entries_of, semaphore}
+use Rattle.mms_time.specs.Semaphores.{Rows, changed, entries_of, entry_in, entry_waits, semaphore}
 use Rattle.mms_time.specs.declared.row.Semaphore.{Semaphore}
 use Rattle.mms_time.specs.declared.row.Semaphore.TheVariants.{Token}
 use Rattle.mms_time.specs.declared.row.SemaphoreRow.{SemaphoreRow}
@@ -118,6 +118,10 @@ without_entry number (Token s) = Token (after_cancel s number)
 
 abbrev pub cancel_after : Key → ℕ → Rows → Rows
 cancel_after key number rows = changed (without_entry number) key rows
+
+-- where it waits there
+abbrev pub cancelled : Key → ℕ → Rows → Rows
+cancelled key number rows = if entry_waits (entry_in key number rows) then cancel_after key number rows else rows
 
 -- ---- DefineSemaphore, with whether the domain of the name's scope is live
 

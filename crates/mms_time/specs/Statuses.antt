@@ -1,5 +1,5 @@
 -- What a semaphore tells of itself and of its entries (ISO 9506-2, ReportSemaphoreStatus, ReportPoolSemaphoreStatus, ReportSemaphoreEntryStatus).
-use Rattle.std.specs.Prelude.{⊤, All, ℕ, ◌+◌, ◌-◌, ◌≤◌, Bool, true, not, ◌&&◌, nat_lt, List, [], ◌∷◌, take, map, filter, count_by, length, Option, None, Some, is_none, IfSome, option_map}
+use Rattle.std.specs.Prelude.{ℕ, ◌-◌, Bool, true, not, ◌&&◌, nat_le, nat_lt, List, [], ◌∷◌, take, map, filter, count_by, length, Option, None, Some, is_none, option_map, if◌then◌else◌}
 use Rattle.std.specs.Int.{w64, to_be_bytes, from_be_bytes}
 use Rattle.mms_types.specs.Errors.{first_of, object_non_existent, type_inconsistent}
 use Rattle.mms_types.specs.declared.moment.Moment.{Moment}
@@ -69,7 +69,15 @@ comes_after (Some number) e = nat_lt (from_be_bytes w64 number.octets) e.number
 abbrev pub is_listed : EntryState → Option EntryNumber → SemEntry → Bool
 is_listed state after e = is_in_state state e && comes_after after e
 
--- a token of a token semaphore has no name; what is left until the deadline is told in milliseconds
+-- the most milliseconds that an answer tells, in 32 bits
+abbrev pub most_left : ℕ
+most_left = 4294967295
+
+-- what is left until a deadline, in milliseconds
+abbrev pub left_until : Moment → Moment → ℕ
+left_until now at = if nat_le (at.0 - now.0) most_left then at.0 - now.0 else most_left
+
+-- a token of a token semaphore has no name
 abbrev pub entry_status : Moment → SemEntry → EntryStatus
 entry_status now e = record {
   number = to_be_bytes w64 e.number;
@@ -77,7 +85,7 @@ entry_status now e = record {
   client = e.client;
   token = None;
   priority = e.priority;
-  remaining = option_map (λ at. at.0 - now.0) e.deadline;
+  remaining = option_map (left_until now) e.deadline;
   abort = e.abort;
   relinquish = not e.keep;
 }
@@ -96,11 +104,3 @@ entry_statuses now state after entries = record {
 abbrev pub entry_status_answer : ℕ → Moment → ReportSemaphoreEntryStatus → Rows → Option EntryStatuses
 entry_status_answer client now asked rows =
     option_map (λ row. entry_statuses now asked.state asked.after (entries_of row)) (semaphore client asked.name rows)
-
--- a deadline that isn't over, and is no further than the longest time that a request can name
-abbrev pub IsAhead : Moment → SemEntry → Type 0
-IsAhead now e = IfSome e.deadline (λ at. (now.0 ≤ at.0) × (at.0 ≤ now.0 + 4294967295))
-
-abbrev pub AreAhead : Moment → Option SemaphoreRow → Type 0
-AreAhead now None = ⊤
-AreAhead now (Some row) = All (IsAhead now) (entries_of row)

@@ -18,7 +18,7 @@ pub use due::{Due, expire, next_due};
 pub use laws::{
     a_grant_is_as_told, a_take_is_as_told, each_semaphore_is_sound, the_next_deadline_is_the_least,
 };
-pub use losing::lose;
+pub use losing::{lose, lose_told};
 pub use row::{Semaphore, SemaphoreRow};
 pub use status::{
     report_pool_semaphore_status, report_semaphore_entry_status, report_semaphore_status,

@@ -110,6 +110,21 @@ fn grants_of_each(
     Ok(grants)
 }
 
+/// Who is granted a token where a client is lost, by name of semaphore and number of the client's entry. Nothing changes
+/// yet.
+pub fn lose_told(
+    alloc: Global,
+    semaphores: &Named<SemaphoreRow>,
+    client: u32,
+    now: Moment,
+) -> Result<Vec<Grant>, Memory>
+    requires { IsDated now }
+    ensures { IfOk result (λ grants. grants.items ≡ lost_grants client now semaphores.now) }
+{
+    let grants = grants_of_each(alloc, semaphores, client, now)?;
+    Ok(grants)
+}
+
 /// Each semaphore loses a client. What is left where there is no memory isn't said.
 fn lose_each(
     alloc: Global,

@@ -3,7 +3,7 @@
 ghost use Rattle.std.specs.Prelude.{◌≡◌, All, IfOk, None};
 ghost use Rattle.mms_types.specs.Serves.{Serves};
 ghost use Rattle.mms_time.specs.Semaphores.{entries_of, semaphore};
-ghost use Rattle.mms_time.specs.Statuses.{AreAhead, IsAhead, entry_status, entry_status_answer, entry_status_cause, entry_statuses, is_in_state, is_listed, pool_status_cause, status, status_cause, status_in};
+ghost use Rattle.mms_time.specs.Statuses.{entry_status, entry_status_answer, entry_status_cause, entry_statuses, is_in_state, is_listed, left_until, pool_status_cause, status, status_cause, status_in};
 
 use crate::{Semaphore, SemaphoreRow};
 use mms_types::{
@@ -100,20 +100,30 @@ fn is_listed(entry: &SemEntry, state: EntryState, after: Option<EntryNumber>) ->
     }
 }
 
+/// How many milliseconds are left until that moment, and at most as many as 32 bits tell.
+fn left_until(now: Moment, at: Moment) -> u32
+    ensures { result ≡ left_until now at }
+{
+    let left = at.0.saturating_sub(now.0);
+    if left <= u64::from(u32::MAX) {
+        left as u32
+    } else {
+        u32::MAX
+    }
+}
+
 /// How many milliseconds are left until the deadline.
 fn remaining(entry: &SemEntry, now: Moment) -> Option<u32>
-    requires { IsAhead now entry.now }
     ensures { result ≡ (entry_status now entry.now).remaining }
 {
     match entry.deadline {
         None => None,
-        Some(at) => Some((at.0 - now.0) as u32),
+        Some(at) => Some(left_until(now, at)),
     }
 }
 
 /// What is told of an entry.
 fn entry_status(alloc: Global, entry: &SemEntry, now: Moment) -> Result<EntryStatus, Memory>
-    requires { IsAhead now entry.now }
     ensures { IfOk result (λ told. told ≡ entry_status now entry.now) }
 {
     Ok(EntryStatus {
@@ -137,7 +147,6 @@ fn entry_statuses(
     state: EntryState,
     after: Option<EntryNumber>,
 ) -> Result<EntryStatuses, Memory>
-    requires { All (IsAhead now) entries.now }
     ensures { IfOk result (λ told. told ≡ entry_statuses now state after entries.now) }
 {
     let mut list = Listed::new(alloc);
@@ -168,7 +177,6 @@ pub fn report_semaphore_entry_status(
     now: Moment,
     asked: &ReportSemaphoreEntryStatus,
 ) -> Result<EntryStatuses, Refuse>
-    requires ahead { AreAhead now (semaphore client asked.now.name semaphores.now) }
     ensures { Serves result (entry_status_cause client asked.now semaphores.now)
         (entry_status_answer client now asked.now semaphores.now) }
 {

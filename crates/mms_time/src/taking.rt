@@ -1,12 +1,12 @@
 //! TakeControl, RelinquishControl, and Cancel of a TakeControl.
 
-ghost use Rattle.std.specs.Prelude.{◌≡◌, ◌^◌, ◌<◌, OnErr, OnOk, Some, is_none, option_map, true};
+ghost use Rattle.std.specs.Prelude.{◌≡◌, IfOk, OnErr, OnOk, Some, is_none, option_map, true};
 ghost use Rattle.mms_types.specs.Errors.{first_of};
 ghost use Rattle.mms_types.specs.Moments.{IsDated};
 ghost use Rattle.mms_types.specs.Serves.{Serves};
 ghost use Rattle.token_sem.specs.Semaphore.{is_queued, numbered};
-ghost use Rattle.mms_time.specs.Semaphores.{changed_row, entries_of, entry_in, made_in, made_of, semaphore};
-ghost use Rattle.mms_time.specs.Services.{ask_of, cancel_after, relinquish_cause, relinquish_conditions_in, relinquish_grant, relinquish_grant_in, relinquished, take_after, take_cause, take_conditions_in, take_told, take_told_in, with_take, with_token_back, without_entry};
+ghost use Rattle.mms_time.specs.Semaphores.{changed_row, entries_of, entry_in, entry_waits};
+ghost use Rattle.mms_time.specs.Services.{ask_of, cancel_after, cancelled, relinquish_cause, relinquish_conditions_in, relinquish_grant, relinquish_grant_in, relinquished, take_after, take_cause, take_conditions_in, take_told, take_told_in, with_take, with_token_back, without_entry};
 
 use crate::{Semaphore, SemaphoreRow};
 use mms_types::{
@@ -14,7 +14,8 @@ use mms_types::{
 };
 use object_names::Named;
 use std::alloc::Global;
-use token_sem::{Ask, Grant, TakeRefused, TokenSem};
+use token_sem::entries::numbered;
+use token_sem::{Ask, Grant, SemEntry, TakeRefused, TokenSem};
 
 /// What comes of a TakeControl that is not refused.
 #[derive(Debug, PartialEq, Eq, Drop)]
@@ -45,17 +46,21 @@ fn take_cause(semaphore: &Semaphore, client: u32, asked: &TakeControl) -> Option
     }
 }
 
+/// As many entries as a semaphore has numbers for. That it made so many counts as want of memory.
+const MOST_MADE: u64 = 1 << 63;
+
 /// Whether the client has a token or waits.
-fn take_told(semaphore: &Semaphore, asked: &TakeControl) -> TakeDone
-    requires { made_in semaphore.now < 2 ^ 63 }
-    ensures { result ≡ take_told_in asked.now semaphore.now }
+fn take_told(semaphore: &Semaphore, asked: &TakeControl) -> Result<TakeDone, Memory>
+    ensures { IfOk result (λ done. done ≡ take_told_in asked.now semaphore.now) }
 {
     match semaphore {
         Semaphore::Token(tokens) => {
             if tokens.has_token(asked.preempt) {
-                TakeDone::Answered(TakeControlAnswer::NoResult)
+                Ok(TakeDone::Answered(TakeControlAnswer::NoResult))
+            } else if tokens.made() < MOST_MADE {
+                Ok(TakeDone::Waits(tokens.made() + 1))
             } else {
-                TakeDone::Waits(tokens.made() + 1)
+                Err(Memory)
             }
         }
     }
@@ -70,7 +75,6 @@ pub fn take_control_told(
     client: u32,
     asked: &TakeControl,
 ) -> Result<TakeDone, Refuse>
-    requires { made_of (semaphore client asked.now.name semaphores.now) < 2 ^ 63 }
     ensures { Serves result (take_cause client asked.now semaphores.now)
         (take_told client asked.now semaphores.now) }
 {
@@ -79,7 +83,7 @@ pub fn take_control_told(
     };
     match take_cause(&row.semaphore, client, asked) {
         Some(error) => Err(Refuse::Service(error)),
-        None => Ok(take_told(&row.semaphore, asked)),
+        None => Ok(take_told(&row.semaphore, asked)?),
     }
 }
 
@@ -104,16 +108,20 @@ impl SemaphoreRow {
     /// A token is asked for.
     fn take(&mut self, ask: &Ask, now: Moment) -> Result<(), Memory>
         requires unnamed { is_none ask.now.token ≡ true }
-        requires made { made_in self.old.semaphore < 2 ^ 63 }
         requires now { IsDated now }
         ensures taken { OnOk result (self.new ≡ changed_row (with_take ask.now now) self.old) }
         ensures kept { OnErr result (self.new ≡ self.old) }
     {
         match &mut self.semaphore {
-            Semaphore::Token(tokens) => match tokens.take(ask, now) {
-                Err(TakeRefused::Memory) => Err(Memory),
-                _ => Ok(()),
-            },
+            Semaphore::Token(tokens) => {
+                if tokens.made() >= MOST_MADE {
+                    return Err(Memory);
+                }
+                match tokens.take(ask, now) {
+                    Err(TakeRefused::Memory) => Err(Memory),
+                    _ => Ok(()),
+                }
+            }
         }
     }
 
@@ -150,7 +158,6 @@ pub fn take_control(
     now: Moment,
     asked: &TakeControl,
 ) -> Result<(), Memory>
-    requires made { made_of (semaphore client asked.now.name semaphores.old) < 2 ^ 63 }
     requires now { IsDated now }
     ensures taken { OnOk result
         (semaphores.new ≡ take_after client invoke now asked.now semaphores.old) }
@@ -225,12 +232,42 @@ pub fn relinquish_control(semaphores: &mut Named<SemaphoreRow>, key: &Key, clien
     }
 }
 
-/// Takes a queued entry out of the semaphore of that name (ISO 9506-1, Cancel of a TakeControl). It takes no memory.
-pub fn cancel_take(semaphores: &mut Named<SemaphoreRow>, key: &Key, entry: u64)
+/// Whether the entry of that number is there and waits.
+fn waits(entries: &[SemEntry], number: u64) -> bool
+    ensures { result ≡ entry_waits (numbered number entries.now) }
+{
+    match numbered(number, entries) {
+        None => false,
+        Some(entry) => entry.is_queued(),
+    }
+}
+
+/// Whether the entry of that number waits in the semaphore of that name.
+fn waits_at(semaphores: &Named<SemaphoreRow>, key: &Key, entry: u64) -> bool
+    ensures { result ≡ entry_waits (entry_in key.now entry semaphores.now) }
+{
+    match semaphores.get(key) {
+        None => false,
+        Some(row) => waits(row.entries(), entry),
+    }
+}
+
+/// Takes a queued entry out of the semaphore of that name.
+fn cancel_entry(semaphores: &mut Named<SemaphoreRow>, key: &Key, entry: u64)
     requires { option_map is_queued (entry_in key.now entry semaphores.old) ≡ Some true }
     ensures { semaphores.new ≡ cancel_after key.now entry semaphores.old }
 {
     if let Some(row) = semaphores.get_mut(key) {
         row.cancel(entry);
+    }
+}
+
+/// Takes the entry of that number out of the semaphore of that name, where it waits there (ISO 9506-1, Cancel of a
+/// TakeControl). It takes no memory.
+pub fn cancel_take(semaphores: &mut Named<SemaphoreRow>, key: &Key, entry: u64)
+    ensures { semaphores.new ≡ cancelled key.now entry semaphores.old }
+{
+    if waits_at(semaphores, key, entry) {
+        cancel_entry(semaphores, key, entry);
     }
 }
