@@ -1,0 +1,4 @@
+pub mod Meant
+pub mod Settling
+pub mod Sound
+pub mod Ticks

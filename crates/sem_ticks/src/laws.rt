@@ -1,0 +1,61 @@
+//! Laws of time. Each function has no body: its contract is the law.
+
+ghost use Rattle.std.specs.Prelude.{◌≡◌, ◌≤◌, ℕ, Bool, None, []};
+ghost use Rattle.mms_types.specs.declared.key.Key.{Key};
+ghost use Rattle.mms_types.specs.declared.semaphore.DefineSemaphore.{DefineSemaphore};
+ghost use Rattle.mms_types.specs.declared.semaphore.TakeControl.{TakeControl};
+ghost use Rattle.mms_time.specs.Loss.{lost};
+ghost use Rattle.mms_time.specs.Services.{cancelled, define_after, define_cause, deleted, relinquished, take_after};
+ghost use Rattle.mms_types.specs.declared.moment.Moment.{Moment};
+ghost use Rattle.mms_time.specs.Semaphores.{Rows};
+ghost use Rattle.sem_ticks.specs.Sound.{AreSound, LieAhead};
+ghost use Rattle.sem_ticks.specs.Ticks.{ticked, ticked_on, Ticking};
+
+/// Time that goes by up to one moment and then up to a later one is time that goes by up to the later: the same happens in
+/// the same order, and the semaphores are the same.
+pub fn two_ticks_are_one()
+    ensures { (first later : Moment) (s : Ticking) → first.0 ≤ later.0
+        → ticked_on later (ticked_on first s) ≡ ticked_on later s }
+{}
+
+/// Every deadline lies ahead at any time: after a tick it lies after the moment to which time went by, and what a
+/// request, a cancel or a loss does at a moment leaves each after that.
+pub fn every_deadline_lies_ahead()
+    ensures none { (now : Moment) → LieAhead now [] }
+    ensures taken { (now : Moment) (client invoke : ℕ) (asked : TakeControl) (rows : Rows)
+        → LieAhead now rows → LieAhead now (take_after client invoke now asked rows) }
+    ensures relinquished { (now : Moment) (key : Key) (client : ℕ) (rows : Rows)
+        → LieAhead now rows → LieAhead now (relinquished key client now rows) }
+    ensures cancelled { (now : Moment) (key : Key) (number : ℕ) (rows : Rows)
+        → LieAhead now rows → LieAhead now (cancelled key number rows) }
+    ensures defined { (now : Moment) (client : ℕ) (asked : DefineSemaphore) (rows : Rows)
+        → LieAhead now rows → LieAhead now (define_after client asked rows) }
+    ensures deleted { (now : Moment) (key : Key) (rows : Rows)
+        → LieAhead now rows → LieAhead now (deleted key rows) }
+    ensures lost { (now : Moment) (client : ℕ) (rows : Rows)
+        → LieAhead now rows → LieAhead now (lost client now rows) }
+    ensures ticked { (until : Moment) (rows : Rows)
+        → AreSound rows → LieAhead until (ticked until rows).rows }
+{}
+
+/// Of the semaphores of a device it holds at any time that each has a name of its own, that its entries are distinct and in
+/// order of number, that no more tokens are owned or hung than there are, and that where one is free no entry waits: it
+/// holds where there is none, and whatever a request, a cancel, a loss or time does keeps it. So no token is owned twice,
+/// and no free token is waited for, after any of them.
+pub fn the_semaphores_stay_sound()
+    ensures none { AreSound [] }
+    ensures taken { (client invoke : ℕ) (now : Moment) (asked : TakeControl) (rows : Rows)
+        → AreSound rows → AreSound (take_after client invoke now asked rows) }
+    ensures relinquished { (key : Key) (client : ℕ) (now : Moment) (rows : Rows)
+        → AreSound rows → AreSound (relinquished key client now rows) }
+    ensures cancelled { (key : Key) (number : ℕ) (rows : Rows)
+        → AreSound rows → AreSound (cancelled key number rows) }
+    ensures defined { (live : Bool) (client : ℕ) (asked : DefineSemaphore) (rows : Rows)
+        → define_cause live client asked rows ≡ None
+        → AreSound rows → AreSound (define_after client asked rows) }
+    ensures deleted { (key : Key) (rows : Rows) → AreSound rows → AreSound (deleted key rows) }
+    ensures lost { (client : ℕ) (now : Moment) (rows : Rows)
+        → AreSound rows → AreSound (lost client now rows) }
+    ensures ticked { (until : Moment) (rows : Rows)
+        → AreSound rows → AreSound (ticked until rows).rows }
+{}

@@ -1,0 +1,9 @@
+//! Time goes by for the semaphores of a device (ISO 9506-1, TakeControl): every deadline up to a moment is met at its
+//! own moment, one after the other, also those that arise meanwhile.
+#![tactic(auto)]
+
+mod laws;
+mod ticks;
+
+pub use laws::{every_deadline_lies_ahead, the_semaphores_stay_sound, two_ticks_are_one};
+pub use ticks::{Happening, Ticked, tick};

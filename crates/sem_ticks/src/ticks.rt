@@ -1,0 +1,158 @@
+//! Deadlines are met, one after the other.
+
+ghost use Rattle.std.specs.Prelude.{◌≡◌, ◌++◌, ◌∷◌, ◌≤◌, [], map, option_map, IfOk, IfSome, OnOk, Some};
+ghost use Rattle.mms_types.specs.Moments.{IsDated};
+ghost use Rattle.mms_time.specs.Deadlines.{NamedDeadline, deadline_in, next_due};
+ghost use Rattle.mms_time.specs.Loss.{lost, lost_grants};
+ghost use Rattle.sem_ticks.specs.Meant.{next_meant, state_of};
+ghost use Rattle.sem_ticks.specs.Ticks.{abort_told, after_abort, expiry_told, met, ticked};
+
+use mms_time::{SemaphoreRow, expire, lose, next_due};
+use mms_types::{Key, Memory, Moment};
+use object_names::Named;
+use std::alloc::Global;
+use token_sem::{Expired, Grant};
+
+/// What happens where a deadline is met.
+#[derive(Clone, Copy, Debug, PartialEq, Eq)]
+pub enum Happening {
+    /// The acceptable delay of a request for a token ends: the client waits no more for the answer of that invokeID.
+    WaitEnds {
+        client: u32,
+        invoke: u32,
+    },
+    /// A token is granted to an entry that waited.
+    Grants(Grant),
+    /// The time of control of a client of that number ends, and its association is aborted: it is lost.
+    Aborts(u32),
+}
+
+/// Semaphores after some time, and what happened meanwhile, in order.
+#[derive(Drop)]
+pub struct Ticked {
+    /// The semaphores.
+    pub semaphores: Named<SemaphoreRow>,
+    /// What happened.
+    pub happened: Vec<Happening>,
+}
+
+/// A deadline, with a name of its own.
+#[derive(Drop)]
+struct Next {
+    at: Moment,
+    kind: u8,
+    key: Key,
+    entry: u64,
+}
+
+/// The least deadline, where it is at most that moment.
+fn next_of(
+    alloc: Global,
+    semaphores: &Named<SemaphoreRow>,
+    until: Moment,
+) -> Result<Option<Next>, Memory>
+    ensures least { IfOk result (λ next.
+        option_map next_meant next ≡ next_due until semaphores.now) }
+    ensures stands { IfOk result (λ next. IfSome next (λ d.
+        deadline_in d.key d.entry semaphores.now ≡ Some d.at)) }
+{
+    match next_due(semaphores, until) {
+        None => Ok(None),
+        Some(due) => Ok(Some(Next {
+            at: due.at,
+            kind: due.kind,
+            key: due.key.copy(alloc)?,
+            entry: due.entry,
+        })),
+    }
+}
+
+/// Tells what became of an entry whose deadline was met.
+fn tell_expiry(happened: &mut Vec<Happening>, expired: &Expired) -> Result<(), Memory>
+    ensures { OnOk result
+        (happened.new.items ≡ happened.old.items ++ expiry_told expired.now) }
+{
+    if expired.waited {
+        let client = expired.client;
+        let invoke = expired.invoke;
+        happened.push(Happening::WaitEnds { client, invoke })?;
+    } else if let Some(grant) = expired.grant {
+        happened.push(Happening::Grants(grant))?;
+    }
+    Ok(())
+}
+
+/// Tells who is granted a token.
+fn tell_grants(happened: &mut Vec<Happening>, grants: &[Grant]) -> Result<(), Memory>
+    ensures { OnOk result
+        (happened.new.items ≡ happened.old.items ++ map Happening.Grants grants.now) }
+{
+    for grant in grants {
+        happened.push(Happening::Grants(*grant))?;
+    }
+    Ok(())
+}
+
+/// Aborts the association of a client, which is lost, where that is to be done.
+fn abort(
+    alloc: Global,
+    semaphores: &mut Named<SemaphoreRow>,
+    happened: &mut Vec<Happening>,
+    aborts: bool,
+    client: u32,
+    now: Moment,
+) -> Result<(), Memory>
+    requires { IsDated now }
+    ensures rows { OnOk result (semaphores.new ≡ after_abort aborts client now semaphores.old) }
+    ensures told { OnOk result (happened.new.items
+        ≡ happened.old.items ++ abort_told aborts client now semaphores.old) }
+{
+    if !aborts {
+        return Ok(());
+    }
+    happened.push(Happening::Aborts(client))?;
+    let grants = lose(alloc, semaphores, client, now)?;
+    tell_grants(happened, grants.as_slice())
+}
+
+/// Meets a deadline.
+fn meet(alloc: Global, ticked: &mut Ticked, next: &Next) -> Result<(), Memory>
+    requires stands { deadline_in next.now.key next.now.entry ticked.old.semaphores
+        ≡ Some next.now.at }
+    requires dated { IsDated next.now.at }
+    ensures { OnOk result (met (state_of ticked.old) (next_meant next.now)
+        ≡ Some (state_of ticked.new)) }
+{
+    let expired = expire(&mut ticked.semaphores, &next.key, next.entry, next.at);
+    tell_expiry(&mut ticked.happened, &expired)?;
+    abort(
+        alloc,
+        &mut ticked.semaphores,
+        &mut ticked.happened,
+        expired.abort,
+        expired.client,
+        next.at,
+    )
+}
+
+/// Lets time go by up to a moment (ISO 9506-1, TakeControl, acceptableDelay, controlTimeOut and abortOnTimeOut): every
+/// deadline that is at most that moment is met at its own moment, one after the other, also those that arise meanwhile;
+/// of one moment control time-outs come before acceptable delays, then they come by name, then by the entry's number.
+/// The semaphores given stay as they are; the one refusal is want of memory.
+pub fn tick(
+    alloc: Global,
+    semaphores: &Named<SemaphoreRow>,
+    until: Moment,
+) -> Result<Ticked, Memory>
+    requires { IsDated until }
+    ensures { IfOk result (λ t. state_of t ≡ ticked until semaphores.now) }
+{
+    let mut ticked = Ticked {
+        semaphores: semaphores.copy(alloc)?,
+        happened: Vec::new(alloc),
+    };
+    while let Some(next) = next_of(alloc, &ticked.semaphores, until)? {
+        meet(alloc, &mut ticked, &next)?;
+    }
+    Ok(ticked)
+}
