@@ -7,7 +7,7 @@ use mms_types::{Pdu, Request};
 
 /// How deep the data and the type of a request nest: the data that is written, and the type of a variable that is
 /// defined.
-fn request_depth(request: &Request) -> u8
+pub(crate) fn request_depth(request: &Request) -> u8
     ensures { result ≡ request_depth request.now }
 {
     match request {

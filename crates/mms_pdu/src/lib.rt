@@ -12,6 +12,6 @@ mod writing;
 pub use ber_core::Writer;
 pub use laws::{hears_each_form, spells_each_asking};
 pub use mms_types::{Edition, Memory, Pdu};
-pub use reading::{Read, read_pdu};
+pub use reading::{Read, read_pdu, read_pdu_to};
 pub use refusal::{Refusal, reject_for};
-pub use writing::{put_pdu, write_pdu};
+pub use writing::{put_answer, put_pdu, write_pdu};

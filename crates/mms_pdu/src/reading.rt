@@ -1,8 +1,8 @@
 //! What a client sends.
 
-ghost use Rattle.std.specs.Prelude.{◌≡◌, ◌==◌, ◌&&◌, nat_le, Ok, Err, IfOk};
+ghost use Rattle.std.specs.Prelude.{◌≡◌, ◌==◌, ◌&&◌, nat_le, true, false, Ok, Err, IfOk, IsErr};
 ghost use Rattle.ber_core.specs.Part.{part};
-ghost use Rattle.ber_forms.specs.Reading.{Gives, has_tag, alternatives};
+ghost use Rattle.ber_forms.specs.Reading.{Gives, is_tag, has_tag, alternatives};
 ghost use Rattle.pdu_names.specs.Editions.{lengths_of};
 ghost use Rattle.mms_pdu.specs.Pdus.{pdu_value};
 ghost use Rattle.mms_pdu.specs.Heard.{IsHeard, pdu_heard};
@@ -11,7 +11,7 @@ ghost use Rattle.mms_pdu.specs.Hearing.{Hears, is_pdu, kept_pdus, noted_pdus, va
 
 use crate::depth::depth;
 use crate::refusal::Refusal;
-use crate::request::{asked, request, sole};
+use crate::request::{asked, sole, tell_request};
 use crate::response::response;
 use ber_core::{Element, Tag};
 use ber_forms::{Unread, has_tag};
@@ -19,6 +19,7 @@ use mms_types::{Edition, Pdu};
 use pdu_assoc::{HeardErrors, InitiateRequest, read_heard_reject};
 use pdu_names::{Formed, Null, Unsigned32, cursor};
 use std::alloc::Global;
+use std::mem;
 
 /// A PDU that a client sent.
 #[derive(Debug, PartialEq, Eq, Drop)]
@@ -80,16 +81,35 @@ fn invalid(unread: Unread) -> Refusal
     }
 }
 
-/// What the contents of a confirmed-Request are.
-fn confirmed(alloc: Global, contents: &[u8], edition: Edition) -> Result<Pdu, Refusal>
-    ensures told { Hears pdu_value result
+/// Tells what was read in the place of a refusal, which holds no memory that were to be given back. A PDU is large, and
+/// what reads one puts it where it stays.
+#[inline(always)]
+pub(crate) fn tell(told: &mut Result<Read, Refusal>, read: Result<Read, Refusal>)
+    requires { IsErr told.old }
+    ensures { told.new ≡ read }
+{
+    mem::forget(mem::replace(told, read));
+}
+
+/// Tells what the contents of a confirmed-Request are.
+fn tell_confirmed(
+    alloc: Global,
+    contents: &[u8],
+    edition: Edition,
+    told: &mut Result<Read, Refusal>,
+)
+    requires { IsErr told.old }
+    ensures told { Hears (λ r. pdu_value r.pdu) told.new
         (and_then (valid (asked_at (lengths_of edition) contents.now))
         (request_told (lengths_of edition) edition)) }
-    ensures client { IfOk result IsHeard }
+    ensures client { IfOk told.new (λ r. IsHeard r.pdu) }
+    ensures depth { IfOk told.new (λ r. r.depth ≡ depth_of r.pdu) }
 {
     match asked(contents, edition) {
-        Ok((invoke, modified, service)) => request(alloc, invoke, modified, service, edition),
-        Err(unread) => Err(invalid(unread)),
+        Ok((invoke, modified, service)) => {
+            tell_request(alloc, invoke, modified, service, edition, told);
+        }
+        Err(unread) => tell(told, Err(invalid(unread))),
     }
 }
 
@@ -117,19 +137,17 @@ fn other(alloc: Global, element: Element<'_>, edition: Edition) -> Result<Pdu, R
     }
 }
 
-/// What an element is.
+/// What an element is that is a PDU's and no confirmed-Request.
 #[tactic(auto, unfolding(crate::specs::Hearing::part_told))]
-fn element(alloc: Global, element: Element<'_>, edition: Edition) -> Result<Pdu, Refusal>
+fn unasked(alloc: Global, element: Element<'_>, edition: Edition) -> Result<Pdu, Refusal>
+    requires pdu { is_pdu element.tag ≡ true }
+    requires unasked { is_tag 2 true 0 element.tag ≡ false }
     ensures told { Hears pdu_value result
         (part_told (lengths_of edition) edition (part element.entry)) }
     ensures client { IfOk result IsHeard }
 {
     let tag = element.tag;
-    if !is_pdu(tag) {
-        Err(Refusal::UnknownType)
-    } else if has_tag(tag, Tag::constructed(0)) {
-        confirmed(alloc, element.contents, edition)
-    } else if has_tag(tag, Tag::constructed(4)) {
+    if has_tag(tag, Tag::constructed(4)) {
         rejected(alloc, element.contents, edition)
     } else if is_noted(tag) {
         Ok(Pdu::HeardOther)
@@ -138,23 +156,89 @@ fn element(alloc: Global, element: Element<'_>, edition: Edition) -> Result<Pdu,
     }
 }
 
-/// What all the octets are.
+/// Tells what an element is that is a PDU's and no confirmed-Request.
+#[inline(never)]
+fn tell_unasked(
+    alloc: Global,
+    element: Element<'_>,
+    edition: Edition,
+    told: &mut Result<Read, Refusal>,
+)
+    requires pdu { is_pdu element.tag ≡ true }
+    requires unasked { is_tag 2 true 0 element.tag ≡ false }
+    requires fresh { IsErr told.old }
+    ensures told { Hears (λ r. pdu_value r.pdu) told.new
+        (part_told (lengths_of edition) edition (part element.entry)) }
+    ensures client { IfOk told.new (λ r. IsHeard r.pdu) }
+    ensures depth { IfOk told.new (λ r. r.depth ≡ depth_of r.pdu) }
+{
+    match unasked(alloc, element, edition) {
+        Ok(pdu) => {
+            let depth = depth(&pdu);
+            tell(told, Ok(Read { pdu, depth }));
+        }
+        Err(refusal) => tell(told, Err(refusal)),
+    }
+}
+
+/// Tells what an element is.
+#[tactic(auto, unfolding(crate::specs::Hearing::part_told))]
+fn tell_element(
+    alloc: Global,
+    element: Element<'_>,
+    edition: Edition,
+    told: &mut Result<Read, Refusal>,
+)
+    requires { IsErr told.old }
+    ensures told { Hears (λ r. pdu_value r.pdu) told.new
+        (part_told (lengths_of edition) edition (part element.entry)) }
+    ensures client { IfOk told.new (λ r. IsHeard r.pdu) }
+    ensures depth { IfOk told.new (λ r. r.depth ≡ depth_of r.pdu) }
+{
+    let tag = element.tag;
+    if !is_pdu(tag) {
+        tell(told, Err(Refusal::UnknownType));
+    } else if has_tag(tag, Tag::constructed(0)) {
+        tell_confirmed(alloc, element.contents, edition, told);
+    } else {
+        tell_unasked(alloc, element, edition, told);
+    }
+}
+
+/// Tells what all the octets are.
 #[tactic(auto, unfolding(crate::specs::Hearing::heard))]
-fn whole(alloc: Global, octets: &[u8], edition: Edition) -> Result<Pdu, Refusal>
-    ensures told { Hears pdu_value result (heard (lengths_of edition) edition octets.now) }
-    ensures client { IfOk result IsHeard }
+fn tell_whole(alloc: Global, octets: &[u8], edition: Edition, told: &mut Result<Read, Refusal>)
+    requires { IsErr told.old }
+    ensures told { Hears (λ r. pdu_value r.pdu) told.new
+        (heard (lengths_of edition) edition octets.now) }
+    ensures client { IfOk told.new (λ r. IsHeard r.pdu) }
+    ensures depth { IfOk told.new (λ r. r.depth ≡ depth_of r.pdu) }
 {
     let mut parts = cursor(edition, octets);
     match sole(&mut parts, edition) {
-        Ok(part) => element(alloc, part, edition),
-        Err(unread) => Err(invalid(unread)),
+        Ok(part) => tell_element(alloc, part, edition, told),
+        Err(unread) => tell(told, Err(invalid(unread))),
     }
+}
+
+/// What `read_pdu` answers, told in the place of a refusal, so that a PDU isn't moved.
+#[inline(never)]
+#[tactic(auto, using(crate::proofs::HeardAgain::pdu_again))]
+pub fn read_pdu_to(alloc: Global, octets: &[u8], edition: Edition, told: &mut Result<Read, Refusal>)
+    requires { IsErr told.old }
+    ensures heard { Hears (λ r. pdu_value r.pdu) told.new
+        (heard (lengths_of edition) edition octets.now) }
+    ensures pdu { Hears (λ r. r.pdu) told.new (pdu_heard edition octets.now) }
+    ensures refused { RefusesFirst (lengths_of edition) edition octets.now told.new }
+    ensures client { IfOk told.new (λ r. IsHeard r.pdu) }
+    ensures depth { IfOk told.new (λ r. r.depth ≡ depth_of r.pdu) }
+{
+    tell_whole(alloc, octets, edition, told);
 }
 
 /// The PDU that a client's octets are (ISO 9506-2, MMSpdu), and how deep the data and the type of a request nest.
 /// Each refusal comes exactly where it is the first that applies, in the order of the variants of `Refusal`. Names of
 /// a request, and names and texts of an answer, are copied.
-#[tactic(auto, using(crate::proofs::HeardAgain::pdu_again))]
 pub fn read_pdu(alloc: Global, octets: &[u8], edition: Edition) -> Result<Read, Refusal>
     ensures heard { Hears (λ r. pdu_value r.pdu) result
         (heard (lengths_of edition) edition octets.now) }
@@ -163,7 +247,7 @@ pub fn read_pdu(alloc: Global, octets: &[u8], edition: Edition) -> Result<Read, 
     ensures client { IfOk result (λ r. IsHeard r.pdu) }
     ensures depth { IfOk result (λ r. r.depth ≡ depth_of r.pdu) }
 {
-    let pdu = whole(alloc, octets, edition)?;
-    let depth = depth(&pdu);
-    Ok(Read { pdu, depth })
+    let mut told = Err(Refusal::Memory);
+    read_pdu_to(alloc, octets, edition, &mut told);
+    told
 }

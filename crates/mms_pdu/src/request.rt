@@ -1,6 +1,6 @@
 //! confirmed-Request: what is asked for, and its argument.
 
-ghost use Rattle.std.specs.Prelude.{◌≡◌, ◌++◌, Ok, Err, Some, OnOk, OnErr, IfOk};
+ghost use Rattle.std.specs.Prelude.{◌≡◌, ◌++◌, false, Ok, Err, Some, OnOk, OnErr, IfOk, IsErr};
 ghost use Rattle.ber_core.specs.Part.{part};
 ghost use Rattle.ber_forms.specs.ByNumber.{form_at, read_as};
 ghost use Rattle.ber_forms.specs.Reading.{Gives};
@@ -12,8 +12,10 @@ ghost use Rattle.pdu_names.specs.Editions.{lengths_of};
 ghost use Rattle.mms_pdu.specs.Services.{requests};
 ghost use Rattle.mms_pdu.specs.Pdus.{pdu_value};
 ghost use Rattle.mms_pdu.specs.Heard.{IsHeard};
-ghost use Rattle.mms_pdu.specs.Hearing.{Hears, sole_part, service_of, asked_at, asking, argued, served, request_told};
+ghost use Rattle.mms_pdu.specs.Hearing.{Hears, sole_part, service_of, asked_at, asking, argued, served, request_told, request_depth, depth_of};
 
+use crate::depth::request_depth;
+use crate::reading::{Read, tell};
 use crate::refusal::Refusal;
 use ber_core::{Element, Memory as Full, Tag, Writer};
 use ber_forms::{Cursor, Unread};
@@ -134,24 +136,88 @@ fn served(
     }
 }
 
-/// The request that is asked for, or why it is refused.
+/// Tells that this is asked for.
+#[inline(always)]
+fn tell_asked(invoke: u32, request: Request, told: &mut Result<Read, Refusal>)
+    requires { IsErr told.old }
+    ensures { told.new ≡ Ok (record {
+      pdu = Pdu.ConfirmedRequest invoke request;
+      depth = request_depth request;
+    }) }
+{
+    let depth = request_depth(&request);
+    let pdu = Pdu::ConfirmedRequest { invoke, request };
+    tell(told, Ok(Read { pdu, depth }));
+}
+
+/// Tells the request of a service, or why it is refused.
+#[inline(never)]
 #[tactic(auto, unfolding(crate::specs::Hearing::request_told))]
-pub(crate) fn request(
+fn tell_served(
+    alloc: Global,
+    invoke: u32,
+    service: Element<'_>,
+    edition: Edition,
+    told: &mut Result<Read, Refusal>,
+)
+    requires { IsErr told.old }
+    ensures told { Hears (λ r. pdu_value r.pdu) told.new
+        (request_told (lengths_of edition) edition (asking invoke false (part service.entry))) }
+    ensures client { IfOk told.new (λ r. IsHeard r.pdu) }
+    ensures depth { IfOk told.new (λ r. r.depth ≡ depth_of r.pdu) }
+{
+    match served(alloc, invoke, service, edition) {
+        Ok(request) => tell_asked(invoke, request, told),
+        Err(refusal) => tell(told, Err(refusal)),
+    }
+}
+
+/// Tells the request for the status of the device, as `tell_served` does.
+#[tactic(auto, unfolding(crate::specs::Hearing::request_told, crate::specs::Services::requests))]
+fn tell_status(
+    alloc: Global,
+    invoke: u32,
+    service: Element<'_>,
+    edition: Edition,
+    told: &mut Result<Read, Refusal>,
+)
+    requires status { service.tag.number ≡ 0 }
+    requires fresh { IsErr told.old }
+    ensures told { Hears (λ r. pdu_value r.pdu) told.new
+        (request_told (lengths_of edition) edition (asking invoke false (part service.entry))) }
+    ensures client { IfOk told.new (λ r. IsHeard r.pdu) }
+    ensures depth { IfOk told.new (λ r. r.depth ≡ depth_of r.pdu) }
+{
+    match argument::<StatusRequest>(alloc, invoke, service, edition) {
+        Ok(x) => tell_asked(invoke, Request::Status(x), told),
+        Err(refusal) => tell(told, Err(refusal)),
+    }
+}
+
+/// Tells the request that is asked for, or why it is refused. What is asked most has a way of its own, on which no
+/// other request is made room for.
+#[tactic(auto, unfolding(crate::specs::Hearing::request_told))]
+pub(crate) fn tell_request(
     alloc: Global,
     invoke: u32,
     modified: bool,
     service: Element<'_>,
     edition: Edition,
-) -> Result<Pdu, Refusal>
-    ensures told { Hears pdu_value result
+    told: &mut Result<Read, Refusal>,
+)
+    requires { IsErr told.old }
+    ensures told { Hears (λ r. pdu_value r.pdu) told.new
         (request_told (lengths_of edition) edition (asking invoke modified (part service.entry))) }
-    ensures client { IfOk result IsHeard }
+    ensures client { IfOk told.new (λ r. IsHeard r.pdu) }
+    ensures depth { IfOk told.new (λ r. r.depth ≡ depth_of r.pdu) }
 {
     if modified {
-        return Err(Refusal::Modifier { invoke });
+        tell(told, Err(Refusal::Modifier { invoke }));
+    } else if service.tag.number == 0 {
+        tell_status(alloc, invoke, service, edition, told);
+    } else {
+        tell_served(alloc, invoke, service, edition, told);
     }
-    let request = served(alloc, invoke, service, edition)?;
-    Ok(Pdu::ConfirmedRequest { invoke, request })
 }
 
 /// Appends the service with its argument, or nothing where memory runs out.

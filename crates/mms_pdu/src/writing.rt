@@ -84,6 +84,16 @@ pub fn put_pdu(out: &mut Writer, pdu: &Pdu) -> Result<(), Memory>
     as_memory(put(out, pdu))
 }
 
+/// Appends the one spelling of a confirmed-Response, one element, as `put_pdu` appends that of the PDU. Where memory is
+/// wanting, nothing is changed.
+pub fn put_answer(out: &mut Writer, invoke: u32, answer: &Answer) -> Result<(), Memory>
+    ensures ok { OnOk result (out.new
+        ≡ out.old ++ pdu_octets (Pdu.ConfirmedResponse invoke answer.now)) }
+    ensures err { OnErr result (out.new ≡ out.old) }
+{
+    as_memory(put_response(out, invoke, answer))
+}
+
 /// The one spelling of the PDU, as `put_pdu` appends it.
 pub fn write_pdu(alloc: Global, pdu: &Pdu) -> Result<Vec<u8>, Memory>
     ensures { IfOk result (λ octets. octets.items ≡ pdu_octets pdu.now) }
