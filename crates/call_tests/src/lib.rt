@@ -7,3 +7,5 @@
 mod outside;
 #[cfg(test)]
 mod parts;
+#[cfg(test)]
+mod pool;

@@ -1,0 +1,368 @@
+//! A phase: its jobs go through the queue, and come back in their order.
+ghost use Rattle.std.specs.Prelude.{◌≡◌, ◌<◌, ◌≤◌, ◌+◌, ◌-◌, length, [], slice_get, IfSome, IfOk, IfErr, IsTrue, vec_len, vec_capacity};
+ghost use Rattle.std.specs.List.{All, range_with_len};
+ghost use Rattle.crossbeam_queue.specs.Passes.{view, IsPassOf, ruled_capacity};
+ghost use Rattle.cell_pool.specs.Rule.{hand, EachAt, IsReady, IsServed, Owes, HoldsEach};
+
+use crate::given::Given;
+use crate::item::{Item, turned_out};
+use crate::order::{lay_all, take_out};
+use crate::rule::{All as Whole, Cut, Fills, Queue, Share};
+use crate::turn::Turn;
+use crate::work::{Worker, work};
+use cell_io::Gate;
+use std::alloc::{AllocError, Global};
+use std::marker::{Brand, PhantomData};
+use std::sync::Wait;
+use std::thread;
+use std::thread::Threads;
+
+/// Room for so many workers, each with room for all jobs.
+fn rooms<I: Drop>(alloc: Global, count: usize, size: usize) -> Result<Vec<Vec<I>>, AllocError>
+    ensures count { IfOk result (λ rooms. vec_len rooms ≡ count) }
+    ensures empty { IfOk result (λ rooms. All (λ room. room.items ≡ []) rooms.items) }
+{
+    let mut rooms = Vec::with_capacity(alloc, count)?;
+    for _place in 0..count {
+        rooms.push_reserved(Vec::with_capacity(alloc, size)?);
+    }
+    Ok(rooms)
+}
+
+/// Puts all jobs into the queue.
+fn fill<T: Turn, C: Given<T::Job>, R: Wait>(
+    rt: &R,
+    queue: &Queue<T, C>,
+    pass: &mut Share<T, C>,
+    jobs: Vec<T::Job>,
+)
+    requires queue { IsPassOf queue.now pass.old }
+    requires view { view pass.old ≡ hand 64 [] [] }
+    requires room { ruled_capacity queue.now ≡ length jobs.items }
+    requires given { C.given ≡ jobs.items }
+    requires fit { All (λ job. ∥ T.fit job ∥₁) jobs.items }
+    ensures queue { IsPassOf queue.now pass.new }
+    ensures view { view pass.new ≡ hand 64 (range_with_len 0 (length jobs.items)) [] }
+{
+    let mut place = 0usize;
+    for job in jobs {
+        let item = Item {
+            place,
+            job,
+            ended: false,
+            of: PhantomData,
+        };
+        match queue.push_as::<Fills, R>(rt, pass, item) {
+            Ok(()) => {}
+            Err(_) => unreachable!(),
+        }
+        place += 1;
+    }
+}
+
+/// Gives each worker a pass and room.
+fn enlist<T: Turn, C: Given<T::Job>>(
+    queue: &Queue<T, C>,
+    pass: &mut Share<T, C>,
+    rooms: Vec<Vec<Item<T, C>>>,
+    mut crew: Vec<Worker<T, C>>,
+) -> Vec<Worker<T, C>>
+    requires queue { IsPassOf queue.now pass.old }
+    requires parts { ((view pass.old).parts ≡ 64) × (length rooms.items ≤ 16) }
+    requires empty { All (λ room. room.items ≡ []) rooms.items }
+    requires crew { (crew.items ≡ []) × (length rooms.items ≤ vec_capacity crew) }
+    ensures queue { IsPassOf queue.now pass.new }
+    ensures view { view pass.new ≡ hand (64 - length rooms.items) (view pass.old).put (view pass.old).taken }
+    ensures count { length result.items ≡ length rooms.items }
+    ensures crew { All (λ worker. IsReady (λ i. i.place) queue.now worker.pass worker.kept.items) result.items }
+{
+    let mut rooms = rooms;
+    while let Some(kept) = rooms.pop() {
+        let pass = queue.another::<Cut>(pass);
+        crew.push_reserved(Worker {
+            pass,
+            kept,
+            is_short: false,
+        });
+    }
+    crew
+}
+
+/// All workers at once.
+fn serve_all<
+    T: Turn + Sync,
+    C: Given<T::Job> + Send + Sync,
+    G: Gate + Sync,
+    R: Threads + Wait + Sync,
+>(rt: &R, turns: &T, queue: &Queue<T, C>, crew: &mut [Worker<T, C>], gate: &G)
+    requires some { 0 < length crew.old }
+    requires crew { All (λ worker. IsReady (λ i. i.place) queue.now worker.pass worker.kept.items) crew.old }
+    ensures crew { All (λ worker. IsReady (λ i. i.place) queue.now worker.pass worker.kept.items) crew.new }
+{
+    let threads = crew.len();
+    thread::for_each_mut(
+        rt,
+        crew,
+        threads,
+        &|_place, worker: &mut Worker<T, C>|
+            requires { IsReady (λ i. i.place) queue.now worker.old.pass worker.old.kept.items }
+            ensures { IsReady (λ i. i.place) queue.entry.now worker.new.pass worker.new.kept.items }
+        { work(rt, turns, queue, worker, gate) },
+    );
+}
+
+/// Takes in what the workers know, and what they keep. Whether a turn of one of them found memory wanting.
+fn join_all<T: Turn, C: Given<T::Job>>(
+    queue: &Queue<T, C>,
+    pass: &mut Share<T, C>,
+    mut crew: Vec<Worker<T, C>>,
+    mut lists: Vec<Vec<Item<T, C>>>,
+) -> (Vec<Vec<Item<T, C>>>, bool)
+    requires queue { IsPassOf queue.now pass.old }
+    requires parts { ((view pass.old).parts + length crew.items ≡ 64) × (0 < (view pass.old).parts) }
+    requires crew { All (λ worker. IsReady (λ i. i.place) queue.now worker.pass worker.kept.items) crew.items }
+    requires owes { Owes (λ i. i.place) (λ list. list.items) (length C.given) (view pass.old) lists.items }
+    requires room { length lists.items + length crew.items + 1 ≤ vec_capacity lists }
+    ensures queue { IsPassOf queue.now pass.new }
+    ensures parts { (view pass.new).parts ≡ 64 }
+    ensures owes { Owes (λ i. i.place) (λ list. list.items) (length C.given) (view pass.new) result.0.items }
+    ensures room { length result.0.items + 1 ≤ vec_capacity result.0 }
+{
+    let mut any_short = false;
+    while let Some(worker) = crew.pop() {
+        let Worker {
+            pass: theirs,
+            kept,
+            is_short,
+        } = worker;
+        queue.absorb::<Cut>(pass, theirs);
+        lists.push_reserved(kept);
+        any_short |= is_short;
+    }
+    (lists, any_short)
+}
+
+/// Turns a job until it is done, unless memory was wanting before.
+fn unless<T: Turn, C: Given<T::Job>, G: Gate, R: Wait>(
+    rt: &R,
+    turns: &T,
+    item: Item<T, C>,
+    stopped: bool,
+    gate: &G,
+) -> Item<T, C>
+    ensures { result.place ≡ item.place }
+{
+    if stopped {
+        return item;
+    }
+    turned_out(rt, turns, item, gate)
+}
+
+/// Serves what the queue still holds, as long as no turn has found memory wanting.
+fn serve_left<T: Turn, C: Given<T::Job>, G: Gate, R: Wait>(
+    rt: &R,
+    turns: &T,
+    queue: &Queue<T, C>,
+    pass: &mut Share<T, C>,
+    mut lists: Vec<Vec<Item<T, C>>>,
+    mut left: Vec<Item<T, C>>,
+    any_short: bool,
+    gate: &G,
+) -> Vec<Vec<Item<T, C>>>
+    requires queue { IsPassOf queue.now pass.old }
+    requires parts { (view pass.old).parts ≡ 64 }
+    requires owes { Owes (λ i. i.place) (λ list. list.items) (length C.given) (view pass.old) lists.items }
+    requires room { length lists.items < vec_capacity lists }
+    requires left { (left.items ≡ []) × (length C.given ≤ vec_capacity left) }
+    ensures { HoldsEach (λ i. i.place) (λ list. list.items) (length C.given) result.items }
+{
+    let mut stopped = any_short;
+    for _turn in rt.forever() {
+        match queue.pop_as::<Whole, R>(rt, pass) {
+            Some(item) => {
+                let item = unless(rt, turns, item, stopped, gate);
+                stopped = !item.ended;
+                left.push_reserved(item);
+            }
+            None => {
+                lists.push_reserved(left);
+                return lists;
+            }
+        }
+    }
+    unreachable!()
+}
+
+/// There was not enough memory to serve all jobs to their end. All of them come back.
+pub struct PhaseStopped<J> {
+    /// The jobs in their order, each fit, and made of the one that was given at its place.
+    pub jobs: Vec<J>,
+}
+
+/// No places yet filled.
+fn no_items<I: Drop>(mut slots: Vec<Option<I>>, size: usize) -> Vec<Option<I>>
+    requires { (slots.items ≡ []) × (size ≤ vec_capacity slots) }
+    ensures { length result.items ≡ size }
+{
+    for _place in 0..size {
+        slots.push_reserved(None);
+    }
+    slots
+}
+
+/// What a phase needs: room for workers and for what they keep, for all lists, for what is left, for the jobs in their
+/// order, and a queue.
+struct Means<T: Turn, C: Given<T::Job>> {
+    rooms: Vec<Vec<Item<T, C>>>,
+    crew: Vec<Worker<T, C>>,
+    lists: Vec<Vec<Item<T, C>>>,
+    left: Vec<Item<T, C>>,
+    slots: Vec<Option<Item<T, C>>>,
+    order: Vec<T::Job>,
+    queue: Queue<T, C>,
+    pass: Share<T, C>,
+}
+
+/// All that a phase needs, reserved before its first step.
+fn make_means<T: Turn, C: Given<T::Job>>(
+    alloc: Global,
+    workers: usize,
+    size: usize,
+) -> Result<Means<T, C>, AllocError>
+    requires size { 0 < size }
+    ensures rooms { IfOk result (λ m. (length m.rooms.items ≡ workers) × All (λ room. room.items ≡ []) m.rooms.items) }
+    ensures crew { IfOk result (λ m. (m.crew.items ≡ []) × (workers ≤ vec_capacity m.crew)) }
+    ensures lists { IfOk result (λ m. (m.lists.items ≡ []) × (workers + 1 ≤ vec_capacity m.lists)) }
+    ensures left { IfOk result (λ m. (m.left.items ≡ []) × (size ≤ vec_capacity m.left)) }
+    ensures slots { IfOk result (λ m. (m.slots.items ≡ []) × (size ≤ vec_capacity m.slots)) }
+    ensures order { IfOk result (λ m. (m.order.items ≡ []) × (size ≤ vec_capacity m.order)) }
+    ensures queue { IfOk result (λ m. (ruled_capacity m.queue ≡ size) × IsPassOf m.queue m.pass × (view m.pass ≡ hand 64 [] [])) }
+{
+    let rooms = rooms(alloc, workers, size)?;
+    let crew = Vec::with_capacity(alloc, workers)?;
+    let lists = Vec::with_capacity(alloc, workers + 1)?;
+    let left = Vec::with_capacity(alloc, size)?;
+    let slots = Vec::with_capacity(alloc, size)?;
+    let order = Vec::with_capacity(alloc, size)?;
+    let (queue, pass) = Queue::<T, C>::ruled(alloc, size)?;
+    Ok(Means {
+        rooms,
+        crew,
+        lists,
+        left,
+        slots,
+        order,
+        queue,
+        pass,
+    })
+}
+
+/// Serves the jobs, once all is reserved. The answer is the jobs in their order, and whether all are done.
+fn serve_with<
+    T: Turn + Sync,
+    C: Given<T::Job> + Send + Sync,
+    G: Gate + Sync,
+    R: Threads + Wait + Sync,
+>(rt: &R, turns: &T, jobs: Vec<T::Job>, means: Means<T, C>, gate: &G) -> (Vec<T::Job>, bool)
+    requires given { C.given ≡ jobs.items }
+    requires fit { All (λ job. ∥ T.fit job ∥₁) jobs.items }
+    requires rooms { (1 ≤ length means.rooms.items) × (length means.rooms.items ≤ 16) × All (λ room. room.items ≡ []) means.rooms.items }
+    requires crew { (means.crew.items ≡ []) × (length means.rooms.items ≤ vec_capacity means.crew) }
+    requires lists { (means.lists.items ≡ []) × (length means.rooms.items + 1 ≤ vec_capacity means.lists) }
+    requires left { (means.left.items ≡ []) × (length jobs.items ≤ vec_capacity means.left) }
+    requires slots { (means.slots.items ≡ []) × (length jobs.items ≤ vec_capacity means.slots) }
+    requires order { (means.order.items ≡ []) × (length jobs.items ≤ vec_capacity means.order) }
+    requires queue { (ruled_capacity means.queue ≡ length jobs.items) × IsPassOf means.queue means.pass × (view means.pass ≡ hand 64 [] []) }
+    ensures len { length result.0.items ≡ length jobs.items }
+    ensures fit { EachAt (λ p job. ∥ T.fit job ∥₁) result.0.items }
+    ensures made { EachAt (λ p job. ∥ IfSome (slice_get jobs.items p) (λ from. T.made from job) ∥₁) result.0.items }
+    ensures done { IsTrue result.1 → EachAt (λ p job. ∥ T.done job ∥₁) result.0.items }
+{
+    let Means {
+        rooms,
+        crew,
+        lists,
+        left,
+        slots,
+        order,
+        queue,
+        mut pass,
+    } = means;
+    let size = jobs.len();
+    fill(rt, &queue, &mut pass, jobs);
+    let mut crew = enlist(&queue, &mut pass, rooms, crew);
+    serve_all(rt, turns, &queue, crew.as_mut_slice(), gate);
+    let (lists, any_short) = join_all(&queue, &mut pass, crew, lists);
+    let lists = serve_left(rt, turns, &queue, &mut pass, lists, left, any_short, gate);
+    let mut slots = no_items(slots, size);
+    lay_all(slots.as_mut_slice(), lists);
+    take_out(slots, order)
+}
+
+/// All jobs as they were given.
+fn handed_back<T: Turn>(jobs: Vec<T::Job>) -> PhaseStopped<T::Job>
+    requires fit { All (λ job. ∥ T.fit job ∥₁) jobs.items }
+    ensures { IsServed (λ j. ∥ T.fit j ∥₁) (λ a b. ∥ T.made a b ∥₁) jobs.items result.jobs.items }
+{
+    PhaseStopped { jobs }
+}
+
+/// Serves a phase, whose jobs are a parameter of types.
+fn serve_given<
+    T: Turn + Sync,
+    C: Given<T::Job> + Send + Sync,
+    G: Gate + Sync,
+    R: Threads + Wait + Sync,
+>(
+    rt: &R,
+    turns: &T,
+    jobs: Vec<T::Job>,
+    workers: u32,
+    gate: &G,
+) -> Result<Vec<T::Job>, PhaseStopped<T::Job>>
+    requires given { C.given ≡ jobs.items }
+    requires fit { All (λ job. ∥ T.fit job ∥₁) jobs.items }
+    requires workers { (1 ≤ workers) × (workers ≤ 16) }
+    ensures ok { IfOk result (λ back. IsServed (λ j. ∥ T.fit j ∥₁) (λ a b. ∥ T.made a b ∥₁) jobs.items back.items × EachAt (λ p job. ∥ T.done job ∥₁) back.items) }
+    ensures stopped { IfErr result (λ e. IsServed (λ j. ∥ T.fit j ∥₁) (λ a b. ∥ T.made a b ∥₁) jobs.items e.jobs.items) }
+{
+    let size = jobs.len();
+    if size == 0 {
+        return Ok(jobs);
+    }
+    let alloc = *jobs.allocator();
+    let Ok(means) = make_means::<T, C>(alloc, workers as usize, size) else {
+        return Err(handed_back::<T>(jobs));
+    };
+    let (jobs, all) = serve_with(rt, turns, jobs, means, gate);
+    if all {
+        Ok(jobs)
+    } else {
+        Err(PhaseStopped { jobs })
+    }
+}
+
+/// Serves the jobs of a phase by 1 to 16 workers, each on a thread of its own. The jobs wait in one queue. A worker
+/// takes the first, turns it once and puts it back at the end, unless it is done; where it was held up, it goes back as
+/// it is. A worker that finds the queue empty ends, and once all have ended, what the queue still holds is served by
+/// who called.
+///
+/// The jobs come back in their order, each fit, and made of the job that was given at its place: none is lost, and none
+/// comes back twice. With `Ok` each is done. The error is want of memory, before the first turn or in one; then no
+/// further job is begun by the worker that met it, nor by who called.
+///
+/// It may wait, and where jobs hold one another up for ever, it never returns.
+pub fn serve_phase<R: Threads + Wait + Sync, T: Turn + Sync, G: Gate + Sync>(
+    rt: &R,
+    turns: &T,
+    jobs: Vec<T::Job>,
+    workers: u32,
+    gate: &G,
+) -> Result<Vec<T::Job>, PhaseStopped<T::Job>>
+    requires fit { All (λ job. ∥ T.fit job ∥₁) jobs.items }
+    requires workers { (1 ≤ workers) × (workers ≤ 16) }
+    ensures ok { IfOk result (λ back. IsServed (λ j. ∥ T.fit j ∥₁) (λ a b. ∥ T.made a b ∥₁) jobs.items back.items × EachAt (λ p job. ∥ T.done job ∥₁) back.items) }
+    ensures stopped { IfErr result (λ e. IsServed (λ j. ∥ T.fit j ∥₁) (λ a b. ∥ T.made a b ∥₁) jobs.items e.jobs.items) }
+{
+    serve_given::<T, Brand, G, R>(rt, turns, jobs, workers, gate)
+}
