@@ -66,3 +66,7 @@ EachAt Q xs = (p : ℕ) → IfSome (slice_get xs p) (Q p)
 abbrev pub IsServed : {J : Type 0} → (J → Type 0) → (J → J → Type 0) → List J → List J → Type 0
 IsServed fit made given back = (length back ≡ length given) × EachAt (λ p job. fit job) back
     × ((p : ℕ) → IfSome (slice_get given p) (λ from. IfSome (slice_get back p) (λ job. made from job)))
+
+-- the two say the same of each
+abbrev pub Same : {J : Type 0} → (J → Type 0) → (J → Type 0) → Type 0
+Same {J} P Q = (job : J) → (P job → Q job) × (Q job → P job)

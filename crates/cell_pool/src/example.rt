@@ -28,7 +28,7 @@ impl Turn for Counting {
 
     type Job = Count;
 
-    ghost fit = { IsFit };
+    ghost fit = { λ turns count. IsFit count };
 
     ghost done = { λ count. count.rest ≡ 0 };
 

@@ -1,5 +1,6 @@
 //! A job at its place.
 ghost use Rattle.std.specs.Prelude.{◌≡◌, ◌<◌, ◌⊎◌, length, IfSome, slice_get, IsTrue, IsFalse};
+ghost use Rattle.cell_pool.specs.Rule.{Same};
 ghost use Rattle.cell_pool.specs.declared.turn.Step.TheVariants.{Done, Memory};
 
 use crate::given::Given;
@@ -18,7 +19,7 @@ pub(crate) struct Item<T: Turn, C: Given<T::Job>> {
     pub(crate) ended: bool,
     pub(crate) of: PhantomData<C>,
     pub ghost is_place: { place < length C.given },
-    pub ghost is_fit: { ∥ T.fit job ∥₁ },
+    pub ghost is_fit: { ∥ C.fit job ∥₁ },
     pub ghost is_made: { ∥ IfSome (slice_get C.given place) (λ from. T.made from job) ∥₁ },
     pub ghost is_done: { IsTrue ended → ∥ T.done job ∥₁ },
 }
@@ -29,6 +30,7 @@ pub(crate) fn turned<T: Turn, C: Given<T::Job>, G: Gate>(
     item: Item<T, C>,
     gate: &G,
 ) -> (Item<T, C>, Step)
+    requires same { Same (T.fit turns.now) C.fit }
     ensures place { result.0.place ≡ item.place }
     ensures ended { result.1 ≡ Done → IsTrue result.0.ended }
 {
@@ -53,6 +55,7 @@ pub(crate) fn turned_out<T: Turn, C: Given<T::Job>, G: Gate, R: Wait>(
     item: Item<T, C>,
     gate: &G,
 ) -> Item<T, C>
+    requires same { Same (T.fit turns.now) C.fit }
     ensures place { result.place ≡ item.place }
 {
     let mut item = item;

@@ -48,7 +48,7 @@ pub(crate) fn take_out<T: Turn, C: Given<T::Job>>(
     requires laid { (p : ℕ) → p < length C.given → IsLaid (λ i. i.place) slots.items p }
     requires jobs { (jobs.items ≡ []) × (length C.given ≤ vec_capacity jobs) }
     ensures len { length result.0.items ≡ length C.given }
-    ensures fit { EachAt (λ p job. ∥ T.fit job ∥₁) result.0.items }
+    ensures fit { EachAt (λ p job. ∥ C.fit job ∥₁) result.0.items }
     ensures made { EachAt (λ p job. ∥ IfSome (slice_get C.given p) (λ from. T.made from job) ∥₁) result.0.items }
     ensures done { IsTrue result.1 → EachAt (λ p job. ∥ T.done job ∥₁) result.0.items }
 {

@@ -2,7 +2,7 @@
 ghost use Rattle.std.specs.Prelude.{◌≡◌, ◌<◌, ◌≤◌, ◌+◌, ◌-◌, length, [], slice_get, IfSome, IfOk, IfErr, IsTrue, vec_len, vec_capacity};
 ghost use Rattle.std.specs.List.{All, range_with_len};
 ghost use Rattle.crossbeam_queue.specs.Passes.{view, IsPassOf, ruled_capacity};
-ghost use Rattle.cell_pool.specs.Rule.{hand, EachAt, IsReady, IsServed, Owes, HoldsEach};
+ghost use Rattle.cell_pool.specs.Rule.{hand, EachAt, IsReady, IsServed, Owes, HoldsEach, Same};
 
 use crate::given::Given;
 use crate::item::{Item, turned_out};
@@ -40,7 +40,7 @@ fn fill<T: Turn, C: Given<T::Job>, R: Wait>(
     requires view { view pass.old ≡ hand 64 [] [] }
     requires room { ruled_capacity queue.now ≡ length jobs.items }
     requires given { C.given ≡ jobs.items }
-    requires fit { All (λ job. ∥ T.fit job ∥₁) jobs.items }
+    requires fit { All (λ job. ∥ C.fit job ∥₁) jobs.items }
     ensures queue { IsPassOf queue.now pass.new }
     ensures view { view pass.new ≡ hand 64 (range_with_len 0 (length jobs.items)) [] }
 {
@@ -95,6 +95,7 @@ fn serve_all<
     G: Gate + Sync,
     R: Threads + Wait + Sync,
 >(rt: &R, turns: &T, queue: &Queue<T, C>, crew: &mut [Worker<T, C>], gate: &G)
+    requires same { Same (T.fit turns.now) C.fit }
     requires some { 0 < length crew.old }
     requires crew { All (λ worker. IsReady (λ i. i.place) queue.now worker.pass worker.kept.items) crew.old }
     ensures crew { All (λ worker. IsReady (λ i. i.place) queue.now worker.pass worker.kept.items) crew.new }
@@ -105,7 +106,7 @@ fn serve_all<
         crew,
         threads,
         &|_place, worker: &mut Worker<T, C>|
-            requires { IsReady (λ i. i.place) queue.now worker.old.pass worker.old.kept.items }
+            requires { Same (T.fit turns.now) C.fit × IsReady (λ i. i.place) queue.now worker.old.pass worker.old.kept.items }
             ensures { IsReady (λ i. i.place) queue.entry.now worker.new.pass worker.new.kept.items }
         { work(rt, turns, queue, worker, gate) },
     );
@@ -150,6 +151,7 @@ fn unless<T: Turn, C: Given<T::Job>, G: Gate, R: Wait>(
     stopped: bool,
     gate: &G,
 ) -> Item<T, C>
+    requires same { Same (T.fit turns.now) C.fit }
     ensures { result.place ≡ item.place }
 {
     if stopped {
@@ -170,6 +172,7 @@ fn serve_left<T: Turn, C: Given<T::Job>, G: Gate, R: Wait>(
     gate: &G,
 ) -> Vec<Vec<Item<T, C>>>
     requires queue { IsPassOf queue.now pass.old }
+    requires same { Same (T.fit turns.now) C.fit }
     requires parts { (view pass.old).parts ≡ 64 }
     requires owes { Owes (λ i. i.place) (λ list. list.items) (length C.given) (view pass.old) lists.items }
     requires room { length lists.items < vec_capacity lists }
@@ -265,7 +268,8 @@ fn serve_with<
     R: Threads + Wait + Sync,
 >(rt: &R, turns: &T, jobs: Vec<T::Job>, means: Means<T, C>, gate: &G) -> (Vec<T::Job>, bool)
     requires given { C.given ≡ jobs.items }
-    requires fit { All (λ job. ∥ T.fit job ∥₁) jobs.items }
+    requires same { Same (T.fit turns.now) C.fit }
+    requires fit { All (λ job. ∥ C.fit job ∥₁) jobs.items }
     requires rooms { (1 ≤ length means.rooms.items) × (length means.rooms.items ≤ 16) × All (λ room. room.items ≡ []) means.rooms.items }
     requires crew { (means.crew.items ≡ []) × (length means.rooms.items ≤ vec_capacity means.crew) }
     requires lists { (means.lists.items ≡ []) × (length means.rooms.items + 1 ≤ vec_capacity means.lists) }
@@ -274,7 +278,7 @@ fn serve_with<
     requires order { (means.order.items ≡ []) × (length jobs.items ≤ vec_capacity means.order) }
     requires queue { (ruled_capacity means.queue ≡ length jobs.items) × IsPassOf means.queue means.pass × (view means.pass ≡ hand 64 [] []) }
     ensures len { length result.0.items ≡ length jobs.items }
-    ensures fit { EachAt (λ p job. ∥ T.fit job ∥₁) result.0.items }
+    ensures fit { EachAt (λ p job. ∥ C.fit job ∥₁) result.0.items }
     ensures made { EachAt (λ p job. ∥ IfSome (slice_get jobs.items p) (λ from. T.made from job) ∥₁) result.0.items }
     ensures done { IsTrue result.1 → EachAt (λ p job. ∥ T.done job ∥₁) result.0.items }
 {
@@ -300,14 +304,14 @@ fn serve_with<
 }
 
 /// All jobs as they were given.
-fn handed_back<T: Turn>(jobs: Vec<T::Job>) -> PhaseStopped<T::Job>
-    requires fit { All (λ job. ∥ T.fit job ∥₁) jobs.items }
-    ensures { IsServed (λ j. ∥ T.fit j ∥₁) (λ a b. ∥ T.made a b ∥₁) jobs.items result.jobs.items }
+fn handed_back<T: Turn, C: Given<T::Job>>(jobs: Vec<T::Job>) -> PhaseStopped<T::Job>
+    requires fit { All (λ job. ∥ C.fit job ∥₁) jobs.items }
+    ensures { IsServed (λ j. ∥ C.fit j ∥₁) (λ a b. ∥ T.made a b ∥₁) jobs.items result.jobs.items }
 {
     PhaseStopped { jobs }
 }
 
-/// Serves a phase, whose jobs are a parameter of types.
+/// Serves a phase, whose jobs, and what makes one fit, are a parameter of types.
 fn serve_given<
     T: Turn + Sync,
     C: Given<T::Job> + Send + Sync,
@@ -321,10 +325,11 @@ fn serve_given<
     gate: &G,
 ) -> Result<Vec<T::Job>, PhaseStopped<T::Job>>
     requires given { C.given ≡ jobs.items }
-    requires fit { All (λ job. ∥ T.fit job ∥₁) jobs.items }
+    requires same { Same (T.fit turns.now) C.fit }
+    requires fit { All (λ job. ∥ C.fit job ∥₁) jobs.items }
     requires workers { (1 ≤ workers) × (workers ≤ 16) }
-    ensures ok { IfOk result (λ back. IsServed (λ j. ∥ T.fit j ∥₁) (λ a b. ∥ T.made a b ∥₁) jobs.items back.items × EachAt (λ p job. ∥ T.done job ∥₁) back.items) }
-    ensures stopped { IfErr result (λ e. IsServed (λ j. ∥ T.fit j ∥₁) (λ a b. ∥ T.made a b ∥₁) jobs.items e.jobs.items) }
+    ensures ok { IfOk result (λ back. IsServed (λ j. ∥ C.fit j ∥₁) (λ a b. ∥ T.made a b ∥₁) jobs.items back.items × EachAt (λ p job. ∥ T.done job ∥₁) back.items) }
+    ensures stopped { IfErr result (λ e. IsServed (λ j. ∥ C.fit j ∥₁) (λ a b. ∥ T.made a b ∥₁) jobs.items e.jobs.items) }
 {
     let size = jobs.len();
     if size == 0 {
@@ -332,7 +337,7 @@ fn serve_given<
     }
     let alloc = *jobs.allocator();
     let Ok(means) = make_means::<T, C>(alloc, workers as usize, size) else {
-        return Err(handed_back::<T>(jobs));
+        return Err(handed_back::<T, C>(jobs));
     };
     let (jobs, all) = serve_with(rt, turns, jobs, means, gate);
     if all {
@@ -359,10 +364,10 @@ pub fn serve_phase<R: Threads + Wait + Sync, T: Turn + Sync, G: Gate + Sync>(
     workers: u32,
     gate: &G,
 ) -> Result<Vec<T::Job>, PhaseStopped<T::Job>>
-    requires fit { All (λ job. ∥ T.fit job ∥₁) jobs.items }
+    requires fit { All (λ job. ∥ T.fit turns.now job ∥₁) jobs.items }
     requires workers { (1 ≤ workers) × (workers ≤ 16) }
-    ensures ok { IfOk result (λ back. IsServed (λ j. ∥ T.fit j ∥₁) (λ a b. ∥ T.made a b ∥₁) jobs.items back.items × EachAt (λ p job. ∥ T.done job ∥₁) back.items) }
-    ensures stopped { IfErr result (λ e. IsServed (λ j. ∥ T.fit j ∥₁) (λ a b. ∥ T.made a b ∥₁) jobs.items e.jobs.items) }
+    ensures ok { IfOk result (λ back. IsServed (λ j. ∥ T.fit turns.now j ∥₁) (λ a b. ∥ T.made a b ∥₁) jobs.items back.items × EachAt (λ p job. ∥ T.done job ∥₁) back.items) }
+    ensures stopped { IfErr result (λ e. IsServed (λ j. ∥ T.fit turns.now j ∥₁) (λ a b. ∥ T.made a b ∥₁) jobs.items e.jobs.items) }
 {
     serve_given::<T, Brand, G, R>(rt, turns, jobs, workers, gate)
 }

@@ -22,8 +22,8 @@ pub trait Turn {
     /// What is served.
     type Job: Send + Drop;
 
-    /// A job is fit for turns.
-    ghost fit: { Self.Job → Type 0 };
+    /// A job is fit for turns by this one.
+    ghost fit: { Self → Self.Job → Type 0 };
 
     /// A job is done.
     ghost done: { Self.Job → Type 0 };
@@ -36,8 +36,8 @@ pub trait Turn {
 
     /// One turn of a job that is fit. The job is fit afterwards, and made of the one before.
     fn turn<G: Gate>(&self, job: &mut Self::Job, gate: &G) -> Step
-        requires fit { ∥ fit job.old ∥₁ }
-        ensures fit { ∥ fit job.new ∥₁ }
+        requires fit { ∥ fit self.now job.old ∥₁ }
+        ensures fit { ∥ fit self.now job.new ∥₁ }
         ensures made { ∥ made job.old job.new ∥₁ }
         ensures done { result ≡ Done → ∥ done job.new ∥₁ }
         ensures same { (result ≡ Busy) ⊎ (result ≡ Memory) → ∥ same_work job.old job.new ∥₁ };

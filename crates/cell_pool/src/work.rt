@@ -1,7 +1,7 @@
 //! A worker: it takes a job from the queue, turns it once, and puts it back at the end.
 ghost use Rattle.std.specs.Prelude.{◌≡◌};
 ghost use Rattle.crossbeam_queue.specs.Passes.{view, IsPassOf};
-ghost use Rattle.cell_pool.specs.Rule.{Keeps};
+ghost use Rattle.cell_pool.specs.Rule.{Keeps, Same};
 
 use crate::given::Given;
 use crate::item::{Item, turned, turned_out};
@@ -34,6 +34,7 @@ pub(crate) fn work<T: Turn, C: Given<T::Job>, G: Gate, R: Wait>(
     worker: &mut Worker<T, C>,
     gate: &G,
 )
+    requires same { Same (T.fit turns.now) C.fit }
     requires queue { IsPassOf queue.now worker.old.pass }
     requires parts { (view worker.old.pass).parts ≡ 1 }
     requires keeps { Keeps (λ i. i.place) (view worker.old.pass) worker.old.kept.items }

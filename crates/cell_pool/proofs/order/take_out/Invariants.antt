@@ -9,7 +9,7 @@ invariant-loop-slot g l = record {
   count : length l.jobs.items ≡ length l.yielded;
   len : length l.fn.slots.items ≡ length l.jobs.items + into_iter_len l.slot-iterator;
   room : length g.C.Given.given ≤ vec_capacity l.jobs;
-  fit : EachAt (λ p job. ∥ g.T.Turn.fit job ∥₁) l.jobs.items;
+  fit : EachAt (λ p job. ∥ g.C.Given.fit job ∥₁) l.jobs.items;
   made : EachAt (λ p job. ∥ IfSome (slice_get g.C.Given.given p) (λ from. g.T.Turn.made from job) ∥₁) l.jobs.items;
   done : IsTrue l.all → EachAt (λ p job. ∥ g.T.Turn.done job ∥₁) l.jobs.items;
 }

@@ -17,7 +17,7 @@ pub invariant_of-item-clause-is_fit : goal.invariant_of-item-clause-is_fit
 invariant_of-item-clause-is_fit g c =
     let i = c.loop-job.invariant in
     let s = c.in-Some.ensures.steps in
-    All_seam (λ job. ∥ g.T.Turn.fit job ∥₁) c.args.jobs.items c.loop-job.yielded _ c.in-Some.job (i.jobs ∙ ap (λ l. c.loop-job.yielded ++ l) s.0) c.requires.fit
+    All_seam (λ job. ∥ g.C.Given.fit job ∥₁) c.args.jobs.items c.loop-job.yielded _ c.in-Some.job (i.jobs ∙ ap (λ l. c.loop-job.yielded ++ l) s.0) c.requires.fit
 
 pub invariant_of-item-clause-is_made : goal.invariant_of-item-clause-is_made
 invariant_of-item-clause-is_made g c =
