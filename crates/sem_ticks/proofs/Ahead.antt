@@ -81,8 +81,8 @@ record IsIn (rows : Rows) (d : NamedDeadline) : Type 0 where
 in_rows : (rows : Rows) (d : NamedDeadline) → Stands (all_deadlines rows) d → IsIn rows d
 in_rows [] d h = absurd h
 in_rows (row ∷ rows) d h = elim (stands_append (deadlines_of row) (flat_map deadlines_of rows) d h) [
-  inl here ↦ let n = of_named row.0 (entries_of row.1) (deadlines (entries_of row.1)) (of_deadlines (entries_of row.1)) d here in
-  record { place = zero; row = row.1; there = ap (λ (k : Key). Some (k, row.1)) n.name; of = n.of }
+  | inl here ↦ let n = of_named row.0 (entries_of row.1) (deadlines (entries_of row.1)) (of_deadlines (entries_of row.1)) d here in
+      record { place = zero; row = row.1; there = ap (λ (k : Key). Some (k, row.1)) n.name; of = n.of }
   | inr more ↦ let r = in_rows rows d more in record { place = suc r.place; row = r.row; there = r.there; of = r.of }
 ]
 

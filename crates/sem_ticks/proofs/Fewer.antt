@@ -107,8 +107,12 @@ left_lost : (client : ℕ) (now : Moment) (rows : Rows) → entries_left (lost c
 left_lost client now rows =
     let waiters = all_changed (without_waiters client) rows in
     let owners = all_changed (without_owners client now) waiters in
-    omega (arith, left_filtered (λ row. not (scope_eq row.0.scope (Association client))) owners, left_changed (without_owners client now) (no_more_owners client now) waiters,
-    left_changed (without_waiters client) (no_more_waiters client) rows)
+    omega (
+      arith,
+      left_filtered (λ row. not (scope_eq row.0.scope (Association client))) owners,
+      left_changed (without_owners client now) (no_more_owners client now) waiters,
+      left_changed (without_waiters client) (no_more_waiters client) rows,
+    )
 
 left_aborted : (aborts : Bool) (client : ℕ) (now : Moment) (rows : Rows) → entries_left (after_abort aborts client now rows) ≤ entries_left rows
 left_aborted true client now rows = left_lost client now rows

@@ -227,7 +227,7 @@ module _ (now : Moment) where
   rows_ahead : (rows : Rows) → RowsAt rows → (d : NamedDeadline) → Stands (all_deadlines rows) d → now.0 < d.at.0
   rows_ahead [] all d h = absurd h
   rows_ahead (row ∷ rows) all d h = elim (stands_either (deadlines_of row) (all_deadlines rows) d h) [
-    inl here ↦ deadlines_at row.0 (entries_of row.1) all.0 d here
+    | inl here ↦ deadlines_at row.0 (entries_of row.1) all.0 d here
     | inr more ↦ rows_ahead rows all.1 d more
   ]
 
@@ -265,9 +265,10 @@ module _ (now : Moment) where
 
   rows_at : (rows : Rows) → ((d : NamedDeadline) → Stands (all_deadlines rows) d → now.0 < d.at.0) → RowsAt rows
   rows_at [] each = tt
-  rows_at (row ∷ rows) each =
-      (entries_at row.0 (entries_of row.1) (λ d there. each d (in_front (deadlines_of row) (all_deadlines rows) d there)),
-      rows_at rows (λ d there. each d (in_back (deadlines_of row) (all_deadlines rows) d there)))
+  rows_at (row ∷ rows) each = (
+    entries_at row.0 (entries_of row.1) (λ d there. each d (in_front (deadlines_of row) (all_deadlines rows) d there)),
+    rows_at rows (λ d there. each d (in_back (deadlines_of row) (all_deadlines rows) d there)),
+  )
 
   pub ahead_rows : (rows : Rows) → LieAhead now rows → RowsAt rows
   ahead_rows rows all = rows_at rows (each_ahead (all_deadlines rows) all)

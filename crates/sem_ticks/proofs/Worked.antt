@@ -85,9 +85,9 @@ hung_over = refl
 -- two waits that end at one moment, by the names of their semaphores and not by the order in which these were made
 waits_end : ticked (at 5) (row u_key 2 (entry 1 1 Owner None None ∷ entry 2 2 Queued None (Some (at 5)) ∷ [])
     ∷ row t_key 2 (entry 1 1 Owner None None ∷ entry 2 3 Queued None (Some (at 5)) ∷ []) ∷ []) ≡ record {
-  rows = row u_key 2 (entry 1 1 Owner None None ∷ []) ∷ row t_key 2 (entry 1 1 Owner None None ∷ []) ∷ [];
-  happened = WaitEnds 3 10 ∷ WaitEnds 2 10 ∷ [];
-}
+      rows = row u_key 2 (entry 1 1 Owner None None ∷ []) ∷ row t_key 2 (entry 1 1 Owner None None ∷ []) ∷ [];
+      happened = WaitEnds 3 10 ∷ WaitEnds 2 10 ∷ [];
+    }
 waits_end = refl
 
 -- a control time-out comes before a delay of the same moment: who waits has the token then, and its wait is over

@@ -17,10 +17,7 @@ use token_sem::{Expired, Grant};
 #[derive(Clone, Copy, Debug, PartialEq, Eq)]
 pub enum Happening {
     /// The acceptable delay of a request for a token ends: the client waits no more for the answer of that invokeID.
-    WaitEnds {
-        client: u32,
-        invoke: u32,
-    },
+    WaitEnds { client: u32, invoke: u32 },
     /// A token is granted to an entry that waited.
     Grants(Grant),
     /// The time of control of a client of that number ends, and its association is aborted: it is lost.
