@@ -1,5 +1,5 @@
-ghost use Rattle.std.specs.Prelude.{◌≡◌, ◌++◌, ◌∷◌, [], length, take, drop, slice_get, Some, vec_len, vec_capacity, ◌<◌, ◌≤◌, IfOk};
-ghost use Rattle.part_table.specs.Held.{unboxed};
+ghost use Rattle.std.specs.Prelude.{◌≡◌, ◌++◌, ◌∷◌, [], ℕ, true, length, take, drop, is_some, slice_get, None, Some, vec_len, vec_capacity, ◌<◌, ◌≤◌, IfNone, IfOk, IfSome};
+ghost use Rattle.part_table.specs.Held.{held_at, unboxed};
 ghost use Rattle.part_table.specs.Known.{IsTrueOf, newcomer, nothing};
 ghost use Rattle.part_table.specs.Plays.{starting};
 ghost use Rattle.part_table.specs.Passes.{empties, times};
@@ -104,6 +104,14 @@ impl<O: Object> Pass<O> {
         ensures { result ≡ self.now.by }
     {
         self.by
+    }
+
+    /// The part that the caller took last of those that it holds, and None exactly where it holds none.
+    pub fn last_taken(&self) -> Option<u32>
+        ensures held { IfSome result (λ part. is_some (held_at self.now.taken part) ≡ true) }
+        ensures none { IfNone result ((part : ℕ) → held_at self.now.taken part ≡ None) }
+    {
+        self.order.first().copied()
     }
 
     /// How many commits the caller has left.
