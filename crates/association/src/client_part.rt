@@ -1,4 +1,4 @@
-ghost use Rattle.std.specs.Prelude.{◌≡◌, ◌≢◌, ◌↔◌, ◌<◌, ◌≤◌, ◌-◌, ◌==◌, not, false, [], OnOk, OnErr, IfOk, IfSome, IsOk, IsSome, length, slice_get};
+ghost use Rattle.std.specs.Prelude.{◌≡◌, ◌≢◌, ◌↔◌, ◌<◌, ◌≤◌, ◌+◌, ◌-◌, ◌==◌, not, false, [], OnOk, OnErr, IfOk, IfSome, IsOk, IsSome, length, slice_get, vec_len, vec_capacity};
 ghost use Rattle.std.specs.Option.{option_copied};
 ghost use Rattle.association.specs.Admission.{admission};
 ghost use Rattle.association.specs.Client.{closed_row, drained_row, negotiated_of, new_row, opened_row, row_with_output, row_with_waiting, row_without_waiting};
@@ -20,6 +20,23 @@ pub enum NotAdmitted {
     Waiting,
     /// As many requests wait as were negotiated: max-serv-outstanding-exceeded.
     Outstanding,
+}
+
+/// For how many outputs there is room at first, so that an outbox does not grow for each of the first few.
+const FIRST_ROOM: usize = 16;
+
+/// Makes room for so many outputs behind those of an outbox. It takes no memory where there is room.
+fn make_room(outbox: &mut Vec<What>, outputs: usize) -> Result<(), Memory>
+    ensures items { outbox.new.items ≡ outbox.old.items }
+    ensures len { vec_len outbox.new ≡ vec_len outbox.old }
+    ensures capacity { vec_capacity outbox.old ≤ vec_capacity outbox.new }
+    ensures room { OnOk result (vec_len outbox.new + outputs ≤ vec_capacity outbox.new) }
+    ensures enough { vec_len outbox.old + outputs ≤ vec_capacity outbox.old → IsOk result }
+{
+    if outputs > outbox.capacity() - outbox.len() {
+        outbox.reserve(outputs.max(FIRST_ROOM))?;
+    }
+    Ok(())
 }
 
 /// The part of the device that belongs to one client. Contracts see its row, which is the client's
@@ -155,7 +172,7 @@ impl ClientPart {
         ensures enough { outputs ≤ self.old.output_room → waiting ≤ self.old.waiting_room
             → IsOk result }
     {
-        self.outbox.reserve(outputs)?;
+        make_room(&mut self.outbox, outputs)?;
         self.waiting.reserve(waiting)?;
         self.output_room = outputs;
         self.waiting_room = waiting;
