@@ -1,1 +1,10 @@
 pub mod AllHeld
+pub mod Steps
+pub mod Growing
+pub mod Wanting
+pub mod Leading
+pub mod Outcomes
+pub mod Trying
+pub mod Between
+pub mod Draining
+pub mod Gathering

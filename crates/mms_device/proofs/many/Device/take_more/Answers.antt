@@ -1,0 +1,85 @@
+use Rattle.std.proofs.Common.{◌≡◌, ◌<◌, ◌++◌, ◌∷◌, ℕ, [], List, Option, length, sym, ap, ◌∙◌, subst, eqb-true}
+use Rattle.std.specs.Prelude.{Contains}
+use Rattle.std.proofs.lemmas.Bool.{eqb-false}
+use Rattle.std.proofs.lemmas.List.{nil_from_length}
+use Rattle.part_table.specs.Held.{IsHandOf}
+use Rattle.parted_state.specs.SetLaws.{empty_set}
+use Rattle.mms_step.specs.declared.part.Part.{Part}
+use Rattle.mms_step.specs.Needs.{need}
+use Rattle.mms_step.specs.Partition.{parts_of}
+use Rattle.mms_device.specs.Making.{MayMake}
+use Rattle.mms_device.specs.Shared.{IsOf, Caller, Shared, led_to}
+use Rattle.mms_device.specs.Taken.{HoldsWanted}
+use Rattle.mms_device.proofs.Outcomes.{actor_among, sees, state_shown, among_shown, missing_shown, missing_within, fewer, more_taken, lost_more}
+use Rattle.mms_device.proofs.many.Device.take_more.Goals as goal
+
+pub need_read-requires-clause-of : goal.need_read-requires-clause-of
+need_read-requires-clause-of g c =
+    let config = c.self.inside.config.value in
+    let table = ap (λ (p : Caller). p.table) c.see.ensures.kept ∙ c.requires.table ∙ sym (ap (λ (d : Shared). d.table) c.self.view_is) in
+    let state = sees config c.args.pass.now c.see.new.pass c.self.invariant.1 (subst (λ t. IsOf t config) (sym table) c.self.invariant.0) c.see.ensures.parts c.see.ensures.kept c.requires.hand in
+    state_shown config c.see.new.pass state c.hand.result.now c.hand.ensures
+
+pub need_read-requires-clause-among : goal.need_read-requires-clause-among
+need_read-requires-clause-among g c =
+    let config = c.self.inside.config.value in
+    let table = ap (λ (p : Caller). p.table) c.see.ensures.kept ∙ c.requires.table ∙ sym (ap (λ (d : Shared). d.table) c.self.view_is) in
+    let is = subst (λ t. IsOf t config) (sym table) c.self.invariant.0 in
+    let state = sees config c.args.pass.now c.see.new.pass c.self.invariant.1 is c.see.ensures.parts c.see.ensures.kept c.requires.hand in
+    let may = subst (λ (b : ℕ). MayMake b c.args.event.now) (sym (ap (λ (p : Caller). p.by) c.see.ensures.kept)) c.requires.actor in
+    let among = actor_among config c.see.new.pass c.args.event.now is c.a_pass_knows_its_own_places.ensures.number may in
+    among_shown config c.see.new.pass state c.args.event.now c.hand.result.now c.hand.ensures among
+
+pub returns-then-is_empty-clause-all : goal.returns-then-is_empty-clause-all
+returns-then-is_empty-clause-all g c same =
+    let config = c.self.inside.config.value in
+    let table = ap (λ (p : Caller). p.table) c.see.ensures.kept ∙ c.requires.table ∙ sym (ap (λ (d : Shared). d.table) c.self.view_is) in
+    let state = sees config c.args.pass.now c.see.new.pass c.self.invariant.1 (subst (λ t. IsOf t config) (sym table) c.self.invariant.0) c.see.ensures.parts c.see.ensures.kept c.requires.hand in
+    let none : c.in-Ok.missing ≡ [] = nil_from_length c.in-Ok.missing (eqb-true (length c.in-Ok.missing) 0 (sym c.if-is_empty.ensures)) in (
+      ap (λ (h : List (Option Part)). need c.args.event.now h) (sym (c.hand.ensures ∙ state.same)) ∙ (empty_set c.in-Ok.missing (need c.args.event.now c.hand.result.now) c.in-Ok.ensures).0 none,
+      subst (λ (d : Shared). IsHandOf c.see.new.pass.taken (parts_of (led_to d.config c.see.new.pass.seen))) c.self.view_is state.hand,
+    )
+
+pub take_each-requires-clause-parts : goal.take_each-requires-clause-parts
+take_each-requires-clause-parts g c =
+    let config = c.self.inside.config.value in
+    let table = ap (λ (p : Caller). p.table) c.see.ensures.kept ∙ c.requires.table ∙ sym (ap (λ (d : Shared). d.table) c.self.view_is) in
+    let is = subst (λ t. IsOf t config) (sym table) c.self.invariant.0 in
+    let state = sees config c.args.pass.now c.see.new.pass c.self.invariant.1 is c.see.ensures.parts c.see.ensures.kept c.requires.hand in
+    let may = subst (λ (b : ℕ). MayMake b c.args.event.now) (sym (ap (λ (p : Caller). p.by) c.see.ensures.kept)) c.requires.actor in
+    let among = actor_among config c.see.new.pass c.args.event.now is c.a_pass_knows_its_own_places.ensures.number may in
+    subst (λ t. (i : ℕ) → Contains c.in-Ok.missing i → i < length t.opening) table
+    (missing_within config c.see.new.pass state c.args.event.now c.hand.result.now c.in-Ok.missing c.hand.ensures c.in-Ok.ensures among)
+
+pub returns-in-Ok-take_each-clause-taking : goal.returns-in-Ok-take_each-clause-taking
+returns-in-Ok-take_each-clause-taking g c =
+    let config = c.self.inside.config.value in
+    let table = ap (λ (p : Caller). p.table) c.see.ensures.kept ∙ c.requires.table ∙ sym (ap (λ (d : Shared). d.table) c.self.view_is) in
+    let state = sees config c.args.pass.now c.see.new.pass c.self.invariant.1 (subst (λ t. IsOf t config) (sym table) c.self.invariant.0) c.see.ensures.parts c.see.ensures.kept c.requires.hand in
+    more_taken c.args.event.now c.args.pass.now c.see.new.pass c.take_each.new.pass c.in-Ok.missing c.see.ensures.kept c.see.ensures.seen c.requires.wanted c.take_each.ensures.taken
+    (missing_shown config c.see.new.pass state c.args.event.now c.hand.result.now c.in-Ok.missing c.hand.ensures c.in-Ok.ensures)
+
+pub returns-in-Ok-take_each-clause-more : goal.returns-in-Ok-take_each-clause-more
+returns-in-Ok-take_each-clause-more g c same =
+    let config = c.self.inside.config.value in
+    let table = ap (λ (p : Caller). p.table) c.see.ensures.kept ∙ c.requires.table ∙ sym (ap (λ (d : Shared). d.table) c.self.view_is) in
+    let state = sees config c.args.pass.now c.see.new.pass c.self.invariant.1 (subst (λ t. IsOf t config) (sym table) c.self.invariant.0) c.see.ensures.parts c.see.ensures.kept c.requires.hand in
+    fewer config c.see.new.pass state c.args.event.now c.hand.result.now c.in-Ok.missing c.hand.ensures c.in-Ok.ensures c.args.pass.now c.take_each.new.pass
+    (eqb-false (length c.in-Ok.missing) 0 (sym c.if-is_empty.ensures)) c.see.ensures.kept c.take_each.ensures.taken c.in-Ok-take_each.ensures.held.0
+
+pub returns-in-Err-clause-taking : goal.returns-in-Err-clause-taking
+returns-in-Err-clause-taking g c =
+    let config = c.self.inside.config.value in
+    let table = ap (λ (p : Caller). p.table) c.see.ensures.kept ∙ c.requires.table ∙ sym (ap (λ (d : Shared). d.table) c.self.view_is) in
+    let state = sees config c.args.pass.now c.see.new.pass c.self.invariant.1 (subst (λ t. IsOf t config) (sym table) c.self.invariant.0) c.see.ensures.parts c.see.ensures.kept c.requires.hand in
+    more_taken c.args.event.now c.args.pass.now c.see.new.pass c.take_each.new.pass c.in-Ok.missing c.see.ensures.kept c.see.ensures.seen c.requires.wanted c.take_each.ensures.taken
+    (missing_shown config c.see.new.pass state c.args.event.now c.hand.result.now c.in-Ok.missing c.hand.ensures c.in-Ok.ensures)
+
+pub returns-in-Err-clause-stopped : goal.returns-in-Err-clause-stopped
+returns-in-Err-clause-stopped g c =
+    let config = c.self.inside.config.value in
+    let table = ap (λ (p : Caller). p.table) c.see.ensures.kept ∙ c.requires.table ∙ sym (ap (λ (d : Shared). d.table) c.self.view_is) in
+    let state = sees config c.args.pass.now c.see.new.pass c.self.invariant.1 (subst (λ t. IsOf t config) (sym table) c.self.invariant.0) c.see.ensures.parts c.see.ensures.kept c.requires.hand in
+    let lost = c.in-Err.ensures.lost in
+    lost_more c.args.event.now c.args.pass.now c.see.new.pass c.take_each.new.pass c.in-Ok.missing c.in-Err.busy.part c.in-Err.busy.by c.see.ensures.kept c.take_each.ensures.taken
+    (missing_shown config c.see.new.pass state c.args.event.now c.hand.result.now c.in-Ok.missing c.hand.ensures c.in-Ok.ensures c.in-Err.busy.part lost.0) lost.1 lost.2

@@ -1,0 +1,12 @@
+use Rattle.std.proofs.Common.{◌≡◌}
+use Rattle.mms_device.specs.Taken.{IsTaking, free_count}
+use Rattle.mms_device.proofs.many.Device.take_wanted.Given as goal
+
+abbrev pub invariant-loop : goal.invariant-loop
+invariant-loop g l = record {
+  taking : IsTaking l.event l.fn.pass l.pass;
+  lost : l.pass.lost ≡ l.fn.pass.lost;
+}
+
+abbrev pub decreases-loop : goal.decreases-loop
+decreases-loop g l = free_count l.pass.taken

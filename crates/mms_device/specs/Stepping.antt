@@ -1,0 +1,24 @@
+-- When the step of an event may be done on held parts, and what becomes of them.
+use Rattle.std.specs.Prelude.{◌≡◌, ℕ, Option, List, [], length}
+use Rattle.mms_types.specs.Actors.{IsAmong}
+use Rattle.mms_types.specs.declared.event.CellEvent.{CellEvent}
+use Rattle.part_table.specs.Held.{held_at, IsHandOf}
+use Rattle.mms_step.specs.declared.part.Part.{Part}
+use Rattle.mms_step.specs.After.{after}
+use Rattle.mms_step.specs.Needs.{need}
+use Rattle.mms_step.specs.Partition.{parts_of, clients_among, clock_in}
+use Rattle.mms_step.specs.Reads.{Kept, IsReadingOf}
+use Rattle.mms_step.specs.State.{State, IsSound}
+use Rattle.mms_step.specs.Step.{IsInTime}
+
+-- they are parts of a state that may come, nothing else is needed, and the event is one of a client that is there, in time
+pub record MayStep (event : CellEvent) (kept : Kept) (hand : List (Option Part)) : Type 0 where
+  pub of : (s : State) × ((count : ℕ) × IsSound count s) × IsHandOf hand (parts_of s)
+  pub reading : IsReadingOf kept event
+  pub among : IsAmong (clients_among (length hand)) event
+  pub held : need event hand ≡ []
+  pub time : IsInTime (clock_in (held_at hand 0)) event
+
+-- they are as the event makes them
+abbrev pub HasStepped : CellEvent → List (Option Part) → List (Option Part) → Type 0
+HasStepped event old new = new ≡ after event old

@@ -1,0 +1,278 @@
+//! Serving an event on the parts that it wants.
+
+ghost use Rattle.std.specs.Prelude.{◌≡◌, ◌<◌, ◌≤◌, [], ℕ, true, false, List, IfOk, IfErr, OnOk, OnErr};
+ghost use Rattle.mms_types.specs.declared.event.CellEvent.{CellEvent};
+ghost use Rattle.mms_types.specs.declared.event.CellEvent.TheVariants.{Drain};
+ghost use Rattle.part_table.specs.Held.{IsHandOf};
+ghost use Rattle.part_table.specs.History.{StartsWith};
+ghost use Rattle.part_table.specs.Known.{HoldsNothing};
+ghost use Rattle.mms_step.specs.Needs.{footprint, need};
+ghost use Rattle.mms_step.specs.Partition.{parts_of};
+ghost use Rattle.mms_step.specs.Reads.{IsReadingOf};
+ghost use Rattle.mms_step.specs.Step.{said};
+ghost use Rattle.mms_device.specs.Making.{MayMake};
+ghost use Rattle.mms_device.specs.Refusals.{IsRefused};
+ghost use Rattle.mms_device.specs.Shared.{HasTried, IsBusy, IsServed, IsTimely, all_events, led_to};
+ghost use Rattle.mms_device.specs.Taken.{AreHeld, HasLost, HoldsWanted, IsStopped, IsTaking, free_count};
+
+use crate::answers::{Busy, Refused, Served};
+use crate::giving::give_all;
+use crate::taking::take_each;
+use crate::{Device, Drained, calls};
+use cell_io::{Gate, Point};
+use mms_step::{Cell, Reading, drain, footprint, need_read, read_event};
+use mms_types::{CellEvent, Memory};
+use part_table::{Pass, a_pass_knows_its_own_places};
+use std::alloc::Global;
+use std::sync::Wait;
+
+impl Device {
+    /// Sees the history, and takes what is then shown to be needed. Whether nothing was.
+    fn take_more<G: Gate>(
+        &self,
+        alloc: Global,
+        pass: &mut Pass<Cell>,
+        event: &CellEvent,
+        reading: &Reading,
+        gate: &G,
+    ) -> Result<bool, Refused>
+        requires table { pass.old.table ≡ self.now.table }
+        requires hand { pass.old.hand ≡ pass.old.taken }
+        requires actor { MayMake pass.old.by event.now }
+        requires reading { IsReadingOf reading.now event.now }
+        requires wanted { HoldsWanted event.now pass.old.taken }
+        ensures taking { IsTaking event.now pass.old pass.new }
+        ensures all { IfOk result (λ all. all ≡ true → (need event.now pass.new.taken ≡ [])
+            × IsHandOf pass.new.taken (parts_of (led_to self.now.config pass.new.seen))) }
+        ensures more { IfOk result (λ all. all ≡ false
+            → free_count pass.new.taken < free_count pass.old.taken) }
+        ensures lost { OnOk result (pass.new.lost ≡ pass.old.lost) }
+        ensures stopped { IfErr result (IsStopped event.now pass.old pass.new) }
+    {
+        calls::see(&self.table, pass);
+        calls::a_pass_knows_its_own_places(pass);
+        let Ok(missing) = need_read(alloc, event, reading, calls::hand(pass)) else {
+            return Err(Refused::Memory);
+        };
+        if missing.is_empty() {
+            return Ok(true);
+        }
+        match take_each(&self.table, pass, &missing, gate) {
+            Ok(()) => Ok(false),
+            Err(busy) => Err(Refused::Busy(busy)),
+        }
+    }
+
+    /// Takes the parts that the event's words tell, by a pass that holds nothing.
+    fn take_told<G: Gate>(
+        &self,
+        pass: &mut Pass<Cell>,
+        event: &CellEvent,
+        gate: &G,
+    ) -> Result<(), Busy>
+        requires table { pass.old.table ≡ self.now.table }
+        requires idle { HoldsNothing pass.old }
+        requires actor { MayMake pass.old.by event.now }
+        ensures taking { IsTaking event.now pass.old pass.new }
+        ensures told { IfOk result (λ _.
+            AreHeld pass.new.taken (footprint self.now.config.clients event.now)
+            × (pass.new.lost ≡ pass.old.lost)) }
+        ensures stopped { IfErr result
+            (λ busy. HasLost event.now pass.old pass.new busy.part busy.by) }
+    {
+        a_pass_knows_its_own_places(pass);
+        let parts = footprint(event, self.clients);
+        take_each(&self.table, pass, &parts, gate)
+    }
+
+    /// Takes all parts that the event wants, by a pass that holds nothing.
+    fn take_wanted<G: Gate>(
+        &self,
+        alloc: Global,
+        pass: &mut Pass<Cell>,
+        event: &CellEvent,
+        reading: &Reading,
+        gate: &G,
+    ) -> Result<(), Refused>
+        requires table { pass.old.table ≡ self.now.table }
+        requires idle { HoldsNothing pass.old }
+        requires actor { MayMake pass.old.by event.now }
+        requires reading { IsReadingOf reading.now event.now }
+        ensures taking { IsTaking event.now pass.old pass.new }
+        ensures all { IfOk result (λ _. (need event.now pass.new.taken ≡ [])
+            × IsHandOf pass.new.taken (parts_of (led_to self.now.config pass.new.seen))
+            × (pass.new.lost ≡ pass.old.lost)) }
+        ensures stopped { IfErr result (IsStopped event.now pass.old pass.new) }
+    {
+        if let Err(busy) = self.take_told(pass, event, gate) {
+            return Err(Refused::Busy(busy));
+        }
+        while !self.take_more(alloc, pass, event, reading, gate)? {}
+        Ok(())
+    }
+
+    /// Serves an event of whose octets that was read.
+    fn try_read<G: Gate>(
+        &self,
+        alloc: Global,
+        pass: &mut Pass<Cell>,
+        event: &CellEvent,
+        reading: &Reading,
+        gate: &G,
+    ) -> Result<Served, Refused>
+        requires table { pass.old.table ≡ self.now.table }
+        requires idle { HoldsNothing pass.old }
+        requires left { 0 < pass.old.left }
+        requires actor { MayMake pass.old.by event.now }
+        requires time { IsTimely self.now.config pass.old event.now }
+        requires reading { IsReadingOf reading.now event.now }
+        ensures served { IfOk result (λ served. (h : List (ℕ × CellEvent))
+            × IsServed event.now pass.old pass.new served.ticket h) }
+        ensures refused { IfErr result (IsRefused self.now.config event.now pass.old pass.new) }
+    {
+        calls::a_pass_knows_its_own_places(pass);
+        if let Err(refused) = self.take_wanted(alloc, pass, event, reading, gate) {
+            calls::see(&self.table, pass);
+            calls::a_pass_knows_its_own_places(pass);
+            give_all(&self.table, pass);
+            tell(gate, calls::by(pass), refused);
+            return Err(refused);
+        }
+        calls::a_pass_knows_its_own_places(pass);
+        let Ok(()) = calls::on_hand(alloc, pass, &calls::StepOf { event, reading }) else {
+            give_all(&self.table, pass);
+            return Err(Refused::Memory);
+        };
+        let ticket = calls::commit(&self.table, pass, event);
+        gate.pass(calls::by(pass), Point::Committed);
+        give_all(&self.table, pass);
+        Ok(Served { ticket })
+    }
+
+    /// Serves an event by its actor's pass, which holds nothing: takes the parts that the event's words tell and then
+    /// those that the held ones show to be needed, does its step, commits it once, and gives all back. The answer is
+    /// its place in the history. The gate is passed after each part that was taken, after the commit, and before `Busy`
+    /// is answered.
+    ///
+    /// `Busy` is answered where another caller held a part that the event wants; the claim is noted among those that
+    /// the pass lost. After it and after `Memory` the pass holds nothing, and the event isn't in the history.
+    pub fn try_serve<G: Gate>(
+        &self,
+        alloc: Global,
+        pass: &mut Pass<Cell>,
+        event: &CellEvent,
+        gate: &G,
+    ) -> Result<Served, Refused>
+        requires table { pass.old.table ≡ self.now.table }
+        requires idle { HoldsNothing pass.old }
+        requires left { 0 < pass.old.left }
+        requires actor { MayMake pass.old.by event.now }
+        requires time { IsTimely self.now.config pass.old event.now }
+        ensures served { IfOk result (λ served. (h : List (ℕ × CellEvent))
+            × IsServed event.now pass.old pass.new served.ticket h) }
+        ensures refused { IfErr result (IsRefused self.now.config event.now pass.old pass.new) }
+    {
+        match read_event(alloc, event, self.edition) {
+            Ok(reading) => self.try_read(alloc, pass, event, &reading, gate),
+            Err(Memory) => Err(Refused::Memory),
+        }
+    }
+
+    /// Serves an event of whose octets that was read, and tries again while it is busy.
+    fn serve_read<R: Wait, G: Gate>(
+        &self,
+        rt: &R,
+        alloc: Global,
+        pass: &mut Pass<Cell>,
+        event: &CellEvent,
+        reading: &Reading,
+        gate: &G,
+    ) -> Result<Served, Memory>
+        requires table { pass.old.table ≡ self.now.table }
+        requires idle { HoldsNothing pass.old }
+        requires left { 0 < pass.old.left }
+        requires actor { MayMake pass.old.by event.now }
+        requires time { IsTimely self.now.config pass.old event.now }
+        requires reading { IsReadingOf reading.now event.now }
+        ensures served { IfOk result (λ served. (h : List (ℕ × CellEvent)) × IsServed event.now
+            (record pass.old { lost = pass.new.lost }) pass.new served.ticket h) }
+        ensures lost { StartsWith pass.new.lost pass.old.lost }
+        ensures memory { OnErr result (HasTried pass.old pass.new) }
+    {
+        for _ in rt.forever() {
+            match self.try_read(alloc, pass, event, reading, gate) {
+                Ok(served) => return Ok(served),
+                Err(Refused::Memory) => return Err(Memory),
+                Err(Refused::Busy(_)) => {}
+            }
+        }
+        unreachable!()
+    }
+
+    /// Serves an event as `try_serve`, and tries again while it is busy. So it may wait, and never return. The claims that
+    /// were lost meanwhile are noted. The error is want of memory.
+    pub fn serve<R: Wait, G: Gate>(
+        &self,
+        rt: &R,
+        alloc: Global,
+        pass: &mut Pass<Cell>,
+        event: &CellEvent,
+        gate: &G,
+    ) -> Result<Served, Memory>
+        requires table { pass.old.table ≡ self.now.table }
+        requires idle { HoldsNothing pass.old }
+        requires left { 0 < pass.old.left }
+        requires actor { MayMake pass.old.by event.now }
+        requires time { IsTimely self.now.config pass.old event.now }
+        ensures served { IfOk result (λ served. (h : List (ℕ × CellEvent)) × IsServed event.now
+            (record pass.old { lost = pass.new.lost }) pass.new served.ticket h) }
+        ensures lost { StartsWith pass.new.lost pass.old.lost }
+        ensures memory { OnErr result (HasTried pass.old pass.new) }
+    {
+        match read_event(alloc, event, self.edition) {
+            Ok(reading) => self.serve_read(rt, alloc, pass, event, &reading, gate),
+            Err(Memory) => Err(Memory),
+        }
+    }
+
+    /// Serves the event that the pass's client takes what is to be sent to it, which is what the client has to be sent
+    /// after the events before this one. It takes no memory.
+    ///
+    /// `Busy` is answered where another caller held the client's part, as `try_serve` does.
+    pub fn drain<G: Gate>(&self, pass: &mut Pass<Cell>, gate: &G) -> Result<Drained, Busy>
+        requires table { pass.old.table ≡ self.now.table }
+        requires idle { HoldsNothing pass.old }
+        requires left { 0 < pass.old.left }
+        requires client { 1 ≤ pass.old.by }
+        ensures served { IfOk result (λ drained. (h : List (ℕ × CellEvent))
+            × IsServed (Drain pass.old.by) pass.old pass.new drained.ticket h
+            × (drained.outputs.items ≡ said self.now.config (all_events h) pass.old.by)) }
+        ensures busy { IfErr result (λ busy.
+            IsBusy self.now.config (Drain pass.old.by) pass.old pass.new busy.part busy.by) }
+    {
+        a_pass_knows_its_own_places(pass);
+        let client = pass.by();
+        let event = CellEvent::Drain { client };
+        if let Err(busy) = self.take_told(pass, &event, gate) {
+            self.table.see(pass);
+            a_pass_knows_its_own_places(pass);
+            give_all(&self.table, pass);
+            gate.pass(client, Point::Busy(busy.part));
+            return Err(busy);
+        }
+        self.table.see(pass);
+        a_pass_knows_its_own_places(pass);
+        let outputs = drain(client, pass.hand_mut());
+        let ticket = self.table.commit(pass, &event);
+        gate.pass(client, Point::Committed);
+        give_all(&self.table, pass);
+        Ok(Drained { ticket, outputs })
+    }
+}
+
+/// Passes the gate before a `Busy` answer.
+fn tell<G: Gate>(gate: &G, caller: u32, refused: Refused) {
+    if let Refused::Busy(busy) = refused {
+        gate.pass(caller, Point::Busy(busy.part));
+    }
+}
