@@ -2,6 +2,7 @@
 #![tactic(auto)]
 
 mod access_result;
+mod boxed;
 mod cells;
 mod copying;
 mod data;
@@ -31,6 +32,7 @@ mod variable;
 pub use access_result::{
     AccessResult, AccessResults, DataAccessError, DataList, WriteAnswer, WriteResult, WriteResults,
 };
+pub use boxed::Boxed;
 pub use cells::{CellRow, Cells, NamedCell, NamedCells};
 pub use data::{BitString, Data, DataKind};
 pub use event::{CellEvent, Events, Output, What};

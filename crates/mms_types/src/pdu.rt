@@ -1,7 +1,9 @@
 use crate::{
-    CancelError, ConfirmedError, DefineNamedVariable, DefineNamedVariableList, DeleteNames,
-    Deleted, GetNameList, GetNameListAnswer, IdentifyAnswer, Initiate, InitiateAnswer,
-    ListAttributes, ObjectName, Read, ReadAnswer, ServiceError, Spec, Status, StatusAnswer,
+    Boxed, CancelError, ConfirmedError, DefineNamedVariable, DefineNamedVariableList,
+    DefineSemaphore, DeleteNames, Deleted, EntryStatuses, GetNameList, GetNameListAnswer,
+    IdentifyAnswer, Initiate, InitiateAnswer, ListAttributes, ObjectName, PoolStatus, Read,
+    ReadAnswer, RelinquishControl, ReportPoolSemaphoreStatus, ReportSemaphoreEntryStatus,
+    SemaphoreStatus, ServiceError, Spec, Status, StatusAnswer, TakeControl, TakeControlAnswer,
     VariableAttributes, Write, WriteAnswer,
 };
 
@@ -31,6 +33,20 @@ pub enum Request {
     GetNamedVariableListAttributes(ObjectName),
     /// The deletion of names of lists of variables.
     DeleteNamedVariableList(DeleteNames),
+    /// A token of a semaphore. What is asked is kept apart, so that no request grows by it.
+    TakeControl(Boxed<TakeControl>),
+    /// A token of a semaphore is given back.
+    RelinquishControl(RelinquishControl),
+    /// A name for a semaphore.
+    DefineSemaphore(DefineSemaphore),
+    /// The deletion of the semaphore of this name.
+    DeleteSemaphore(ObjectName),
+    /// What the semaphore of this name is and has.
+    ReportSemaphoreStatus(ObjectName),
+    /// The tokens of a pool.
+    ReportPoolSemaphoreStatus(ReportPoolSemaphoreStatus),
+    /// The entries of a semaphore.
+    ReportSemaphoreEntryStatus(ReportSemaphoreEntryStatus),
 }
 
 /// What the server answers to a request (ISO 9506-2, ConfirmedServiceResponse): a variant for each service, with what
@@ -59,6 +75,20 @@ pub enum Answer {
     GetNamedVariableListAttributes(ListAttributes),
     /// How many names of lists of variables there were, and how many of them were deleted.
     DeleteNamedVariableList(Deleted),
+    /// The client has a token.
+    TakeControl(TakeControlAnswer),
+    /// The token was given back.
+    RelinquishControl,
+    /// The semaphore has the name.
+    DefineSemaphore,
+    /// The semaphore was deleted.
+    DeleteSemaphore,
+    /// What the semaphore is and has.
+    ReportSemaphoreStatus(SemaphoreStatus),
+    /// The tokens of the pool, and whether more come after them.
+    ReportPoolSemaphoreStatus(PoolStatus),
+    /// The entries of the semaphore, and whether more come after them.
+    ReportSemaphoreEntryStatus(EntryStatuses),
 }
 
 /// Why a PDU is rejected (ISO 9506-2, RejectPDU): the reasons that the server gives.
