@@ -146,6 +146,13 @@ request_depth (request.DeleteVariableAccess x) = 0
 request_depth (request.DefineNamedVariableList x) = 0
 request_depth (request.GetNamedVariableListAttributes x) = 0
 request_depth (request.DeleteNamedVariableList x) = 0
+request_depth (request.TakeControl x) = 0
+request_depth (request.RelinquishControl x) = 0
+request_depth (request.DefineSemaphore x) = 0
+request_depth (request.DeleteSemaphore x) = 0
+request_depth (request.ReportSemaphoreStatus x) = 0
+request_depth (request.ReportPoolSemaphoreStatus x) = 0
+request_depth (request.ReportSemaphoreEntryStatus x) = 0
 
 -- and those of a PDU
 abbrev pub depth_of : Pdu → ℕ

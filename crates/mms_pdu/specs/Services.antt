@@ -19,6 +19,10 @@ use Rattle.pdu_vars.specs.Results.{write_answer, access_results_sound}
 use Rattle.pdu_vars.specs.ReadWrite.{read_request, read_answer, write_request}
 use Rattle.pdu_vars.specs.Named.{define_variable, variable_attributes, delete_names, deleted_names}
 use Rattle.pdu_vars.specs.Lists.{define_list, list_attributes}
+use Rattle.pdu_sems.specs.Control.{take_control, take_control_answers, relinquish_control}
+use Rattle.pdu_sems.specs.Definitions.{define_semaphore, semaphore_status}
+use Rattle.pdu_sems.specs.Pools.{report_pool, pool_status}
+use Rattle.pdu_sems.specs.Entries.{report_entries, entry_statuses}
 
 -- services: their numbers, and the two choices that they make
 pub record Services : Type 0 where
@@ -41,7 +45,8 @@ none = record { numbers = []; requests = no_other request.Identify; answers = no
 -- The services that are offered, in the order of their numbers. From this list follow what isn't offered, the services that an
 -- initiate-Response names, and both choices. VMD support: Status, GetNameList, Identify. Variable access: Read, Write,
 -- GetVariableAccessAttributes, DefineNamedVariable, DeleteVariableAccess, DefineNamedVariableList, GetNamedVariableListAttributes,
--- DeleteNamedVariableList.
+-- DeleteNamedVariableList. Semaphores: TakeControl, RelinquishControl, DefineSemaphore, DeleteSemaphore, ReportSemaphoreStatus,
+-- ReportPoolSemaphoreStatus, ReportSemaphoreEntryStatus.
 abbrev pub services : Services
 services =
     service 0 status request.Status status_answer answer.Status (
@@ -54,7 +59,14 @@ services =
     service 10 delete_names request.DeleteVariableAccess deleted_names answer.DeleteVariableAccess (
     service 11 define_list request.DefineNamedVariableList null (λ _. answer.DefineNamedVariableList) (
     service 12 (choice names) request.GetNamedVariableListAttributes list_attributes answer.GetNamedVariableListAttributes (
-    service 13 delete_names request.DeleteNamedVariableList deleted_names answer.DeleteNamedVariableList none))))))))))
+    service 13 delete_names request.DeleteNamedVariableList deleted_names answer.DeleteNamedVariableList (
+    service 19 take_control request.TakeControl (choice take_control_answers) answer.TakeControl (
+    service 20 relinquish_control request.RelinquishControl null (λ _. answer.RelinquishControl) (
+    service 21 define_semaphore request.DefineSemaphore null (λ _. answer.DefineSemaphore) (
+    service 22 (choice names) request.DeleteSemaphore null (λ _. answer.DeleteSemaphore) (
+    service 23 (choice names) request.ReportSemaphoreStatus semaphore_status answer.ReportSemaphoreStatus (
+    service 24 report_pool request.ReportPoolSemaphoreStatus pool_status answer.ReportPoolSemaphoreStatus (
+    service 25 report_entries request.ReportSemaphoreEntryStatus entry_statuses answer.ReportSemaphoreEntryStatus none)))))))))))))))))
 
 -- ---- ConfirmedServiceRequest: each service by its number, with its argument
 
@@ -70,6 +82,13 @@ request_value (request.DeleteVariableAccess x) = chosen 10 (delete_names.value x
 request_value (request.DefineNamedVariableList x) = chosen 11 (define_list.value x)
 request_value (request.GetNamedVariableListAttributes x) = chosen 12 ((choice names).value x)
 request_value (request.DeleteNamedVariableList x) = chosen 13 (delete_names.value x)
+request_value (request.TakeControl x) = chosen 19 (take_control.value x)
+request_value (request.RelinquishControl x) = chosen 20 (relinquish_control.value x)
+request_value (request.DefineSemaphore x) = chosen 21 (define_semaphore.value x)
+request_value (request.DeleteSemaphore x) = chosen 22 ((choice names).value x)
+request_value (request.ReportSemaphoreStatus x) = chosen 23 ((choice names).value x)
+request_value (request.ReportPoolSemaphoreStatus x) = chosen 24 (report_pool.value x)
+request_value (request.ReportSemaphoreEntryStatus x) = chosen 25 (report_entries.value x)
 
 pub request_again : (r : Request) → made_of services.requests (request_value r) ≡ r
 request_again (request.Status x) = ap request.Status (status.again x)
@@ -83,6 +102,13 @@ request_again (request.DeleteVariableAccess x) = ap request.DeleteVariableAccess
 request_again (request.DefineNamedVariableList x) = ap request.DefineNamedVariableList (define_list.again x)
 request_again (request.GetNamedVariableListAttributes x) = ap request.GetNamedVariableListAttributes ((choice names).again x)
 request_again (request.DeleteNamedVariableList x) = ap request.DeleteNamedVariableList (delete_names.again x)
+request_again (request.TakeControl x) = ap request.TakeControl (take_control.again x)
+request_again (request.RelinquishControl x) = ap request.RelinquishControl (relinquish_control.again x)
+request_again (request.DefineSemaphore x) = ap request.DefineSemaphore (define_semaphore.again x)
+request_again (request.DeleteSemaphore x) = ap request.DeleteSemaphore ((choice names).again x)
+request_again (request.ReportSemaphoreStatus x) = ap request.ReportSemaphoreStatus ((choice names).again x)
+request_again (request.ReportPoolSemaphoreStatus x) = ap request.ReportPoolSemaphoreStatus (report_pool.again x)
+request_again (request.ReportSemaphoreEntryStatus x) = ap request.ReportSemaphoreEntryStatus (report_entries.again x)
 
 unfoldable pub requests : Choice Request
 requests = alternatives services.requests request_value request_again
@@ -105,6 +131,13 @@ answer_value (answer.DeleteVariableAccess x) = chosen 10 (deleted_names.value x)
 answer_value answer.DefineNamedVariableList = chosen 11 (null.value tt)
 answer_value (answer.GetNamedVariableListAttributes x) = chosen 12 (list_attributes.value x)
 answer_value (answer.DeleteNamedVariableList x) = chosen 13 (deleted_names.value x)
+answer_value (answer.TakeControl x) = chosen 19 ((choice take_control_answers).value x)
+answer_value answer.RelinquishControl = chosen 20 (null.value tt)
+answer_value answer.DefineSemaphore = chosen 21 (null.value tt)
+answer_value answer.DeleteSemaphore = chosen 22 (null.value tt)
+answer_value (answer.ReportSemaphoreStatus x) = chosen 23 (semaphore_status.value x)
+answer_value (answer.ReportPoolSemaphoreStatus x) = chosen 24 (pool_status.value x)
+answer_value (answer.ReportSemaphoreEntryStatus x) = chosen 25 (entry_statuses.value x)
 
 pub answer_again : (a : Answer) → made_of services.answers (answer_value a) ≡ a
 answer_again (answer.Status x) = ap answer.Status (status_answer.again x)
@@ -118,6 +151,13 @@ answer_again (answer.DeleteVariableAccess x) = ap answer.DeleteVariableAccess (d
 answer_again answer.DefineNamedVariableList = refl
 answer_again (answer.GetNamedVariableListAttributes x) = ap answer.GetNamedVariableListAttributes (list_attributes.again x)
 answer_again (answer.DeleteNamedVariableList x) = ap answer.DeleteNamedVariableList (deleted_names.again x)
+answer_again (answer.TakeControl x) = ap answer.TakeControl ((choice take_control_answers).again x)
+answer_again answer.RelinquishControl = refl
+answer_again answer.DefineSemaphore = refl
+answer_again answer.DeleteSemaphore = refl
+answer_again (answer.ReportSemaphoreStatus x) = ap answer.ReportSemaphoreStatus (semaphore_status.again x)
+answer_again (answer.ReportPoolSemaphoreStatus x) = ap answer.ReportPoolSemaphoreStatus (pool_status.again x)
+answer_again (answer.ReportSemaphoreEntryStatus x) = ap answer.ReportSemaphoreEntryStatus (entry_statuses.again x)
 
 unfoldable pub answers : Choice Answer
 answers = alternatives services.answers answer_value answer_again

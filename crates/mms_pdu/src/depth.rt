@@ -21,7 +21,14 @@ pub(crate) fn request_depth(request: &Request) -> u8
         | Request::DeleteVariableAccess(_)
         | Request::DefineNamedVariableList(_)
         | Request::GetNamedVariableListAttributes(_)
-        | Request::DeleteNamedVariableList(_) => 0,
+        | Request::DeleteNamedVariableList(_)
+        | Request::TakeControl(_)
+        | Request::RelinquishControl(_)
+        | Request::DefineSemaphore(_)
+        | Request::DeleteSemaphore(_)
+        | Request::ReportSemaphoreStatus(_)
+        | Request::ReportPoolSemaphoreStatus(_)
+        | Request::ReportSemaphoreEntryStatus(_) => 0,
     }
 }
 

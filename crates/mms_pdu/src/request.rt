@@ -19,9 +19,14 @@ use crate::reading::{Read, tell};
 use crate::refusal::Refusal;
 use ber_core::{Element, Memory as Full, Tag, Writer};
 use ber_forms::{Cursor, Unread};
-use mms_types::{Edition, Pdu, Request};
+use mms_types::{Boxed, Edition, Pdu, Request};
 use pdu_assoc::{GetNameListRequest, StatusRequest};
 use pdu_names::{Formed, Null, cursor, read_as};
+use pdu_sems::{
+    DefineSemaphoreRequest, DeleteSemaphoreRequest, RelinquishControlRequest,
+    ReportPoolSemaphoreStatusRequest, ReportSemaphoreEntryStatusRequest,
+    ReportSemaphoreStatusRequest, TakeControlRequest,
+};
 use pdu_vars::{
     DefineNamedVariableListRequest, DefineNamedVariableRequest, DeleteNamedVariableListRequest,
     DeleteVariableAccessRequest, GetNamedVariableListAttributesRequest,
@@ -91,6 +96,24 @@ fn argument<F: Formed>(
     }
 }
 
+/// The same, kept apart from the request.
+fn argument_apart<F: Formed>(
+    alloc: Global,
+    invoke: u32,
+    service: Element<'_>,
+    edition: Edition,
+) -> Result<Boxed<F::Item>, Refusal>
+    ensures { Hears (λ x. chosen service.entry.tag.number (F.kind.value x)) result
+        (argued invoke (read_as (lengths_of edition) (part service.entry)
+        (Some (F.kind.form edition)))) }
+{
+    let found = argument::<F>(alloc, invoke, service, edition)?;
+    match Boxed::new(alloc, found) {
+        Ok(kept) => Ok(kept),
+        Err(_) => Err(Refusal::Memory),
+    }
+}
+
 /// The request for the service of that number, or why it is refused: a service that isn't listed here is not offered.
 #[tactic(auto, unfolding(crate::specs::Services::requests))]
 fn served(
@@ -130,6 +153,27 @@ fn served(
             GetNamedVariableListAttributesRequest,
         >(alloc, invoke, service, edition)?)),
         13 => Ok(Request::DeleteNamedVariableList(argument::<DeleteNamedVariableListRequest>(
+            alloc, invoke, service, edition,
+        )?)),
+        19 => Ok(Request::TakeControl(argument_apart::<TakeControlRequest>(
+            alloc, invoke, service, edition,
+        )?)),
+        20 => Ok(Request::RelinquishControl(argument::<RelinquishControlRequest>(
+            alloc, invoke, service, edition,
+        )?)),
+        21 => Ok(Request::DefineSemaphore(argument::<DefineSemaphoreRequest>(
+            alloc, invoke, service, edition,
+        )?)),
+        22 => Ok(Request::DeleteSemaphore(argument::<DeleteSemaphoreRequest>(
+            alloc, invoke, service, edition,
+        )?)),
+        23 => Ok(Request::ReportSemaphoreStatus(argument::<ReportSemaphoreStatusRequest>(
+            alloc, invoke, service, edition,
+        )?)),
+        24 => Ok(Request::ReportPoolSemaphoreStatus(argument::<ReportPoolSemaphoreStatusRequest>(
+            alloc, invoke, service, edition,
+        )?)),
+        25 => Ok(Request::ReportSemaphoreEntryStatus(argument::<ReportSemaphoreEntryStatusRequest>(
             alloc, invoke, service, edition,
         )?)),
         _ => Err(Refusal::Service { invoke }),
@@ -244,5 +288,16 @@ pub(crate) fn put_argument(out: &mut Writer, request: &Request) -> Result<(), Fu
             GetNamedVariableListAttributesRequest::put_part(out, 12, x)
         }
         Request::DeleteNamedVariableList(x) => DeleteNamedVariableListRequest::put_part(out, 13, x),
+        Request::TakeControl(x) => TakeControlRequest::put_part(out, 19, x.get()),
+        Request::RelinquishControl(x) => RelinquishControlRequest::put_part(out, 20, x),
+        Request::DefineSemaphore(x) => DefineSemaphoreRequest::put_part(out, 21, x),
+        Request::DeleteSemaphore(x) => DeleteSemaphoreRequest::put_part(out, 22, x),
+        Request::ReportSemaphoreStatus(x) => ReportSemaphoreStatusRequest::put_part(out, 23, x),
+        Request::ReportPoolSemaphoreStatus(x) => {
+            ReportPoolSemaphoreStatusRequest::put_part(out, 24, x)
+        }
+        Request::ReportSemaphoreEntryStatus(x) => {
+            ReportSemaphoreEntryStatusRequest::put_part(out, 25, x)
+        }
     }
 }

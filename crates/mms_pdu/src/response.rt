@@ -14,6 +14,10 @@ use ber_forms::Unread;
 use mms_types::{Answer, Edition};
 use pdu_assoc::{GetNameListResponse, IdentifyResponse, StatusResponse};
 use pdu_names::{Chosen, Formed, Null, OneOf, Own, cursor, read_as};
+use pdu_sems::{
+    ReportPoolSemaphoreStatusResponse, ReportSemaphoreEntryStatusResponse,
+    ReportSemaphoreStatusResponse, TakeControlResponse,
+};
 use pdu_vars::{
     DeleteNamedVariableListResponse, DeleteVariableAccessResponse,
     GetNamedVariableListAttributesResponse, GetVariableAccessAttributesResponse, ReadResponse,
@@ -54,6 +58,28 @@ fn answered(alloc: Global, service: Element<'_>, edition: Edition) -> Result<Ans
         13 => Ok(Answer::DeleteNamedVariableList(read_as::<DeleteNamedVariableListResponse>(
             alloc, service, edition,
         )?)),
+        19 => Ok(Answer::TakeControl(read_as::<TakeControlResponse>(alloc, service, edition)?)),
+        20 => {
+            read_as::<Null>(alloc, service, edition)?;
+            Ok(Answer::RelinquishControl)
+        }
+        21 => {
+            read_as::<Null>(alloc, service, edition)?;
+            Ok(Answer::DefineSemaphore)
+        }
+        22 => {
+            read_as::<Null>(alloc, service, edition)?;
+            Ok(Answer::DeleteSemaphore)
+        }
+        23 => Ok(Answer::ReportSemaphoreStatus(read_as::<ReportSemaphoreStatusResponse>(
+            alloc, service, edition,
+        )?)),
+        24 => Ok(Answer::ReportPoolSemaphoreStatus(read_as::<ReportPoolSemaphoreStatusResponse>(
+            alloc, service, edition,
+        )?)),
+        25 => Ok(Answer::ReportSemaphoreEntryStatus(read_as::<ReportSemaphoreEntryStatusResponse>(
+            alloc, service, edition,
+        )?)),
         _ => Err(Unread::Malformed),
     }
 }
@@ -91,6 +117,17 @@ impl Chosen for Answers {
             }
             Answer::DeleteNamedVariableList(x) => {
                 DeleteNamedVariableListResponse::put_part(out, 13, x)
+            }
+            Answer::TakeControl(x) => TakeControlResponse::put_part(out, 19, x),
+            Answer::RelinquishControl => Null::put_part(out, 20, &()),
+            Answer::DefineSemaphore => Null::put_part(out, 21, &()),
+            Answer::DeleteSemaphore => Null::put_part(out, 22, &()),
+            Answer::ReportSemaphoreStatus(x) => ReportSemaphoreStatusResponse::put_part(out, 23, x),
+            Answer::ReportPoolSemaphoreStatus(x) => {
+                ReportPoolSemaphoreStatusResponse::put_part(out, 24, x)
+            }
+            Answer::ReportSemaphoreEntryStatus(x) => {
+                ReportSemaphoreEntryStatusResponse::put_part(out, 25, x)
             }
         }
     }
