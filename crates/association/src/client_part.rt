@@ -1,6 +1,6 @@
 ghost use Rattle.std.specs.Prelude.{◌≡◌, ◌≢◌, ◌↔◌, ◌<◌, ◌≤◌, ◌+◌, ◌-◌, ◌==◌, not, false, [], OnOk, OnErr, IfOk, IfSome, IsOk, IsSome, length, slice_get, vec_len, vec_capacity};
 ghost use Rattle.std.specs.Option.{option_copied};
-ghost use Rattle.association.specs.Admission.{admission};
+ghost use Rattle.association.specs.Admission.{admission, row_with_admitted};
 ghost use Rattle.association.specs.Client.{closed_row, drained_row, negotiated_of, new_row, opened_row, row_with_output, row_with_waiting, row_without_waiting};
 ghost use Rattle.association.specs.Negotiation.{negotiation, values_of};
 ghost use Rattle.association.specs.Waiting.{is_waiting, AreDistinct};
@@ -212,6 +212,27 @@ impl ClientPart {
     {
         self.waiting.push_reserved(Waiting { invoke, key, entry });
         self.waiting_room -= 1;
+    }
+
+    /// Lets a request wait that is admitted, and no other. It uses the room for one either way.
+    pub fn wait_admitted(&mut self, request: Waiting)
+        requires room { 0 < self.old.waiting_room }
+        ensures { self.new ≡ record self.old {
+          row = row_with_admitted self.old.row request;
+          waiting_room = self.old.waiting_room - 1;
+        } }
+    {
+        match self.admit(request.invoke) {
+            Ok(()) => self.wait(request.invoke, request.key, request.entry),
+            Err(_) => self.waiting_room -= 1,
+        }
+    }
+
+    /// The requests that wait, in the order in which they began to.
+    pub fn waiting(&self) -> &[Waiting]
+        ensures { result.now ≡ self.now.row.waiting }
+    {
+        &self.waiting
     }
 
     /// Whether any request waits.

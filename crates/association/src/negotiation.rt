@@ -21,7 +21,7 @@ const VERSION: i16 = 1;
 const PARAMETERS: [u8; 2] = [0xE9, 0x00];
 
 /// The services that the server offers: the bits of the one list of services, of conclude and of cancel.
-const SERVICES: [u8; 11] = [0xEF, 0x3C, 0, 0, 0, 0, 0, 0, 0, 0, 0x18];
+const SERVICES: [u8; 11] = [0xEF, 0x3C, 0x1F, 0xC0, 0, 0, 0, 0, 0, 0, 0x18];
 
 /// What an association was negotiated to (ISO 9506-1, Initiate).
 #[derive(Clone, Copy, Debug, PartialEq, Eq)]
