@@ -1,0 +1,3 @@
+pub mod AlsoLaws
+pub mod PlanLaws
+pub mod TimeLaws

@@ -1,0 +1,183 @@
+-- Requests that the row of their client alone answers, and what is left to be done on the tables.
+use Rattle.std.specs.Prelude.{◌≡◌, ℕ, Bool, true, false, Option, None, Some, List, [], ◌∷◌, ◌++◌, if◌then◌else◌, refl}
+use Rattle.std.proofs.Common.{ap, ap₂, sym, ◌∙◌, subst}
+use Rattle.mms_types.specs.declared.pdu.Request.{Request}
+use Rattle.mms_types.specs.declared.pdu.Request.TheVariants as request
+use Rattle.mms_types.specs.declared.pdu.Answer.{Answer}
+use Rattle.mms_types.specs.declared.service_error.ServiceError.{ServiceError}
+use Rattle.std.specs.Borrow.{Bor}
+use Rattle.association.specs.Client.{ClientRow, Client as RoomyRow}
+use Rattle.parted_state.specs.Served.{Done}
+use Rattle.cell_services.specs.declared.acts.Act.TheVariants as act
+use Rattle.cell_services.specs.Tables.{Tables}
+use Rattle.cell_services.specs.Effects.{Effect, felt_all, settled, tell}
+use Rattle.cell_services.specs.Association.{Verdict, Tells, Takes, Concludes, Cancels, Aborts}
+use Rattle.cell_services.specs.Services.{Outcome, answers, cause, effect, plain_answer, fits, is_done, request_told}
+use Rattle.cell_services.specs.Serving.{hears, own_told, size_of}
+use Rattle.cell_services.specs.Meant.{no_tables, row_after, IsPlainlyHeard}
+use Rattle.mms_types.specs.declared.pdu.Answer.TheVariants as answer
+use Rattle.mms_types.specs.declared.variable.Read.{Read}
+use Rattle.mms_types.specs.declared.variable.Write.{Write}
+use Rattle.variable_services.specs.declared.tables.VariableTables.{VariableTables}
+use Rattle.variable_services.specs.Services.{read_answer, read_cause, write_after, write_answer, write_cause}
+use Rattle.cell_services.specs.Acts.{IsActOf, IsDoneOn}
+
+append_none : {A : Type 0} (xs : List A) → xs ++ [] ≡ xs
+append_none [] = refl
+append_none {A} (x ∷ xs) = ap (λ (l : List A). x ∷ l) (append_none xs)
+
+no_cause : (t : Tables) (row : ClientRow) (asked : Request) (a : Answer) → plain_answer row asked ≡ Some a → cause t row asked ≡ None
+no_cause t row (request.Status y) a is = refl
+no_cause t row request.Identify a is = refl
+no_cause t row asked a is = absurd (cc is)
+
+plain_effect : (t : Tables) (row : ClientRow) (invoke : ℕ) (asked : Request) (a : Answer) → plain_answer row asked ≡ Some a → effect t row invoke asked ≡ answers t (Some a)
+plain_effect t row invoke (request.Status y) a is = ap (answers t) is
+plain_effect t row invoke request.Identify a is = ap (answers t) is
+plain_effect t row invoke asked a is = absurd (cc is)
+
+plain_own : (t : Tables) (row : ClientRow) (invoke : ℕ) (asked : Request) (a : Answer) → plain_answer row asked ≡ Some a
+    → own_told t row (Takes invoke asked) ≡ request_told (size_of row.association) invoke None (Some a)
+plain_own t row invoke asked a is =
+    ap₂ (λ (c : Option ServiceError) (o : Outcome). request_told (size_of row.association) invoke c o.answer) (no_cause t row asked a is) (plain_effect t row invoke asked a is)
+
+plain_alone : (t : Tables) (row : ClientRow) (client invoke : ℕ) (asked : Request) (a : Answer) → plain_answer row asked ≡ Some a
+    → hears t row client (Takes invoke asked) ≡ record { tables = t; told = tell client (request_told (size_of row.association) invoke None (Some a)) }
+plain_alone t row client invoke asked a is =
+    ap₂ (λ (c : Option ServiceError) (o : Outcome). at c o) (no_cause t row asked a is) (plain_effect t row invoke asked a is)
+    ∙ by_test (fits (size_of row.association) invoke (Some a))
+    ∙ ap (λ (l : List (ℕ × Effect)). done t l) (append_none (tell client (request_told (size_of row.association) invoke None (Some a))))
+  where
+    done : Tables → List (ℕ × Effect) → Done Tables Effect
+    done x l = record { tables = x; told = l }
+
+    at : Option ServiceError → Outcome → Done Tables Effect
+    at c o = record {
+      tables = if is_done (size_of row.association) invoke c o.answer then o.tables else t;
+      told = tell client (request_told (size_of row.association) invoke c o.answer) ++ (if is_done (size_of row.association) invoke c o.answer then o.also else []);
+    }
+
+    by_test : (b : Bool)
+        → done (if b then t else t) (tell client (request_told (size_of row.association) invoke None (Some a)) ++ (if b then [] else []))
+        ≡ done t (tell client (request_told (size_of row.association) invoke None (Some a)) ++ [])
+    by_test true = refl
+    by_test false = refl
+
+pub plainly_answered : (row : ClientRow) (new : RoomyRow) (invoke : ℕ) (asked : Request) (a : Answer) → Some a ≡ plain_answer row asked
+    → new ≡ settled (felt_all (request_told (size_of row.association) invoke None (Some a)) row) → IsPlainlyHeard row new (Takes invoke asked)
+plainly_answered row new invoke asked a is told = record {
+  is = told ∙ ap (λ (l : List Effect). settled (felt_all l row)) (sym (plain_own no_tables row invoke asked a (sym is)));
+  alone = λ t client. plain_alone t row client invoke asked a (sym is)
+      ∙ ap (λ (l : List Effect). at t (tell client l)) (sym (plain_own no_tables row invoke asked a (sym is)));
+}
+  where
+    at : Tables → List (ℕ × Effect) → Done Tables Effect
+    at x l = record { tables = x; told = l }
+
+-- ---- reads and writes of variables
+
+read_heard : (t : Tables) (row : ClientRow) (client invoke : ℕ) (x : Read) → hears t row client (Takes invoke (request.Read x))
+    ≡ record { tables = t; told = tell client (request_told (size_of row.association) invoke (read_cause row.client x t.variables) (Some (answer.Read (read_answer row.client x t.variables)))) }
+read_heard t row client invoke x =
+    by_test (is_done (size_of row.association) invoke (read_cause row.client x t.variables) (Some (answer.Read (read_answer row.client x t.variables))))
+    ∙ ap (λ (l : List (ℕ × Effect)). at t l) (append_none told)
+  where
+    at : Tables → List (ℕ × Effect) → Done Tables Effect
+    at u l = record { tables = u; told = l }
+
+    told : List (ℕ × Effect)
+    told = tell client (request_told (size_of row.association) invoke (read_cause row.client x t.variables) (Some (answer.Read (read_answer row.client x t.variables))))
+
+    by_test : (b : Bool) → at (if b then t else t) (told ++ (if b then [] else [])) ≡ at t (told ++ [])
+    by_test true = refl
+    by_test false = refl
+
+write_heard : (t : Tables) (row : ClientRow) (client invoke : ℕ) (x : Write) → hears t row client (Takes invoke (request.Write x))
+    ≡ record {
+      tables = record t {
+        variables = if is_done (size_of row.association) invoke (write_cause row.client x t.variables) (Some (answer.Write (write_answer row.client x t.variables)))
+            then write_after row.client x t.variables else t.variables;
+      };
+      told = tell client (request_told (size_of row.association) invoke (write_cause row.client x t.variables) (Some (answer.Write (write_answer row.client x t.variables))));
+    }
+write_heard t row client invoke x =
+    by_test (is_done (size_of row.association) invoke (write_cause row.client x t.variables) (Some (answer.Write (write_answer row.client x t.variables))))
+    ∙ ap (λ (l : List (ℕ × Effect)). at (written (is_done (size_of row.association) invoke (write_cause row.client x t.variables) (Some (answer.Write (write_answer row.client x t.variables))))) l) (append_none told)
+  where
+    at : Tables → List (ℕ × Effect) → Done Tables Effect
+    at u l = record { tables = u; told = l }
+
+    written : Bool → Tables
+    written b = record t { variables = if b then write_after row.client x t.variables else t.variables }
+
+    told : List (ℕ × Effect)
+    told = tell client (request_told (size_of row.association) invoke (write_cause row.client x t.variables) (Some (answer.Write (write_answer row.client x t.variables))))
+
+    by_test : (b : Bool) → at (if b then record t { variables = write_after row.client x t.variables } else t) (told ++ (if b then [] else [])) ≡ at (written b) (told ++ [])
+    by_test true = refl
+    by_test false = refl
+
+pub read_done : (row : ClientRow) (variables : VariableTables) (new : RoomyRow) (invoke : ℕ) (x : Read)
+    → new ≡ settled (felt_all (request_told (size_of row.association) invoke (read_cause row.client x variables) (Some (answer.Read (read_answer row.client x variables)))) row)
+    → IsDoneOn row variables variables new (Takes invoke (request.Read x))
+read_done row variables new invoke x is = record {
+  effects = request_told (size_of row.association) invoke (read_cause row.client x variables) (Some (answer.Read (read_answer row.client x variables)));
+  is = is;
+  done = λ t client same. read_heard t row client invoke x
+      ∙ ap (λ (v : VariableTables). at t client v) same;
+}
+  where
+    at : Tables → ℕ → VariableTables → Done Tables Effect
+    at t client v = record {
+      tables = record t { variables = v };
+      told = tell client (request_told (size_of row.association) invoke (read_cause row.client x v) (Some (answer.Read (read_answer row.client x v))));
+    }
+
+pub write_done : (row : ClientRow) (was now : VariableTables) (new : RoomyRow) (invoke : ℕ) (x : Write)
+    → new ≡ settled (felt_all (request_told (size_of row.association) invoke (write_cause row.client x was) (Some (answer.Write (write_answer row.client x was)))) row)
+    → now ≡ (if is_done (size_of row.association) invoke (write_cause row.client x was) (Some (answer.Write (write_answer row.client x was))) then write_after row.client x was else was)
+    → IsDoneOn row was now new (Takes invoke (request.Write x))
+write_done row was now new invoke x is becomes = record {
+  effects = request_told (size_of row.association) invoke (write_cause row.client x was) (Some (answer.Write (write_answer row.client x was)));
+  is = is;
+  done = λ t client same. write_heard t row client invoke x
+      ∙ ap (λ (v : VariableTables). at t client v) same
+      ∙ ap (λ (v : VariableTables). with_told t client v) (sym becomes);
+}
+  where
+    with_told : Tables → ℕ → VariableTables → Done Tables Effect
+    with_told t client v = record {
+      tables = record t { variables = v };
+      told = tell client (request_told (size_of row.association) invoke (write_cause row.client x was) (Some (answer.Write (write_answer row.client x was))));
+    }
+
+    at : Tables → ℕ → VariableTables → Done Tables Effect
+    at t client v = record {
+      tables = record t {
+        variables = if is_done (size_of row.association) invoke (write_cause row.client x v) (Some (answer.Write (write_answer row.client x v))) then write_after row.client x v else v;
+      };
+      told = tell client (request_told (size_of row.association) invoke (write_cause row.client x v) (Some (answer.Write (write_answer row.client x v))));
+    }
+
+pub plainly_told : (row : ClientRow) (new : RoomyRow) (effects : List Effect) → new ≡ settled (felt_all effects row) → IsPlainlyHeard row new (Tells effects)
+plainly_told row new effects told = record { is = told; alone = λ t client. ap (λ (l : List (ℕ × Effect)). at t l) (append_none (tell client effects)) }
+  where
+    at : Tables → List (ℕ × Effect) → Done Tables Effect
+    at x l = record { tables = x; told = l }
+
+-- ---- what is left
+
+pub request_left : (row : ClientRow) (invoke : ℕ) (asked : Bor Request) (v : Verdict) → Takes invoke asked.now ≡ v → IsActOf row v (act.Request invoke asked)
+request_left row invoke asked v is = λ t client. ap (λ (w : Verdict). hears t row client w) is
+
+pub conclusion_left : (row : ClientRow) (v : Verdict) → Concludes ≡ v → IsActOf row v act.Conclusion
+conclusion_left row v is = λ t client. ap (λ (w : Verdict). hears t row client w) is
+
+pub cancel_left : (row : ClientRow) (invoke : ℕ) (v : Verdict) → Cancels invoke ≡ v → IsActOf row v (act.Cancel invoke)
+cancel_left row invoke v is = λ t client. ap (λ (w : Verdict). hears t row client w) is
+
+pub abort_left : (row : ClientRow) (v : Verdict) → Aborts ≡ v → IsActOf row v act.Abort
+abort_left row v is = λ t client. ap (λ (w : Verdict). hears t row client w) is
+
+pub plain_as : (row : ClientRow) (new : RoomyRow) (v w : Verdict) → v ≡ w → IsPlainlyHeard row new v → IsPlainlyHeard row new w
+plain_as row new v w same heard = subst (IsPlainlyHeard row new) same heard

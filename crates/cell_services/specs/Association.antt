@@ -1,0 +1,163 @@
+-- What an association makes of what its client sends (ISO 9506-1, environment and general management, VMD support; ISO 9506-2, RejectPDU).
+use Rattle.std.specs.Prelude.{ℕ, Bool, true, false, List, [], ◌∷◌, None, Some, Result, Ok, Err, nat_lt, if◌then◌else◌}
+use Rattle.mms_types.specs.declared.memory.Memory.{Memory}
+use Rattle.mms_types.specs.declared.event.What.TheVariants.{Octets, Abort}
+use Rattle.mms_types.specs.declared.initiate.InitiateAnswer.{InitiateAnswer}
+use Rattle.mms_types.specs.declared.service_error.ServiceError.{ServiceError}
+use Rattle.mms_types.specs.Errors as errors
+use Rattle.mms_types.specs.declared.pdu.Request.{Request}
+use Rattle.mms_types.specs.declared.pdu.Reject.{Reject}
+use Rattle.mms_types.specs.declared.pdu.RejectReason.{RejectReason}
+use Rattle.mms_types.specs.declared.pdu.RejectReason.TheVariants.{InvalidPdu, InvalidInvokeId, MaxServOutstandingExceeded, MaxRecursionExceeded}
+use Rattle.mms_types.specs.declared.pdu.Pdu.{Pdu}
+use Rattle.mms_types.specs.declared.pdu.Pdu.TheVariants as pdu
+use Rattle.mms_pdu.specs.declared.refusal.Refusal.{Refusal}
+use Rattle.mms_pdu.specs.Pdus.{pdu_octets}
+use Rattle.mms_pdu.specs.Rejects.{reject_of}
+use Rattle.mms_pdu.specs.Heard.{pdu_heard}
+use Rattle.mms_pdu.specs.Hearing.{depth_of}
+use Rattle.association.specs.declared.client_part.NotAdmitted.{NotAdmitted}
+use Rattle.association.specs.declared.client_part.NotAdmitted.TheVariants.{Waiting, Outstanding}
+use Rattle.association.specs.declared.negotiation.Association.{Association}
+use Rattle.association.specs.declared.negotiation.Association.TheVariants.{Idle, Open}
+use Rattle.association.specs.declared.negotiation.Negotiated.{Negotiated}
+use Rattle.association.specs.declared.waiting.Waiting.{Waiting as Row}
+use Rattle.association.specs.Admission.{admission}
+use Rattle.association.specs.Client.{ClientRow}
+use Rattle.association.specs.Negotiation.{negotiation, values_of}
+use Rattle.association.specs.Waiting.{is_waiting}
+use Rattle.cell_services.specs.Effects.{Effect, Sends, Opens, Closes, Answers}
+
+-- ---- what is sent
+
+-- one more PDU is to be sent
+abbrev pub sends : Pdu → Effect
+sends p = Sends (Octets (pdu_octets p))
+
+-- class service, other
+abbrev pub other_error : ServiceError
+other_error = errors.other
+
+-- class service-preempt, cancel
+abbrev pub cancel_error : ServiceError
+cancel_error = errors.cancel
+
+-- class service-preempt, timeout
+abbrev pub timeout_error : ServiceError
+timeout_error = errors.timeout
+
+-- class access, object-non-existent
+abbrev pub missing_error : ServiceError
+missing_error = errors.object_non_existent
+
+-- class conclude, further-communication-required
+abbrev pub further_error : ServiceError
+further_error = errors.further_communication_required
+
+-- class cancel, invoke-id-unknown
+abbrev pub unknown_error : ServiceError
+unknown_error = errors.invoke_id_unknown
+
+-- a request is refused, without a modifier
+abbrev pub confirmed_error : ℕ → ServiceError → Pdu
+confirmed_error invoke error = pdu.ConfirmedError (record { invoke = invoke; modifier = None; error = error })
+
+-- a request of that invokeID is rejected, and what is no request
+abbrev pub rejects : ℕ → RejectReason → Effect
+rejects invoke reason = sends (pdu.Reject (record { invoke = Some invoke; reason = reason }))
+
+abbrev pub rejects_invalid : Effect
+rejects_invalid = sends (pdu.Reject (record { invoke = None; reason = InvalidPdu }))
+
+-- ---- what octets come to
+
+-- What a client sends is answered at once, by what the client is told; or it is a request that is taken, a conclusion that no waiting request refuses, the
+-- cancelling of a request that waits, or a proposal in an association, which aborts it.
+pub data Verdict : Type 0 where
+  Tells : List Effect → Verdict
+  Takes : ℕ → Request → Verdict
+  Concludes : Verdict
+  Cancels : ℕ → Verdict
+  Aborts : Verdict
+
+-- a refusal is told by a reject
+abbrev pub refused : Result Reject Memory → List Effect
+refused (Ok reject) = sends (pdu.Reject reject) ∷ []
+refused (Err memory) = []
+
+-- a proposal is refused, or the association is open
+abbrev pub negotiated : Result InitiateAnswer ServiceError → List Effect
+negotiated (Ok told) = Opens (values_of told) ∷ sends (pdu.InitiateResponse told) ∷ []
+negotiated (Err refusal) = sends (pdu.InitiateError refusal) ∷ []
+
+-- without an association all but a proposal is aborted
+abbrev pub idle_verdict : Result Pdu Refusal → Verdict
+idle_verdict (Ok (pdu.InitiateRequest proposal)) = Tells (negotiated (negotiation proposal))
+idle_verdict heard = Tells (Sends Abort ∷ [])
+
+-- a request that is read is rejected where its data nests deeper than was negotiated, otherwise where its invokeID waits, and otherwise where as many requests
+-- wait as were negotiated
+abbrev pub admitted : Result Unit NotAdmitted → ℕ → Request → Verdict
+admitted (Err Waiting) invoke asked = Tells (rejects invoke InvalidInvokeId ∷ [])
+admitted (Err Outstanding) invoke asked = Tells (rejects invoke MaxServOutstandingExceeded ∷ [])
+admitted (Ok taken) invoke asked = Takes invoke asked
+
+abbrev pub requested : Bool → ClientRow → ℕ → Request → Verdict
+requested too_deep row invoke asked = if too_deep then Tells (rejects invoke MaxRecursionExceeded ∷ []) else admitted (admission invoke row) invoke asked
+
+-- a conclusion is refused where a request waits
+abbrev pub concluded : List Row → Verdict
+concluded [] = Concludes
+concluded (first ∷ rest) = Tells (sends (pdu.ConcludeError further_error) ∷ [])
+
+-- a request that doesn't wait is unknown
+abbrev pub cancelled : Bool → ℕ → Verdict
+cancelled true invoke = Cancels invoke
+cancelled false invoke = Tells (sends (pdu.CancelError (record { invoke = invoke; error = unknown_error })) ∷ [])
+
+-- In an association a proposal aborts it. A response or an error answers no request of the server, and is invalid. A reject, unconfirmed PDUs and
+-- answers to a cancel give nothing.
+abbrev pub open_verdict : Negotiated → ClientRow → Result Pdu Refusal → Verdict
+open_verdict values row (Err refusal) = Tells (refused (reject_of refusal))
+open_verdict values row (Ok (pdu.InitiateRequest proposal)) = Aborts
+open_verdict values row (Ok pdu.ConcludeRequest) = concluded row.waiting
+open_verdict values row (Ok (pdu.CancelRequest invoke)) = cancelled (is_waiting invoke row.waiting) invoke
+open_verdict values row (Ok (pdu.ConfirmedRequest invoke asked)) = requested (nat_lt values.nesting (depth_of (pdu.ConfirmedRequest invoke asked))) row invoke asked
+open_verdict values row (Ok (pdu.ConfirmedResponse invoke told)) = Tells (rejects_invalid ∷ [])
+open_verdict values row (Ok (pdu.HeardError invoke)) = Tells (rejects_invalid ∷ [])
+open_verdict values row (Ok (pdu.ConfirmedError error)) = Tells []
+open_verdict values row (Ok (pdu.Reject reject)) = Tells []
+open_verdict values row (Ok (pdu.HeardReject invoke)) = Tells []
+open_verdict values row (Ok (pdu.CancelResponse invoke)) = Tells []
+open_verdict values row (Ok (pdu.CancelError error)) = Tells []
+open_verdict values row (Ok pdu.HeardOther) = Tells []
+open_verdict values row (Ok (pdu.InitiateResponse answer)) = Tells []
+open_verdict values row (Ok (pdu.InitiateError error)) = Tells []
+open_verdict values row (Ok pdu.ConcludeResponse) = Tells []
+open_verdict values row (Ok (pdu.ConcludeError error)) = Tells []
+
+abbrev pub verdict_by : Association → ClientRow → Result Pdu Refusal → Verdict
+verdict_by Idle row heard = idle_verdict heard
+verdict_by (Open values) row heard = open_verdict values row heard
+
+-- what the octets of a client come to
+abbrev pub verdict : ClientRow → List ℕ → Verdict
+verdict row octets = verdict_by row.association row (pdu_heard row.constants.edition octets)
+
+-- ---- what a verdict tells the client itself
+
+-- a conclusion is granted, and the client is lost
+abbrev pub conclusion_told : List Effect
+conclusion_told = sends pdu.ConcludeResponse ∷ Closes ∷ []
+
+-- a request that waits is cancelled
+abbrev pub cancel_told : ℕ → List Effect
+cancel_told invoke = Answers invoke ∷ sends (pdu.CancelResponse invoke) ∷ sends (confirmed_error invoke cancel_error) ∷ []
+
+abbrev pub abort_told : List Effect
+abort_told = Sends Abort ∷ Closes ∷ []
+
+-- the client is lost, where there is an association
+abbrev pub loss_told : Association → List Effect
+loss_told Idle = []
+loss_told (Open values) = Closes ∷ []

@@ -1,0 +1,11 @@
+pub mod Acts
+pub mod Association
+pub mod Changes
+pub mod Effects
+pub mod Meant
+pub mod Others
+pub mod Reads
+pub mod Services
+pub mod Serving
+pub mod Tables
+pub mod Telling

@@ -1,0 +1,28 @@
+-- Who is told something by what another client does, or by time.
+use Rattle.std.specs.Prelude.{◌≡◌, ◌≢◌, ◌==◌, ℕ, Bool, true, false, List, map}
+use Rattle.std.specs.List.{list_any}
+use Rattle.association.specs.Client.{ClientRow}
+use Rattle.parted_state.specs.Served.{is_told}
+use Rattle.token_sem.specs.declared.entry.Grant.{Grant}
+use Rattle.sem_ticks.specs.declared.ticks.Happening.{Happening}
+use Rattle.sem_ticks.specs.declared.ticks.Happening.TheVariants.{WaitEnds, Grants, Aborts}
+use Rattle.cell_services.specs.Association.{Verdict}
+use Rattle.cell_services.specs.Serving.{also_told}
+use Rattle.cell_services.specs.Tables.{Tables}
+
+-- beside the client of a row, a verdict on what it sends tells these something
+abbrev pub AlsoTells : Tables → ClientRow → Verdict → List ℕ → Type 0
+AlsoTells t row v clients = (k : ℕ) → row.client ≢ k → is_told (also_told t row v) k ≡ list_any (λ c. c == k) clients
+
+abbrev pub grant_clients : List Grant → List ℕ
+grant_clients grants = map (λ g. g.client) grants
+
+abbrev pub client_of : Happening → ℕ
+client_of (WaitEnds client invoke) = client
+client_of (Grants grant) = grant.client
+client_of (Aborts client) = client
+
+abbrev pub is_abort : Happening → Bool
+is_abort (WaitEnds client invoke) = false
+is_abort (Grants grant) = false
+is_abort (Aborts client) = true

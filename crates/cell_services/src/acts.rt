@@ -1,0 +1,18 @@
+//! What clients do on the tables.
+
+use mms_types::Request;
+
+/// What a client does on the tables that its part alone doesn't settle: by what it sends, or by being lost.
+#[derive(Clone, Copy, Debug, PartialEq, Eq)]
+pub enum Act<'a> {
+    /// Its request of that invokeID is served.
+    Request { invoke: u32, asked: &'a Request },
+    /// Its conclusion is granted.
+    Conclusion,
+    /// Its request of that invokeID, which waits, is cancelled.
+    Cancel { invoke: u32 },
+    /// Its association is aborted by a proposal.
+    Abort,
+    /// It is lost.
+    Loss,
+}

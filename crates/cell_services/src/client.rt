@@ -1,0 +1,467 @@
+//! The part of a client, and what becomes of it.
+
+ghost use Rattle.std.specs.Prelude.{◌≡◌, ◌≤◌, nat_le, length, true, false, OnOk, OnErr, OnSome, IfOk, IfNone, IfSome, [], ◌∷◌, None, Some, if◌then◌else◌};
+ghost use Rattle.association.specs.Client.{closed_row, drained_row, new_row};
+ghost use Rattle.association.specs.Negotiation.{negotiation};
+ghost use Rattle.mms_pdu.specs.Pdus.{pdu_octets};
+ghost use Rattle.variable_services.specs.Services.{read_answer, read_cause, write_after, write_answer, write_cause};
+ghost use Rattle.cell_services.specs.Acts.{IsActOf, IsDoneOn};
+ghost use Rattle.cell_services.specs.Association.{further_error, negotiated, sends, unknown_error, verdict_by, Takes};
+ghost use Rattle.cell_services.specs.Effects.{felt, felt_all, settled, Sends};
+ghost use Rattle.cell_services.specs.Meant.{effects_of, meant, row_after, IsPlainlyHeard};
+ghost use Rattle.cell_services.specs.Reads.{pdu_read, IsDeep};
+ghost use Rattle.cell_services.specs.Services.{fits, is_done, refuses, request_told};
+ghost use Rattle.cell_services.specs.Serving.{size_of};
+ghost use Rattle.cell_services.specs.Telling.{effect_of, output_count, told_row, wait_count};
+
+use crate::service::{STATUS, plain_answer};
+use crate::{Act, Found, Said, Told, verdict_of};
+use association::{ClientPart, Constants, outcome_of};
+use mms_pdu::{Read, Refusal, Writer, put_answer, put_pdu};
+use mms_types::{
+    Answer, CancelError, ConfirmedError, Initiate, InitiateAnswer, Memory, Octets, Pdu,
+    Read as VariableRead, Refuse, Reject, Request, ServiceError, What, Write,
+};
+use std::alloc::Global;
+use std::marker::Model;
+use variable_services::VariableTables;
+
+/// The part of a client: its association, and what is to be sent to it. Contracts see it as they see a `ClientPart`.
+#[derive(Drop)]
+pub struct Client {
+    part: ClientPart,
+    /// What a PDU is spelled into before it goes to the outbox.
+    out: Writer,
+}
+
+impl Model for Client {
+    ghost use Rattle.association.specs.Client.{Client as RoomyRow};
+
+    ghost Value = { RoomyRow };
+
+    ghost view = { λ client. client.part };
+}
+
+/// The negotiated size of a PDU, and 0 where there is no association.
+pub(crate) fn size_of(part: &ClientPart) -> u32
+    ensures { result ≡ size_of part.now.row.association }
+{
+    match part.negotiated() {
+        None => 0,
+        Some(values) => values.size,
+    }
+}
+
+impl Client {
+    /// The part of a client of that number, with which there is no association.
+    pub fn new(alloc: Global, client: u32, device: Constants) -> Client
+        ensures { result ≡ settled (new_row client device) }
+    {
+        Client {
+            part: ClientPart::new(alloc, client, device),
+            out: Writer::new(alloc),
+        }
+    }
+
+    /// The association, and what is to be sent.
+    pub fn part(&self) -> &ClientPart
+        ensures { result.now ≡ self.now }
+    {
+        &self.part
+    }
+
+    /// The octets of a PDU.
+    fn spelled(&mut self, alloc: Global, pdu: &Pdu) -> Result<Octets, Memory>
+        ensures octets { IfOk result (λ octets. octets ≡ pdu_octets pdu.now) }
+        ensures kept { self.new ≡ self.old }
+    {
+        self.out.truncate(0);
+        put_pdu(&mut self.out, pdu)?;
+        Octets::from_slice(alloc, self.out.octets())
+    }
+
+    /// The octets of a positive answer.
+    fn spelled_answer(
+        &mut self,
+        alloc: Global,
+        invoke: u32,
+        answer: &Answer,
+    ) -> Result<Octets, Memory>
+        ensures octets { IfOk result (λ octets.
+            octets ≡ pdu_octets (Pdu.ConfirmedResponse invoke answer.now)) }
+        ensures kept { self.new ≡ self.old }
+    {
+        self.out.truncate(0);
+        put_answer(&mut self.out, invoke, answer)?;
+        Octets::from_slice(alloc, self.out.octets())
+    }
+
+    /// Appends a PDU to what is to be sent.
+    fn send(&mut self, alloc: Global, pdu: &Pdu) -> Result<(), Memory>
+        ensures sent { OnOk result (self.new ≡ settled (felt (sends pdu.now) self.old.row)) }
+        ensures kept { OnErr result (self.new ≡ self.old) }
+    {
+        let octets = self.spelled(alloc, pdu)?;
+        self.part.reserve(1, 0)?;
+        self.part.push(What::Octets(octets));
+        Ok(())
+    }
+
+    /// Appends an abort to what is to be sent.
+    fn abort(&mut self) -> Result<(), Memory>
+        ensures sent { OnOk result (self.new ≡ settled (felt (Sends What.Abort) self.old.row)) }
+        ensures kept { OnErr result (self.new ≡ self.old) }
+    {
+        self.part.reserve(1, 0)?;
+        self.part.push(What::Abort);
+        Ok(())
+    }
+
+    /// The octets of the answer to a proposal.
+    fn spelled_opening(&mut self, alloc: Global, answer: InitiateAnswer) -> Result<Octets, Memory>
+        ensures octets { IfOk result (λ octets.
+            octets ≡ pdu_octets (Pdu.InitiateResponse answer)) }
+        ensures kept { self.new ≡ self.old }
+    {
+        self.spelled(alloc, &Pdu::InitiateResponse(answer))
+    }
+
+    /// Refuses a proposal.
+    fn decline(&mut self, alloc: Global, error: ServiceError) -> Result<(), Memory>
+        ensures sent { OnOk result (self.new
+            ≡ settled (felt (sends (Pdu.InitiateError error)) self.old.row)) }
+        ensures kept { OnErr result (self.new ≡ self.old) }
+    {
+        self.send(alloc, &Pdu::InitiateError(error))
+    }
+
+    /// Negotiates a proposal.
+    fn negotiate(&mut self, alloc: Global, proposal: &Initiate) -> Result<(), Memory>
+        ensures negotiated { OnOk result
+            (self.new ≡ settled (felt_all (negotiated (negotiation proposal.now)) self.old.row)) }
+        ensures kept { OnErr result (self.new ≡ self.old) }
+    {
+        match outcome_of(proposal) {
+            Err(error) => self.decline(alloc, error),
+            Ok(answer) => {
+                let octets = self.spelled_opening(alloc, answer)?;
+                self.part.reserve(1, 0)?;
+                let _ = self.part.negotiate(proposal);
+                self.part.push(What::Octets(octets));
+                Ok(())
+            }
+        }
+    }
+
+    /// Rejects what was sent.
+    fn reject(&mut self, alloc: Global, reject: Reject) -> Result<(), Memory>
+        ensures sent { OnOk result (self.new
+            ≡ settled (felt (sends (Pdu.Reject reject)) self.old.row)) }
+        ensures kept { OnErr result (self.new ≡ self.old) }
+    {
+        self.send(alloc, &Pdu::Reject(reject))
+    }
+
+    /// Refuses a conclusion.
+    fn keep_open(&mut self, alloc: Global) -> Result<(), Memory>
+        ensures sent { OnOk result (self.new
+            ≡ settled (felt (sends (Pdu.ConcludeError further_error)) self.old.row)) }
+        ensures kept { OnErr result (self.new ≡ self.old) }
+    {
+        let error = ServiceError::FURTHER_COMMUNICATION_REQUIRED;
+        self.send(alloc, &Pdu::ConcludeError(error))
+    }
+
+    /// Refuses to cancel a request that doesn't wait.
+    fn deny_cancel(&mut self, alloc: Global, invoke: u32) -> Result<(), Memory>
+        ensures sent { OnOk result (self.new ≡ settled (felt
+            (sends (Pdu.CancelError (record { invoke = invoke; error = unknown_error })))
+            self.old.row)) }
+        ensures kept { OnErr result (self.new ≡ self.old) }
+    {
+        let error = ServiceError::INVOKE_ID_UNKNOWN;
+        self.send(alloc, &Pdu::CancelError(CancelError { invoke, error }))
+    }
+
+    /// Tells the client something.
+    fn say(&mut self, alloc: Global, said: &Said<'_>) -> Result<(), Memory>
+        ensures told { OnOk result (self.new
+            ≡ settled (felt_all (effects_of said.now) self.old.row)) }
+        ensures kept { OnErr result (self.new ≡ self.old) }
+    {
+        match *said {
+            Said::Nothing => {
+                self.part.release();
+                Ok(())
+            }
+            Said::Abort => self.abort(),
+            Said::Reject(reject) => self.reject(alloc, reject),
+            Said::Negotiation(proposal) => self.negotiate(alloc, proposal),
+            Said::NoConclusion => self.keep_open(alloc),
+            Said::NoCancel(invoke) => self.deny_cancel(alloc, invoke),
+        }
+    }
+
+    /// Refuses a confirmed request.
+    fn refuse(&mut self, alloc: Global, invoke: u32, error: ServiceError) -> Result<(), Memory>
+        ensures sent { OnOk result (self.new ≡ settled (felt (refuses invoke error) self.old.row)) }
+        ensures kept { OnErr result (self.new ≡ self.old) }
+    {
+        self.send(
+            alloc,
+            &Pdu::ConfirmedError(ConfirmedError {
+                invoke,
+                modifier: None,
+                error,
+            }),
+        )
+    }
+
+    /// Answers a confirmed request, or refuses it where the answer is too long.
+    fn answer(
+        &mut self,
+        alloc: Global,
+        size: u32,
+        invoke: u32,
+        answer: &Answer,
+    ) -> Result<bool, Memory>
+        ensures sent { OnOk result (self.new
+            ≡ settled (felt_all (request_told size invoke None (Some answer.now)) self.old.row)) }
+        // Whether it is answered.
+        ensures fits { IfOk result (λ answered. answered ≡ fits size invoke (Some answer.now)) }
+        ensures kept { OnErr result (self.new ≡ self.old) }
+    {
+        let octets = self.spelled_answer(alloc, invoke, answer)?;
+        if octets.len() > size as usize {
+            self.refuse(alloc, invoke, ServiceError::OTHER)?;
+            return Ok(false);
+        }
+        self.part.reserve(1, 0)?;
+        self.part.push(What::Octets(octets));
+        Ok(true)
+    }
+
+    /// Answers a confirmed request, or refuses it where the answer is longer than was negotiated.
+    fn respond(&mut self, alloc: Global, invoke: u32, answer: Answer) -> Result<(), Memory>
+        ensures sent { OnOk result (self.new ≡ settled (felt_all
+            (request_told (size_of self.old.row.association) invoke None (Some answer))
+            self.old.row)) }
+        ensures kept { OnErr result (self.new ≡ self.old) }
+    {
+        let size = size_of(&self.part);
+        let _answered = self.answer(alloc, size, invoke, &answer)?;
+        Ok(())
+    }
+
+    /// Answers a request for the status of the device.
+    fn answer_status(&mut self, alloc: Global, invoke: u32) -> Result<bool, Memory>
+        ensures sent { OnOk result (self.new ≡ settled (felt_all
+            (request_told (size_of self.old.row.association) invoke None
+            (Some (Answer.Status (record { logical = 0; physical = 0 })))) self.old.row)) }
+        ensures done { IfOk result (λ done. done ≡ true) }
+        ensures kept { OnErr result (self.new ≡ self.old) }
+    {
+        let size = size_of(&self.part);
+        let _answered = self.answer(alloc, size, invoke, &STATUS)?;
+        Ok(true)
+    }
+
+    /// Answers a request that the row of the client alone answers. False for any other, where all stays as it was.
+    /// The status is asked most, and has a way on which no other answer is made room for.
+    fn serve(&mut self, alloc: Global, invoke: u32, asked: &Request) -> Result<bool, Memory>
+        ensures served { IfOk result (λ done. done ≡ true
+            → IsPlainlyHeard self.old.row self.new (Takes invoke asked.now)) }
+        ensures same { IfOk result (λ done. done ≡ false → self.new ≡ self.old) }
+        ensures kept { OnErr result (self.new ≡ self.old) }
+    {
+        match asked {
+            Request::Status(_) => self.answer_status(alloc, invoke),
+            _ => self.serve_plainly(alloc, invoke, asked),
+        }
+    }
+
+    /// Answers a request that the row of the client alone answers. False for any other, where all stays as it was.
+    #[inline(never)]
+    fn serve_plainly(&mut self, alloc: Global, invoke: u32, asked: &Request) -> Result<bool, Memory>
+        ensures served { IfOk result (λ done. done ≡ true
+            → IsPlainlyHeard self.old.row self.new (Takes invoke asked.now)) }
+        ensures same { IfOk result (λ done. done ≡ false → self.new ≡ self.old) }
+        ensures kept { OnErr result (self.new ≡ self.old) }
+    {
+        match plain_answer(alloc, &self.part, asked)? {
+            None => Ok(false),
+            Some(answer) => {
+                self.respond(alloc, invoke, answer)?;
+                Ok(true)
+            }
+        }
+    }
+
+    /// Answers a read of those variables, or refuses it.
+    fn read(
+        &mut self,
+        alloc: Global,
+        variables: &VariableTables,
+        invoke: u32,
+        asked: &VariableRead,
+    ) -> Result<bool, Memory>
+        ensures told { OnOk result (self.new ≡ settled (felt_all
+            (request_told (size_of self.old.row.association) invoke
+            (read_cause self.old.row.client asked.now variables.now)
+            (Some (Answer.Read (read_answer self.old.row.client asked.now variables.now))))
+            self.old.row)) }
+        ensures done { IfOk result (λ done. done ≡ true) }
+        ensures kept { OnErr result (self.new ≡ self.old) }
+    {
+        match variables.read(alloc, self.part.client(), asked) {
+            Err(Refuse::Memory) => Err(Memory),
+            Err(Refuse::Service(error)) => {
+                self.refuse(alloc, invoke, error)?;
+                Ok(true)
+            }
+            Ok(read) => {
+                let size = size_of(&self.part);
+                let _answered = self.answer(alloc, size, invoke, &Answer::Read(read))?;
+                Ok(true)
+            }
+        }
+    }
+
+    /// Answers a write of those variables and writes them, or refuses it, where nothing is written.
+    fn write(
+        &mut self,
+        alloc: Global,
+        variables: &mut VariableTables,
+        invoke: u32,
+        asked: &Write,
+    ) -> Result<bool, Memory>
+        ensures told { OnOk result (self.new ≡ settled (felt_all
+            (request_told (size_of self.old.row.association) invoke
+            (write_cause self.old.row.client asked.now variables.old)
+            (Some (Answer.Write (write_answer self.old.row.client asked.now variables.old))))
+            self.old.row)) }
+        ensures written { OnOk result (variables.new
+            ≡ (if is_done (size_of self.old.row.association) invoke
+            (write_cause self.old.row.client asked.now variables.old)
+            (Some (Answer.Write (write_answer self.old.row.client asked.now variables.old)))
+            then write_after self.old.row.client asked.now variables.old else variables.old)) }
+        ensures done { IfOk result (λ done. done ≡ true) }
+        ensures kept { OnErr result (self.new ≡ self.old) }
+        ensures same { OnErr result (variables.new ≡ variables.old) }
+    {
+        let client = self.part.client();
+        match variables.write_results(alloc, client, asked) {
+            Err(Refuse::Memory) => Err(Memory),
+            Err(Refuse::Service(error)) => {
+                self.refuse(alloc, invoke, error)?;
+                Ok(true)
+            }
+            Ok(results) => {
+                let values = asked.values.copy(alloc)?;
+                let size = size_of(&self.part);
+                if self.answer(alloc, size, invoke, &Answer::Write(results))? {
+                    variables.write(client, asked, values);
+                }
+                Ok(true)
+            }
+        }
+    }
+
+    /// Serves a request that reads or writes variables. False for any other, where all stays as it was.
+    pub fn serve_on(
+        &mut self,
+        alloc: Global,
+        variables: &mut VariableTables,
+        invoke: u32,
+        asked: &Request,
+    ) -> Result<bool, Memory>
+        ensures served { IfOk result (λ done. done ≡ true → IsDoneOn self.old.row
+            variables.old variables.new self.new (Takes invoke asked.now)) }
+        ensures same { IfOk result (λ done. done ≡ false
+            → (self.new ≡ self.old) × (variables.new ≡ variables.old)) }
+        ensures kept { OnErr result (self.new ≡ self.old) }
+        ensures written { OnErr result (variables.new ≡ variables.old) }
+    {
+        match asked {
+            Request::Read(asked) => self.read(alloc, variables, invoke, asked),
+            Request::Write(asked) => self.write(alloc, variables, invoke, asked),
+            _ => Ok(false),
+        }
+    }
+
+    /// Hears what was read from the client: where no table is used, all of it is done. Otherwise that is answered which
+    /// is to be done on the tables, and all stays as it was, as it does without memory.
+    pub fn hear<'a>(
+        &mut self,
+        alloc: Global,
+        read: &'a Result<Read, Refusal>,
+    ) -> Result<Option<Act<'a>>, Memory>
+        requires depth { IsDeep read.now }
+        ensures done { IfOk result (λ left. IfNone left
+            (IsPlainlyHeard self.old.row self.new (verdict_by self.old.row.association
+            self.old.row (pdu_read read.now)))) }
+        ensures left { IfOk result (λ left. IfSome left (λ act. IsActOf self.old.row
+            (verdict_by self.old.row.association self.old.row (pdu_read read.now)) act)) }
+        ensures same { IfOk result (λ left. OnSome left (self.new ≡ self.old)) }
+        ensures kept { OnErr result (self.new ≡ self.old) }
+    {
+        let found = verdict_of(&self.part, read)?;
+        match found {
+            Found::Tells(said) => {
+                self.say(alloc, &said)?;
+                Ok(None)
+            }
+            Found::Takes(invoke, asked) => {
+                if self.serve(alloc, invoke, asked)? {
+                    Ok(None)
+                } else {
+                    Ok(Some(Act::Request { invoke, asked }))
+                }
+            }
+            Found::Concludes => Ok(Some(Act::Conclusion)),
+            Found::Cancels(invoke) => Ok(Some(Act::Cancel { invoke })),
+            Found::Aborts => Ok(Some(Act::Abort)),
+        }
+    }
+
+    /// Makes room for so many outputs and requests that wait, in place of the room that there was.
+    pub fn reserve(&mut self, outputs: usize, waiting: usize) -> Result<(), Memory>
+        ensures made { OnOk result (self.new
+            ≡ record { row = self.old.row; output_room = outputs; waiting_room = waiting }) }
+        ensures kept { OnErr result (self.new ≡ self.old) }
+    {
+        self.part.reserve(outputs, waiting)
+    }
+
+    /// Gives up the room that is left.
+    pub fn release(&mut self)
+        ensures { self.new ≡ settled self.old.row }
+    {
+        self.part.release();
+    }
+
+    /// The client is told something. An output and a request that waits use the room for one.
+    pub fn tell(&mut self, told: Told)
+        requires room { output_count told ≤ self.old.output_room }
+        requires waiting { wait_count told ≤ self.old.waiting_room }
+        ensures { self.new ≡ told_row (effect_of told) (output_count told) (wait_count told) self.old }
+    {
+        match told {
+            Told::Sends(output) => self.part.push(output),
+            Told::Closes => self.part.close(),
+            Told::Waits(request) => self.part.wait_admitted(request),
+            Told::Answers(invoke) => {
+                let _waited = self.part.answered(invoke);
+            }
+        }
+    }
+
+    /// Hands on what is to be sent.
+    pub fn drain(&mut self) -> Vec<What>
+        ensures outputs { result.items ≡ self.old.row.outbox }
+        ensures emptied { self.new ≡ settled (drained_row self.old.row) }
+    {
+        self.part.release();
+        self.part.drain()
+    }
+}

@@ -1,0 +1,172 @@
+//! Who is told something by what another client does, or by time.
+
+ghost use Rattle.std.specs.Prelude.{◌≡◌, ◌==◌, ℕ, IfOk, Some, map};
+ghost use Rattle.std.specs.List.{list_any};
+ghost use Rattle.mms_types.specs.Moments.{IsDated};
+ghost use Rattle.parted_state.specs.Served.{is_told};
+ghost use Rattle.cell_services.specs.Meant.{meant};
+ghost use Rattle.cell_services.specs.Association.{Takes};
+ghost use Rattle.cell_services.specs.Others.{AlsoTells, client_of, grant_clients, is_abort};
+ghost use Rattle.cell_services.specs.Services.{fits};
+ghost use Rattle.cell_services.specs.Serving.{all_told, also_lost, loss_also, size_of};
+ghost use Rattle.cell_services.specs.Tables.{Tables as Rows};
+
+use crate::client::size_of;
+use crate::planning::answer_within;
+use crate::verdict::Found;
+use association::ClientPart;
+use mms_time::{SemaphoreRow, lose_told, relinquish_control_told};
+use mms_types::{Answer, Memory, Moment, Refuse, RelinquishControl, Request};
+use object_names::Named;
+use sem_ticks::Happening;
+use std::alloc::Global;
+use token_sem::Grant;
+
+/// The clients of grants.
+fn grant_clients(alloc: Global, grants: &[Grant]) -> Result<Vec<u32>, Memory>
+    ensures { IfOk result (λ clients. clients.items ≡ grant_clients grants.now) }
+{
+    Ok(grants.iter().map(|grant| grant.client).collect(alloc)?)
+}
+
+/// A positive answer without contents is not longer than the association of a client allows.
+fn is_answered(alloc: Global, part: &ClientPart, invoke: u32) -> Result<bool, Memory>
+    ensures { IfOk result (λ b. b ≡ fits (size_of part.now.row.association) invoke
+        (Some Answer.RelinquishControl)) }
+{
+    let told = answer_within(alloc, size_of(part), invoke, Answer::RelinquishControl)?;
+    Ok(told.is_some())
+}
+
+/// Who is granted the token that a client gives back.
+fn relinquish_told(
+    alloc: Global,
+    semaphores: &Named<SemaphoreRow>,
+    part: &ClientPart,
+    invoke: u32,
+    asked: &RelinquishControl,
+) -> Result<Vec<u32>, Memory>
+    ensures { IfOk result (λ clients. (t : Rows) → t.semaphores ≡ semaphores.now
+        → AlsoTells t part.now.row (Takes invoke (Request.RelinquishControl asked.now))
+        clients.items) }
+{
+    match relinquish_control_told(semaphores, part.client(), asked) {
+        Err(Refuse::Memory) => Err(Memory),
+        Err(Refuse::Service(_)) | Ok(None) => Ok(Vec::new(alloc)),
+        Ok(Some(grant)) => {
+            if is_answered(alloc, part, invoke)? {
+                Ok(vec![in alloc; grant.client]?)
+            } else {
+                Ok(Vec::new(alloc))
+            }
+        }
+    }
+}
+
+/// The clients that are granted a token where a client is lost.
+fn lost_told(
+    alloc: Global,
+    semaphores: &Named<SemaphoreRow>,
+    now: Moment,
+    client: u32,
+) -> Result<Vec<u32>, Memory>
+    requires { IsDated now }
+    ensures { IfOk result (λ clients. (t : Rows) → t.semaphores ≡ semaphores.now → t.now ≡ now.0
+        → (k : ℕ) → is_told (loss_also client t) k ≡ list_any (λ c. c == k) clients.items) }
+{
+    let grants = lose_told(alloc, semaphores, client, now)?;
+    let clients = grant_clients(alloc, &grants)?;
+    Ok(clients)
+}
+
+/// The clients that are told something beside the one whose request is taken.
+fn request_told(
+    alloc: Global,
+    semaphores: &Named<SemaphoreRow>,
+    part: &ClientPart,
+    invoke: u32,
+    asked: &Request,
+) -> Result<Vec<u32>, Memory>
+    ensures { IfOk result (λ clients. (t : Rows) → t.semaphores ≡ semaphores.now
+        → AlsoTells t part.now.row (Takes invoke asked.now) clients.items) }
+{
+    match asked {
+        Request::RelinquishControl(asked) => {
+            relinquish_told(alloc, semaphores, part, invoke, asked)
+        }
+        _ => Ok(Vec::new(alloc)),
+    }
+}
+
+/// The clients that are told something beside the one that is heard, by what is heard from it.
+pub fn also_told(
+    alloc: Global,
+    semaphores: &Named<SemaphoreRow>,
+    now: Moment,
+    part: &ClientPart,
+    found: &Found<'_>,
+) -> Result<Vec<u32>, Memory>
+    requires { IsDated now }
+    ensures { IfOk result (λ clients. (t : Rows) → t.semaphores ≡ semaphores.now → t.now ≡ now.0
+        → AlsoTells t part.now.row (meant found.now) clients.items) }
+{
+    match *found {
+        Found::Takes(invoke, asked) => request_told(alloc, semaphores, part, invoke, asked),
+        Found::Concludes | Found::Aborts => lost_told(alloc, semaphores, now, part.client()),
+        Found::Tells(_) | Found::Cancels(_) => Ok(Vec::new(alloc)),
+    }
+}
+
+/// The clients that are told something beside the one that is lost.
+pub fn loss_told(
+    alloc: Global,
+    semaphores: &Named<SemaphoreRow>,
+    now: Moment,
+    part: &ClientPart,
+) -> Result<Vec<u32>, Memory>
+    requires { IsDated now }
+    ensures { IfOk result (λ clients. (t : Rows) → t.semaphores ≡ semaphores.now → t.now ≡ now.0
+        → (k : ℕ) → is_told (also_lost part.now.row.association part.now.row.client t) k
+        ≡ list_any (λ c. c == k) clients.items) }
+{
+    match part.negotiated() {
+        None => Ok(Vec::new(alloc)),
+        Some(_) => lost_told(alloc, semaphores, now, part.client()),
+    }
+}
+
+/// The client that is told of what happened.
+fn client_of(happening: &Happening) -> u32
+    ensures { result ≡ client_of happening.now }
+{
+    match *happening {
+        Happening::WaitEnds { client, .. } => client,
+        Happening::Grants(grant) => grant.client,
+        Happening::Aborts(client) => client,
+    }
+}
+
+/// The client that is told of each thing that happened, in order.
+fn clients_of(alloc: Global, happened: &[Happening]) -> Result<Vec<u32>, Memory>
+    ensures { IfOk result (λ clients. clients.items ≡ map client_of happened.now) }
+{
+    Ok(happened.iter().map(client_of).collect(alloc)?)
+}
+
+/// The clients that are told of what happened.
+pub fn happened_to(alloc: Global, happened: &[Happening]) -> Result<Vec<u32>, Memory>
+    ensures { IfOk result (λ clients. (k : ℕ) → is_told (all_told happened.now) k
+        ≡ list_any (λ c. c == k) clients.items) }
+{
+    let clients = clients_of(alloc, happened)?;
+    Ok(clients)
+}
+
+/// Whether a client is lost by what happened.
+pub fn is_lossy(happened: &[Happening]) -> bool
+    ensures { result ≡ list_any is_abort happened.now }
+{
+    happened
+        .iter()
+        .any(|happening| matches!(happening, Happening::Aborts(_)))
+}

@@ -1,0 +1,437 @@
+//! What is done on the tables is planned first: all is read and made that may want memory, and nothing changes.
+
+ghost use Rattle.std.specs.Prelude.{◌≡◌, ◌≤◌, ◌+◌, ◌++◌, ◌∷◌, [], nat_le, true, false, length, IfOk, OnOk, MatchOption, None, Some};
+ghost use Rattle.std.specs.Option.{option_map};
+ghost use Rattle.mms_pdu.specs.Pdus.{pdu_octets};
+ghost use Rattle.cell_services.specs.Acts.{act_done, outcome_of, plan_done, request_done};
+ghost use Rattle.sem_ticks.specs.Meant.{state_of};
+ghost use Rattle.cell_services.specs.Tables.{Tables as Rows, last_moment};
+ghost use Rattle.cell_services.specs.Changes.{changed, MayChange};
+ghost use Rattle.cell_services.specs.Effects.{tell};
+ghost use Rattle.cell_services.specs.Association.{abort_told, cancel_told, conclusion_told, sends, Takes};
+ghost use Rattle.cell_services.specs.Services.{fits, refuses};
+ghost use Rattle.cell_services.specs.Serving.{aborted, aborted_one, all_told, happening_told, hears, loses, loss_also, passed, passes, tables_cancelled, waiting_of};
+ghost use Rattle.cell_services.specs.Telling.{effect_of, effects_told};
+
+use crate::client::size_of;
+use crate::semaphores::{tell_grant, tell_grants};
+use crate::service::{Outcome, served};
+use crate::{Act, Change, Tables, Told};
+use association::{ClientPart, Waiting};
+use mms_pdu::{Writer, put_pdu};
+use mms_time::{lose_told, next_due};
+use mms_types::{
+    Answer, ConfirmedError, Memory, Moment, Octets, Pdu, Refuse, Request, ServiceError, What,
+};
+use sem_ticks::{Happening, Ticked, tick};
+use std::alloc::Global;
+
+/// What is to be done, of which nothing is done yet.
+#[derive(Drop)]
+pub struct Plan<'a> {
+    /// How the tables change.
+    pub change: Change<'a>,
+    /// Who is told what, in order.
+    pub told: Vec<(u32, Told)>,
+}
+
+/// A client is sent a PDU.
+pub(crate) fn sent(alloc: Global, pdu: &Pdu) -> Result<Told, Memory>
+    ensures { IfOk result (λ told. effect_of told ≡ sends pdu.now) }
+{
+    let mut out = Writer::new(alloc);
+    put_pdu(&mut out, pdu)?;
+    Ok(Told::Sends(What::Octets(Octets::from_slice(alloc, out.octets())?)))
+}
+
+/// A client is sent a PDU, where it is not longer than so many octets.
+fn sent_within(alloc: Global, size: u32, pdu: &Pdu) -> Result<Option<Told>, Memory>
+    ensures { IfOk result (λ told. MatchOption told
+        (nat_le (length (pdu_octets pdu.now)) size ≡ false)
+        (λ sent. (nat_le (length (pdu_octets pdu.now)) size ≡ true)
+        × (effect_of sent ≡ sends pdu.now))) }
+{
+    let mut out = Writer::new(alloc);
+    put_pdu(&mut out, pdu)?;
+    let octets = Octets::from_slice(alloc, out.octets())?;
+    if octets.len() > size as usize {
+        return Ok(None);
+    }
+    Ok(Some(Told::Sends(What::Octets(octets))))
+}
+
+/// A client is sent a positive answer, where it is not longer than so many octets.
+pub(crate) fn answer_within(
+    alloc: Global,
+    size: u32,
+    invoke: u32,
+    answer: Answer,
+) -> Result<Option<Told>, Memory>
+    ensures { IfOk result (λ told. MatchOption told
+        (fits size invoke (Some answer) ≡ false)
+        (λ sent. (fits size invoke (Some answer) ≡ true)
+        × (effect_of sent ≡ sends (Pdu.ConfirmedResponse invoke answer)))) }
+{
+    let response = Pdu::ConfirmedResponse { invoke, answer };
+    sent_within(alloc, size, &response)
+}
+
+/// A client is sent a confirmed-Error.
+fn refusal(alloc: Global, invoke: u32, error: ServiceError) -> Result<Told, Memory>
+    ensures { IfOk result (λ told. effect_of told ≡ refuses invoke error) }
+{
+    let error = Pdu::ConfirmedError(ConfirmedError {
+        invoke,
+        modifier: None,
+        error,
+    });
+    sent(alloc, &error)
+}
+
+/// One client is told one thing.
+pub(crate) fn one_told(alloc: Global, client: u32, told: Told) -> Result<Vec<(u32, Told)>, Memory>
+    ensures { IfOk result (λ list.
+        effects_told list.items ≡ (client, effect_of told) ∷ []) }
+{
+    let mut list = Vec::new(alloc);
+    list.push((client, told))?;
+    Ok(list)
+}
+
+/// The confirmed request of a client is refused.
+fn refused<'a>(
+    alloc: Global,
+    client: u32,
+    invoke: u32,
+    error: ServiceError,
+) -> Result<Plan<'a>, Memory>
+    ensures told { IfOk result (λ plan.
+        effects_told plan.told.items ≡ (client, refuses invoke error) ∷ []) }
+    ensures change { IfOk result (λ plan. plan.change ≡ Change.Nothing) }
+{
+    let told = one_told(alloc, client, refusal(alloc, invoke, error)?)?;
+    Ok(Plan {
+        change: Change::Nothing,
+        told,
+    })
+}
+
+/// Before all else that a plan tells, a client is told something.
+fn with_first<'a>(client: u32, first: Told, done: Plan<'a>) -> Result<Plan<'a>, Memory>
+    ensures told { IfOk result (λ plan. effects_told plan.told.items
+        ≡ (client, effect_of first) ∷ effects_told done.entry.told.items) }
+    ensures change { IfOk result (λ plan. plan.change ≡ done.entry.change) }
+{
+    let Plan { change, mut told } = done;
+    told.insert(0, (client, first))?;
+    Ok(Plan { change, told })
+}
+
+/// A request is answered and done, or it is refused where the answer is too long, and nothing changes.
+fn answered<'a>(
+    alloc: Global,
+    client: u32,
+    size: u32,
+    invoke: u32,
+    answer: Answer,
+    done: Plan<'a>,
+) -> Result<Plan<'a>, Memory>
+    ensures done { IfOk result (λ plan. (t : Rows)
+        → plan_done t plan.change plan.told.items ≡ request_done t client size invoke None
+        (outcome_of t done.entry.change (Some answer) done.entry.told.items)) }
+    ensures may { IfOk result (λ plan. (t : Rows)
+        → MayChange done.entry.change t → MayChange plan.change t) }
+{
+    match answer_within(alloc, size, invoke, answer) {
+        Err(error) => Err(error),
+        Ok(None) => refused(alloc, client, invoke, ServiceError::OTHER),
+        Ok(Some(answered)) => with_first(client, answered, done),
+    }
+}
+
+/// A request that is not refused is done, and answered where it has an answer yet.
+fn settled<'a>(
+    alloc: Global,
+    client: u32,
+    size: u32,
+    invoke: u32,
+    outcome: Outcome<'a>,
+) -> Result<Plan<'a>, Memory>
+    ensures done { IfOk result (λ plan. (t : Rows)
+        → plan_done t plan.change plan.told.items ≡ request_done t client size invoke None
+        (outcome_of t outcome.entry.change outcome.entry.answer outcome.entry.also.items)) }
+    ensures may { IfOk result (λ plan. (t : Rows)
+        → MayChange outcome.entry.change t → MayChange plan.change t) }
+{
+    let Outcome {
+        change,
+        answer,
+        also,
+    } = outcome;
+    let done = Plan { change, told: also };
+    match answer {
+        None => Ok(done),
+        Some(answer) => answered(alloc, client, size, invoke, answer, done),
+    }
+}
+
+/// A confirmed request is served, or refused.
+fn request_plan<'a>(
+    alloc: Global,
+    tables: &Tables,
+    client: u32,
+    part: &ClientPart,
+    invoke: u32,
+    asked: &'a Request,
+) -> Result<Plan<'a>, Memory>
+    ensures done { IfOk result (λ plan. plan_done tables.now plan.change plan.told.items
+        ≡ hears tables.now part.now.row client (Takes invoke asked.now)) }
+    ensures may { IfOk result (λ plan. MayChange plan.change tables.now) }
+{
+    match served(alloc, tables, part, invoke, asked) {
+        Err(Refuse::Memory) => Err(Memory),
+        Err(Refuse::Service(refusal)) => refused(alloc, client, invoke, refusal),
+        Ok(outcome) => settled(alloc, client, size_of(part), invoke, outcome),
+    }
+}
+
+/// A client is sent a conclude-Response.
+fn concluded(alloc: Global) -> Result<Told, Memory>
+    ensures { IfOk result (λ told. effect_of told ≡ sends Pdu.ConcludeResponse) }
+{
+    sent(alloc, &Pdu::ConcludeResponse)
+}
+
+/// A client is sent a cancel-Response.
+fn cancelled(alloc: Global, invoke: u32) -> Result<Told, Memory>
+    ensures { IfOk result (λ told. effect_of told ≡ sends (Pdu.CancelResponse invoke)) }
+{
+    sent(alloc, &Pdu::CancelResponse { invoke })
+}
+
+/// A client is lost, of which it is told that; tokens that it had are granted to others, which are told so.
+fn lost_plan<'a>(
+    alloc: Global,
+    tables: &Tables,
+    part: &ClientPart,
+    told: Vec<(u32, Told)>,
+) -> Result<Plan<'a>, Memory>
+    ensures told { IfOk result (λ plan. effects_told plan.told.items
+        ≡ effects_told told.items ++ loss_also part.now.row.client tables.now) }
+    ensures change { IfOk result (λ plan. plan.change ≡ Change.Loses part.now.row.client) }
+{
+    let client = part.client();
+    let grants = lose_told(alloc, &tables.semaphores, client, tables.moment())?;
+    let mut told = told;
+    tell_grants(alloc, &mut told, &grants)?;
+    Ok(Plan {
+        change: Change::Loses(client),
+        told,
+    })
+}
+
+/// A conclusion is granted: the client is lost.
+fn conclusion_plan<'a>(
+    alloc: Global,
+    tables: &Tables,
+    client: u32,
+    part: &ClientPart,
+) -> Result<Plan<'a>, Memory>
+    ensures told { IfOk result (λ plan. effects_told plan.told.items
+        ≡ tell client conclusion_told ++ loss_also part.now.row.client tables.now) }
+    ensures change { IfOk result (λ plan. plan.change ≡ Change.Loses part.now.row.client) }
+{
+    let mut told = one_told(alloc, client, concluded(alloc)?)?;
+    told.push((client, Told::Closes))?;
+    lost_plan(alloc, tables, part, told)
+}
+
+/// The request of that invokeID, where it waits.
+fn waiting_of(part: &ClientPart, invoke: u32) -> Option<&Waiting>
+    ensures { option_map (λ w. w.now) result ≡ waiting_of invoke part.now.row.waiting }
+{
+    part.waiting().iter().find(|row| row.invoke == invoke)
+}
+
+/// How a request that waits is cancelled on the tables.
+fn cancel_change<'a>(alloc: Global, part: &ClientPart, invoke: u32) -> Result<Change<'a>, Memory>
+    ensures done { IfOk result (λ change. (t : Rows)
+        → changed change t ≡ tables_cancelled (waiting_of invoke part.now.row.waiting) t) }
+    ensures may { IfOk result (λ change. (t : Rows) → MayChange change t) }
+{
+    match waiting_of(part, invoke) {
+        None => Ok(Change::Nothing),
+        Some(request) => Ok(Change::Cancels {
+            key: request.key.copy(alloc)?,
+            entry: request.entry,
+        }),
+    }
+}
+
+/// A request that waits is cancelled.
+fn cancel_plan<'a>(
+    alloc: Global,
+    client: u32,
+    part: &ClientPart,
+    invoke: u32,
+) -> Result<Plan<'a>, Memory>
+    ensures told { IfOk result (λ plan.
+        effects_told plan.told.items ≡ tell client (cancel_told invoke)) }
+    ensures done { IfOk result (λ plan. (t : Rows) → changed plan.change t
+        ≡ tables_cancelled (waiting_of invoke part.now.row.waiting) t) }
+    ensures may { IfOk result (λ plan. (t : Rows) → MayChange plan.change t) }
+{
+    let change = cancel_change(alloc, part, invoke)?;
+    let mut told = one_told(alloc, client, Told::Answers(invoke))?;
+    told.push((client, cancelled(alloc, invoke)?))?;
+    told.push((client, refusal(alloc, invoke, ServiceError::CANCEL)?))?;
+    Ok(Plan { change, told })
+}
+
+/// The association is aborted.
+fn abort_plan<'a>(
+    alloc: Global,
+    tables: &Tables,
+    client: u32,
+    part: &ClientPart,
+) -> Result<Plan<'a>, Memory>
+    ensures told { IfOk result (λ plan. effects_told plan.told.items
+        ≡ tell client abort_told ++ loss_also part.now.row.client tables.now) }
+    ensures change { IfOk result (λ plan. plan.change ≡ Change.Loses part.now.row.client) }
+{
+    let told = vec![in alloc; (client, Told::Sends(What::Abort)), (client, Told::Closes)]?;
+    lost_plan(alloc, tables, part, told)
+}
+
+/// The client is lost, where there is an association.
+fn loss_plan<'a>(
+    alloc: Global,
+    tables: &Tables,
+    client: u32,
+    part: &ClientPart,
+) -> Result<Plan<'a>, Memory>
+    ensures done { IfOk result (λ plan. plan_done tables.now plan.change plan.told.items
+        ≡ loses tables.now part.now.row client) }
+    ensures may { IfOk result (λ plan. (t : Rows) → MayChange plan.change t) }
+{
+    if part.negotiated().is_none() {
+        return Ok(Plan {
+            change: Change::Nothing,
+            told: Vec::new(alloc),
+        });
+    }
+    let told = vec![in alloc; (client, Told::Closes)]?;
+    lost_plan(alloc, tables, part, told)
+}
+
+/// What happened is told to whom it concerns.
+fn tell_happening(
+    alloc: Global,
+    told: &mut Vec<(u32, Told)>,
+    happening: &Happening,
+) -> Result<(), Memory>
+    ensures { OnOk result (effects_told told.new.items
+        ≡ effects_told told.old.items ++ happening_told happening.now) }
+{
+    match *happening {
+        Happening::WaitEnds { client, invoke } => {
+            told.push((client, Told::Answers(invoke)))?;
+            told.push((client, refusal(alloc, invoke, ServiceError::TIMEOUT)?))?;
+        }
+        Happening::Grants(grant) => tell_grant(alloc, told, &grant)?,
+        Happening::Aborts(client) => {
+            told.push((client, Told::Sends(What::Abort)))?;
+            told.push((client, Told::Closes))?;
+        }
+    }
+    Ok(())
+}
+
+/// All that happened is told, in order.
+fn all_told(alloc: Global, happened: &[Happening]) -> Result<Vec<(u32, Told)>, Memory>
+    ensures { IfOk result (λ told. effects_told told.items ≡ all_told happened.now) }
+{
+    let mut told = Vec::new(alloc);
+    for happening in happened {
+        tell_happening(alloc, &mut told, happening)?;
+    }
+    Ok(told)
+}
+
+/// The client that was lost by what happened.
+fn aborted_one(happening: &Happening) -> Option<u32>
+    ensures { result ≡ aborted_one happening.now }
+{
+    match *happening {
+        Happening::Aborts(client) => Some(client),
+        Happening::WaitEnds { .. } | Happening::Grants(_) => None,
+    }
+}
+
+/// The clients that were lost.
+fn aborted(alloc: Global, happened: &[Happening]) -> Result<Vec<u32>, Memory>
+    ensures { IfOk result (λ clients. clients.items ≡ aborted happened.now) }
+{
+    Ok(happened.iter().filter_map(aborted_one).collect(alloc)?)
+}
+
+/// What happened while so many milliseconds went by.
+fn ticked_plan<'a>(alloc: Global, ms: u32, ticked: Ticked) -> Result<Plan<'a>, Memory>
+    ensures done { IfOk result (λ plan. (t : Rows)
+        → plan_done t plan.change plan.told.items ≡ passed ms t (state_of ticked)) }
+    ensures may { IfOk result (λ plan. (t : Rows)
+        → t.now + ms ≤ last_moment → MayChange plan.change t) }
+{
+    let Ticked {
+        semaphores,
+        happened,
+    } = ticked;
+    let told = all_told(alloc, &happened)?;
+    let clients = aborted(alloc, &happened)?;
+    Ok(Plan {
+        change: Change::Ticks {
+            ms,
+            semaphores,
+            clients,
+        },
+        told,
+    })
+}
+
+/// Plans that so many milliseconds go by. Nothing changes here. Where no deadline is met, no memory is taken.
+pub fn time_planned<'a>(alloc: Global, tables: &Tables, ms: u32) -> Result<Plan<'a>, Memory>
+    requires { tables.now.now + ms ≤ last_moment }
+    ensures done { IfOk result (λ plan.
+        plan_done tables.now plan.change plan.told.items ≡ passes ms tables.now) }
+    ensures may { IfOk result (λ plan. MayChange plan.change tables.now) }
+{
+    let until = Moment(tables.clock.now().0 + u64::from(ms));
+    if next_due(&tables.semaphores, until).is_none() {
+        return Ok(Plan {
+            change: Change::Passes(ms),
+            told: Vec::new(alloc),
+        });
+    }
+    ticked_plan(alloc, ms, tick(alloc, &tables.semaphores, until)?)
+}
+
+/// Plans what a client with that part does on the tables. Nothing changes here.
+pub fn planned<'a>(
+    alloc: Global,
+    tables: &Tables,
+    client: u32,
+    part: &ClientPart,
+    act: &Act<'a>,
+) -> Result<Plan<'a>, Memory>
+    ensures done { IfOk result (λ plan. plan_done tables.now plan.change plan.told.items
+        ≡ act_done tables.now part.now.row client act.now) }
+    ensures may { IfOk result (λ plan. MayChange plan.change tables.now) }
+{
+    match *act {
+        Act::Request { invoke, asked } => request_plan(alloc, tables, client, part, invoke, asked),
+        Act::Conclusion => conclusion_plan(alloc, tables, client, part),
+        Act::Cancel { invoke } => cancel_plan(alloc, client, part, invoke),
+        Act::Abort => abort_plan(alloc, tables, client, part),
+        Act::Loss => loss_plan(alloc, tables, client, part),
+    }
+}

@@ -1,0 +1,217 @@
+//! The tables of the device, and how they change.
+
+ghost use Rattle.std.specs.Prelude.{◌≡◌, OnErr, OnOk};
+ghost use Rattle.mms_types.specs.Moments.{IsDated};
+ghost use Rattle.cell_services.specs.Changes.{changed, MayChange};
+ghost use Rattle.cell_services.specs.Meant.{no_tables};
+ghost use Rattle.cell_services.specs.Serving.{without_client, without_clients};
+ghost use Rattle.cell_services.specs.Tables.{moment_of};
+
+use crate::Clock;
+use mms_time::{
+    SemaphoreRow, cancel_take, define_semaphore, delete_semaphore, lose, relinquish_control,
+    take_control,
+};
+use mms_types::{
+    DataList, DefineNamedVariable, DefineNamedVariableList, DefineSemaphore, Key, Memory, Moment,
+    TakeControl, Write,
+};
+use object_names::{Named, Selection};
+use std::alloc::Global;
+use std::marker::Model;
+use variable_services::VariableTables;
+
+/// The tables of the device: all that it has but its clients (ISO 9506-1, the virtual manufacturing device).
+#[derive(Drop)]
+pub struct Tables {
+    /// The moment.
+    pub clock: Clock,
+    /// Cells, named variables and lists of variables.
+    pub variables: VariableTables,
+    /// Semaphores.
+    pub semaphores: Named<SemaphoreRow>,
+}
+
+impl Model for Tables {
+    ghost use Rattle.cell_services.specs.Tables.{Tables as Rows};
+
+    ghost Value = { Rows };
+
+    ghost use Rattle.std.specs.Coded.{codes};
+    ghost use Rattle.variable_services.specs.contracts.tables.VariableTables as kept;
+
+    ghost coded = { Prim.hlevel (codes, kept.the_row.coded) };
+
+    ghost view = { λ tables. record {
+      now = tables.clock;
+      variables = tables.variables;
+      semaphores = tables.semaphores;
+    } };
+}
+
+/// How tables change.
+#[derive(Drop)]
+pub enum Change<'a> {
+    /// They stay as they are.
+    Nothing,
+    /// So many milliseconds go by, and no deadline is met.
+    Passes(u32),
+    /// So many milliseconds go by, after which there are these semaphores, and those clients were lost.
+    Ticks {
+        ms: u32,
+        semaphores: Named<SemaphoreRow>,
+        clients: Vec<u32>,
+    },
+    /// A client writes variables, whose data were copied.
+    Writes {
+        client: u32,
+        asked: &'a Write,
+        values: DataList,
+    },
+    /// A client defines a variable.
+    Defines {
+        client: u32,
+        asked: &'a DefineNamedVariable,
+    },
+    /// A client defines a list of variables.
+    DefinesList {
+        client: u32,
+        asked: &'a DefineNamedVariableList,
+    },
+    /// These names of variables are deleted.
+    Deletes(Selection<'a>),
+    /// These names of lists are deleted.
+    DeletesLists(Selection<'a>),
+    /// A client asks for a token by a request of that invokeID.
+    Takes {
+        client: u32,
+        invoke: u32,
+        asked: &'a TakeControl,
+    },
+    /// A client gives a token of the semaphore of that name back.
+    Relinquishes {
+        client: u32,
+        key: Key,
+    },
+    /// An entry of the semaphore of that name waits no more.
+    Cancels {
+        key: Key,
+        entry: u64,
+    },
+    /// A client defines a semaphore.
+    DefinesSemaphore {
+        client: u32,
+        asked: &'a DefineSemaphore,
+    },
+    /// The semaphore of that name is deleted.
+    DeletesSemaphore(Key),
+    /// A client is lost.
+    Loses(u32),
+}
+
+/// Clients are lost, of which variables and lists go.
+fn lose_variables(variables: &mut VariableTables, clients: &[u32])
+    ensures { variables.new ≡ without_clients clients.now variables.old }
+{
+    for client in clients {
+        variables.lose(*client);
+    }
+}
+
+impl Tables {
+    /// Tables with nothing in them, at moment 0.
+    pub fn empty(alloc: Global) -> Tables
+        ensures { result ≡ no_tables }
+    {
+        Tables {
+            clock: Clock::new(Moment(0)),
+            variables: VariableTables::empty(alloc),
+            semaphores: Named::new(alloc),
+        }
+    }
+
+    /// The moment of the clock.
+    #[tactic(auto, using(crate::proofs::TimeLaws::moment_given))]
+    pub(crate) fn moment(&self) -> Moment
+        ensures moment { result ≡ moment_of self.now }
+        ensures dated { IsDated result }
+    {
+        self.clock.now()
+    }
+
+    /// A client is lost. Without memory all is as before.
+    fn lose(&mut self, alloc: Global, client: u32) -> Result<(), Memory>
+        ensures done { OnOk result (self.new ≡ without_client client self.old) }
+        ensures kept { OnErr result (self.new ≡ self.old) }
+    {
+        let now = self.moment();
+        let _grants = lose(alloc, &mut self.semaphores, client, now)?;
+        self.variables.lose(client);
+        Ok(())
+    }
+
+    /// Lets the semaphores change by a request. Without memory all is as before.
+    fn take(
+        &mut self,
+        alloc: Global,
+        client: u32,
+        invoke: u32,
+        asked: &TakeControl,
+    ) -> Result<(), Memory>
+        ensures done { OnOk result (self.new
+            ≡ changed (Change.Takes client invoke asked.entry) self.old) }
+        ensures kept { OnErr result (self.new ≡ self.old) }
+    {
+        let now = self.moment();
+        take_control(alloc, &mut self.semaphores, client, invoke, now, asked)
+    }
+
+    /// Lets the tables change. Without memory they are as before; what makes a row or an entry, and a loss, alone want
+    /// any.
+    pub fn change(&mut self, alloc: Global, change: Change<'_>) -> Result<(), Memory>
+        requires may { MayChange change self.old }
+        ensures done { OnOk result (self.new ≡ changed change.entry self.old) }
+        ensures kept { OnErr result (self.new ≡ self.old) }
+    {
+        match change {
+            Change::Nothing => {}
+            Change::Passes(ms) => self.clock.advance(ms),
+            Change::Ticks {
+                ms,
+                semaphores,
+                clients,
+            } => {
+                self.clock.advance(ms);
+                self.semaphores = semaphores;
+                lose_variables(&mut self.variables, &clients);
+            }
+            Change::Writes {
+                client,
+                asked,
+                values,
+            } => self.variables.write(client, asked, values),
+            Change::Defines { client, asked } => self.variables.define(alloc, client, asked)?,
+            Change::DefinesList { client, asked } => {
+                self.variables.define_list(alloc, client, asked)?
+            }
+            Change::Deletes(selection) => self.variables.vars.delete(&selection),
+            Change::DeletesLists(selection) => self.variables.lists.delete(&selection),
+            Change::Takes {
+                client,
+                invoke,
+                asked,
+            } => self.take(alloc, client, invoke, asked)?,
+            Change::Relinquishes { client, key } => {
+                let now = self.moment();
+                relinquish_control(&mut self.semaphores, &key, client, now)
+            }
+            Change::Cancels { key, entry } => cancel_take(&mut self.semaphores, &key, entry),
+            Change::DefinesSemaphore { client, asked } => {
+                define_semaphore(alloc, &mut self.semaphores, client, asked)?
+            }
+            Change::DeletesSemaphore(key) => delete_semaphore(&mut self.semaphores, &key),
+            Change::Loses(client) => self.lose(alloc, client)?,
+        }
+        Ok(())
+    }
+}

@@ -1,0 +1,42 @@
+//! What clients are told.
+
+ghost use Rattle.std.specs.Prelude.{◌≡◌};
+ghost use Rattle.cell_services.specs.Telling.{is_output, is_wait};
+
+use association::Waiting;
+use mms_types::What;
+
+/// What a client is told by an event (ISO 9506-1, environment and general management).
+#[derive(Debug, PartialEq, Eq, Drop)]
+pub enum Told {
+    /// One more output is to be sent.
+    Sends(What),
+    /// The association is gone.
+    Closes,
+    /// A request waits.
+    Waits(Waiting),
+    /// The request of that invokeID waits no more.
+    Answers(u32),
+}
+
+impl Told {
+    /// Whether it is an output, for which there has to be room.
+    pub fn is_output(&self) -> bool
+        ensures { result ≡ is_output self.now }
+    {
+        match self {
+            Told::Sends(_) => true,
+            Told::Closes | Told::Waits(_) | Told::Answers(_) => false,
+        }
+    }
+
+    /// Whether it is a request that waits, for which there has to be room.
+    pub fn is_wait(&self) -> bool
+        ensures { result ≡ is_wait self.now }
+    {
+        match self {
+            Told::Waits(_) => true,
+            Told::Sends(_) | Told::Closes | Told::Answers(_) => false,
+        }
+    }
+}
