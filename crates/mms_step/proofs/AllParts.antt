@@ -21,10 +21,10 @@ use Rattle.parted_state.specs.Served as parted
 use Rattle.parted_state.specs.ServedLaws as served
 use Rattle.mms_step.specs.declared.part.Part.{Part}
 use Rattle.mms_step.specs.State.{State}
-use Rattle.mms_step.specs.Tables.{Tables}
-use Rattle.mms_step.specs.Association.{Verdict, Takes, verdict}
-use Rattle.mms_step.specs.Services.{class_tables, listing, variable_asks, is_of_domain, specifies_domain, accesses_domain, deletes_domain}
-use Rattle.mms_step.specs.Serving.{heard_asks, heard_more, loss_asks, services}
+use Rattle.cell_services.specs.Tables.{Tables}
+use Rattle.cell_services.specs.Association.{Verdict, Takes, verdict}
+use Rattle.cell_services.specs.Services.{class_tables, listing, variable_asks, is_of_domain, specifies_domain, accesses_domain, deletes_domain, semaphore_asks}
+use Rattle.cell_services.specs.Serving.{heard_asks, heard_more, loss_asks, services, abort_asks, aborted, meanwhile, time_asks, words}
 use Rattle.mms_step.specs.Step.{step}
 use Rattle.mms_step.specs.Partition.{cell, parts_of, state_in}
 use Rattle.mms_step.specs.Needs.{need, is_held, wants}
@@ -73,6 +73,10 @@ variables_below : (of_domain : Bool) → are_tables (variable_asks of_domain) �
 variables_below true = refl
 variables_below false = refl
 
+semaphores_below : (of_domain : Bool) → are_tables (semaphore_asks of_domain) ≡ true
+semaphores_below true = refl
+semaphores_below false = refl
+
 asks_below : (v : Verdict) → are_tables (heard_asks v) ≡ true
 asks_below (Takes invoke (request.GetNameList x)) = listing_below x.scope x.class
 asks_below (Takes invoke (request.Read x)) = variables_below (accesses_domain x.access)
@@ -83,6 +87,13 @@ asks_below (Takes invoke (request.DeleteVariableAccess x)) = variables_below (de
 asks_below (Takes invoke (request.DefineNamedVariableList x)) = variables_below (is_of_domain x.name || list_any specifies_domain x.variables)
 asks_below (Takes invoke (request.GetNamedVariableListAttributes x)) = variables_below (is_of_domain x)
 asks_below (Takes invoke (request.DeleteNamedVariableList x)) = variables_below (deletes_domain x)
+asks_below (Takes invoke (request.TakeControl x)) = semaphores_below (is_of_domain x.name)
+asks_below (Takes invoke (request.RelinquishControl x)) = semaphores_below (is_of_domain x.name)
+asks_below (Takes invoke (request.DefineSemaphore x)) = semaphores_below (is_of_domain x.name)
+asks_below (Takes invoke (request.DeleteSemaphore x)) = semaphores_below (is_of_domain x)
+asks_below (Takes invoke (request.ReportSemaphoreStatus x)) = semaphores_below (is_of_domain x)
+asks_below (Takes invoke (request.ReportPoolSemaphoreStatus x)) = semaphores_below (is_of_domain x.name)
+asks_below (Takes invoke (request.ReportSemaphoreEntryStatus x)) = semaphores_below (is_of_domain x.name)
 asks_below (Takes invoke asked) = refl
 asks_below v = refl
 
@@ -95,11 +106,17 @@ loss_below : (a : Association) → are_tables (loss_asks a) ≡ true
 loss_below Idle = refl
 loss_below (Open values) = refl
 
+abort_below : (clients : List ℕ) → are_tables (abort_asks clients) ≡ true
+abort_below [] = refl
+abort_below (client ∷ clients) = refl
+
 uses_below : (t : Tables) (row : ClientRow) (event : CellEvent) → are_tables (parted.uses cell services t row event) ≡ true
 uses_below t row (Heard client octets) =
     both_tables (heard_asks (verdict row octets)) (heard_more t row (verdict row octets) ++ []) (asks_below (verdict row octets))
     (both_tables (heard_more t row (verdict row octets)) [] (more_below t row (verdict row octets)) refl)
 uses_below t row (Lost client) = both_tables (loss_asks row.association) [] (loss_below row.association) refl
+uses_below t row (Tick ms) =
+    both_tables (words (Tick ms)) (time_asks ms t ++ []) refl (both_tables (time_asks ms t) [] (abort_below (aborted (meanwhile ms t).happened)) refl)
 uses_below t row event = refl
 
 own_there : (n : ℕ) (event : CellEvent) → IsAmong n event → actor_of event ≤ n

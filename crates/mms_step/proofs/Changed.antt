@@ -5,10 +5,12 @@ use Rattle.association.specs.Client.{ClientRow, Client as RoomyRow}
 use Rattle.part_table.specs.Held.{held_at}
 use Rattle.part_table.specs.HeldLaws.{held_within}
 use Rattle.mms_step.specs.declared.part.Part.{Part}
-use Rattle.mms_step.specs.declared.part.Part.TheVariants.{Clock, Client, Variables}
+use Rattle.mms_step.specs.declared.part.Part.TheVariants.{Clock, Client, Semaphores, Variables}
 use Rattle.variable_services.specs.declared.tables.VariableTables.{VariableTables}
 use Rattle.parted_state.specs.Served.{change}
-use Rattle.mms_step.specs.Partition.{settled, clock_or, variables_or, on_client, on_clock, on_variables}
+use Rattle.cell_services.specs.Effects.{settled}
+use Rattle.mms_time.specs.Semaphores.{Rows}
+use Rattle.mms_step.specs.Partition.{clock_or, semaphores_or, variables_or, on_client, on_clock, on_semaphores, on_variables}
 
 pub changed_part : {P : Type 0} (f : P → P) (hand : List (Option P)) (i : ℕ) (x : P) → held_at hand i ≡ Some x
     → set (set hand i None) i (Some (f x)) ≡ change (option_map f) hand i
@@ -66,6 +68,12 @@ place_left hand taken place part held out =
     let same : length taken ≡ length hand = ap (λ (l : List (Option Part)). length l) out ∙ length-set hand place None in
     omega (arith, within, same)
 
+-- a place is still there where another one is set
+pub still_within : {P : Type 0} (hand new : List (Option P)) (place other : ℕ) (x : Option P) → place < length hand → new ≡ set hand other x → place < length new
+still_within {P} hand new place other x within is =
+    let same : length new ≡ length hand = ap (λ (l : List (Option P)). length l) is ∙ length-set hand other x in
+    omega (arith, within, same)
+
 -- of which that is a client's
 pub client_arm : (f : Part → Part) (hand taken new : List (Option Part)) (place : ℕ) (part value : Part) (client after : RoomyRow)
     → Some part ≡ held_at hand place → taken ≡ set hand place None → value ≡ part → value ≡ Client client → Client after ≡ f (Client client)
@@ -111,6 +119,22 @@ no_variables_held f part other = refl
 pub no_variables_shown : (now : VariableTables) (part : Part) → ((was : VariableTables) → part ≡ Variables was → ⊥) → variables_or now (Some part) ≡ now
 no_variables_shown now (Variables was) other = absurd (other was refl)
 no_variables_shown now part other = refl
+
+-- of which that has the semaphores
+pub semaphores_arm : (now : Rows) (hand taken new : List (Option Part)) (place : ℕ) (part value : Part) (was after : Rows)
+    → Some part ≡ held_at hand place → taken ≡ set hand place None → value ≡ part → value ≡ Semaphores was → after ≡ now
+    → new ≡ set taken place (Some (Semaphores after)) → new ≡ change (option_map (on_semaphores (λ n. now))) hand place
+semaphores_arm now hand taken new place part value was after held out same is done back =
+    part_changed (on_semaphores (λ n. now)) hand taken new place part (Semaphores after) held out (ap Semaphores done ∙ ap (on_semaphores (λ n. now)) (sym is ∙ same)) back
+
+-- a part that has none stays as it is
+pub no_semaphores_held : (f : Rows → Rows) (part : Part) → ((now : Rows) → part ≡ Semaphores now → ⊥) → on_semaphores f part ≡ part
+no_semaphores_held f (Semaphores now) other = absurd (other now refl)
+no_semaphores_held f part other = refl
+
+pub no_semaphores_shown : (now : Rows) (part : Part) → ((was : Rows) → part ≡ Semaphores was → ⊥) → semaphores_or now (Some part) ≡ now
+no_semaphores_shown now (Semaphores was) other = absurd (other was refl)
+no_semaphores_shown now part other = refl
 
 -- what is told of a part that is held
 pub told_of : {A : Type 0} (f : Option Part → A) (hand : List (Option Part)) (place : ℕ) (part value : Part) → Some part ≡ held_at hand place → value ≡ part

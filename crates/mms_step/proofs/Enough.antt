@@ -1,5 +1,5 @@
 -- Where nothing is needed that is not held, the parts that an event changes are held, and become those of the state after it.
-use Rattle.std.specs.Prelude.{◌≡◌, ℕ, zero, suc, ◌+◌, ◌≤◌, Bool, true, false, not, ◌&&◌, ◌||◌, Option, List, [], ◌∷◌, filter, is_some, length, OnOk, OnErr, Result, Ok, Err, refl}
+use Rattle.std.specs.Prelude.{◌≡◌, ℕ, zero, suc, ◌+◌, ◌-◌, ◌≤◌, Bool, true, false, not, ◌&&◌, ◌||◌, Option, Some, List, [], ◌∷◌, filter, is_some, length, OnOk, OnErr, Result, Ok, Err, refl}
 use Rattle.std.specs.List.{list_all}
 use Rattle.std.specs.Option.{option_map}
 use Rattle.std.proofs.Common.{ap, sym, ◌∙◌, subst, arith}
@@ -7,28 +7,31 @@ use Rattle.mms_types.specs.Actors.{IsAmong, actor_of}
 use Rattle.mms_types.specs.declared.memory.Memory.{Memory}
 use Rattle.mms_types.specs.declared.event.CellEvent.{CellEvent}
 use Rattle.mms_types.specs.declared.event.CellEvent.TheVariants.{Heard, Lost, Tick, Ends, Drain}
-use Rattle.association.specs.Client.{ClientRow, drained_row}
+use Rattle.association.specs.Client.{ClientRow, drained_row, Client as RoomyRow}
 use Rattle.part_table.specs.Held.{held_at, places_held, IsHandOf}
+use Rattle.part_table.specs.HeldLaws.{held_of_list}
 use Rattle.parted_state.specs.Cut.{are_held, missing}
 use Rattle.parted_state.specs.CutLaws as laws
 use Rattle.parted_state.specs.LiftedLaws.{change_holds_the_same}
 use Rattle.parted_state.specs.Served.{change}
 use Rattle.parted_state.specs.Served as parted
 use Rattle.mms_step.specs.declared.part.Part.{Part}
+use Rattle.mms_step.specs.declared.part.Part.TheVariants.{Client}
 use Rattle.mms_step.specs.State.{State, IsSound}
-use Rattle.mms_step.specs.Association.{verdict}
-use Rattle.mms_step.specs.declared.planning.Act.TheVariants as act
-use Rattle.mms_step.specs.Acts.{act_done, row_held, HoldsClient}
+use Rattle.cell_services.specs.Association.{verdict}
+use Rattle.cell_services.specs.declared.acts.Act.TheVariants as act
+use Rattle.mms_step.specs.declared.serving.Task.TheVariants as task
+use Rattle.mms_step.specs.Tasks.{row_held, task_done, HoldsClient}
 use Rattle.mms_step.specs.AfterLaws.{is_device, each_served}
 use Rattle.parted_state.specs.Lifted.{row_shown, tables_shown, put_in_place}
 use Rattle.parted_state.specs.LiftedLaws as lifted
-use Rattle.mms_step.specs.Serving.{hears, serves, services}
+use Rattle.cell_services.specs.Serving.{hears, serves, services}
 use Rattle.mms_step.specs.Step.{step}
-use Rattle.mms_step.specs.Partition.{cell, parts_of, state_in, client_place, clients_among, on_client, on_clock, IsClient}
+use Rattle.mms_step.specs.Partition.{cell, parts_of, state_in, client_place, clients_among, client_part, on_client, on_clock, row_in, IsClient}
 use Rattle.mms_step.specs.Needs.{need, is_held, footprint, shown}
 use Rattle.mms_step.specs.After.{after}
 use Rattle.mms_step.specs.AfterLaws.{after_holds_the_same}
-use Rattle.mms_step.proofs.Holding.{clients_counted, held_client, after_of_hand, change_is_held}
+use Rattle.mms_step.proofs.Holding.{client_at, clients_counted, held_client, after_of_hand, change_is_held}
 use Rattle.mms_step.proofs.Needed.{drain_needs_none}
 use Rattle.mms_step.proofs.PartsAfter.{with_client, client_changed, step_drained}
 
@@ -67,6 +70,20 @@ pub words_held : (hand : List (Option Part)) (event : CellEvent) → need event 
 words_held hand event enough =
     laws.missing_none hand (footprint (length (state_in hand).clients) event)
     (laws.held_parted hand (footprint (length (state_in hand).clients) event) _ (laws.none_missing hand (shown event hand) enough)).0
+
+-- the row in a client's part that is held has the client's number
+pub own_held : (hand : List (Option Part)) (client n : ℕ) (part : RoomyRow) → OfState hand → n ≡ clients_among (length hand) → 1 ≤ client → client ≤ n
+    → held_at hand (client_place client) ≡ Some (Client part) → is_held hand (client_place part.row.client) ≡ true
+own_held hand client n part (s, sound, of) many some few held =
+    let counted = clients_counted s hand of in
+    let found = client_at s client some (omega (arith, few, many, counted)) in
+    let both : Some (client_part found.0) ≡ Some (Client part) = sym found.1 ∙ held_of_list hand (parts_of s) (client_place client) (Client part) of held in
+    let same : client_part found.0 ≡ Client part = cc both in
+    let row : found.0 ≡ part.row = ap (λ (p : Part). row_in (Some p)) same in
+    let number = (sound.1.rows (client - 1) found.0 found.2).number in
+    let its : client - 1 + 1 ≡ client = omega (arith, some) in
+    let is : part.row.client ≡ client = sym (ap (λ (r : ClientRow). r.client) row) ∙ number ∙ its in
+    ap (λ (k : ℕ). is_held hand (client_place k)) is ∙ ap (λ (o : Option Part). is_some o) held
 
 pub client_is_held : (hand : List (Option Part)) (event : CellEvent) (client : ℕ) → OfState hand → (1 ≤ client) × (client ≤ clients_among (length hand)) → actor_of event ≡ client
     → need event hand ≡ [] → IsClient (held_at hand (client_place client))
@@ -153,13 +170,13 @@ heard_becomes hand new client octets of among enough put =
     (put ∙ ap (λ (r : ClientRow). put_in_place cell (serves (tables_shown cell hand) r (Heard client octets)) hand) (sym (row_of_held hand client among.0)))
 
 pub lost_becomes : (hand new : List (Option Part)) (client : ℕ) → OfState hand → IsAmong (clients_among (length hand)) (Lost client) → need (Lost client) hand ≡ []
-    → new ≡ put_in_place cell (act_done (tables_shown cell hand) hand (act.Loss client)) hand → Becomes hand new (Lost client)
+    → new ≡ put_in_place cell (task_done (tables_shown cell hand) hand (task.Client client act.Loss)) hand → Becomes hand new (Lost client)
 lost_becomes hand new client of among enough put =
     served_becomes hand new (Lost client) of among.1 enough
     (put ∙ ap (λ (r : ClientRow). put_in_place cell (serves (tables_shown cell hand) r (Lost client)) hand) (sym (row_of_held hand client among.0)))
 
 pub ticked_becomes : (hand new : List (Option Part)) (ms : ℕ) → OfState hand → need (Tick ms) hand ≡ []
-    → new ≡ put_in_place cell (act_done (tables_shown cell hand) hand (act.Time ms)) hand → Becomes hand new (Tick ms)
+    → new ≡ put_in_place cell (task_done (tables_shown cell hand) hand (task.Time ms)) hand → Becomes hand new (Tick ms)
 ticked_becomes hand new ms of enough put = served_becomes hand new (Tick ms) of (omega arith) enough put
 
 pub ended_becomes : (hand : List (Option Part)) (name : List ℕ) → OfState hand → need (Ends name) hand ≡ [] → Becomes hand hand (Ends name)

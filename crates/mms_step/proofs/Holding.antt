@@ -9,6 +9,7 @@ use Rattle.part_table.specs.HeldLaws.{held_of_list}
 use Rattle.parted_state.specs.CutLaws as laws
 use Rattle.parted_state.specs.DeviceLaws as device
 use Rattle.parted_state.specs.Served.{change}
+use Rattle.mms_time.specs.Semaphores.{Rows}
 use Rattle.mms_step.specs.declared.part.Part.{Part}
 use Rattle.mms_step.specs.declared.part.Part.TheVariants.{Clock, Client, Semaphores}
 use Rattle.mms_step.specs.State.{State}
@@ -24,17 +25,17 @@ use Rattle.mms_step.proofs.PartsAfter.{length-parts, in_front}
 pub clients_counted : (s : State) (hand : List (Option Part)) → IsHandOf hand (parts_of s) → clients_among (length hand) ≡ length s.clients
 clients_counted s hand of = let same = of.places in let all = length-parts s in omega arith
 
-row_at : (rows : List ClientRow) (i : ℕ) → i < length rows
-    → (row : ClientRow) × (slice_get (map client_part rows ++ Semaphores ∷ []) i ≡ Some (client_part row)) × (slice_get rows i ≡ Some row)
-row_at [] i within = absurd (omega arith)
-row_at (row ∷ rows) zero within = (row, refl, refl)
-row_at (row ∷ rows) (suc i) within = row_at rows i (omega arith)
+row_at : (semaphores : Rows) (rows : List ClientRow) (i : ℕ) → i < length rows
+    → (row : ClientRow) × (slice_get (map client_part rows ++ Semaphores semaphores ∷ []) i ≡ Some (client_part row)) × (slice_get rows i ≡ Some row)
+row_at semaphores [] i within = absurd (omega arith)
+row_at semaphores (row ∷ rows) zero within = (row, refl, refl)
+row_at semaphores (row ∷ rows) (suc i) within = row_at semaphores rows i (omega arith)
 
 -- the part of a client, and its row
 pub client_at : (s : State) (client : ℕ) → 1 ≤ client → client ≤ length s.clients
     → (row : ClientRow) × (slice_get (parts_of s) (client_place client) ≡ Some (client_part row)) × (slice_get s.clients (client - 1) ≡ Some row)
 client_at s client some there =
-    let found = row_at s.clients (client - 1) (omega arith) in
+    let found = row_at s.semaphores s.clients (client - 1) (omega arith) in
     (found.0, ap (λ (i : ℕ). slice_get (parts_of s) i) (in_front client some) ∙ found.1, found.2)
 
 pub held_part : (hand : List (Option Part)) (parts : List Part) (place : ℕ) (part : Part) → IsHandOf hand parts → is_held hand place ≡ true → slice_get parts place ≡ Some part

@@ -3,9 +3,15 @@ pub mod Changed
 pub mod Enough
 pub mod Holding
 pub mod Needed
+pub mod Others
+pub mod Outboxes
 pub mod PartsAfter
 pub mod Sound
+pub mod Tokens
+pub mod TwoTicks
 pub mod ToldLaws
 pub mod ServeLaws
-pub mod PlanLaws
+pub mod Answering
+pub mod Asked
 mod Configured
+pub mod Waiters

@@ -1,5 +1,5 @@
 -- What each event makes of a state.
-use Rattle.std.specs.Prelude.{◌≡◌, ℕ, zero, suc, ◌+◌, ◌-◌, ◌≤◌, ◌<◌, Bool, true, false, Option, List, [], ◌∷◌, ◌++◌, map, fold, length, slice_get, unwrap_or, if◌then◌else◌, refl}
+use Rattle.std.specs.Prelude.{◌≡◌, ℕ, zero, suc, ◌+◌, ◌-◌, ◌≤◌, ◌<◌, Bool, true, false, Option, None, Some, List, [], ◌∷◌, ◌++◌, map, fold, length, slice_get, unwrap_or, if◌then◌else◌, refl}
 use Rattle.std.proofs.Common.{ap, ap₂, sym, ◌∙◌, arith, length-append}
 use Rattle.std.proofs.lemmas.List.{length-map, map-append}
 use Rattle.mms_types.specs.Actors.{clients_to}
@@ -18,14 +18,19 @@ use Rattle.parted_state.specs.ServedLaws as served
 use Rattle.mms_step.specs.declared.part.Part.{Part}
 use Rattle.mms_step.specs.declared.part.Part.TheVariants.{Clock, Variables, Domains, Programs, Conditions, Journals, Semaphores}
 use Rattle.mms_step.specs.State.{State, start, device_of, first_rows, HasDate}
-use Rattle.mms_step.specs.Tables.{Tables}
-use Rattle.mms_step.specs.Effects.{Effect, felt, felt_all, tell}
-use Rattle.mms_step.specs.Association.{Verdict, Takes, verdict, loss_told}
-use Rattle.mms_step.specs.Services.{cause, effect, request_told}
+use Rattle.cell_services.specs.Tables.{Tables}
+use Rattle.cell_services.specs.Effects.{Effect, felt, felt_all, tell}
+use Rattle.cell_services.specs.Association.{Verdict, Takes, Cancels, verdict, loss_told}
+use Rattle.cell_services.specs.Services.{effect, relinquish_outcome, take_outcome}
 use Rattle.association.specs.declared.negotiation.Association.{Association}
 use Rattle.association.specs.declared.negotiation.Association.TheVariants.{Idle, Open}
-use Rattle.mms_step.specs.Serving.{size_of, is_served, tables_lost, tables_heard, own_told, also_told, serves, services}
-use Rattle.mms_step.specs.Meant.{no_tables}
+use Rattle.association.specs.declared.waiting.Waiting.{Waiting}
+use Rattle.token_sem.specs.declared.entry.Grant.{Grant}
+use Rattle.mms_time.specs.Services.{relinquish_grant, take_told}
+use Rattle.mms_time.specs.declared.taking.TakeDone.{TakeDone}
+use Rattle.mms_time.specs.declared.taking.TakeDone.TheVariants.{Answered, Waits}
+use Rattle.cell_services.specs.Serving.{is_served, tables_cancelled, tables_lost, tables_heard, serves, services, waiting_of}
+use Rattle.cell_services.specs.Meant.{no_tables}
 use Rattle.mms_step.specs.Partition.{cell, parts_of, client_part, client_place, on_client, no_client}
 use Rattle.mms_step.specs.AfterLaws.{is_device}
 use Rattle.mms_step.specs.Step.{step, replay, MayCome, MayFollow}
@@ -63,7 +68,7 @@ change-map {A} {B} g f h same (x ∷ xs) (suc i) = ap (λ (l : List B). h x ∷ 
 
 pub length-parts : (s : State) → length (parts_of s) ≡ length s.clients + 7
 length-parts s =
-    let rows : length (map client_part s.clients ++ Semaphores ∷ []) ≡ length (map client_part s.clients) + 1 = length-append (map client_part s.clients) (Semaphores ∷ []) in
+    let rows : length (map client_part s.clients ++ Semaphores s.semaphores ∷ []) ≡ length (map client_part s.clients) + 1 = length-append (map client_part s.clients) (Semaphores s.semaphores ∷ []) in
     omega (arith, rows, length-map s.clients client_part)
 
 -- the row of a client is changed
@@ -77,9 +82,9 @@ pub client_changed : (s : State) (client : ℕ) (f : ClientRow → ClientRow) �
     → parts_of (with_client s client f) ≡ change (on_client f) (parts_of s) (client_place client)
 client_changed s client f some there =
     let within : client - 1 < length (map client_part s.clients) = omega (arith, length-map s.clients client_part) in
-    let rest : change (on_client f) (map client_part s.clients ++ Semaphores ∷ []) (client - 1) ≡ map client_part (change f s.clients (client - 1)) ++ Semaphores ∷ [] =
-    change-append (on_client f) (map client_part s.clients) (Semaphores ∷ []) (client - 1) within
-    ∙ ap (λ (l : List Part). l ++ Semaphores ∷ []) (change-map (on_client f) f client_part (λ x. refl) s.clients (client - 1)) in
+    let rest : change (on_client f) (map client_part s.clients ++ Semaphores s.semaphores ∷ []) (client - 1) ≡ map client_part (change f s.clients (client - 1)) ++ Semaphores s.semaphores ∷ [] =
+    change-append (on_client f) (map client_part s.clients) (Semaphores s.semaphores ∷ []) (client - 1) within
+    ∙ ap (λ (l : List Part). l ++ Semaphores s.semaphores ∷ []) (change-map (on_client f) f client_part (λ x. refl) s.clients (client - 1)) in
     ap (λ (l : List Part). Clock s.now ∷ Variables s.variables ∷ Domains ∷ Programs ∷ Conditions ∷ Journals ∷ l) (sym rest)
     ∙ ap (λ (i : ℕ). change (on_client f) (parts_of s) i) (sym (in_front client some))
 
@@ -89,48 +94,41 @@ pub told_one : (effects : List Effect) (i : ℕ) (rows : List ClientRow) → par
 told_one [] i rows = sym (change-none rows i)
 told_one (effect ∷ effects) i rows = told_one effects i (change (felt effect) rows i) ∙ change-twice (felt_all effects) (felt effect) rows i
 
--- no service tells another client yet
-no_also : (t : Tables) (row : ClientRow) (asked : Request) → (effect t row asked).also ≡ []
-no_also t row (request.GetNameList x) = refl
-no_also t row asked = refl
-
 -- no service moves the clock
-now_kept : (t : Tables) (row : ClientRow) (asked : Request) → (effect t row asked).tables.now ≡ t.now
-now_kept t row (request.GetNameList x) = refl
-now_kept t row asked = refl
-
-none_also : (t : Tables) (row : ClientRow) (v : Verdict) → also_told t row v ≡ []
-none_also t row (Takes invoke asked) = by_test (is_served t row invoke asked)
+now_kept : (t : Tables) (row : ClientRow) (invoke : ℕ) (asked : Request) → (effect t row invoke asked).tables.now ≡ t.now
+now_kept t row invoke (request.GetNameList x) = refl
+now_kept t row invoke (request.TakeControl x) = by_done (take_told row.client x t.semaphores)
   where
-    by_test : (b : Bool) → (if b then (effect t row asked).also else []) ≡ []
-    by_test true = no_also t row asked
-    by_test false = refl
-none_also t row other = refl
+    by_done : (o : Option TakeDone) → (take_outcome t row.client invoke x o).tables.now ≡ t.now
+    by_done None = refl
+    by_done (Some (Answered told)) = refl
+    by_done (Some (Waits entry)) = refl
+now_kept t row invoke (request.RelinquishControl x) = by_grant (relinquish_grant row.client x t.semaphores)
+  where
+    by_grant : (o : Option (Option Grant)) → (relinquish_outcome t row.client x o).tables.now ≡ t.now
+    by_grant None = refl
+    by_grant (Some grant) = refl
+now_kept t row invoke asked = refl
 
 now_heard : (t : Tables) (row : ClientRow) (v : Verdict) → (tables_heard t row v).now ≡ t.now
 now_heard t row (Takes invoke asked) = by_test (is_served t row invoke asked)
   where
-    by_test : (b : Bool) → (if b then (effect t row asked).tables else t).now ≡ t.now
-    by_test true = now_kept t row asked
+    by_test : (b : Bool) → (if b then (effect t row invoke asked).tables else t).now ≡ t.now
+    by_test true = now_kept t row invoke asked
     by_test false = refl
+now_heard t row (Cancels invoke) = by_waiting (waiting_of invoke row.waiting)
+  where
+    by_waiting : (o : Option Waiting) → (tables_cancelled o t).now ≡ t.now
+    by_waiting None = refl
+    by_waiting (Some request) = refl
 now_heard t row other = refl
 
 -- nor does a loss
-now_lost : (a : Association) (client : ℕ) (t : Tables) → (tables_lost a client t).now ≡ t.now
+pub now_lost : (a : Association) (client : ℕ) (t : Tables) → (tables_lost a client t).now ≡ t.now
 now_lost Idle client t = refl
 now_lost (Open values) client t = refl
 
-append_none : {A : Type 0} (xs : List A) → xs ++ [] ≡ xs
-append_none [] = refl
-append_none {A} (x ∷ xs) = ap (λ (l : List A). x ∷ l) (append_none xs)
-
 -- ---- each event
-
-pub heard_told : (t : Tables) (row : ClientRow) (client : ℕ) (octets : List ℕ)
-    → (serves t row (Heard client octets)).told ≡ tell client (own_told t row (verdict row octets))
-heard_told t row client octets =
-    ap (λ (also : List (ℕ × Effect)). tell client (own_told t row (verdict row octets)) ++ also) (none_also t row (verdict row octets))
-    ∙ append_none (tell client (own_told t row (verdict row octets)))
 
 pub step_drained : (s : State) (client : ℕ) → 1 ≤ client → client ≤ length s.clients → step s (Drain client) ≡ with_client s client drained_row
 step_drained s zero some there = absurd (omega arith)
@@ -139,7 +137,7 @@ step_drained s (suc i) some there =
     ap (λ (k : ℕ). at (change drained_row s.clients k)) (sym first)
   where
     at : List ClientRow → State
-    at rows = record { now = s.now; variables = s.variables; clients = rows }
+    at rows = record { now = s.now; variables = s.variables; semaphores = s.semaphores; clients = rows }
 
 -- as many clients
 pub step_sized : (s : State) (event : CellEvent) → length (step s event).clients ≡ length s.clients

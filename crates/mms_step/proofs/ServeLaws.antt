@@ -6,33 +6,45 @@ use Rattle.std.proofs.Common.{set, ap, ap₂, sym, ◌∙◌, subst, arith}
 use Rattle.mms_types.specs.declared.memory.Memory.{Memory}
 use Rattle.mms_pdu.specs.declared.refusal.Refusal.{Refusal}
 use Rattle.mms_pdu.specs.declared.reading.Read.{Read}
+use Rattle.mms_pdu.specs.declared.refusal.Refusal.TheVariants as refusal
 use Rattle.mms_pdu.specs.Heard.{pdu_heard}
+use Rattle.mms_pdu.specs.Hearing.{Hears}
+use Rattle.mms_types.specs.declared.pdu.Pdu.{Pdu}
 use Rattle.association.specs.declared.constants.Constants.{Constants}
-use Rattle.mms_step.specs.Reads.{IsRead}
+use Rattle.cell_services.specs.Reads.{IsRead, pdu_read, wants_memory}
 use Rattle.association.specs.Client.{ClientRow, Client as RoomyRow}
 use Rattle.part_table.specs.Held.{held_at, IsHandOf}
 use Rattle.part_table.specs.HeldLaws.{held_of_list}
 use Rattle.parted_state.specs.Lifted.{put_from, with_tables, tables_shown, part_told, told_to, told_all, put_in_place}
-use Rattle.parted_state.specs.LiftedLaws.{put_as_held, held_changed, held_else}
+use Rattle.parted_state.specs.CutLaws.{length-with_places}
+use Rattle.parted_state.specs.LiftedLaws.{change_other, put_as_held, held_changed, held_else}
+use Rattle.parted_state.specs.Lists.{length-change}
+use native.Mathlib.Decide.{ℕ_discrete}
 use Rattle.parted_state.specs.DeviceLaws.{around_at, table_at}
-use Rattle.parted_state.specs.Served.{Done, change, table_place}
+use Rattle.parted_state.specs.Served.{Done, around, change, table_place}
+use Rattle.mms_time.specs.Semaphores.{Rows}
 use Rattle.mms_step.specs.declared.part.Part.{Part}
 use Rattle.mms_step.specs.declared.part.Part.TheVariants.{Clock, Client, Variables, Domains, Programs, Conditions, Journals, Semaphores}
-use Rattle.mms_step.specs.declared.planning.Act.{Act}
-use Rattle.mms_step.specs.declared.planning.Act.TheVariants as act
-use Rattle.mms_step.specs.declared.telling.Told.{Told}
+use Rattle.mms_step.specs.declared.serving.Task.{Task}
+use Rattle.mms_step.specs.declared.serving.Task.TheVariants as task
+use Rattle.cell_services.specs.declared.told.Told.{Told}
 use Rattle.mms_step.specs.State.{State}
-use Rattle.mms_step.specs.Tables.{Tables}
+use Rattle.cell_services.specs.Tables.{Tables}
 use Rattle.mms_step.specs.Needs.{is_held}
-use Rattle.mms_step.specs.Effects.{Effect, felt, felt_all, tell}
-use Rattle.mms_step.specs.Meant.{no_tables, row_after, IsPlainlyHeard}
-use Rattle.mms_step.specs.Association.{Verdict, verdict, verdict_by, Takes, Concludes, Cancels, Aborts}
-use Rattle.mms_step.specs.Serving.{hears, loses, own_told}
-use Rattle.mms_step.specs.Acts.{act_done, row_held, verdict_read, AreDone, HoldsOwn, IsHeardInPlace}
-use Rattle.mms_step.specs.Changes.{clocked, varied, tabled}
+use Rattle.cell_services.specs.Effects.{Effect, felt, felt_all, tell}
+use Rattle.cell_services.specs.Meant.{no_tables, row_after, IsPlainlyHeard}
+use Rattle.cell_services.specs.Association.{Verdict, verdict, verdict_by, Takes, Concludes, Cancels, Aborts}
+use Rattle.cell_services.specs.Serving.{hears, loses, own_told}
+use Rattle.cell_services.specs.declared.acts.Act.{Act}
+use Rattle.cell_services.specs.Acts.{act_done, verdict_read}
+use Rattle.mms_step.specs.Tasks.{row_held, task_done, AreDone, HoldsOwn, IsHeardInPlace, IsTimely}
+use Rattle.mms_step.specs.Lifting.{clocked, varied, tabled, with_semaphores}
 use Rattle.variable_services.specs.declared.tables.VariableTables.{VariableTables}
-use Rattle.mms_step.specs.Partition.{cell, parts_of, client_part, client_place, clients_among, clock_in, variables_in, on_client, on_clock, on_variables, row_in, settled, IsClient}
-use Rattle.mms_step.specs.Telling.{effects_told, outputs_to, with_room, room_or_same, room_before, with_rooms, without_rooms, IsSettled, MayBeClient, AreClients}
+use Rattle.mms_step.specs.Partition.{cell, parts_of, client_part, client_place, clients_among, client_in, clock_in, clock_or, semaphores_in, semaphores_or, semaphores_place, variables_in, variables_or, on_client, on_clock, on_semaphores, on_variables, row_in, IsClient}
+use Rattle.cell_services.specs.Effects.{settled}
+use Rattle.cell_services.specs.Telling.{effects_told}
+use Rattle.mms_step.specs.declared.telling.Room.{Room}
+use Rattle.mms_step.specs.Rooms.{no_room, room_to, with_room, room_or_same, room_before, with_rooms, without_rooms, IsSettled, MayBeClient, AreClients}
 use Rattle.mms_step.specs.AfterLaws.{is_device}
 use Rattle.mms_step.proofs.Changed.{changed_part, as_it_was, client_arm, client_kept}
 use Rattle.mms_step.proofs.Holding.{client_at, clients_counted, held_part}
@@ -40,33 +52,33 @@ use Rattle.mms_step.proofs.ToldLaws.{at_place, placed_same, placed_none, change_
 
 -- ---- held parts of a state have no room
 
-in_parts : (rows : List ClientRow) (i : ℕ) (part : Part) → slice_get (map client_part rows ++ Semaphores ∷ []) i ≡ Some part → with_room 0 part ≡ part
-in_parts [] zero part there = let same : Semaphores ≡ part = cc there in subst (λ (p : Part). with_room 0 p ≡ p) same refl
-in_parts [] (suc i) part there = absurd (cc there)
-in_parts (row ∷ rows) zero part there = let same : client_part row ≡ part = cc there in subst (λ (p : Part). with_room 0 p ≡ p) same refl
-in_parts (row ∷ rows) (suc i) part there = in_parts rows i part there
+in_parts : (semaphores : Rows) (rows : List ClientRow) (i : ℕ) (part : Part) → slice_get (map client_part rows ++ Semaphores semaphores ∷ []) i ≡ Some part → with_room no_room part ≡ part
+in_parts semaphores [] zero part there = let same : Semaphores semaphores ≡ part = cc there in subst (λ (p : Part). with_room no_room p ≡ p) same refl
+in_parts semaphores [] (suc i) part there = absurd (cc there)
+in_parts semaphores (row ∷ rows) zero part there = let same : client_part row ≡ part = cc there in subst (λ (p : Part). with_room no_room p ≡ p) same refl
+in_parts semaphores (row ∷ rows) (suc i) part there = in_parts semaphores rows i part there
 
-part_settled : (s : State) (i : ℕ) (part : Part) → slice_get (parts_of s) i ≡ Some part → with_room 0 part ≡ part
-part_settled s zero part there = let same : Clock s.now ≡ part = cc there in subst (λ (p : Part). with_room 0 p ≡ p) same refl
-part_settled s (suc zero) part there = let same : Variables s.variables ≡ part = cc there in subst (λ (p : Part). with_room 0 p ≡ p) same refl
-part_settled s (suc (suc zero)) part there = let same : Domains ≡ part = cc there in subst (λ (p : Part). with_room 0 p ≡ p) same refl
-part_settled s (suc (suc (suc zero))) part there = let same : Programs ≡ part = cc there in subst (λ (p : Part). with_room 0 p ≡ p) same refl
-part_settled s (suc (suc (suc (suc zero)))) part there = let same : Conditions ≡ part = cc there in subst (λ (p : Part). with_room 0 p ≡ p) same refl
-part_settled s (suc (suc (suc (suc (suc zero))))) part there = let same : Journals ≡ part = cc there in subst (λ (p : Part). with_room 0 p ≡ p) same refl
-part_settled s (suc (suc (suc (suc (suc (suc i)))))) part there = in_parts s.clients i part there
+part_settled : (s : State) (i : ℕ) (part : Part) → slice_get (parts_of s) i ≡ Some part → with_room no_room part ≡ part
+part_settled s zero part there = let same : Clock s.now ≡ part = cc there in subst (λ (p : Part). with_room no_room p ≡ p) same refl
+part_settled s (suc zero) part there = let same : Variables s.variables ≡ part = cc there in subst (λ (p : Part). with_room no_room p ≡ p) same refl
+part_settled s (suc (suc zero)) part there = let same : Domains ≡ part = cc there in subst (λ (p : Part). with_room no_room p ≡ p) same refl
+part_settled s (suc (suc (suc zero))) part there = let same : Programs ≡ part = cc there in subst (λ (p : Part). with_room no_room p ≡ p) same refl
+part_settled s (suc (suc (suc (suc zero)))) part there = let same : Conditions ≡ part = cc there in subst (λ (p : Part). with_room no_room p ≡ p) same refl
+part_settled s (suc (suc (suc (suc (suc zero))))) part there = let same : Journals ≡ part = cc there in subst (λ (p : Part). with_room no_room p ≡ p) same refl
+part_settled s (suc (suc (suc (suc (suc (suc i)))))) part there = in_parts s.semaphores s.clients i part there
 
 module _ (s : State) (hand : List (Option Part)) (of : IsHandOf hand (parts_of s)) where
   part_there : (place : ℕ) (part : Part) → slice_get hand place ≡ Some (Some part) → slice_get (parts_of s) place ≡ Some part
   part_there place part there = held_of_list hand (parts_of s) place part of (ap (λ (o : Option (Option Part)). unwrap_or o None) there)
 
   pub is_settled : (last : ℕ) → IsSettled last hand
-  is_settled last = placed_same (at_place last (λ client. 0)) (λ j held. held) hand (λ j held there. here j held there) ∙ placed_none hand
+  is_settled last = placed_same (at_place last (λ client. no_room)) (λ j held. held) hand (λ j held there. here j held there) ∙ placed_none hand
     where
-      by_room : (b : Bool) (part : Part) → with_room 0 part ≡ part → room_or_same (if b then Some 0 else None) part ≡ part
+      by_room : (b : Bool) (part : Part) → with_room no_room part ≡ part → room_or_same (if b then Some no_room else None) part ≡ part
       by_room true part same = same
       by_room false part same = refl
 
-      here : (j : ℕ) (held : Option Part) → slice_get hand j ≡ Some held → at_place last (λ client. 0) j held ≡ held
+      here : (j : ℕ) (held : Option Part) → slice_get hand j ≡ Some held → at_place last (λ client. no_room) j held ≡ held
       here j None there = refl
       here j (Some part) there = ap Some (by_room _ part (part_settled s j part (part_there j part there)))
 
@@ -92,7 +104,12 @@ change_as f g [] i same = refl
 change_as f g (held ∷ hand) zero same = ap (λ (o : Option Part). o ∷ hand) same
 change_as f g (held ∷ hand) (suc i) same = ap (λ (l : List (Option Part)). held ∷ l) (change_as f g hand i same)
 
-clocked_rooms : (now last : ℕ) (room : ℕ → ℕ) (hand : List (Option Part)) → clocked now (with_rooms last room hand) ≡ with_rooms last room (clocked now hand)
+change_twice : (f g : Option Part → Option Part) (hand : List (Option Part)) (i : ℕ) → change f (change g hand i) i ≡ change (λ held. f (g held)) hand i
+change_twice f g [] i = refl
+change_twice f g (held ∷ hand) zero = refl
+change_twice f g (held ∷ hand) (suc i) = ap (λ (l : List (Option Part)). held ∷ l) (change_twice f g hand i)
+
+clocked_rooms : (now last : ℕ) (room : ℕ → Room) (hand : List (Option Part)) → clocked now (with_rooms last room hand) ≡ with_rooms last room (clocked now hand)
 clocked_rooms now last room hand =
     change_placed (at_place last room) (at_place last room) (option_map (on_clock (λ was. now))) (option_map (on_clock (λ was. now))) hand 0
     (λ j other held there. refl) (λ held there. here held)
@@ -101,7 +118,7 @@ clocked_rooms now last room hand =
     here None = refl
     here (Some part) = refl
 
-varied_rooms : (variables : VariableTables) (last : ℕ) (room : ℕ → ℕ) (hand : List (Option Part))
+varied_rooms : (variables : VariableTables) (last : ℕ) (room : ℕ → Room) (hand : List (Option Part))
     → varied variables (with_rooms last room hand) ≡ with_rooms last room (varied variables hand)
 varied_rooms variables last room hand =
     change_placed (at_place last room) (at_place last room) (option_map (on_variables (λ was. variables))) (option_map (on_variables (λ was. variables))) hand 1
@@ -112,8 +129,42 @@ varied_rooms variables last room hand =
     here None = refl
     here (Some part) = refl
 
-pub tabled_rooms : (t : Tables) (last : ℕ) (room : ℕ → ℕ) (hand : List (Option Part)) → tabled t (with_rooms last room hand) ≡ with_rooms last room (tabled t hand)
-tabled_rooms t last room hand = ap (varied t.variables) (clocked_rooms t.now last room hand) ∙ varied_rooms t.variables last room (clocked t.now hand)
+-- the place of the semaphores is told by the number of parts
+abbrev behind_clients : List (Option Part) → ℕ
+behind_clients hand = semaphores_place (clients_among (length hand))
+
+same_place : (one other : List (Option Part)) → length one ≡ length other → behind_clients one ≡ behind_clients other
+same_place one other same = ap (λ (l : ℕ). semaphores_place (clients_among l)) same
+
+semaphores_rooms : (semaphores : Rows) (last : ℕ) (room : ℕ → Room) (hand : List (Option Part))
+    → with_semaphores semaphores (with_rooms last room hand) ≡ with_rooms last room (with_semaphores semaphores hand)
+semaphores_rooms semaphores last room hand =
+    ap (change (option_map (on_semaphores (λ was. semaphores))) (with_rooms last room hand)) (same_place (with_rooms last room hand) hand (length-with_places (at_place last room) hand))
+    ∙ change_placed (at_place last room) (at_place last room) (option_map (on_semaphores (λ was. semaphores))) (option_map (on_semaphores (λ was. semaphores))) hand (behind_clients hand)
+    (λ j other held there. refl) (λ held there. here (room_before last room (behind_clients hand - 5)) held)
+  where
+    here : (o : Option Room) (held : Option Part)
+        → option_map (on_semaphores (λ was. semaphores)) (option_map (room_or_same o) held) ≡ option_map (room_or_same o) (option_map (on_semaphores (λ was. semaphores)) held)
+    here None None = refl
+    here None (Some part) = refl
+    here (Some r) None = refl
+    here (Some r) (Some (Client c)) = refl
+    here (Some r) (Some (Semaphores x)) = refl
+    here (Some r) (Some (Clock x)) = refl
+    here (Some r) (Some (Variables x)) = refl
+    here (Some r) (Some Domains) = refl
+    here (Some r) (Some Programs) = refl
+    here (Some r) (Some Conditions) = refl
+    here (Some r) (Some Journals) = refl
+
+-- the clock and the variables alone
+abbrev first_two : ℕ → VariableTables → List (Option Part) → List (Option Part)
+first_two now variables hand = varied variables (clocked now hand)
+
+pub tabled_rooms : (t : Tables) (last : ℕ) (room : ℕ → Room) (hand : List (Option Part)) → tabled t (with_rooms last room hand) ≡ with_rooms last room (tabled t hand)
+tabled_rooms t last room hand =
+    ap (with_semaphores t.semaphores) (ap (varied t.variables) (clocked_rooms t.now last room hand) ∙ varied_rooms t.variables last room (clocked t.now hand))
+    ∙ semaphores_rooms t.semaphores last room (first_two t.now t.variables hand)
 
 clocked_twice : (now was : ℕ) (hand : List (Option Part)) → clocked now (clocked was hand) ≡ clocked now hand
 clocked_twice now was [] = refl
@@ -128,16 +179,94 @@ varied_twice now was (first ∷ None ∷ hand) = refl
 varied_twice now was (first ∷ Some (Variables v) ∷ hand) = refl
 varied_twice now was (first ∷ Some other ∷ hand) = refl
 
+semaphores_twice : (now was : Rows) (hand : List (Option Part)) → with_semaphores now (with_semaphores was hand) ≡ with_semaphores now hand
+semaphores_twice now was hand =
+    ap (change (option_map (on_semaphores (λ x. now))) (with_semaphores was hand))
+    (same_place (with_semaphores was hand) hand (length-change (option_map (on_semaphores (λ x. was))) hand (behind_clients hand)))
+    ∙ change_twice (option_map (on_semaphores (λ x. now))) (option_map (on_semaphores (λ x. was))) hand (behind_clients hand)
+    ∙ change_as (λ held. option_map (on_semaphores (λ x. now)) (option_map (on_semaphores (λ x. was)) held)) (option_map (on_semaphores (λ x. now))) hand (behind_clients hand)
+    (here (held_at hand (behind_clients hand)))
+  where
+    here : (held : Option Part) → option_map (on_semaphores (λ x. now)) (option_map (on_semaphores (λ x. was)) held) ≡ option_map (on_semaphores (λ x. now)) held
+    here None = refl
+    here (Some (Semaphores x)) = refl
+    here (Some (Client x)) = refl
+    here (Some (Clock x)) = refl
+    here (Some (Variables x)) = refl
+    here (Some Domains) = refl
+    here (Some Programs) = refl
+    here (Some Conditions) = refl
+    here (Some Journals) = refl
+
+as_long : (now : ℕ) (variables : VariableTables) (hand : List (Option Part)) → length (first_two now variables hand) ≡ length hand
+as_long now variables hand =
+    length-change (option_map (on_variables (λ was. variables))) (clocked now hand) 1 ∙ length-change (option_map (on_clock (λ was. now))) hand 0
+
+-- what stands at another place
+beside_two : (t : Tables) (hand : List (Option Part)) (place : ℕ) → place ≢ 0 → place ≢ 1 → held_at (first_two t.now t.variables hand) place ≡ held_at hand place
+beside_two t hand place first second =
+    held_else (option_map (on_variables (λ was. t.variables))) (clocked t.now hand) 1 place second
+    ∙ held_else (option_map (on_clock (λ was. t.now))) hand 0 place first
+
+-- as many parts while the first two tables are exchanged
+pub still_many : (n now : ℕ) (variables : VariableTables) (hand first second : List (Option Part)) → n ≡ clients_among (length hand) → first ≡ clocked now hand
+    → second ≡ varied variables first → n ≡ clients_among (length second)
+still_many n now variables hand first second many one two =
+    many
+    ∙ ap clients_among (sym (as_long now variables hand))
+    ∙ ap (λ (h : List (Option Part)). clients_among (length h)) (sym (two ∙ ap (varied variables) one))
+
+abbrev pub three : ℕ → VariableTables → Rows → Tables
+three now variables semaphores = record { now = now; variables = variables; semaphores = semaphores }
+
+-- all three are exchanged
+pub exchanged : (now : ℕ) (variables : VariableTables) (semaphores : Rows) (t : Tables) (hand first second third : List (Option Part)) → three now variables semaphores ≡ t
+    → first ≡ clocked now hand → second ≡ varied variables first → third ≡ with_semaphores semaphores second → third ≡ tabled t hand
+exchanged now variables semaphores t hand first second third is one two last =
+    last ∙ ap (with_semaphores semaphores) (two ∙ ap (varied variables) one) ∙ ap (λ (u : Tables). tabled u hand) is
+
+-- what is lifted is what was there
+pub lifted_tables : (was : Tables) (n : ℕ) (hand first second : List (Option Part)) (now : ℕ) (variables : VariableTables) (semaphores : Rows) → was ≡ no_tables → n ≡ clients_among (length hand)
+    → first ≡ clocked was.now hand → second ≡ varied was.variables first → now ≡ clock_or was.now (held_at hand 0) → variables ≡ variables_or was.variables (held_at first 1)
+    → semaphores ≡ semaphores_or was.semaphores (held_at second (semaphores_place n))
+    → three now variables semaphores ≡ three (clock_in (held_at hand 0)) (variables_in (held_at hand 1)) (semaphores_in (held_at hand (semaphores_place n)))
+lifted_tables was n hand first second now variables semaphores empty many one two moment has have =
+    ap₂ (λ (m : ℕ) (v : VariableTables). three m v semaphores)
+    (moment ∙ ap (λ (t : Tables). clock_or t.now (held_at hand 0)) empty)
+    (has ∙ ap (λ (t : Tables). variables_or t.variables (held_at first 1)) empty
+    ∙ ap variables_in (ap (λ (h : List (Option Part)). held_at h 1) one ∙ held_else (option_map (on_clock (λ x. was.now))) hand 0 1 (λ same. omega (arith, same))))
+    ∙ ap (λ (s : Rows). three (clock_in (held_at hand 0)) (variables_in (held_at hand 1)) s)
+    (have ∙ ap (λ (t : Tables). semaphores_or t.semaphores (held_at second (semaphores_place n))) empty
+    ∙ ap semaphores_in
+    (ap (λ (h : List (Option Part)). held_at h (semaphores_place n)) (two ∙ ap (varied was.variables) one)
+    ∙ beside_two was hand (semaphores_place n) (λ same. omega (arith, same)) (λ same. omega (arith, same))))
+
+-- the semaphores stand beside both
+beside_both : (now : ℕ) (variables : VariableTables) (semaphores : Rows) (hand : List (Option Part))
+    → first_two now variables (with_semaphores semaphores hand) ≡ with_semaphores semaphores (first_two now variables hand)
+beside_both now variables semaphores hand =
+    ap (varied variables)
+    (change_other (option_map (on_clock (λ was. now))) (option_map (on_semaphores (λ was. semaphores))) hand (behind_clients hand) 0 (λ same. omega (arith, same)))
+    ∙ change_other (option_map (on_variables (λ was. variables))) (option_map (on_semaphores (λ was. semaphores))) (clocked now hand) (behind_clients hand) 1
+    (λ same. omega (arith, same))
+    ∙ ap (change (option_map (on_semaphores (λ was. semaphores))) (first_two now variables hand)) (same_place hand (first_two now variables hand) (sym (as_long now variables hand)))
+
 -- one beside the other
 apart : (now : ℕ) (variables : VariableTables) (hand : List (Option Part)) → clocked now (varied variables hand) ≡ varied variables (clocked now hand)
 apart now variables [] = refl
 apart now variables (first ∷ hand) = refl
 
+two_twice : (now was : ℕ) (variables before : VariableTables) (hand : List (Option Part)) → first_two now variables (first_two was before hand) ≡ first_two now variables hand
+two_twice now was variables before hand =
+    ap (varied variables) (apart now before (clocked was hand))
+    ∙ varied_twice variables before (clocked now (clocked was hand))
+    ∙ ap (varied variables) (clocked_twice now was hand)
+
 pub tabled_twice : (t u : Tables) (hand : List (Option Part)) → tabled t (tabled u hand) ≡ tabled t hand
 tabled_twice t u hand =
-    ap (varied t.variables) (apart t.now u.variables (clocked u.now hand))
-    ∙ varied_twice t.variables u.variables (clocked t.now (clocked u.now hand))
-    ∙ ap (varied t.variables) (clocked_twice t.now u.now hand)
+    ap (with_semaphores t.semaphores) (beside_both t.now t.variables u.semaphores (first_two u.now u.variables hand))
+    ∙ semaphores_twice t.semaphores u.semaphores (first_two t.now t.variables (first_two u.now u.variables hand))
+    ∙ ap (with_semaphores t.semaphores) (two_twice t.now u.now t.variables u.variables hand)
 
 clocked_same : (hand : List (Option Part)) → clocked (clock_in (held_at hand 0)) hand ≡ hand
 clocked_same [] = refl
@@ -152,35 +281,82 @@ varied_same (first ∷ None ∷ hand) = refl
 varied_same (first ∷ Some (Variables v) ∷ hand) = refl
 varied_same (first ∷ Some other ∷ hand) = refl
 
+semaphores_same : (hand : List (Option Part)) → with_semaphores (semaphores_in (held_at hand (behind_clients hand))) hand ≡ hand
+semaphores_same hand =
+    change_as (option_map (on_semaphores (λ was. semaphores_in (held_at hand (behind_clients hand))))) (λ held. held) hand (behind_clients hand) (here (held_at hand (behind_clients hand)))
+    ∙ change_same hand (behind_clients hand)
+  where
+    here : (held : Option Part) → option_map (on_semaphores (λ was. semaphores_in held)) held ≡ held
+    here None = refl
+    here (Some (Semaphores x)) = refl
+    here (Some (Client x)) = refl
+    here (Some (Clock x)) = refl
+    here (Some (Variables x)) = refl
+    here (Some Domains) = refl
+    here (Some Programs) = refl
+    here (Some Conditions) = refl
+    here (Some Journals) = refl
+
 -- the tables of the parts themselves
 abbrev own_tables : List (Option Part) → Tables
-own_tables hand = record { now = clock_in (held_at hand 0); variables = variables_in (held_at hand 1) }
+own_tables hand = record {
+  now = clock_in (held_at hand 0);
+  variables = variables_in (held_at hand 1);
+  semaphores = semaphores_in (held_at hand (behind_clients hand));
+}
+
+two_same : (hand : List (Option Part)) → first_two (clock_in (held_at hand 0)) (variables_in (held_at hand 1)) hand ≡ hand
+two_same hand = ap (varied (variables_in (held_at hand 1))) (clocked_same hand) ∙ varied_same hand
 
 tabled_same : (hand : List (Option Part)) → tabled (own_tables hand) hand ≡ hand
-tabled_same hand = ap (varied (variables_in (held_at hand 1))) (clocked_same hand) ∙ varied_same hand
+tabled_same hand = ap (with_semaphores (semaphores_in (held_at hand (behind_clients hand)))) (two_same hand) ∙ semaphores_same hand
 
--- what stands at another place
-beside : (t : Tables) (hand : List (Option Part)) (place : ℕ) → place ≢ 0 → place ≢ 1 → held_at (tabled t hand) place ≡ held_at hand place
-beside t hand place first second =
-    held_else (option_map (on_variables (λ was. t.variables))) (clocked t.now hand) 1 place second
-    ∙ held_else (option_map (on_clock (λ was. t.now))) hand 0 place first
+behind_two : (t : Tables) (hand : List (Option Part)) → behind_clients (first_two t.now t.variables hand) ≡ behind_clients hand
+behind_two t hand = same_place (first_two t.now t.variables hand) hand (as_long t.now t.variables hand)
 
-pub beside_tables : (t : Tables) (hand : List (Option Part)) (client : ℕ) → held_at (tabled t hand) (client_place client) ≡ held_at hand (client_place client)
-beside_tables t hand client = beside t hand (client_place client) (λ same. omega (arith, same)) (λ same. omega (arith, same))
+beside : (t : Tables) (hand : List (Option Part)) (place : ℕ) → place ≢ 0 → place ≢ 1 → place ≢ behind_clients hand → held_at (tabled t hand) place ≡ held_at hand place
+beside t hand place first second last =
+    held_else (option_map (on_semaphores (λ was. t.semaphores))) (first_two t.now t.variables hand) (behind_clients (first_two t.now t.variables hand)) place
+    (λ same. last (same ∙ behind_two t hand))
+    ∙ beside_two t hand place first second
+
+pub beside_tables : (t : Tables) (hand : List (Option Part)) (client : ℕ) → client ≤ clients_among (length hand)
+    → held_at (tabled t hand) (client_place client) ≡ held_at hand (client_place client)
+beside_tables t hand client few = beside t hand (client_place client) (λ same. omega (arith, same)) (λ same. omega (arith, same)) (λ same. omega (arith, same, few))
+
+-- a client's part that is held stays, wherever it stands
+pub beside_client : (t : Tables) (hand : List (Option Part)) (client : ℕ) → IsClient (held_at hand (client_place client))
+    → held_at (tabled t hand) (client_place client) ≡ held_at hand (client_place client)
+beside_client t hand client held = by_place (ℕ_discrete (client_place client) (behind_clients (first_two t.now t.variables hand)))
+  where
+    two : held_at (first_two t.now t.variables hand) (client_place client) ≡ held_at hand (client_place client)
+    two = beside_two t hand (client_place client) (λ same. omega (arith, same)) (λ same. omega (arith, same))
+
+    by_place : Dec (client_place client ≡ behind_clients (first_two t.now t.variables hand)) → held_at (tabled t hand) (client_place client) ≡ held_at hand (client_place client)
+    by_place (yes same) =
+        ap (λ (i : ℕ). held_at (change (option_map (on_semaphores (λ was. t.semaphores))) (first_two t.now t.variables hand) i) (client_place client)) (sym same)
+        ∙ held_changed (option_map (on_semaphores (λ was. t.semaphores))) (first_two t.now t.variables hand) (client_place client)
+        (Client (client_in (held_at hand (client_place client)))) (two ∙ held)
+        ∙ sym held
+    by_place (no other) =
+        held_else (option_map (on_semaphores (λ was. t.semaphores))) (first_two t.now t.variables hand) (behind_clients (first_two t.now t.variables hand)) (client_place client) other
+        ∙ two
 
 pub shown_own : (hand : List (Option Part)) → own_tables hand ≡ tables_shown cell hand
 shown_own hand =
-    ap₂ (λ (o p : Option (Option Part)). of (unwrap_or o None) (unwrap_or p None))
+    ap₂ (λ (o p : Option (Option Part)). of (unwrap_or o None) (unwrap_or p None) (held_at hand (behind_clients hand)))
     (sym (around_at cell is_device (clients_among (length hand)) hand 0)) (sym (around_at cell is_device (clients_among (length hand)) hand 1))
+    ∙ ap (λ (q : Option (Option Part)). of (held_at (around 6 (clients_among (length hand)) hand) 0) (held_at (around 6 (clients_among (length hand)) hand) 1) (unwrap_or q None))
+    (sym (around_at cell is_device (clients_among (length hand)) hand 6))
   where
-    of : Option Part → Option Part → Tables
-    of o p = record { now = clock_in o; variables = variables_in p }
+    of : Option Part → Option Part → Option Part → Tables
+    of o p q = record { now = clock_in o; variables = variables_in p; semaphores = semaphores_in q }
 
 -- ---- tables are put back
 
 -- those behind the clock and the variables, in which there is nothing yet
 abbrev behind : List Part
-behind = Domains ∷ Programs ∷ Conditions ∷ Journals ∷ Semaphores ∷ []
+behind = Domains ∷ Programs ∷ Conditions ∷ Journals ∷ []
 
 no_first_place : (n l place : ℕ) → place < 2 → table_place cell n (2 + l) ≢ place
 no_first_place n l place small same = by_test (nat_lt (2 + l) 6) same
@@ -204,66 +380,108 @@ module _ (s : State) (hand : List (Option Part)) (of : IsHandOf hand (parts_of s
       by_value None e = refl
       by_value (Some held) e = ap Some (sym is ∙ ap f (is_part place part held there e))
 
-  -- the clock and the variables alone are put back: there is nothing yet in the others
+  -- the clock, the variables and the semaphores are put back: there is nothing yet in the others
   pub put_tables : (t : Tables) → with_tables cell (clients_among (length hand)) t hand ≡ tabled t hand
   put_tables t =
-      ap (λ (h : List (Option Part)). put_from cell (clients_among (length hand)) 2 behind (change (option_map (λ held. Variables t.variables)) h 1))
+      ap (λ (h : List (Option Part)). put_from cell (clients_among (length hand)) 2 (behind ++ Semaphores t.semaphores ∷ []) (change (option_map (λ held. Variables t.variables)) h 1))
       (put_changed (on_clock (λ was. t.now)) (Clock t.now) (Clock s.now) hand 0 refl refl refl)
-      ∙ ap (put_from cell (clients_among (length hand)) 2 behind)
+      ∙ ap (put_from cell (clients_among (length hand)) 2 (behind ++ Semaphores t.semaphores ∷ []))
       (put_changed (on_variables (λ was. t.variables)) (Variables t.variables) (Variables s.variables) (clocked t.now hand) 1
       (held_else (option_map (on_clock (λ was. t.now))) hand 0 1 (λ same. omega (arith, same))) refl refl)
-      ∙ put_as_held cell is_device (clients_among (length hand)) behind 2 (tabled t hand) same
+      ∙ ap (λ (h : List (Option Part)). change (option_map (λ held. Semaphores t.semaphores)) h (behind_clients hand))
+      (put_as_held cell is_device (clients_among (length hand)) behind 2 (first_two t.now t.variables hand) same)
+      ∙ put_changed (on_semaphores (λ was. t.semaphores)) (Semaphores t.semaphores) (Semaphores s.semaphores) (first_two t.now t.variables hand) (behind_clients hand)
+      (beside_two t hand (behind_clients hand) (λ same. omega (arith, same)) (λ same. omega (arith, same)))
+      (ap (λ (m : ℕ). slice_get (parts_of s) (semaphores_place m)) counted ∙ table_at cell is_device s 6) refl
+      ∙ ap (change (option_map (on_semaphores (λ was. t.semaphores))) (first_two t.now t.variables hand)) (sym (behind_two t hand))
     where
       counted : clients_among (length hand) ≡ length s.clients
       counted = clients_counted s hand of
 
-      same : (l : ℕ) (x y : Part) → slice_get behind l ≡ Some x → held_at (tabled t hand) (table_place cell (clients_among (length hand)) (2 + l)) ≡ Some y → x ≡ y
+      same : (l : ℕ) (x y : Part) → slice_get behind l ≡ Some x → held_at (first_two t.now t.variables hand) (table_place cell (clients_among (length hand)) (2 + l)) ≡ Some y → x ≡ y
       same l x y there held =
           let next : 2 + l ≡ suc (suc l) = omega arith in
           let was : held_at hand (table_place cell (clients_among (length hand)) (2 + l)) ≡ Some y =
-          sym (beside t hand (table_place cell (clients_among (length hand)) (2 + l)) (no_first_place (clients_among (length hand)) l 0 (omega arith))
+          sym (beside_two t hand (table_place cell (clients_among (length hand)) (2 + l)) (no_first_place (clients_among (length hand)) l 0 (omega arith))
           (no_first_place (clients_among (length hand)) l 1 (omega arith))) ∙ held in
           let both : Some x ≡ Some y =
-          sym there
+          sym (there_too l x there)
           ∙ ap (λ (k : ℕ). slice_get (cell.table_parts (cell.tables_of s)) k) (sym next)
           ∙ sym (table_at cell is_device s (2 + l))
           ∙ ap (λ (m : ℕ). slice_get (parts_of s) (table_place cell m (2 + l))) (sym counted)
           ∙ held_of_list hand (parts_of s) (table_place cell (clients_among (length hand)) (2 + l)) y of was in
           cc both
+        where
+          there_too : (l : ℕ) (x : Part) → slice_get behind l ≡ Some x → slice_get (cell.table_parts (cell.tables_of s)) (suc (suc l)) ≡ Some x
+          there_too zero x e = e
+          there_too (suc zero) x e = e
+          there_too (suc (suc zero)) x e = e
+          there_too (suc (suc (suc zero))) x e = e
+          there_too (suc (suc (suc (suc l)))) x e = absurd (cc e)
 
 -- ---- rooms are made on held parts whose tables are lifted, and clients are told once they are put back
 
-pub clients_tabled : (n : ℕ) (t : Tables) (hand : List (Option Part)) → AreClients n hand → AreClients n (tabled t hand)
-clients_tabled n t hand clients client some few = subst MayBeClient (sym (beside_tables t hand client)) (clients client some few)
+pub clients_tabled : (n : ℕ) (t : Tables) (hand : List (Option Part)) → n ≤ clients_among (length hand) → AreClients n hand → AreClients n (tabled t hand)
+clients_tabled n t hand few_clients clients client some few = subst MayBeClient (sym (beside_tables t hand client (omega (arith, few, few_clients)))) (clients client some few)
 
 pub settled_tabled : (last : ℕ) (t : Tables) (hand : List (Option Part)) → IsSettled last hand → IsSettled last (tabled t hand)
-settled_tabled last t hand settled = sym (tabled_rooms t last (λ client. 0) hand) ∙ ap (tabled t) settled
+settled_tabled last t hand settled = sym (tabled_rooms t last (λ client. no_room) hand) ∙ ap (tabled t) settled
 
 module _ (s : State) (hand : List (Option Part)) (of : IsHandOf hand (parts_of s)) (n : ℕ) (many : n ≡ clients_among (length hand)) (told : List (ℕ × Told)) (u t : Tables)
-    (lowered : List (Option Part)) (is : lowered ≡ tabled t (with_rooms (n + 1) (outputs_to told) (tabled u hand))) where
-  roomed : lowered ≡ with_rooms (n + 1) (outputs_to told) (tabled t hand)
+    (lowered : List (Option Part)) (is : lowered ≡ tabled t (with_rooms (n + 1) (room_to told) (tabled u hand))) where
+  roomed : lowered ≡ with_rooms (n + 1) (room_to told) (tabled t hand)
   roomed =
-      is ∙ tabled_rooms t (n + 1) (outputs_to told) (tabled u hand) ∙ ap (with_rooms (n + 1) (outputs_to told)) (tabled_twice t u hand)
+      is ∙ tabled_rooms t (n + 1) (room_to told) (tabled u hand) ∙ ap (with_rooms (n + 1) (room_to told)) (tabled_twice t u hand)
 
   bare : without_rooms (n + 1) lowered ≡ tabled t hand
   bare =
       ap (without_rooms (n + 1)) roomed
-      ∙ rooms_gone (n + 1) (n + 1) (outputs_to told) (tabled t hand) (omega arith)
+      ∙ rooms_gone (n + 1) (n + 1) (room_to told) (tabled t hand) (omega arith)
       ∙ settled_tabled (n + 1) t hand (is_settled s hand of (n + 1))
 
-  pub rooms_kept : lowered ≡ with_rooms (n + 1) (outputs_to told) (without_rooms (n + 1) lowered)
-  rooms_kept = roomed ∙ ap (with_rooms (n + 1) (outputs_to told)) (sym bare)
+  pub rooms_kept : lowered ≡ with_rooms (n + 1) (room_to told) (without_rooms (n + 1) lowered)
+  rooms_kept = roomed ∙ ap (with_rooms (n + 1) (room_to told)) (sym bare)
 
   pub clients_kept : AreClients n lowered
   clients_kept =
       subst (AreClients n) (sym roomed)
-      (clients_roomed n (n + 1) (outputs_to told) (tabled t hand)
-      (clients_tabled n t hand (subst (λ (m : ℕ). AreClients m hand) (sym many) (are_clients s hand of))))
+      (clients_roomed n (n + 1) (room_to told) (tabled t hand)
+      (clients_tabled n t hand (omega (arith, many)) (subst (λ (m : ℕ). AreClients m hand) (sym many) (are_clients s hand of))))
 
   pub told_in_place : told_all cell n (effects_told told) (without_rooms (n + 1) lowered) ≡ put_in_place cell (record { tables = t; told = effects_told told }) hand
   told_in_place =
       ap (told_all cell n (effects_told told)) (bare ∙ sym (put_tables s hand of t))
       ∙ ap (λ (m : ℕ). told_all cell m (effects_told told) (with_tables cell (clients_among (length hand)) t hand)) many
+
+length-tabled : (t : Tables) (hand : List (Option Part)) → length (tabled t hand) ≡ length hand
+length-tabled t hand =
+    length-change (option_map (on_semaphores (λ was. t.semaphores))) (first_two t.now t.variables hand) (behind_clients (first_two t.now t.variables hand))
+    ∙ as_long t.now t.variables hand
+
+-- as many parts while the tables are lifted, and where rooms are made
+pub many_lifted : (n : ℕ) (u : Tables) (hand lifted : List (Option Part)) → n ≡ clients_among (length hand) → lifted ≡ tabled u hand → n ≡ clients_among (length lifted)
+many_lifted n u hand lifted many is =
+    many ∙ ap clients_among (sym (length-tabled u hand)) ∙ ap (λ (h : List (Option Part)). clients_among (length h)) (sym is)
+
+pub many_roomed : (n last : ℕ) (room : ℕ → Room) (u : Tables) (hand lifted now : List (Option Part)) → n ≡ clients_among (length hand) → lifted ≡ tabled u hand
+    → now ≡ with_rooms last room lifted → n ≡ clients_among (length now)
+many_roomed n last room u hand lifted now many is roomed =
+    many_lifted n u hand lifted many is
+    ∙ ap clients_among (sym (length-with_places (at_place last room) lifted))
+    ∙ ap (λ (h : List (Option Part)). clients_among (length h)) (sym roomed)
+
+-- the tables that are lifted are those that the parts show
+pub lifted_own : (t : Tables) (n : ℕ) (hand : List (Option Part)) → n ≡ clients_among (length hand)
+    → t ≡ three (clock_in (held_at hand 0)) (variables_in (held_at hand 1)) (semaphores_in (held_at hand (semaphores_place n))) → t ≡ own_tables hand
+lifted_own t n hand many is =
+    is ∙ ap (λ (m : ℕ). three (clock_in (held_at hand 0)) (variables_in (held_at hand 1)) (semaphores_in (held_at hand (semaphores_place m)))) many
+
+pub lifted_shown : (t : Tables) (n : ℕ) (hand : List (Option Part)) → n ≡ clients_among (length hand)
+    → t ≡ three (clock_in (held_at hand 0)) (variables_in (held_at hand 1)) (semaphores_in (held_at hand (semaphores_place n))) → t ≡ tables_shown cell hand
+lifted_shown t n hand many is = lifted_own t n hand many is ∙ shown_own hand
+
+pub timely_kept : (a : Task) (t u : Tables) → t ≡ u → IsTimely a u → IsTimely a t
+timely_kept a t u same may = subst (IsTimely a) (sym same) may
 
 -- the parts are as they were where their own tables are put back
 pub put_back_own : (u : Tables) (hand lifted new : List (Option Part)) → lifted ≡ tabled u hand → new ≡ tabled (own_tables hand) lifted → new ≡ hand
@@ -271,33 +489,20 @@ put_back_own u hand lifted new out back =
     back ∙ ap (tabled (own_tables hand)) out ∙ tabled_twice (own_tables hand) u hand ∙ tabled_same hand
 
 -- rooms that were made are given up
-pub rooms_given_up : (n : ℕ) (room : ℕ → ℕ) (hand : List (Option Part)) → IsSettled (n + 1) hand → without_rooms (n + 1) (with_rooms (n + 1) room hand) ≡ hand
+pub rooms_given_up : (n : ℕ) (room : ℕ → Room) (hand : List (Option Part)) → IsSettled (n + 1) hand → without_rooms (n + 1) (with_rooms (n + 1) room hand) ≡ hand
 rooms_given_up n room hand settled = rooms_gone (n + 1) (n + 1) room hand (omega arith) ∙ settled
 
 -- ---- the part of a client is as it was while the tables are lifted
 
-pub own_kept : (a : Act) (t : Tables) (hand : List (Option Part)) → HoldsOwn a hand → HoldsOwn a (tabled t hand)
-own_kept (act.Request client invoke asked) t hand own = (own.0, subst IsClient (sym (beside_tables t hand client)) own.1)
-own_kept (act.Conclusion client) t hand own = (own.0, subst IsClient (sym (beside_tables t hand client)) own.1)
-own_kept (act.Cancel client invoke) t hand own = (own.0, subst IsClient (sym (beside_tables t hand client)) own.1)
-own_kept (act.Abort client) t hand own = (own.0, subst IsClient (sym (beside_tables t hand client)) own.1)
-own_kept (act.Loss client) t hand own = (own.0, subst IsClient (sym (beside_tables t hand client)) own.1)
-own_kept (act.Time ms) t hand own = tt
+pub own_kept : (a : Task) (t : Tables) (hand : List (Option Part)) → HoldsOwn a hand → HoldsOwn a (tabled t hand)
+own_kept (task.Client client act) t hand own = (own.0, subst IsClient (sym (beside_client t hand client own.1)) own.1)
+own_kept (task.Time ms) t hand own = tt
 
-pub done_kept : (a : Act) (t u : Tables) (hand : List (Option Part)) → act_done t (tabled u hand) a ≡ act_done t hand a
-done_kept (act.Request client invoke asked) t u hand = ap (λ (o : Option Part). hears t (row_in o) client (Takes invoke asked.now)) (beside_tables u hand client)
-done_kept (act.Conclusion client) t u hand = ap (λ (o : Option Part). hears t (row_in o) client Concludes) (beside_tables u hand client)
-done_kept (act.Cancel client invoke) t u hand = ap (λ (o : Option Part). hears t (row_in o) client (Cancels invoke)) (beside_tables u hand client)
-done_kept (act.Abort client) t u hand = ap (λ (o : Option Part). hears t (row_in o) client Aborts) (beside_tables u hand client)
-done_kept (act.Loss client) t u hand = ap (λ (o : Option Part). loses t (row_in o) client) (beside_tables u hand client)
-done_kept (act.Time ms) t u hand = refl
+pub done_kept : (a : Task) (t u : Tables) (hand : List (Option Part)) → HoldsOwn a hand → task_done t (tabled u hand) a ≡ task_done t hand a
+done_kept (task.Client client act) t u hand own = ap (λ (o : Option Part). act_done t (row_in o) client act) (beside_client u hand client own.1)
+done_kept (task.Time ms) t u hand own = refl
 
 -- ---- what a client is told by an event that uses no table
-
-change_twice : (f g : Option Part → Option Part) (hand : List (Option Part)) (i : ℕ) → change f (change g hand i) i ≡ change (λ held. f (g held)) hand i
-change_twice f g [] i = refl
-change_twice f g (held ∷ hand) zero = refl
-change_twice f g (held ∷ hand) (suc i) = ap (λ (l : List (Option Part)). held ∷ l) (change_twice f g hand i)
 
 -- a client's part that is held without room
 abbrev IsRowAt : List (Option Part) → ℕ → ClientRow → Type 0
@@ -393,7 +598,13 @@ module _ (s : State) (hand : List (Option Part)) (of : IsHandOf hand (parts_of s
       lowered : with_tables cell (clients_among (length hand)) (record (tables_shown cell hand) { variables = variables }) hand ≡ varied variables hand
       lowered =
           put_tables s hand of (record (tables_shown cell hand) { variables = variables })
-          ∙ ap (λ (t : Tables). varied variables (clocked t.now hand)) (sym (shown_own hand)) ∙ ap (varied variables) (clocked_same hand)
+          ∙ ap (λ (t : Tables). with_semaphores t.semaphores (varied variables (clocked t.now hand))) (sym (shown_own hand))
+          ∙ ap (λ (h : List (Option Part)). with_semaphores (semaphores_in (held_at hand (behind_clients hand))) (varied variables h)) (clocked_same hand)
+          ∙ sym (change_other (option_map (on_variables (λ was. variables))) (option_map (on_semaphores (λ was. semaphores_in (held_at hand (behind_clients hand))))) hand (behind_clients hand) 1
+          (λ same. omega (arith, same))
+          ∙ ap (change (option_map (on_semaphores (λ was. semaphores_in (held_at hand (behind_clients hand))))) (varied variables hand))
+          (same_place hand (varied variables hand) (sym (length-change (option_map (on_variables (λ was. variables))) hand 1))))
+          ∙ ap (varied variables) (semaphores_same hand)
 
   -- once both parts are put back, all is in place that the request does
   pub served_in_place : (client : ℕ) (v : Verdict) (out gone there new : List (Option Part)) (part table after now : Part)
@@ -464,6 +675,25 @@ pub verdict_same : (hand : List (Option Part)) (client : ℕ) (part : RoomyRow) 
 verdict_same hand client part constants octets read held same is =
     ap (verdict_by (row_held hand client).association (row_held hand client))
     (is.pdu ∙ ap (λ (k : Constants). pdu_heard k.edition octets) (same ∙ ap (λ (o : Option Part). (row_in o).constants) (sym held)))
+
+-- and by what is heard by that edition
+pub verdict_of_edition : (hand : List (Option Part)) (client : ℕ) (part : RoomyRow) (constants : Constants) (octets : List ℕ)
+    → held_at hand (client_place client) ≡ Some (Client part) → constants ≡ part.row.constants
+    → verdict_by (row_held hand client).association (row_held hand client) (pdu_heard constants.edition octets) ≡ verdict (row_held hand client) octets
+verdict_of_edition hand client part constants octets held same =
+    ap (λ (k : Constants). verdict_by (row_held hand client).association (row_held hand client) (pdu_heard k.edition octets))
+    (same ∙ ap (λ (o : Option Part). (row_in o).constants) (sym held))
+
+-- where memory wasn't wanting, what was read is what is heard
+pub read_heard_so : (read : Result Read Refusal) (heard : Result Pdu Refusal) → wants_memory read ≡ false → Hears (λ (r : Read). r.pdu) read heard → pdu_read read ≡ heard
+read_heard_so (Ok read) heard had told = sym told
+read_heard_so (Err refusal.InvalidPdu) heard had told = sym told
+read_heard_so (Err refusal.UnknownType) heard had told = sym told
+read_heard_so (Err (refusal.Modifier invoke)) heard had told = sym told
+read_heard_so (Err (refusal.Service invoke)) heard had told = sym told
+read_heard_so (Err (refusal.Recursion invoke)) heard had told = sym told
+read_heard_so (Err (refusal.Argument invoke)) heard had told = sym told
+read_heard_so (Err refusal.Memory) heard had told = absurd (cc had)
 
 -- ---- one of the two
 

@@ -1,7 +1,7 @@
 -- Every state is sound that the device reaches from its start.
-use Rattle.std.specs.Prelude.{◌≡◌, ℕ, zero, suc, ◌+◌, ◌-◌, ◌<◌, ◌≤◌, nat_lt, Bool, true, false, not, ◌==◌, Option, None, Some, List, [], ◌∷◌, fold, map, length, slice_get, unwrap_or, Result, Ok, Err, if◌then◌else◌, refl}
+use Rattle.std.specs.Prelude.{◌≡◌, ℕ, zero, suc, ◌+◌, ◌-◌, ◌<◌, ◌≤◌, nat_le, nat_lt, Bool, true, false, not, ◌==◌, Option, None, Some, List, [], ◌∷◌, ◌++◌, option_to_list, fold, map, length, slice_get, unwrap_or, Result, Ok, Err, if◌then◌else◌, refl}
 use Rattle.std.specs.Option.{option_map}
-use Rattle.std.proofs.Common.{ap, sym, ◌∙◌, subst, arith}
+use Rattle.std.proofs.Common.{ap, sym, ◌∙◌, subst, arith, length-append}
 use Rattle.std.proofs.lemmas.Bool.Decides.{nat_tests}
 use native.Mathlib.Decide.{ℕ_discrete}
 use Rattle.mms_types.specs.Actors.{clients_to}
@@ -25,23 +25,44 @@ use Rattle.association.specs.declared.negotiation.Association.{Association}
 use Rattle.association.specs.declared.negotiation.Association.TheVariants.{Idle, Open}
 use Rattle.association.specs.declared.negotiation.Negotiated.{Negotiated}
 use Rattle.association.specs.declared.waiting.Waiting.{Waiting}
-use Rattle.association.specs.Admission.{admission, called_of}
+use Rattle.association.specs.Admission.{admission, called_of, waiting_if}
 use Rattle.association.specs.Client.{ClientRow, new_row}
 use Rattle.association.specs.Negotiation.{negotiation}
 use Rattle.association.specs.Waiting.{is_waiting, without}
 use Rattle.cell_config.specs.declared.config.Config.{Config}
 use Rattle.cell_config.specs.Said.{IsConfig}
 use Rattle.parted_state.specs.Lists.{get_front, get_behind, get_changed, get_change}
-use Rattle.parted_state.specs.Served.{change, row_at, delivered}
-use Rattle.mms_step.specs.State.{State, start, device_of, IsSound, IsSoundRow, AreNumbered}
-use Rattle.mms_step.specs.Effects.{Effect, Sends, Opens, Closes, Answers, Drains, felt, felt_all, tell}
-use Rattle.mms_step.specs.Association.{Verdict, other_error, Tells, Takes, Concludes, Cancels, Aborts, verdict, verdict_by, idle_verdict, open_verdict, admitted, requested, concluded, cancelled, negotiated, refused, loss_told}
-use Rattle.mms_step.specs.Tables.{Tables}
+use Rattle.parted_state.specs.Served.{change, row_at, reached, delivered}
+use Rattle.token_sem.specs.declared.entry.Grant.{Grant}
+use Rattle.mms_time.specs.Loss.{lost_grants}
+use Rattle.mms_time.specs.Services.{relinquish_grant, take_told}
+use Rattle.mms_time.specs.declared.taking.TakeDone.{TakeDone}
+use Rattle.mms_time.specs.declared.taking.TakeDone.TheVariants.{Answered}
+use Rattle.mms_time.specs.declared.taking.TakeDone.TheVariants as taken
+use Rattle.std.specs.Map.{lookup}
+use Rattle.mms_types.specs.Order.{key_eq}
+use Rattle.mms_types.specs.declared.key.Key.{Key}
+use Rattle.token_sem.specs.Semaphore.{IsSem, Sem}
+use Rattle.mms_time.specs.Semaphores.{IsSound as IsOneSound}
+use Rattle.mms_time.specs.declared.row.Semaphore.{Semaphore}
+use Rattle.mms_time.specs.declared.row.Semaphore.TheVariants.{Token}
+use Rattle.mms_time.specs.declared.row.SemaphoreRow.{SemaphoreRow}
+use Rattle.sem_ticks.proofs.Kept.{row_found}
+use Rattle.sem_ticks.proofs.Later.{none_ahead}
+use Rattle.sem_ticks.proofs.Requests.{none_sound}
+use Rattle.sem_ticks.specs.declared.ticks.Happening.{Happening}
+use Rattle.sem_ticks.specs.declared.ticks.Happening.TheVariants as happens
+use Rattle.mms_types.specs.declared.pdu.Request.TheVariants as request
+use Rattle.mms_step.specs.State.{State, start, device_of, HaveMadeFewer, IsSound, IsSoundRow, AreNumbered}
+use Rattle.cell_services.specs.Effects.{Effect, Sends, Opens, Closes, Waits, Answers, Drains, felt, felt_all, tell}
+use Rattle.cell_services.specs.Association.{Verdict, other_error, Tells, Takes, Concludes, Cancels, Aborts, verdict, verdict_by, idle_verdict, open_verdict, admitted, requested, concluded, cancelled, negotiated, refused, loss_told}
+use Rattle.cell_services.specs.Tables.{Tables, moment_after, moment_of}
 use Rattle.mms_step.specs.Partition.{cell, no_client}
-use Rattle.mms_step.specs.Services.{cause, effect, fits, refuses, request_told, answer_told}
-use Rattle.mms_step.specs.Serving.{size_of, own_told}
+use Rattle.cell_services.specs.Services.{cause, effect, fits, grant_told, grants_told, refuses, relinquish_outcome, request_told, take_outcome, answer_told}
+use Rattle.cell_services.specs.Serving.{all_told, also_lost, also_told, happening_told, is_served, meanwhile, size_of, own_told}
 use Rattle.mms_step.specs.Step.{step, replay}
-use Rattle.mms_step.proofs.PartsAfter.{heard_told, length-start, length-clients_to, step_sized, told_one}
+use Rattle.mms_step.proofs.PartsAfter.{length-start, length-clients_to, now_lost, step_sized, step_still, told_one}
+use Rattle.mms_step.proofs.Tokens.{AreKept, kept_heard, kept_later, kept_lost, kept_ticked, waits_numbered}
 
 -- ---- requests that wait
 
@@ -56,6 +77,10 @@ numbered_without count invoke (request ∷ waiting) numbered = by_test (not (req
     by_test : (b : Bool) → AreNumbered count (without invoke waiting) → AreNumbered count (if b then request ∷ without invoke waiting else without invoke waiting)
     by_test true rest = (numbered.0, rest)
     by_test false rest = rest
+
+numbered_with : (count : ℕ) (waiting : List Waiting) (request : Waiting) → AreNumbered count waiting → request.entry < count → AreNumbered count (waiting ++ request ∷ [])
+numbered_with count [] request numbered is = (is, tt)
+numbered_with count (first ∷ waiting) request numbered is = (numbered.0, numbered_with count waiting request numbered.1 is)
 
 fewer_without : (invoke : ℕ) (waiting : List Waiting) → length (without invoke waiting) ≤ length waiting
 fewer_without invoke [] = omega arith
@@ -89,6 +114,23 @@ module _ (count client : ℕ) where
     entries = numbered_without count invoke row.waiting sound.entries;
   }
 
+  -- a request waits where it is admitted
+  waited : (request : Waiting) (row : ClientRow) → request.entry < count → IsSoundRow count client row → IsSoundRow count client (felt (Waits request) row)
+  waited request row numbered sound = by_waiting (is_waiting request.invoke row.waiting) (nat_le (called_of row.association) (length row.waiting)) refl
+    where
+      by_waiting : (b c : Bool) → nat_le (called_of row.association) (length row.waiting) ≡ c
+          → IsSoundRow count client (waiting_if (if b then Err not_admitted.Waiting else if c then Err not_admitted.Outstanding else Ok tt) request row)
+      by_waiting true c e = sound
+      by_waiting false true e = sound
+      by_waiting false false e = record {
+        number = sound.number;
+        allowed =
+            let room : length row.waiting < called_of row.association = grind (arith, nat_tests) in
+            let many = length-append row.waiting (request ∷ []) in
+            omega (arith, room, many);
+        entries = numbered_with count row.waiting request sound.entries numbered;
+      }
+
   drained : (row : ClientRow) → IsSoundRow count client row → IsSoundRow count client (felt Drains row)
   drained row sound = record { number = sound.number; allowed = sound.allowed; entries = sound.entries }
 
@@ -121,7 +163,7 @@ module _ (count client : ℕ) where
 
   own_sound : (t : Tables) (row told : ClientRow) (v : Verdict) → IsSoundRow count client row → Fine row v → IsSoundRow count client (felt_all (own_told t told v) row)
   own_sound t row told (Tells effects) sound fine = fine
-  own_sound t row told (Takes invoke asked) sound fine = request_sound row (size_of told.association) invoke (cause t told asked) (effect t told asked).answer sound
+  own_sound t row told (Takes invoke asked) sound fine = request_sound row (size_of told.association) invoke (cause t told asked) (effect t told invoke asked).answer sound
   own_sound t row told Concludes sound fine = closed (felt (Sends _) row) (sent _ row sound)
   own_sound t row told (Cancels invoke) sound fine = sent _ _ (sent _ _ (answered invoke row sound))
   own_sound t row told Aborts sound fine = closed (felt (Sends _) row) (sent _ row sound)
@@ -171,11 +213,11 @@ module _ (count client : ℕ) where
 
 -- ---- all rows
 
-abbrev AreSound : ℕ → List ClientRow → Type 0
-AreSound count rows = (i : ℕ) (row : ClientRow) → slice_get rows i ≡ Some row → IsSoundRow count (i + 1) row
+abbrev RowsAreSound : ℕ → List ClientRow → Type 0
+RowsAreSound count rows = (i : ℕ) (row : ClientRow) → slice_get rows i ≡ Some row → IsSoundRow count (i + 1) row
 
-changed_sound : (count : ℕ) (f : ClientRow → ClientRow) (rows : List ClientRow) (k : ℕ) → AreSound count rows
-    → ((row : ClientRow) → slice_get rows k ≡ Some row → IsSoundRow count (k + 1) (f row)) → AreSound count (change f rows k)
+changed_sound : (count : ℕ) (f : ClientRow → ClientRow) (rows : List ClientRow) (k : ℕ) → RowsAreSound count rows
+    → ((row : ClientRow) → slice_get rows k ≡ Some row → IsSoundRow count (k + 1) (f row)) → RowsAreSound count (change f rows k)
 changed_sound count f rows k sound here i row there = by_place (ℕ_discrete i k)
   where
     by_value : (o : Option ClientRow) → slice_get rows k ≡ o → option_map f o ≡ Some row → IsSoundRow count (k + 1) row
@@ -198,25 +240,135 @@ row_of_it : (rows : List ClientRow) (k : ℕ) (row : ClientRow) → slice_get ro
 row_of_it rows k row there = ap (λ (o : Option ClientRow). unwrap_or o no_client) there
 
 -- the rows after one client was told what is told to its row
-told_sound : (count client : ℕ) (told : ClientRow → List Effect) (rows : List ClientRow) → AreSound count rows
+told_sound : (count client : ℕ) (told : ClientRow → List Effect) (rows : List ClientRow) → RowsAreSound count rows
     → ((k : ℕ) (row : ClientRow) → IsSoundRow count k row → IsSoundRow count k (felt_all (told row) row))
-    → AreSound count (delivered cell (tell client (told (row_at cell client rows))) rows)
-told_sound count zero told rows sound each = subst (λ (l : List ClientRow). AreSound count l) (sym (nobody_told (told (row_at cell 0 rows)) rows)) sound
+    → RowsAreSound count (delivered cell (tell client (told (row_at cell client rows))) rows)
+told_sound count zero told rows sound each = subst (λ (l : List ClientRow). RowsAreSound count l) (sym (nobody_told (told (row_at cell 0 rows)) rows)) sound
 told_sound count (suc k) told rows sound each =
-    subst (λ (l : List ClientRow). AreSound count l) (sym (told_one (told (row_at cell (suc k) rows)) k rows))
+    subst (λ (l : List ClientRow). RowsAreSound count l) (sym (told_one (told (row_at cell (suc k) rows)) k rows))
     (changed_sound count (felt_all (told (row_at cell (suc k) rows))) rows k sound
     (λ row there. subst (λ (r : ClientRow). IsSoundRow count (k + 1) (felt_all (told r) row)) (sym (row_of_it rows k row there)) (each (k + 1) row (sound k row there))))
 
-rows_after : (count : ℕ) (s : State) (event : CellEvent) → AreSound count s.clients → AreSound count (step s event).clients
-rows_after count s (Heard client octets) sound =
-    subst (λ (l : List (ℕ × Effect)). AreSound count (delivered cell l s.clients))
-    (sym (heard_told (cell.tables_of s) (row_at cell client s.clients) client octets))
-    (told_sound count client (λ row. own_told (cell.tables_of s) row (verdict row octets)) s.clients sound (λ k row. heard_sound count k (cell.tables_of s) row octets))
-rows_after count s (Lost client) sound =
-    told_sound count client (λ row. loss_told row.association) s.clients sound (λ k row. lost_sound count k row row.association)
-rows_after count s (Tick ms) sound = sound
-rows_after count s (Ends name) sound = sound
-rows_after count s (Drain client) sound = told_sound count client (λ row. Drains ∷ []) s.clients sound (λ k row. drained count k row)
+-- ---- what is told to whom besides
+
+-- what any client may be told at any time: no association opens, and a request that waits has the number of an event
+abbrev Steady : ℕ → Effect → Type 0
+Steady count (Sends output) = Unit {0}
+Steady count (Opens values) = ⊥
+Steady count Closes = Unit {0}
+Steady count (Waits request) = request.entry < count
+Steady count (Answers invoke) = Unit {0}
+Steady count Drains = Unit {0}
+
+abbrev AreSteady : ℕ → List (ℕ × Effect) → Type 0
+AreSteady count [] = Unit {0}
+AreSteady count (t ∷ told) = Steady count t.1 × AreSteady count told
+
+steady_sound : (count client : ℕ) (effect : Effect) (row : ClientRow) → Steady count effect → IsSoundRow count client row → IsSoundRow count client (felt effect row)
+steady_sound count client (Sends output) row steady sound = sent count client output row sound
+steady_sound count client (Opens values) row steady sound = absurd steady
+steady_sound count client Closes row steady sound = closed count client row sound
+steady_sound count client (Waits request) row steady sound = waited count client request row steady sound
+steady_sound count client (Answers invoke) row steady sound = answered count client invoke row sound
+steady_sound count client Drains row steady sound = drained count client row sound
+
+both_steady : (count : ℕ) (xs ys : List (ℕ × Effect)) → AreSteady count xs → AreSteady count ys → AreSteady count (xs ++ ys)
+both_steady count [] ys a b = b
+both_steady count (x ∷ xs) ys a b = (a.0, both_steady count xs ys a.1 b)
+
+reached_sound : (count client : ℕ) (effect : Effect) (rows : List ClientRow) → Steady count effect → RowsAreSound count rows → RowsAreSound count (reached cell client effect rows)
+reached_sound count zero effect rows steady sound = sound
+reached_sound count (suc k) effect rows steady sound =
+    changed_sound count (felt effect) rows k sound (λ row there. steady_sound count (k + 1) effect row steady (sound k row there))
+
+all_sound : (count : ℕ) (told : List (ℕ × Effect)) (rows : List ClientRow) → AreSteady count told → RowsAreSound count rows → RowsAreSound count (delivered cell told rows)
+all_sound count [] rows steady sound = sound
+all_sound count (t ∷ told) rows steady sound = all_sound count told (reached cell t.0 t.1 rows) steady.1 (reached_sound count t.0 t.1 rows steady.0 sound)
+
+pub delivered_both : (xs ys : List (ℕ × Effect)) (rows : List ClientRow) → delivered cell (xs ++ ys) rows ≡ delivered cell ys (delivered cell xs rows)
+delivered_both [] ys rows = refl
+delivered_both (x ∷ xs) ys rows = delivered_both xs ys (reached cell x.0 x.1 rows)
+
+-- what one client is told, and what is told besides
+both_sound : (count client : ℕ) (told : ClientRow → List Effect) (also : List (ℕ × Effect)) (rows : List ClientRow) → RowsAreSound count rows
+    → ((k : ℕ) (row : ClientRow) → IsSoundRow count k row → IsSoundRow count k (felt_all (told row) row)) → AreSteady count also
+    → RowsAreSound count (delivered cell (tell client (told (row_at cell client rows)) ++ also) rows)
+both_sound count client told also rows sound each steady =
+    subst (λ (l : List ClientRow). RowsAreSound count l) (sym (delivered_both (tell client (told (row_at cell client rows))) also rows))
+    (all_sound count also (delivered cell (tell client (told (row_at cell client rows))) rows) steady (told_sound count client told rows sound each))
+
+grants_steady : (count : ℕ) (grants : List Grant) → AreSteady count (grants_told grants)
+grants_steady count [] = tt
+grants_steady count (g ∷ grants) = both_steady count (grant_told g) (grants_told grants) (tt, (tt, tt)) (grants_steady count grants)
+
+happened_steady : (count : ℕ) (happened : List Happening) → AreSteady count (all_told happened)
+happened_steady count [] = tt
+happened_steady count (happens.WaitEnds client invoke ∷ rest) =
+    both_steady count (happening_told (happens.WaitEnds client invoke)) (all_told rest) (tt, (tt, tt)) (happened_steady count rest)
+happened_steady count (happens.Grants grant ∷ rest) = both_steady count (grant_told grant) (all_told rest) (tt, (tt, tt)) (happened_steady count rest)
+happened_steady count (happens.Aborts client ∷ rest) =
+    both_steady count (happening_told (happens.Aborts client)) (all_told rest) (tt, (tt, tt)) (happened_steady count rest)
+
+module _ (count : ℕ) (t : Tables) (made : HaveMadeFewer count t.semaphores) where
+  effect_steady : (row : ClientRow) (invoke : ℕ) (asked : Request) → AreSteady (suc count) (effect t row invoke asked).also
+  effect_steady row invoke (request.TakeControl x) = by_done (take_told row.client x t.semaphores) refl
+    where
+      by_done : (o : Option TakeDone) → take_told row.client x t.semaphores ≡ o → AreSteady (suc count) (take_outcome t row.client invoke x o).also
+      by_done None e = tt
+      by_done (Some (Answered told)) e = tt
+      by_done (Some (taken.Waits entry)) e = (waits_numbered count row.client x t.semaphores entry made e, tt)
+  effect_steady row invoke (request.RelinquishControl x) = by_grant (relinquish_grant row.client x t.semaphores)
+    where
+      by_grant : (o : Option (Option Grant)) → AreSteady (suc count) (relinquish_outcome t row.client x o).also
+      by_grant None = tt
+      by_grant (Some grant) = grants_steady (suc count) (option_to_list grant)
+  effect_steady row invoke asked = tt
+
+  also_steady : (row : ClientRow) (v : Verdict) → AreSteady (suc count) (also_told t row v)
+  also_steady row (Takes invoke asked) = by_test (is_served t row invoke asked)
+    where
+      by_test : (b : Bool) → AreSteady (suc count) (if b then (effect t row invoke asked).also else [])
+      by_test true = effect_steady row invoke asked
+      by_test false = tt
+  also_steady row (Tells effects) = tt
+  also_steady row Concludes = grants_steady (suc count) (lost_grants row.client (moment_of t) t.semaphores)
+  also_steady row (Cancels invoke) = tt
+  also_steady row Aborts = grants_steady (suc count) (lost_grants row.client (moment_of t) t.semaphores)
+
+  lost_steady : (a : Association) (client : ℕ) → AreSteady (suc count) (also_lost a client t)
+  lost_steady Idle client = tt
+  lost_steady (Open values) client = grants_steady (suc count) (lost_grants client (moment_of t) t.semaphores)
+
+rows_after : (count : ℕ) (s : State) (event : CellEvent) → HaveMadeFewer count s.semaphores → RowsAreSound (suc count) s.clients → RowsAreSound (suc count) (step s event).clients
+rows_after count s (Heard client octets) made sound =
+    both_sound (suc count) client (λ row. own_told (cell.tables_of s) row (verdict row octets))
+    (also_told (cell.tables_of s) (row_at cell client s.clients) (verdict (row_at cell client s.clients) octets)) s.clients sound
+    (λ k row. heard_sound (suc count) k (cell.tables_of s) row octets)
+    (also_steady count (cell.tables_of s) made (row_at cell client s.clients) (verdict (row_at cell client s.clients) octets))
+rows_after count s (Lost client) made sound =
+    both_sound (suc count) client (λ row. loss_told row.association)
+    (also_lost (row_at cell client s.clients).association (row_at cell client s.clients).client (cell.tables_of s)) s.clients sound
+    (λ k row. lost_sound (suc count) k row row.association)
+    (lost_steady count (cell.tables_of s) made (row_at cell client s.clients).association (row_at cell client s.clients).client)
+rows_after count s (Tick ms) made sound =
+    all_sound (suc count) (all_told (meanwhile ms (cell.tables_of s)).happened) s.clients (happened_steady (suc count) (meanwhile ms (cell.tables_of s)).happened) sound
+rows_after count s (Ends name) made sound = sound
+rows_after count s (Drain client) made sound = told_sound (suc count) client (λ row. Drains ∷ []) s.clients sound (λ k row. drained (suc count) k row)
+
+-- ---- semaphores
+
+semaphores_after : (count : ℕ) (s : State) (event : CellEvent) → AreKept count (record { 0 = s.now }) s.semaphores
+    → AreKept (suc count) (record { 0 = (step s event).now }) (step s event).semaphores
+semaphores_after count s (Heard client octets) are =
+    subst (λ (now : ℕ). AreKept (suc count) (record { 0 = now }) (step s (Heard client octets)).semaphores) (sym (step_still s client octets))
+    (kept_heard count (cell.tables_of s) (row_at cell client s.clients) (verdict (row_at cell client s.clients) octets) are)
+semaphores_after count s (Lost client) are =
+    subst (λ (now : ℕ). AreKept (suc count) (record { 0 = now }) (step s (Lost client)).semaphores)
+    (sym (now_lost (row_at cell client s.clients).association (row_at cell client s.clients).client (cell.tables_of s)))
+    (kept_lost count (cell.tables_of s) (row_at cell client s.clients).association (row_at cell client s.clients).client are)
+semaphores_after count s (Tick ms) are = kept_ticked count (record { 0 = s.now }) (moment_after ms (cell.tables_of s)) s.semaphores are
+semaphores_after count s (Ends name) are = kept_later count (record { 0 = s.now }) s.semaphores are
+semaphores_after count s (Drain client) are = kept_later count (record { 0 = s.now }) s.semaphores are
 
 -- ---- states
 
@@ -224,11 +376,16 @@ pub step_sound : (count : ℕ) (s : State) (event : CellEvent) → IsSound count
 step_sound count s event sound =
     let same = step_sized s event in
     let next : suc count ≡ count + 1 = omega arith in
+    let kept : AreKept (suc count) (record { 0 = (step s event).now }) (step s event).semaphores =
+    semaphores_after count s event (record { sound = sound.semaphores; made = sound.made; ahead = sound.ahead }) in
     record {
       some = omega (arith, same, sound.some);
       few = omega (arith, same, sound.few);
-      rows = subst (λ (m : ℕ). AreSound m (step s event).clients) next
-          (rows_after (suc count) s event (λ i row there. row_later count (i + 1) row (sound.rows i row there)));
+      rows = subst (λ (m : ℕ). RowsAreSound m (step s event).clients) next
+          (rows_after count s event sound.made (λ i row there. row_later count (i + 1) row (sound.rows i row there)));
+      semaphores = kept.sound;
+      made = subst (λ (m : ℕ). HaveMadeFewer m (step s event).semaphores) next kept.made;
+      ahead = kept.ahead;
     }
 
 sound_along : (count : ℕ) (s : State) (history : List CellEvent) → IsSound count s → IsSound (count + length history) (fold step s history)
@@ -261,7 +418,7 @@ get_mapped f [] i = refl
 get_mapped f (x ∷ xs) zero = refl
 get_mapped f (x ∷ xs) (suc i) = get_mapped f xs i
 
-first_rows_sound : (config : Config) (n : ℕ) → AreSound 0 (map (λ c. new_row c (device_of config)) (clients_to n))
+first_rows_sound : (config : Config) (n : ℕ) → RowsAreSound 0 (map (λ c. new_row c (device_of config)) (clients_to n))
 first_rows_sound config n i row there = by_value (slice_get (clients_to n) i) refl (sym (get_mapped (λ c. new_row c (device_of config)) (clients_to n) i) ∙ there)
   where
     by_value : (o : Option ℕ) → slice_get (clients_to n) i ≡ o → option_map (λ c. new_row c (device_of config)) o ≡ Some row → IsSoundRow 0 (i + 1) row
@@ -273,9 +430,22 @@ first_rows_sound config n i row there = by_value (slice_get (clients_to n) i) re
 pub start_sound : (config : Config) → IsConfig config → IsSound 0 (start config)
 start_sound config is =
     let counted = length-start config in
-    record { some = omega (arith, counted, is.some_client); few = omega (arith, counted, is.few_clients); rows = first_rows_sound config config.clients }
+    record {
+      some = omega (arith, counted, is.some_client);
+      few = omega (arith, counted, is.few_clients);
+      rows = first_rows_sound config config.clients;
+      semaphores = none_sound;
+      made = λ k d low. absurd (omega (arith, low));
+      ahead = none_ahead (record { 0 = config.start.0 });
+    }
 
 pub replay_sound : (config : Config) (history : List CellEvent) → IsConfig config → IsSound (length history) (replay config history)
 replay_sound config history is =
     let all : 0 + length history ≡ length history = omega arith in
     subst (λ (m : ℕ). IsSound m (replay config history)) all (sound_along 0 (start config) history (start_sound config is))
+
+-- what holds of the tokens of a semaphore
+pub tokens_sound : (config : Config) (history : List CellEvent) (key : Key) (row : SemaphoreRow) (tokens : Sem) → IsConfig config
+    → lookup (key_eq key) (replay config history).semaphores ≡ Some row → row.semaphore ≡ Token tokens → IsSem tokens
+tokens_sound config history key row tokens is found of =
+    subst (λ (s : Semaphore). IsOneSound s) of (row_found (replay config history).semaphores key row (replay_sound config history is).semaphores.each found)

@@ -15,11 +15,13 @@ use Rattle.parted_state.specs.Lists.{get_changed}
 use Rattle.parted_state.specs.Served.{change}
 use Rattle.mms_step.specs.declared.part.Part.{Part}
 use Rattle.mms_step.specs.declared.part.Part.TheVariants.{Client}
-use Rattle.mms_step.specs.declared.telling.Told.{Told}
-use Rattle.mms_step.specs.declared.telling.Told.TheVariants as told
-use Rattle.mms_step.specs.Effects.{Effect, felt}
+use Rattle.cell_services.specs.declared.told.Told.{Told}
+use Rattle.cell_services.specs.declared.told.Told.TheVariants as told
+use Rattle.cell_services.specs.Effects.{Effect, felt}
 use Rattle.mms_step.specs.Partition.{cell, client_place}
-use Rattle.mms_step.specs.Telling.{effect_of, effects_told, is_output, output_count, outputs_to, with_room, room_or_same, with_rooms, without_rooms, is_before, room_before, IsSettled, telling, HasRoom, MayBeClient, AreClients}
+use Rattle.cell_services.specs.Telling.{effect_of, effects_told, is_output, is_wait, output_count, wait_count}
+use Rattle.mms_step.specs.declared.telling.Room.{Room}
+use Rattle.mms_step.specs.Rooms.{no_room, room_to, with_room, room_or_same, with_rooms, without_rooms, is_before, room_before, IsSettled, telling, HasRoom, MayBeClient, AreClients}
 
 -- ---- lists that are changed by place
 
@@ -60,15 +62,15 @@ module _ {A : Type 0} where
 
 -- ---- room
 
-abbrev pub at_place : ℕ → (ℕ → ℕ) → ℕ → Option Part → Option Part
+abbrev pub at_place : ℕ → (ℕ → Room) → ℕ → Option Part → Option Part
 at_place last room place held = option_map (room_or_same (room_before last room (place - 5))) held
 
-with_room_twice : (a b : ℕ) (part : Part) → with_room a (with_room b part) ≡ with_room a part
+with_room_twice : (a b : Room) (part : Part) → with_room a (with_room b part) ≡ with_room a part
 with_room_twice a b (Client client) = refl
 with_room_twice a b other = refl
 
 -- a part that is no client's has no room and is told nothing
-pub with_room_other : (room : ℕ) (part : Part) → ((client : RoomyRow) → part ≡ Client client → ⊥) → with_room room part ≡ part
+pub with_room_other : (room : Room) (part : Part) → ((client : RoomyRow) → part ≡ Client client → ⊥) → with_room room part ≡ part
 with_room_other room (Client client) other = absurd (other client refl)
 with_room_other room part other = refl
 
@@ -86,7 +88,7 @@ next_test last m other = by_test (nat_lt m last) refl
         let above : (nat_lt m (last + 1)) ≡ false = let less : last + 1 ≤ m = omega (arith, past, other) in grind (arith, nat_tests) in
         ap (λ (c : Bool). nat_lt 0 m && c) (e ∙ sym above)
 
-at_next : (last : ℕ) (room : ℕ → ℕ) (place : ℕ) (held : Option Part) → 1 ≤ last → place ≢ client_place last → at_place last room place held ≡ at_place (last + 1) room place held
+at_next : (last : ℕ) (room : ℕ → Room) (place : ℕ) (held : Option Part) → 1 ≤ last → place ≢ client_place last → at_place last room place held ≡ at_place (last + 1) room place held
 at_next last room place held some other =
     ap (λ (b : Bool). option_map (room_or_same (if b then Some (room (place - 5)) else None)) held)
     (next_test last (place - 5) (λ same. other (omega (arith, same, some))))
@@ -97,7 +99,7 @@ before_itself last = grind (arith, nat_tests)
 before_next : (last : ℕ) → 1 ≤ last → is_before (last + 1) last ≡ true
 before_next last some = grind (arith, nat_tests)
 
-here_before : (last : ℕ) (room : ℕ → ℕ) (held : Option Part) → at_place last room (client_place last) held ≡ held
+here_before : (last : ℕ) (room : ℕ → Room) (held : Option Part) → at_place last room (client_place last) held ≡ held
 here_before last room held =
     let same : client_place last - 5 ≡ last = omega arith in
     ap (λ (m : ℕ). option_map (room_or_same (room_before last room m)) held) same
@@ -108,14 +110,14 @@ here_before last room held =
     by_value None = refl
     by_value (Some part) = refl
 
-here_next : (last : ℕ) (room : ℕ → ℕ) (held : Option Part) → 1 ≤ last → at_place (last + 1) room (client_place last) held ≡ option_map (with_room (room last)) held
+here_next : (last : ℕ) (room : ℕ → Room) (held : Option Part) → 1 ≤ last → at_place (last + 1) room (client_place last) held ≡ option_map (with_room (room last)) held
 here_next last room held some =
     let same : client_place last - 5 ≡ last = omega arith in
     ap (λ (m : ℕ). option_map (room_or_same (room_before (last + 1) room m)) held) same
     ∙ ap (λ (b : Bool). option_map (room_or_same (if b then Some (room last) else None)) held) (before_next last some)
 
 -- room is made for one more client
-pub room_made : (last : ℕ) (room : ℕ → ℕ) (hand : List (Option Part)) → 1 ≤ last
+pub room_made : (last : ℕ) (room : ℕ → Room) (hand : List (Option Part)) → 1 ≤ last
     → change (option_map (with_room (room last))) (with_rooms last room hand) (client_place last) ≡ with_rooms (last + 1) room hand
 room_made last room hand some =
     change_placed (at_place last room) (at_place (last + 1) room) (option_map (with_room (room last))) (λ held. held) hand (client_place last)
@@ -123,18 +125,31 @@ room_made last room hand some =
     (λ held there. ap (option_map (with_room (room last))) (here_before last room held) ∙ sym (here_next last room held some))
     ∙ ap (λ (l : List (Option Part)). with_rooms (last + 1) room l) (change_same hand (client_place last))
 
-settled_at : (n : ℕ) (hand : List (Option Part)) (place : ℕ) (held : Option Part) → IsSettled n hand → slice_get hand place ≡ Some held → at_place n (λ client. 0) place held ≡ held
+settled_at : (n : ℕ) (hand : List (Option Part)) (place : ℕ) (held : Option Part) → IsSettled n hand → slice_get hand place ≡ Some held → at_place n (λ client. no_room) place held ≡ held
 settled_at n hand place held settled there =
-    let both : Some (at_place n (λ client. 0) place held) ≡ Some held =
-    sym (get_placed (at_place n (λ client. 0)) hand place ∙ ap (option_map (at_place n (λ client. 0) place)) there)
+    let both : Some (at_place n (λ client. no_room) place held) ≡ Some held =
+    sym (get_placed (at_place n (λ client. no_room)) hand place ∙ ap (option_map (at_place n (λ client. no_room) place)) there)
     ∙ ap (λ (l : List (Option Part)). slice_get l place) settled ∙ there in
     cc both
 
 before_last : (last n : ℕ) → 1 ≤ last → last < n → is_before n last ≡ true
 before_last last n some within = grind (arith, nat_tests)
 
+-- no room, as a test tells it
+pub no_more_room : (room : Room) → (room.outputs == 0 && room.waiting == 0) ≡ true → room ≡ no_room
+no_more_room room none = by_tests (room.outputs == 0) (room.waiting == 0) refl refl none
+  where
+    by_tests : (b c : Bool) → (room.outputs == 0) ≡ b → (room.waiting == 0) ≡ c → (b && c) ≡ true → room ≡ no_room
+    by_tests true true e f h =
+        ap₂ (λ (m n : ℕ). at m n) (same_number room.outputs 0 e) (same_number room.waiting 0 f)
+      where
+        at : ℕ → ℕ → Room
+        at m n = record { outputs = m; waiting = n }
+    by_tests true false e f h = absurd (cc h)
+    by_tests false c e f h = absurd (cc h)
+
 -- and none has to be made where it is told nothing
-pub room_needless : (last n : ℕ) (room : ℕ → ℕ) (hand : List (Option Part)) → 1 ≤ last → last < n → IsSettled n hand → room last ≡ 0
+pub room_needless : (last n : ℕ) (room : ℕ → Room) (hand : List (Option Part)) → 1 ≤ last → last < n → IsSettled n hand → room last ≡ no_room
     → with_rooms last room hand ≡ with_rooms (last + 1) room hand
 room_needless last n room hand some within settled none =
     sym (change_same (with_rooms last room hand) (client_place last))
@@ -144,40 +159,40 @@ room_needless last n room hand some within settled none =
     here_before last room held
     ∙ sym (settled_at n hand (client_place last) held settled there)
     ∙ here held
-    ∙ ap (λ (r : ℕ). option_map (with_room r) held) (sym none)
+    ∙ ap (λ (r : Room). option_map (with_room r) held) (sym none)
     ∙ sym (here_next last room held some))
     ∙ ap (λ (l : List (Option Part)). with_rooms (last + 1) room l) (change_same hand (client_place last))
   where
-    here : (held : Option Part) → at_place n (λ client. 0) (client_place last) held ≡ option_map (with_room 0) held
+    here : (held : Option Part) → at_place n (λ client. no_room) (client_place last) held ≡ option_map (with_room no_room) held
     here held =
         let same : client_place last - 5 ≡ last = omega arith in
-        ap (λ (m : ℕ). option_map (room_or_same (room_before n (λ client. 0) m)) held) same
-        ∙ ap (λ (b : Bool). option_map (room_or_same (if b then Some 0 else None)) held) (before_last last n some within)
+        ap (λ (m : ℕ). option_map (room_or_same (room_before n (λ client. no_room) m)) held) same
+        ∙ ap (λ (b : Bool). option_map (room_or_same (if b then Some no_room else None)) held) (before_last last n some within)
 
 -- room that is given up again
-pub rooms_gone : (last n : ℕ) (room : ℕ → ℕ) (hand : List (Option Part)) → last ≤ n → without_rooms n (with_rooms last room hand) ≡ without_rooms n hand
+pub rooms_gone : (last n : ℕ) (room : ℕ → Room) (hand : List (Option Part)) → last ≤ n → without_rooms n (with_rooms last room hand) ≡ without_rooms n hand
 rooms_gone last n room hand within =
-    placed_twice (at_place n (λ client. 0)) (at_place last room) hand
-    ∙ placed_same (λ j held. at_place n (λ client. 0) j (at_place last room j held)) (at_place n (λ client. 0)) hand (λ j held there. at_each (j - 5) held)
+    placed_twice (at_place n (λ client. no_room)) (at_place last room) hand
+    ∙ placed_same (λ j held. at_place n (λ client. no_room) j (at_place last room j held)) (at_place n (λ client. no_room)) hand (λ j held there. at_each (j - 5) held)
   where
     by_tests : (m : ℕ) (held : Option Part) (b c : Bool) → (b ≡ true → c ≡ true)
-        → option_map (room_or_same (if c then Some 0 else None)) (option_map (room_or_same (if b then Some (room m) else None)) held)
-        ≡ option_map (room_or_same (if c then Some 0 else None)) held
+        → option_map (room_or_same (if c then Some no_room else None)) (option_map (room_or_same (if b then Some (room m) else None)) held)
+        ≡ option_map (room_or_same (if c then Some no_room else None)) held
     by_tests m None b c more = refl
     by_tests m (Some part) false c more = refl
-    by_tests m (Some part) true true more = ap Some (with_room_twice 0 (room m) part)
+    by_tests m (Some part) true true more = ap Some (with_room_twice no_room (room m) part)
     by_tests m (Some part) true false more = absurd (cc (more refl))
 
     at_each : (m : ℕ) (held : Option Part)
-        → option_map (room_or_same (room_before n (λ client. 0) m)) (option_map (room_or_same (room_before last room m)) held)
-        ≡ option_map (room_or_same (room_before n (λ client. 0) m)) held
+        → option_map (room_or_same (room_before n (λ client. no_room) m)) (option_map (room_or_same (room_before last room m)) held)
+        ≡ option_map (room_or_same (room_before n (λ client. no_room) m)) held
     at_each m held = by_tests m held (is_before last m) (is_before n m) (λ e. wider m e)
       where
         wider : (m : ℕ) → is_before last m ≡ true → is_before n m ≡ true
         wider m e = grind (arith, nat_tests)
 
 -- no room is made for anybody before the first client
-pub no_rooms_yet : (room : ℕ → ℕ) (hand : List (Option Part)) → with_rooms 1 room hand ≡ hand
+pub no_rooms_yet : (room : ℕ → Room) (hand : List (Option Part)) → with_rooms 1 room hand ≡ hand
 no_rooms_yet room hand = placed_same (at_place 1 room) (λ j held. held) hand (λ j held there. here (j - 5) held) ∙ placed_none hand
   where
     nobody : (m : ℕ) → is_before 1 m ≡ false
@@ -192,17 +207,24 @@ no_rooms_yet room hand = placed_same (at_place 1 room) (λ j held. held) hand (�
 
 -- ---- telling
 
-outputs_else : (client : ℕ) (t : Told) (list : List (ℕ × Told)) (other : ℕ) → other ≢ client → outputs_to ((client, t) ∷ list) other ≡ outputs_to list other
+outputs_else : (client : ℕ) (t : Told) (list : List (ℕ × Told)) (other : ℕ) → other ≢ client → room_to ((client, t) ∷ list) other ≡ room_to list other
 outputs_else client t list other apart =
     let no : (client == other) ≡ false = grind (arith, nat_tests) in
-    ap (λ (b : Bool). length (if b && is_output t then (client, t) ∷ filter (λ x. (x.0 == other) && is_output x.1) list else filter (λ x. (x.0 == other) && is_output x.1) list)) no
+    ap (λ (b : Bool). at b) no
+  where
+    counted : (Told → Bool) → Bool → ℕ
+    counted p b = length (if b && p t then (client, t) ∷ filter (λ x. (x.0 == other) && p x.1) list else filter (λ x. (x.0 == other) && p x.1) list)
 
-own_outputs : (client : ℕ) (t : Told) (list : List (ℕ × Told)) → outputs_to ((client, t) ∷ list) client ≡ outputs_to list client + output_count t
-own_outputs client t list =
-    ap (λ (b : Bool). length (if b && is_output t then (client, t) ∷ mine else mine)) (same_itself client) ∙ by_test (is_output t)
+    at : Bool → Room
+    at b = record { outputs = counted is_output b; waiting = counted is_wait b }
+
+own_counted : (p : Told → Bool) (client : ℕ) (t : Told) (list : List (ℕ × Told))
+    → length (filter (λ x. (x.0 == client) && p x.1) ((client, t) ∷ list)) ≡ length (filter (λ x. (x.0 == client) && p x.1) list) + (if p t then 1 else 0)
+own_counted p client t list =
+    ap (λ (b : Bool). length (if b && p t then (client, t) ∷ mine else mine)) (same_itself client) ∙ by_test (p t)
   where
     mine : List (ℕ × Told)
-    mine = filter (λ x. (x.0 == client) && is_output x.1) list
+    mine = filter (λ x. (x.0 == client) && p x.1) list
 
     by_test : (b : Bool) → length (if b then (client, t) ∷ mine else mine) ≡ length mine + (if b then 1 else 0)
     by_test true = omega arith
@@ -211,7 +233,7 @@ own_outputs client t list =
 within : (n client : ℕ) → 1 ≤ client → client ≤ n → is_before (n + 1) client ≡ true
 within n client some few = grind (arith, nat_tests)
 
-here_room : (n : ℕ) (room : ℕ → ℕ) (client : ℕ) (held : Option Part) → 1 ≤ client → client ≤ n
+here_room : (n : ℕ) (room : ℕ → Room) (client : ℕ) (held : Option Part) → 1 ≤ client → client ≤ n
     → at_place (n + 1) room (client_place client) held ≡ option_map (with_room (room client)) held
 here_room n room client held some few =
     let same : client_place client - 5 ≡ client = omega arith in
@@ -220,79 +242,85 @@ here_room n room client held some few =
 
 -- the rooms of other clients
 else_room : (n : ℕ) (client : ℕ) (t : Told) (rest : List (ℕ × Told)) (place : ℕ) (held : Option Part) → place ≢ client_place client
-    → at_place (n + 1) (outputs_to ((client, t) ∷ rest)) place held ≡ at_place (n + 1) (outputs_to rest) place held
+    → at_place (n + 1) (room_to ((client, t) ∷ rest)) place held ≡ at_place (n + 1) (room_to rest) place held
 else_room n client t rest place held other = by_test (is_before (n + 1) (place - 5)) refl
   where
     by_test : (b : Bool) → is_before (n + 1) (place - 5) ≡ b
-        → option_map (room_or_same (if b then Some (outputs_to ((client, t) ∷ rest) (place - 5)) else None)) held
-        ≡ option_map (room_or_same (if b then Some (outputs_to rest (place - 5)) else None)) held
+        → option_map (room_or_same (if b then Some (room_to ((client, t) ∷ rest) (place - 5)) else None)) held
+        ≡ option_map (room_or_same (if b then Some (room_to rest (place - 5)) else None)) held
     by_test false e = refl
     by_test true e =
         let some : 0 < place - 5 = grind (arith, nat_tests) in
-        ap (λ (r : ℕ). option_map (with_room r) held) (outputs_else client t rest (place - 5) (λ same. other (omega (arith, same, some))))
+        ap (λ (r : Room). option_map (with_room r) held) (outputs_else client t rest (place - 5) (λ same. other (omega (arith, same, some))))
 
 may_be : (hand : List (Option Part)) (place : ℕ) (held : Option Part) → slice_get hand place ≡ Some held → MayBeClient (held_at hand place) → MayBeClient held
 may_be hand place held there may = subst MayBeClient (ap (λ (o : Option (Option Part)). unwrap_or o None) there) may
 
 -- a client is told the first of what is left, for all of which there is room
 pub one_told : (n client : ℕ) (t : Told) (rest : List (ℕ × Told)) (hand : List (Option Part)) → 1 ≤ client → client ≤ n → AreClients n hand
-    → change (option_map (telling t)) (with_rooms (n + 1) (outputs_to ((client, t) ∷ rest)) hand) (client_place client)
-    ≡ with_rooms (n + 1) (outputs_to rest) (change (option_map (part_told cell (effect_of t))) hand (client_place client))
+    → change (option_map (telling t)) (with_rooms (n + 1) (room_to ((client, t) ∷ rest)) hand) (client_place client)
+    ≡ with_rooms (n + 1) (room_to rest) (change (option_map (part_told cell (effect_of t))) hand (client_place client))
 one_told n client t rest hand some few clients =
-    change_placed (at_place (n + 1) (outputs_to ((client, t) ∷ rest))) (at_place (n + 1) (outputs_to rest)) (option_map (telling t))
+    change_placed (at_place (n + 1) (room_to ((client, t) ∷ rest))) (at_place (n + 1) (room_to rest)) (option_map (telling t))
     (option_map (part_told cell (effect_of t))) hand (client_place client)
     (λ j other held there. else_room n client t rest j held other)
     (λ held there.
-    ap (option_map (telling t)) (here_room n (outputs_to ((client, t) ∷ rest)) client held some few)
+    ap (option_map (telling t)) (here_room n (room_to ((client, t) ∷ rest)) client held some few)
     ∙ here held (may_be hand (client_place client) held there (clients client some few))
-    ∙ sym (here_room n (outputs_to rest) client (option_map (part_told cell (effect_of t)) held) some few))
+    ∙ sym (here_room n (room_to rest) client (option_map (part_told cell (effect_of t)) held) some few))
   where
-    left : outputs_to ((client, t) ∷ rest) client - output_count t ≡ outputs_to rest client
-    left = let own = own_outputs client t rest in omega (arith, own)
+    left : (room_to ((client, t) ∷ rest) client).outputs - output_count t ≡ (room_to rest client).outputs
+    left = let own = own_counted is_output client t rest in omega (arith, own)
+
+    fewer : (room_to ((client, t) ∷ rest) client).waiting - wait_count t ≡ (room_to rest client).waiting
+    fewer = let own = own_counted is_wait client t rest in omega (arith, own)
 
     here : (held : Option Part) → MayBeClient held
-        → option_map (telling t) (option_map (with_room (outputs_to ((client, t) ∷ rest) client)) held)
-        ≡ option_map (with_room (outputs_to rest client)) (option_map (part_told cell (effect_of t)) held)
+        → option_map (telling t) (option_map (with_room (room_to ((client, t) ∷ rest) client)) held)
+        ≡ option_map (with_room (room_to rest client)) (option_map (part_told cell (effect_of t)) held)
     here None may = refl
-    here (Some (Client r)) may = ap (λ (m : ℕ). Some (Client (record { row = felt (effect_of t) r.row; output_room = m; waiting_room = 0 }))) left
+    here (Some (Client r)) may = ap₂ (λ (m w : ℕ). Some (Client (record { row = felt (effect_of t) r.row; output_room = m; waiting_room = w }))) left fewer
     here (Some other) may = absurd may
 
 -- for which there is room
 pub has_room : (n client : ℕ) (t : Told) (rest : List (ℕ × Told)) (hand : List (Option Part)) → 1 ≤ client → client ≤ n → AreClients n hand
-    → HasRoom t (held_at (with_rooms (n + 1) (outputs_to ((client, t) ∷ rest)) hand) (client_place client))
+    → HasRoom t (held_at (with_rooms (n + 1) (room_to ((client, t) ∷ rest)) hand) (client_place client))
 has_room n client t rest hand some few clients =
-    subst (HasRoom t) (sym (ap (λ (o : Option (Option Part)). unwrap_or o None) (get_placed (at_place (n + 1) (outputs_to ((client, t) ∷ rest))) hand (client_place client))))
+    subst (HasRoom t) (sym (ap (λ (o : Option (Option Part)). unwrap_or o None) (get_placed (at_place (n + 1) (room_to ((client, t) ∷ rest))) hand (client_place client))))
     (by_value (slice_get hand (client_place client)))
   where
-    enough : output_count t ≤ outputs_to ((client, t) ∷ rest) client
-    enough = let own = own_outputs client t rest in omega (arith, own)
+    enough : output_count t ≤ (room_to ((client, t) ∷ rest) client).outputs
+    enough = let own = own_counted is_output client t rest in omega (arith, own)
 
-    there : (held : Option Part) → HasRoom t (option_map (with_room (outputs_to ((client, t) ∷ rest) client)) held)
+    enough_waiting : wait_count t ≤ (room_to ((client, t) ∷ rest) client).waiting
+    enough_waiting = let own = own_counted is_wait client t rest in omega (arith, own)
+
+    there : (held : Option Part) → HasRoom t (option_map (with_room (room_to ((client, t) ∷ rest) client)) held)
     there None = tt
-    there (Some (Client r)) = enough
+    there (Some (Client r)) = (enough, enough_waiting)
     there (Some other) = tt
 
-    by_value : (o : Option (Option Part)) → HasRoom t (unwrap_or (option_map (at_place (n + 1) (outputs_to ((client, t) ∷ rest)) (client_place client)) o) None)
+    by_value : (o : Option (Option Part)) → HasRoom t (unwrap_or (option_map (at_place (n + 1) (room_to ((client, t) ∷ rest)) (client_place client)) o) None)
     by_value None = tt
-    by_value (Some held) = subst (HasRoom t) (sym (here_room n (outputs_to ((client, t) ∷ rest)) client held some few)) (there held)
+    by_value (Some held) = subst (HasRoom t) (sym (here_room n (room_to ((client, t) ∷ rest)) client held some few)) (there held)
 
 -- one that is told to nobody
 pub none_told : (n client : ℕ) (t : Told) (rest : List (ℕ × Told)) (hand : List (Option Part)) → (1 ≤ client → client ≤ n → ⊥)
-    → with_rooms (n + 1) (outputs_to ((client, t) ∷ rest)) hand ≡ with_rooms (n + 1) (outputs_to rest) hand
+    → with_rooms (n + 1) (room_to ((client, t) ∷ rest)) hand ≡ with_rooms (n + 1) (room_to rest) hand
 none_told n client t rest hand nobody =
-    placed_same (at_place (n + 1) (outputs_to ((client, t) ∷ rest))) (at_place (n + 1) (outputs_to rest)) hand (λ j held there. at_each j held)
+    placed_same (at_place (n + 1) (room_to ((client, t) ∷ rest))) (at_place (n + 1) (room_to rest)) hand (λ j held there. at_each j held)
   where
-    at_each : (place : ℕ) (held : Option Part) → at_place (n + 1) (outputs_to ((client, t) ∷ rest)) place held ≡ at_place (n + 1) (outputs_to rest) place held
+    at_each : (place : ℕ) (held : Option Part) → at_place (n + 1) (room_to ((client, t) ∷ rest)) place held ≡ at_place (n + 1) (room_to rest) place held
     at_each place held = by_test (is_before (n + 1) (place - 5)) refl
       where
         by_test : (b : Bool) → is_before (n + 1) (place - 5) ≡ b
-            → option_map (room_or_same (if b then Some (outputs_to ((client, t) ∷ rest) (place - 5)) else None)) held
-            ≡ option_map (room_or_same (if b then Some (outputs_to rest (place - 5)) else None)) held
+            → option_map (room_or_same (if b then Some (room_to ((client, t) ∷ rest) (place - 5)) else None)) held
+            ≡ option_map (room_or_same (if b then Some (room_to rest (place - 5)) else None)) held
         by_test false e = refl
         by_test true e =
             let some : 0 < place - 5 = grind (arith, nat_tests) in
             let few : place - 5 < n + 1 = grind (arith, nat_tests) in
-            ap (λ (r : ℕ). option_map (with_room r) held)
+            ap (λ (r : Room). option_map (with_room r) held)
             (outputs_else client t rest (place - 5) (λ same. nobody (omega (arith, same, some)) (omega (arith, same, few))))
 
 -- ---- told in order
@@ -336,22 +364,22 @@ clients_changed n effect hand place clients client some few = by_place (ℕ_disc
 settled_changed : (n client : ℕ) (effect : Effect) (hand : List (Option Part)) → 1 ≤ client → client ≤ n → IsSettled (n + 1) hand
     → IsSettled (n + 1) (change (option_map (part_told cell effect)) hand (client_place client))
 settled_changed n client effect hand some few settled =
-    sym (change_placed (at_place (n + 1) (λ c. 0)) (at_place (n + 1) (λ c. 0)) (option_map (part_told cell effect)) (option_map (part_told cell effect)) hand (client_place client)
+    sym (change_placed (at_place (n + 1) (λ c. no_room)) (at_place (n + 1) (λ c. no_room)) (option_map (part_told cell effect)) (option_map (part_told cell effect)) hand (client_place client)
     (λ j other held there. refl)
     (λ held there.
-    ap (option_map (part_told cell effect)) (here_room n (λ c. 0) client held some few)
+    ap (option_map (part_told cell effect)) (here_room n (λ c. no_room) client held some few)
     ∙ here held
-    ∙ sym (here_room n (λ c. 0) client (option_map (part_told cell effect) held) some few)))
+    ∙ sym (here_room n (λ c. no_room) client (option_map (part_told cell effect) held) some few)))
     ∙ ap (λ (l : List (Option Part)). change (option_map (part_told cell effect)) l (client_place client)) settled
   where
-    here : (held : Option Part) → option_map (part_told cell effect) (option_map (with_room 0) held) ≡ option_map (with_room 0) (option_map (part_told cell effect) held)
+    here : (held : Option Part) → option_map (part_told cell effect) (option_map (with_room no_room) held) ≡ option_map (with_room no_room) (option_map (part_told cell effect) held)
     here None = refl
     here (Some (Client r)) = refl
     here (Some other) = refl
 
 -- what holds of the parts while clients are told what is left
 pub record Tells (n : ℕ) (hand now : List (Option Part)) (done rest : List (ℕ × Told)) : Type 0 where
-  pub parts : now ≡ with_rooms (n + 1) (outputs_to rest) (told_all cell n (effects_told done) hand)
+  pub parts : now ≡ with_rooms (n + 1) (room_to rest) (told_all cell n (effects_told done) hand)
   pub settled : IsSettled (n + 1) (told_all cell n (effects_told done) hand)
   pub clients : AreClients n (told_all cell n (effects_told done) hand)
 
@@ -370,7 +398,7 @@ tells_one n hand now new done rest client t some few tells is =
       parts =
           is ∙ ap (λ (l : List (Option Part)). change (option_map (telling t)) l (client_place client)) tells.parts
           ∙ one_told n client t rest so_far some few tells.clients
-          ∙ ap (with_rooms (n + 1) (outputs_to rest)) (sym next);
+          ∙ ap (with_rooms (n + 1) (room_to rest)) (sym next);
       settled = subst (IsSettled (n + 1)) (sym next) (settled_changed n client (effect_of t) so_far some few tells.settled);
       clients = subst (AreClients n) (sym next) (clients_changed n (effect_of t) so_far (client_place client) tells.clients);
     }
@@ -381,7 +409,7 @@ tells_none n hand now done rest client t nobody tells =
     let so_far = told_all cell n (effects_told done) hand in
     let next = told_next n hand done client t ∙ told_to_none n client (effect_of t) so_far nobody in
     record {
-      parts = tells.parts ∙ none_told n client t rest so_far nobody ∙ ap (with_rooms (n + 1) (outputs_to rest)) (sym next);
+      parts = tells.parts ∙ none_told n client t rest so_far nobody ∙ ap (with_rooms (n + 1) (room_to rest)) (sym next);
       settled = subst (IsSettled (n + 1)) (sym next) tells.settled;
       clients = subst (AreClients n) (sym next) tells.clients;
     }
@@ -407,12 +435,12 @@ tells_next n hand now new done rest client t tells one nobody = by_tests (nat_lt
         let few : client ≤ n = grind (arith, nat_tests) in
         tells_one n hand now new done rest client t some few tells (one some few)
 
-pub clients_roomed : (n last : ℕ) (room : ℕ → ℕ) (hand : List (Option Part)) → AreClients n hand → AreClients n (with_rooms last room hand)
+pub clients_roomed : (n last : ℕ) (room : ℕ → Room) (hand : List (Option Part)) → AreClients n hand → AreClients n (with_rooms last room hand)
 clients_roomed n last room hand clients client some few =
     subst MayBeClient (sym (ap (λ (o : Option (Option Part)). unwrap_or o None) (get_placed (at_place last room) hand (client_place client))))
     (by_value (at_place last room (client_place client)) kind (slice_get hand (client_place client)) (clients client some few))
   where
-    by_room : (o : Option ℕ) (r : RoomyRow) → MayBeClient (Some (room_or_same o (Client r)))
+    by_room : (o : Option Room) (r : RoomyRow) → MayBeClient (Some (room_or_same o (Client r)))
     by_room None r = tt
     by_room (Some m) r = tt
 
@@ -427,12 +455,12 @@ clients_roomed n last room hand clients client some few =
     by_value f each (Some held) may = each held may
 
 -- at first nobody was told anything
-pub tells_first : (n : ℕ) (hand : List (Option Part)) (list : List (ℕ × Told)) → hand ≡ with_rooms (n + 1) (outputs_to list) (without_rooms (n + 1) hand) → AreClients n hand
+pub tells_first : (n : ℕ) (hand : List (Option Part)) (list : List (ℕ × Told)) → hand ≡ with_rooms (n + 1) (room_to list) (without_rooms (n + 1) hand) → AreClients n hand
     → Tells n (without_rooms (n + 1) hand) hand [] list
 tells_first n hand list rooms clients = record {
   parts = rooms;
-  settled = rooms_gone (n + 1) (n + 1) (λ client. 0) hand (omega arith);
-  clients = clients_roomed n (n + 1) (λ client. 0) hand clients;
+  settled = rooms_gone (n + 1) (n + 1) (λ client. no_room) hand (omega arith);
+  clients = clients_roomed n (n + 1) (λ client. no_room) hand clients;
 }
 
 pub room_there : (n : ℕ) (hand now : List (Option Part)) (done rest : List (ℕ × Told)) (client : ℕ) (t : Told) → Tells n hand now done ((client, t) ∷ rest)

@@ -4,7 +4,7 @@ use Rattle.mms_types.specs.declared.event.CellEvent.{CellEvent}
 use Rattle.parted_state.specs.Served as parted
 use Rattle.mms_step.specs.declared.part.Part.{Part}
 use Rattle.mms_step.specs.Partition.{cell}
-use Rattle.mms_step.specs.Serving.{services}
+use Rattle.cell_services.specs.Serving.{services}
 
 -- the held parts after an event: those that it wants become as the state has them after the step, and the others stay
 abbrev pub after : CellEvent → List (Option Part) → List (Option Part)

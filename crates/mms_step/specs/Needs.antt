@@ -1,15 +1,17 @@
 -- Which parts an event needs (this profile's choice).
-use Rattle.std.specs.Prelude.{ℕ, Bool, Option, List, [], ◌++◌, map, if◌then◌else◌}
+use Rattle.std.specs.Prelude.{ℕ, Bool, ◌&&◌, nat_le, Option, List, [], ◌++◌, filter, map, if◌then◌else◌}
 use Rattle.mms_types.specs.declared.event.CellEvent.{CellEvent}
 use Rattle.parted_state.specs.Cut as cut
+use Rattle.parted_state.specs.Lifted.{tables_shown}
 use Rattle.parted_state.specs.Served as parted
 use Rattle.mms_step.specs.declared.part.Part.{Part}
 use Rattle.mms_step.specs.State.{State}
 use Rattle.association.specs.Client.{ClientRow}
-use Rattle.mms_step.specs.Association.{Verdict, verdict}
-use Rattle.mms_step.specs.Meant.{no_tables}
-use Rattle.mms_step.specs.Serving.{services, heard_asks, heard_more}
-use Rattle.mms_step.specs.Partition.{cell, parts_of, state_in}
+use Rattle.cell_services.specs.Association.{Verdict, verdict}
+use Rattle.cell_services.specs.Meant.{no_tables}
+use Rattle.cell_services.specs.Serving.{services, abort_asks, aborted, all_told, also_lost, also_told, heard_asks, heard_more, loss_asks, meanwhile}
+use Rattle.sem_ticks.specs.declared.ticks.Happening.{Happening}
+use Rattle.mms_step.specs.Partition.{cell, client_place, parts_of, state_in}
 
 abbrev pub is_held : List (Option Part) → ℕ → Bool
 is_held hand place = cut.is_held hand place
@@ -39,12 +41,34 @@ placed n tables = map (parted.table_place cell n) tables
 abbrev pub two_stages : List (Option Part) → List ℕ → List ℕ → List ℕ
 two_stages hand first second = cut.missing hand (first ++ (if cut.are_held hand first then second else []))
 
--- what a verdict on what a client sends needs, and so what its octets need, once its part is held
+-- the parts of those of clients 1 to n that are among these
+abbrev pub client_parts : ℕ → List ℕ → List ℕ
+client_parts n clients = map client_place (filter (λ c. nat_le 1 c && nat_le c n) clients)
+
+-- what a verdict on what a client sends needs, and so what its octets need, once its part is held: the tables that it uses, in two stages, and then the parts of
+-- those that are told something besides
+abbrev pub also_parts : ℕ → List (Option Part) → ClientRow → Verdict → List ℕ
+also_parts n hand row v = parted.told_places cell (also_told (tables_shown cell hand) row v) n
+
 abbrev pub verdict_need : ℕ → List (Option Part) → ClientRow → Verdict → List ℕ
-verdict_need n hand row v = two_stages hand (placed n (heard_asks v)) (placed n (heard_more no_tables row v))
+verdict_need n hand row v =
+    two_stages hand (placed n (heard_asks v))
+    (placed n (heard_more no_tables row v) ++ (if cut.are_held hand (placed n (heard_more no_tables row v)) then also_parts n hand row v else []))
 
 abbrev pub heard_need : ℕ → List (Option Part) → ClientRow → List ℕ → List ℕ
 heard_need n hand row octets = verdict_need n hand row (verdict row octets)
+
+-- what the loss of a client needs, once its part is held
+abbrev pub lost_need : ℕ → List (Option Part) → ClientRow → List ℕ
+lost_need n hand row =
+    two_stages hand (placed n (loss_asks row.association)) (parted.told_places cell (also_lost row.association row.client (tables_shown cell hand)) n)
+
+-- what time that goes by needs, once the clock and the semaphores are held: by what happens meanwhile
+abbrev pub happened_need : ℕ → List (Option Part) → List Happening → List ℕ
+happened_need n hand happened = two_stages hand (placed n (abort_asks (aborted happened))) (parted.told_places cell (all_told happened) n)
+
+abbrev pub time_need : ℕ → List (Option Part) → ℕ → List ℕ
+time_need n hand ms = happened_need n hand (meanwhile ms (tables_shown cell hand)).happened
 
 -- what is shown and isn't held
 abbrev pub need : CellEvent → List (Option Part) → List ℕ

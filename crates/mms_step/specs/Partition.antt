@@ -10,8 +10,9 @@ use Rattle.parted_state.specs.Served as parted
 use Rattle.mms_step.specs.declared.part.Part.{Part}
 use Rattle.mms_step.specs.declared.part.Part.TheVariants.{Clock, Variables, Domains, Programs, Conditions, Journals, Client, Semaphores}
 use Rattle.mms_step.specs.State.{State}
-use Rattle.mms_step.specs.Effects.{Effect, felt}
-use Rattle.mms_step.specs.Tables.{Tables}
+use Rattle.mms_time.specs.Semaphores.{Rows}
+use Rattle.cell_services.specs.Effects.{Effect, felt, settled}
+use Rattle.cell_services.specs.Tables.{Tables}
 use Rattle.variable_services.specs.declared.tables.VariableTables.{VariableTables}
 use Rattle.variable_services.specs.Services.{no_variables}
 
@@ -34,16 +35,13 @@ tables_many = 7
 abbrev pub clients_among : ℕ → ℕ
 clients_among places = places - tables_many
 
--- a client's row as a part; between events there is no room in it that is promised
-abbrev pub settled : ClientRow → RoomyRow
-settled row = record { row = row; output_room = 0; waiting_room = 0 }
-
+-- a client's row as a part
 abbrev pub client_part : ClientRow → Part
 client_part row = Client (settled row)
 
 -- the parts of a state
 abbrev pub parts_of : State → List Part
-parts_of s = Clock s.now ∷ Variables s.variables ∷ Domains ∷ Programs ∷ Conditions ∷ Journals ∷ (map client_part s.clients ++ Semaphores ∷ [])
+parts_of s = Clock s.now ∷ Variables s.variables ∷ Domains ∷ Programs ∷ Conditions ∷ Journals ∷ (map client_part s.clients ++ Semaphores s.semaphores ∷ [])
 
 -- ---- what held parts show
 
@@ -62,6 +60,14 @@ variables_or variables other = variables
 
 abbrev pub variables_in : Option Part → VariableTables
 variables_in part = variables_or no_variables part
+
+-- the semaphores, where they are held, and else these
+abbrev pub semaphores_or : Rows → Option Part → Rows
+semaphores_or semaphores (Some (Semaphores held)) = held
+semaphores_or semaphores other = semaphores
+
+abbrev pub semaphores_in : Option Part → Rows
+semaphores_in part = semaphores_or [] part
 
 -- what stands where there is no client
 abbrev pub no_device : Constants
@@ -85,7 +91,7 @@ abbrev pub client_in : Option Part → RoomyRow
 client_in (Some (Client client)) = client
 client_in other = settled no_client
 
--- the part of a client with its row changed, the clock with its moment changed, and variables that are changed
+-- the part of a client with its row changed, the clock with its moment changed, and variables and semaphores that are changed
 abbrev pub on_client : (ClientRow → ClientRow) → Part → Part
 on_client f (Client client) = client_part (f client.row)
 on_client f other = other
@@ -98,6 +104,10 @@ abbrev pub on_variables : (VariableTables → VariableTables) → Part → Part
 on_variables f (Variables variables) = Variables (f variables)
 on_variables f other = other
 
+abbrev pub on_semaphores : (Rows → Rows) → Part → Part
+on_semaphores f (Semaphores semaphores) = Semaphores (f semaphores)
+on_semaphores f other = other
+
 -- a client's part is held
 abbrev pub IsClient : Option Part → Type 0
 IsClient part = part ≡ Some (Client (client_in part))
@@ -107,19 +117,23 @@ IsClient part = part ≡ Some (Client (client_in part))
 -- Where a part isn't held, its table is empty in what is shown.
 abbrev pub cell : Device State Tables ClientRow Effect Part
 cell = record {
-  tables_of = λ s. record { now = s.now; variables = s.variables };
+  tables_of = λ s. record { now = s.now; variables = s.variables; semaphores = s.semaphores };
   clients_of = λ s. s.clients;
-  state_of = λ t rows. record { now = t.now; variables = t.variables; clients = rows };
-  table_parts = λ t. Clock t.now ∷ Variables t.variables ∷ Domains ∷ Programs ∷ Conditions ∷ Journals ∷ Semaphores ∷ [];
+  state_of = λ t rows. record { now = t.now; variables = t.variables; semaphores = t.semaphores; clients = rows };
+  table_parts = λ t. Clock t.now ∷ Variables t.variables ∷ Domains ∷ Programs ∷ Conditions ∷ Journals ∷ Semaphores t.semaphores ∷ [];
   tables = tables_many;
   last = 5;
   client_part = client_part;
-  tables_in = λ hand. record { now = clock_in (held_at hand 0); variables = variables_in (held_at hand 1) };
+  tables_in = λ hand. record {
+    now = clock_in (held_at hand 0);
+    variables = variables_in (held_at hand 1);
+    semaphores = semaphores_in (held_at hand 6);
+  };
   row_in = row_in;
   nobody = no_client;
   felt = felt;
 }
 
--- the state that held parts show: the moment, the variables, and the rows of the clients
+-- the state that held parts show: the moment, the variables, the semaphores, and the rows of the clients
 abbrev pub state_in : List (Option Part) → State
 state_in hand = parted.state_in cell hand

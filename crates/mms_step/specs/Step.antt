@@ -7,9 +7,10 @@ use Rattle.mms_types.specs.declared.event.CellEvent.TheVariants.{Tick}
 use Rattle.association.specs.Client.{ClientRow}
 use Rattle.cell_config.specs.declared.config.Config.{Config}
 use Rattle.parted_state.specs.Served as parted
-use Rattle.mms_step.specs.State.{State, start, last_moment}
+use Rattle.mms_step.specs.State.{State, start}
+use Rattle.cell_services.specs.Tables.{last_moment}
 use Rattle.mms_step.specs.Partition.{cell}
-use Rattle.mms_step.specs.Serving.{services}
+use Rattle.cell_services.specs.Serving.{services}
 
 -- one event: the tables become what it makes of them, and each client's row what it is told
 abbrev pub step : State → CellEvent → State

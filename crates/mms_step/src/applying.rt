@@ -1,31 +1,35 @@
 //! One event on the parts that are held.
 
-ghost use Rattle.std.specs.Prelude.{◌≡◌, ℕ, ◌+◌, ◌<◌, ◌≤◌, false, true, [], length, slice_set, None, Some, OnOk, OnErr, OnSome, IfOk, IfNone, IfSome};
+ghost use Rattle.std.specs.Prelude.{◌≡◌, ℕ, ◌+◌, ◌<◌, ◌≤◌, false, true, [], length, slice_set, None, Some, Result, OnOk, OnErr, OnSome, IfOk, IfNone, IfSome};
+ghost use Rattle.std.specs.Box.{box_value};
 ghost use Rattle.std.specs.Option.{option_map};
 ghost use Rattle.mms_types.specs.Actors.{IsAmong};
 ghost use Rattle.mms_types.specs.declared.event.CellEvent.TheVariants.{Drain};
 ghost use Rattle.association.specs.Client.{drained_row};
+ghost use Rattle.mms_types.specs.declared.pdu.Pdu.{Pdu};
+ghost use Rattle.mms_pdu.specs.Heard.{pdu_heard};
+ghost use Rattle.mms_pdu.specs.Hearing.{Hears};
 ghost use Rattle.part_table.specs.Held.{held_at, places_held, IsHandOf};
 ghost use Rattle.parted_state.specs.Lifted.{put_in_place, tables_shown};
 ghost use Rattle.parted_state.specs.Served.{change};
 ghost use Rattle.mms_step.specs.State.{State, IsSound};
-ghost use Rattle.mms_step.specs.Association.{verdict, Takes};
+ghost use Rattle.cell_services.specs.Association.{verdict, verdict_by, Takes};
 ghost use Rattle.mms_step.specs.Step.{step, IsInTime};
 ghost use Rattle.mms_step.specs.Partition.{cell, parts_of, clients_among, clock_in, client_place, outbox_held, on_client, IsClient};
 ghost use Rattle.mms_step.specs.Needs.{need};
-ghost use Rattle.mms_step.specs.Reads.{IsDeep, IsReadOf, IsReadingOf};
-ghost use Rattle.mms_step.specs.Acts.{act_done, row_held, verdict_read, AreDone, HoldsOwn, IsActOf, IsActTimely, IsHeardInPlace, IsOwnAmong};
-ghost use Rattle.mms_step.specs.Serving.{hears};
+ghost use Rattle.cell_services.specs.Reads.{IsDeep, IsReadOf, IsReadingOf};
+ghost use Rattle.cell_services.specs.Acts.{act_done, verdict_read, IsActOf};
+ghost use Rattle.mms_step.specs.Tasks.{row_held, AreDone, HoldsOwn, IsHeardInPlace};
+ghost use Rattle.cell_services.specs.Serving.{hears};
 ghost use Rattle.mms_step.specs.After.{after};
 
 use crate::needs::client_held;
-use crate::planning::Act;
-use crate::reading::{Reading, read};
-use crate::serving::serve;
-use crate::tables::{BEFORE_CLIENTS, clients_of};
+use crate::serving::{Task, serve};
+use crate::tables::{BEFORE_CLIENTS, VARIABLES, clients_of};
 use crate::{Cell, Part};
-use mms_pdu::{Read, Refusal};
-use mms_types::{CellEvent, Memory, Request, What};
+use cell_services::{Act, Reading, wants_memory};
+use mms_pdu::{Read, Refusal, read_pdu_to};
+use mms_types::{CellEvent, Edition, Memory, Request, What};
 use part_table::Hand;
 use std::alloc::Global;
 
@@ -52,6 +56,22 @@ fn put_client(held: &mut Hand<Cell>, client: u32, part: Box<Part>)
     held.put(BEFORE_CLIENTS + client, part);
 }
 
+/// Takes the part of the variables out of its place, where it is held.
+fn take_variables(held: &mut Hand<Cell>) -> Option<Box<Part>>
+    ensures part { option_map box_value result ≡ held_at held.old 1 }
+    ensures left { held.new ≡ slice_set held.old 1 None }
+{
+    held.take(u32::from(VARIABLES))
+}
+
+/// Puts the part of the variables into its place.
+fn put_variables(held: &mut Hand<Cell>, part: Box<Part>)
+    requires place { 1 < length held.old }
+    ensures { held.new ≡ slice_set held.old 1 (Some part.value) }
+{
+    held.put(u32::from(VARIABLES), part);
+}
+
 /// Lets a client hear what was read from it. Where no table is used, all of it is done; otherwise that is answered
 /// which is to be done on the tables, and all is as before, as it is without memory.
 fn hear_own<'a>(
@@ -67,14 +87,14 @@ fn hear_own<'a>(
         (IsHeardInPlace client (verdict_read (row_held held.old client) read.now)
         held.old held.new)) }
     ensures left { IfOk result (λ left. IfSome left
-        (IsActOf client (row_held held.old client)
+        (IsActOf (row_held held.old client)
         (verdict_read (row_held held.old client) read.now))) }
     ensures same { IfOk result (λ left. OnSome left (held.new ≡ held.old)) }
     ensures kept { OnErr result (held.new ≡ held.old) }
 {
     let mut part = take_client(held, client);
     let heard = match &mut *part {
-        Part::Client(own) => own.hear(alloc, client, read),
+        Part::Client(own) => own.hear(alloc, read),
         _ => unreachable!(),
     };
     put_client(held, client, part);
@@ -106,7 +126,8 @@ fn serve_parts(
 }
 
 /// Serves a client's request that reads or writes variables, which are asked most, on its part and theirs as they are
-/// held, without lifting tables. False for any other request, and where the variables aren't held; then all is as before.
+/// held, without lifting tables. False for any other request, and where the variables aren't held; then all is as
+/// before.
 fn serve_on_variables(
     alloc: Global,
     held: &mut Hand<Cell>,
@@ -124,17 +145,14 @@ fn serve_on_variables(
     ensures same { IfOk result (λ done. done ≡ false → held.new ≡ held.old) }
     ensures kept { OnErr result (held.new ≡ held.old) }
 {
-    let place = BEFORE_CLIENTS + client;
-    let Some(mut part) = held.take(place) else {
-        unreachable!()
-    };
-    let Some(mut table) = held.take(1) else {
-        held.put(place, part);
+    let mut part = take_client(held, client);
+    let Some(mut table) = take_variables(held) else {
+        put_client(held, client, part);
         return Ok(false);
     };
     let done = serve_parts(alloc, &mut part, &mut table, invoke, asked);
-    held.put(1, table);
-    held.put(place, part);
+    put_variables(held, table);
+    put_client(held, client, part);
     done
 }
 
@@ -161,35 +179,34 @@ fn finish_request(
         Err(error) => Err(error),
         Ok(true) => Ok(()),
         Ok(false) => {
-            let act = Act::Request {
-                client,
-                invoke,
-                asked,
-            };
-            serve(alloc, held, clients, &act)
+            let act = Act::Request { invoke, asked };
+            serve(alloc, held, clients, &Task::Client(client, act))
         }
     }
 }
 
 /// Does what is left of what a client sent, whose part is held.
-fn finish(alloc: Global, held: &mut Hand<Cell>, clients: u32, act: &Act<'_>) -> Result<(), Memory>
+fn finish(
+    alloc: Global,
+    held: &mut Hand<Cell>,
+    clients: u32,
+    client: u32,
+    act: &Act<'_>,
+) -> Result<(), Memory>
     requires of { (s : State) × IsHandOf held.old (parts_of s) }
     requires many { clients ≡ clients_among (length held.old) }
     requires few { clients ≤ 64 }
-    requires own { HoldsOwn act.now held.old }
-    requires among { IsOwnAmong clients act.now }
-    requires time { IsActTimely act.now (tables_shown cell held.old) }
-    ensures put { OnOk result (held.new
-        ≡ put_in_place cell (act_done (tables_shown cell held.old) held.old act.now) held.old) }
+    requires among { (1 ≤ client) × (client ≤ clients) }
+    requires held { IsClient (held_at held.old (client_place client)) }
+    ensures put { OnOk result (held.new ≡ put_in_place cell (act_done
+        (tables_shown cell held.old) (row_held held.old client) client act.now) held.old) }
     ensures kept { OnErr result (held.new ≡ held.old) }
 {
     match *act {
-        Act::Request {
-            client,
-            invoke,
-            asked,
-        } => finish_request(alloc, held, clients, client, invoke, asked),
-        _ => serve(alloc, held, clients, act),
+        Act::Request { invoke, asked } => {
+            finish_request(alloc, held, clients, client, invoke, asked)
+        }
+        _ => serve(alloc, held, clients, &Task::Client(client, *act)),
     }
 }
 
@@ -214,8 +231,60 @@ fn hear_read(
 {
     match hear_own(alloc, held, client, read)? {
         None => Ok(()),
-        Some(act) => finish(alloc, held, clients, &act),
+        Some(act) => finish(alloc, held, clients, client, &act),
     }
+}
+
+/// Lets a client hear what was read from it, unless memory was wanting to read it.
+fn hear_told(
+    alloc: Global,
+    held: &mut Hand<Cell>,
+    clients: u32,
+    client: u32,
+    read: &Result<Read, Refusal>,
+) -> Result<(), Memory>
+    requires of { (s : State) × IsHandOf held.old (parts_of s) }
+    requires many { clients ≡ clients_among (length held.old) }
+    requires few { clients ≤ 64 }
+    requires among { (1 ≤ client) × (client ≤ clients) }
+    requires depth { IsDeep read.now }
+    requires held { IsClient (held_at held.old (client_place client)) }
+    ensures heard { (told : Result Pdu Refusal) → Hears (λ r. r.pdu) read.now told
+        → OnOk result (held.new ≡ put_in_place cell
+        (hears (tables_shown cell held.old) (row_held held.old client) client
+        (verdict_by (row_held held.old client).association (row_held held.old client) told))
+        held.old) }
+    ensures kept { OnErr result (held.new ≡ held.old) }
+{
+    if wants_memory(read) {
+        return Err(Memory);
+    }
+    hear_read(alloc, held, clients, client, read)
+}
+
+/// Lets octets be heard from a client of that edition, which are read here.
+fn hear_octets(
+    alloc: Global,
+    held: &mut Hand<Cell>,
+    clients: u32,
+    client: u32,
+    octets: &[u8],
+    edition: Edition,
+) -> Result<(), Memory>
+    requires of { (s : State) × IsHandOf held.old (parts_of s) }
+    requires many { clients ≡ clients_among (length held.old) }
+    requires few { clients ≤ 64 }
+    requires among { (1 ≤ client) × (client ≤ clients) }
+    requires held { IsClient (held_at held.old (client_place client)) }
+    ensures heard { OnOk result (held.new ≡ put_in_place cell
+        (hears (tables_shown cell held.old) (row_held held.old client) client
+        (verdict_by (row_held held.old client).association (row_held held.old client)
+        (pdu_heard edition octets.now))) held.old) }
+    ensures kept { OnErr result (held.new ≡ held.old) }
+{
+    let mut read = Err(Refusal::Memory);
+    read_pdu_to(alloc, octets, edition, &mut read);
+    hear_told(alloc, held, clients, client, &read)
 }
 
 /// Lets octets be heard from a client, of which that was read.
@@ -241,7 +310,7 @@ fn hear_from(
     let edition = client_held(held, client).constants().edition;
     match reading.by(edition) {
         Some(read) => hear_read(alloc, held, clients, client, read),
-        None => hear_read(alloc, held, clients, client, &read(alloc, octets, edition)?),
+        None => hear_octets(alloc, held, clients, client, octets, edition),
     }
 }
 
@@ -295,8 +364,13 @@ pub fn apply_read(
         CellEvent::Heard { client, octets } => {
             hear_from(alloc, held, clients, *client, octets.as_slice(), reading)
         }
-        CellEvent::Lost { client } => serve(alloc, held, clients, &Act::Loss { client: *client }),
-        CellEvent::Tick { ms } => serve(alloc, held, clients, &Act::Time { ms: *ms }),
+        CellEvent::Lost { client } => serve(
+            alloc,
+            held,
+            clients,
+            &Task::Client(*client, Act::Loss),
+        ),
+        CellEvent::Tick { ms } => serve(alloc, held, clients, &Task::Time(*ms)),
         CellEvent::Ends { .. } => Ok(()),
         CellEvent::Drain { client } => {
             let _outputs = drain(*client, held);

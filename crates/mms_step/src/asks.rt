@@ -3,11 +3,11 @@
 ghost use Rattle.std.specs.Prelude.{◌≡◌, ◌≤◌, [], ◌∷◌, MatchOption};
 ghost use Rattle.std.specs.List.{list_any};
 ghost use Rattle.parted_state.specs.Sets.{IsSetOf};
-ghost use Rattle.mms_step.specs.Meant.{no_tables};
+ghost use Rattle.cell_services.specs.Meant.{no_tables};
 ghost use Rattle.mms_step.specs.Needs.{placed};
-ghost use Rattle.mms_step.specs.Services.{accesses_domain, class_tables, deletes_domain, is_of_domain, listing, lists_domain, request_asks, request_more, specifies_domain, variable_asks};
+ghost use Rattle.cell_services.specs.Services.{accesses_domain, class_tables, deletes_domain, is_of_domain, listing, lists_domain, request_asks, request_more, semaphore_asks, specifies_domain, variable_asks};
 
-use crate::tables::{CONDITIONS, DOMAINS, JOURNALS, PROGRAMS, VARIABLES, semaphores};
+use crate::tables::{CLOCK, CONDITIONS, DOMAINS, JOURNALS, PROGRAMS, VARIABLES, semaphores};
 use association::ClientPart;
 use mms_types::{
     Access, DeleteNames, ObjectClass, ObjectName, ObjectNames, ObjectScope, Request, Spec,
@@ -120,6 +120,18 @@ fn variable_asks(of_domain: bool, clients: u32) -> Parts
     }
 }
 
+/// The parts of the semaphores and of the clock, and that of the domains where one is written in the request.
+fn semaphore_asks(of_domain: bool, clients: u32) -> Parts
+    requires few { clients ≤ 64 }
+    ensures { IsSetOf result (placed clients (semaphore_asks of_domain)) }
+{
+    if of_domain {
+        Parts::of(&[DOMAINS, semaphores(clients), CLOCK])
+    } else {
+        Parts::of(&[semaphores(clients), CLOCK])
+    }
+}
+
 /// The parts of the tables that a request uses, by its words, with so many clients.
 pub(crate) fn request_asks(asked: &Request, clients: u32) -> Parts
     requires few { clients ≤ 64 }
@@ -145,6 +157,18 @@ pub(crate) fn request_asks(asked: &Request, clients: u32) -> Parts
             clients,
         ),
         Request::DeleteNamedVariableList(asked) => variable_asks(deletes_domain(asked), clients),
+        Request::TakeControl(asked) => semaphore_asks(is_of_domain(&asked.get().name), clients),
+        Request::RelinquishControl(asked) => semaphore_asks(is_of_domain(&asked.name), clients),
+        Request::DefineSemaphore(asked) => semaphore_asks(is_of_domain(&asked.name), clients),
+        Request::DeleteSemaphore(name) | Request::ReportSemaphoreStatus(name) => {
+            semaphore_asks(is_of_domain(name), clients)
+        }
+        Request::ReportPoolSemaphoreStatus(asked) => {
+            semaphore_asks(is_of_domain(&asked.name), clients)
+        }
+        Request::ReportSemaphoreEntryStatus(asked) => {
+            semaphore_asks(is_of_domain(&asked.name), clients)
+        }
     }
 }
 
@@ -167,6 +191,13 @@ pub(crate) fn request_more(part: &ClientPart, asked: &Request, clients: u32) -> 
         | Request::DeleteVariableAccess(_)
         | Request::DefineNamedVariableList(_)
         | Request::GetNamedVariableListAttributes(_)
-        | Request::DeleteNamedVariableList(_) => Parts::new(),
+        | Request::DeleteNamedVariableList(_)
+        | Request::TakeControl(_)
+        | Request::RelinquishControl(_)
+        | Request::DefineSemaphore(_)
+        | Request::DeleteSemaphore(_)
+        | Request::ReportSemaphoreStatus(_)
+        | Request::ReportPoolSemaphoreStatus(_)
+        | Request::ReportSemaphoreEntryStatus(_) => Parts::new(),
     }
 }

@@ -1,6 +1,29 @@
 //! What holds of every state and every history.
 
-ghost use Rattle.std.specs.Prelude.{◌≡◌, ℕ, ◌≤◌, true, [], List, Option, None, Some, map, length, slice_get, Contains};
+ghost use Rattle.std.specs.Prelude.{◌≡◌, ◌⊎◌, ℕ, ◌+◌, ◌<◌, ◌≤◌, true, [], List, All, Option, None, Some, filter, map, length, slice_get, Contains};
+ghost use Rattle.std.specs.Map.{lookup};
+ghost use Rattle.mms_types.specs.Order.{key_eq};
+ghost use Rattle.mms_types.specs.declared.key.Key.{Key};
+ghost use Rattle.mms_types.specs.declared.pdu.Request.{Request};
+ghost use Rattle.mms_types.specs.declared.pdu.Request.TheVariants as request;
+ghost use Rattle.mms_types.specs.declared.semaphore.RelinquishControl.{RelinquishControl};
+ghost use Rattle.mms_types.specs.declared.event.CellEvent.TheVariants.{Heard, Lost, Tick};
+ghost use Rattle.association.specs.declared.negotiation.Association.TheVariants.{Open};
+ghost use Rattle.association.specs.declared.negotiation.Negotiated.{Negotiated};
+ghost use Rattle.token_sem.specs.Semaphore.{Rises, Sem, is_queued, tokens_held};
+ghost use Rattle.token_sem.specs.declared.entry.Grant.{Grant};
+ghost use Rattle.mms_time.specs.Deadlines.{all_deadlines};
+ghost use Rattle.mms_time.specs.Loss.{lost_grants};
+ghost use Rattle.mms_time.specs.Services.{relinquish_grant};
+ghost use Rattle.mms_time.specs.declared.row.Semaphore.TheVariants.{Token};
+ghost use Rattle.mms_time.specs.declared.row.SemaphoreRow.{SemaphoreRow};
+ghost use Rattle.sem_ticks.specs.declared.ticks.Happening.TheVariants.{Grants};
+ghost use Rattle.parted_state.specs.Served.{done_of, row_at};
+ghost use Rattle.cell_services.specs.Association.{Verdict, Takes, Concludes, Aborts, verdict};
+ghost use Rattle.cell_services.specs.Serving.{also_told, is_served, meanwhile, own_told, services};
+ghost use Rattle.cell_services.specs.Tables.{Tables};
+ghost use Rattle.association.specs.Client.{ClientRow};
+ghost use Rattle.mms_step.specs.Answered.{AnswersOrWaits, AreAnswered, IsAnswered};
 ghost use Rattle.mms_types.specs.declared.event.CellEvent.{CellEvent};
 ghost use Rattle.mms_types.specs.Actors.{IsAmong};
 ghost use Rattle.part_table.specs.Held.{held_at, IsHandOf};
@@ -9,7 +32,7 @@ ghost use Rattle.cell_config.specs.Said.{IsConfig};
 ghost use Rattle.mms_step.specs.declared.part.Part.{Part};
 ghost use Rattle.mms_step.specs.State.{State, HasDate, IsSound, start};
 ghost use Rattle.mms_step.specs.Step.{step, replay, MayFollow};
-ghost use Rattle.mms_step.specs.Partition.{parts_of};
+ghost use Rattle.mms_step.specs.Partition.{cell, parts_of};
 ghost use Rattle.mms_step.specs.Needs.{need, shown, is_held};
 ghost use Rattle.mms_step.specs.After.{parts_after};
 
@@ -34,13 +57,92 @@ pub fn a_step_is_of_the_held_parts()
 {}
 
 /// Every state is sound that the device reaches from its start: its clients are as many as they were, each in its
-/// place, and no more requests of one wait than it may have, each with the number of one of the events. Where the
-/// events are some that may come, its moment is one that six octets name.
+/// place, and no more requests of one wait than it may have, each with the number of one of the events; its semaphores
+/// are sound, and each deadline lies ahead. Where the events are some that may come, its moment is one that six octets
+/// name.
 pub fn each_state_is_sound()
     ensures sound { (config : Config) (history : List CellEvent) → IsConfig config
         → IsSound (length history) (replay config history) }
     ensures dated { (config : Config) (history : List CellEvent) → IsConfig config
         → MayFollow (start config) history → HasDate (replay config history) }
+{}
+
+/// No token of a semaphore is owned twice, after any history: no more are owned or hung than there are, and each by an
+/// entry with a number of its own.
+pub fn no_token_is_owned_twice()
+    ensures held { (config : Config) (history : List CellEvent) (key : Key) (row : SemaphoreRow)
+        (tokens : Sem) → IsConfig config
+        → lookup (key_eq key) (replay config history).semaphores ≡ Some row
+        → row.semaphore ≡ Token tokens → tokens_held tokens.entries ≤ tokens.tokens }
+    ensures numbers { (config : Config) (history : List CellEvent) (key : Key) (row : SemaphoreRow)
+        (tokens : Sem) → IsConfig config
+        → lookup (key_eq key) (replay config history).semaphores ≡ Some row
+        → row.semaphore ≡ Token tokens → Rises 0 tokens.entries tokens.made }
+{}
+
+/// No free token is waited for, after any history.
+pub fn no_free_token_is_waited_for()
+    ensures { (config : Config) (history : List CellEvent) (key : Key) (row : SemaphoreRow)
+        (tokens : Sem) → IsConfig config
+        → lookup (key_eq key) (replay config history).semaphores ≡ Some row
+        → row.semaphore ≡ Token tokens → tokens_held tokens.entries < tokens.tokens
+        → filter is_queued tokens.entries ≡ [] }
+{}
+
+/// Every deadline of a semaphore lies ahead, after any history.
+pub fn every_deadline_lies_ahead()
+    ensures { (config : Config) (history : List CellEvent) → IsConfig config
+        → All (λ d. (replay config history).now < d.at.0)
+        (all_deadlines (replay config history).semaphores) }
+{}
+
+/// Two ticks are one: the state after both is that after one of both, what is to be sent included.
+pub fn two_ticks_are_one()
+    ensures { (s : State) (first second : ℕ)
+        → step (step s (Tick first)) (Tick second) ≡ step s (Tick (first + second)) }
+{}
+
+/// Who is granted a token is answered at once: after the event in which the token is freed, the answer to its request
+/// is among what is to be sent to it. A token is freed where a client gives it back, where a client ends its
+/// association or loses it, and where time goes by.
+pub fn a_grant_is_answered_at_once()
+    ensures given_back { (s : State) (client : ℕ) (octets : List ℕ) (g : Grant) (invoke : ℕ)
+        (asked : RelinquishControl)
+        → verdict (row_at cell client s.clients) octets
+        ≡ Takes invoke (request.RelinquishControl asked)
+        → is_served (cell.tables_of s) (row_at cell client s.clients) invoke
+        (request.RelinquishControl asked) ≡ true
+        → relinquish_grant (row_at cell client s.clients).client asked s.semaphores
+        ≡ Some (Some g)
+        → IsAnswered (step s (Heard client octets)) g }
+    ensures left { (s : State) (client : ℕ) (octets : List ℕ) (g : Grant) (v : Verdict)
+        → verdict (row_at cell client s.clients) octets ≡ v → (v ≡ Concludes) ⊎ (v ≡ Aborts)
+        → Contains
+        (lost_grants (row_at cell client s.clients).client (record { 0 = s.now }) s.semaphores) g
+        → IsAnswered (step s (Heard client octets)) g }
+    ensures lost { (s : State) (client : ℕ) (g : Grant) (values : Negotiated)
+        → (row_at cell client s.clients).association ≡ Open values
+        → Contains
+        (lost_grants (row_at cell client s.clients).client (record { 0 = s.now }) s.semaphores) g
+        → IsAnswered (step s (Lost client)) g }
+    ensures ticked { (s : State) (ms : ℕ) (g : Grant)
+        → Contains (meanwhile ms (cell.tables_of s)).happened (Grants g)
+        → IsAnswered (step s (Tick ms)) g }
+{}
+
+/// Each request that is taken is answered in that event by one output, or its client is told that it waits, and nothing
+/// is sent for it then.
+pub fn each_request_is_answered_or_waits()
+    ensures { (t : Tables) (row : ClientRow) (invoke : ℕ) (asked : Request)
+        → AnswersOrWaits row.client invoke (own_told t row (Takes invoke asked))
+        (also_told t row (Takes invoke asked)) }
+{}
+
+/// A request that waits no more is answered in that event, unless the association of its client ends: where a client is
+/// told that a request of it waits no more, it is told a positive answer to it or why it is refused.
+pub fn a_request_that_waits_no_more_is_answered()
+    ensures { (s : State) (event : CellEvent)
+        → AreAnswered (done_of cell services s event).told }
 {}
 
 /// Where all parts of a state are held, no event that may come needs more.

@@ -1,32 +1,39 @@
 //! Which parts an event needs.
 
-ghost use Rattle.std.specs.Prelude.{◌≡◌, ℕ, ◌+◌, ◌<◌, ◌≤◌, [], Some, length, IfOk};
+ghost use Rattle.std.specs.Prelude.{◌≡◌, ℕ, ◌+◌, ◌<◌, ◌≤◌, [], true, Some, length, IfOk};
 ghost use Rattle.mms_types.specs.Actors.{IsAmong};
 ghost use Rattle.part_table.specs.Held.{held_at, IsHandOf};
-ghost use Rattle.mms_step.specs.Meant.{meant, no_tables};
+ghost use Rattle.cell_services.specs.Meant.{meant, no_tables};
 ghost use Rattle.mms_step.specs.State.{State, IsSound};
-ghost use Rattle.mms_step.specs.Serving.{heard_asks, heard_more, loss_asks};
-ghost use Rattle.mms_step.specs.Tables.{loss_tables};
+ghost use Rattle.cell_services.specs.Serving.{abort_asks, aborted, heard_asks, heard_more, loss_asks};
+ghost use Rattle.cell_services.specs.Tables.{last_moment, loss_tables};
+ghost use Rattle.mms_types.specs.Moments.{IsDated};
+ghost use Rattle.sem_ticks.specs.Ticks.{ticked};
 ghost use Rattle.parted_state.specs.Cut.{missing};
 ghost use Rattle.parted_state.specs.Sets.{IsSetOf};
-ghost use Rattle.mms_step.specs.Partition.{parts_of, client_place, clients_among, IsClient};
-ghost use Rattle.mms_step.specs.Association.{verdict_by};
-ghost use Rattle.mms_step.specs.Needs.{footprint, heard_need, need, placed, two_stages, verdict_need};
-ghost use Rattle.mms_step.specs.Reads.{pdu_read, IsDeep, IsReadOf, IsReadingOf};
+ghost use Rattle.mms_step.specs.Partition.{parts_of, client_place, clients_among, clock_in, semaphores_in, semaphores_place, IsClient};
+ghost use Rattle.cell_services.specs.Association.{verdict_by};
+ghost use Rattle.mms_step.specs.Needs.{also_parts, client_parts, footprint, happened_need, heard_need, is_held, lost_need, need, placed, time_need, verdict_need};
+ghost use Rattle.mms_step.specs.Step.{IsInTime};
+ghost use Rattle.cell_services.specs.Reads.{pdu_read, IsDeep, IsReadOf, IsReadingOf};
 
 use crate::asks::{request_asks, request_more};
-use crate::reading::{Reading, read};
 use crate::tables::{
     BEFORE_CLIENTS, CLOCK, CONDITIONS, DOMAINS, JOURNALS, PROGRAMS, VARIABLES, clients_of,
     semaphores,
 };
-use crate::verdict::{Found, verdict_of};
 use crate::{Cell, Part};
 use association::ClientPart;
+use cell_services::{
+    Found, Reading, also_told, happened_to, is_lossy, loss_told, read, verdict_of,
+};
 use mms_pdu::{Read, Refusal};
-use mms_types::{CellEvent, Memory};
+use mms_time::{SemaphoreRow, next_due};
+use mms_types::{CellEvent, Memory, Moment};
+use object_names::Named;
 use part_table::Hand;
 use parted_state::Parts;
+use sem_ticks::{Happening, tick};
 use std::alloc::Global;
 
 /// The parts that an event's words alone tell, with so many clients.
@@ -112,18 +119,6 @@ fn unheld(parts: &Parts, held: &Hand<Cell>) -> Parts
     parts.missing(held)
 }
 
-/// Those of the parts that are not held, and where all of them are, those of the further ones.
-fn missing_of(first: &Parts, second: &Parts, held: &Hand<Cell>) -> Parts
-    ensures { IsSetOf result (two_stages held.now first.now second.now) }
-{
-    let missing = first.missing(held);
-    if missing.is_empty() {
-        second.missing(held)
-    } else {
-        missing
-    }
-}
-
 /// The part of a client, which is held.
 pub(crate) fn client_held(held: &Hand<Cell>, client: u32) -> &ClientPart
     requires small { client ≤ 64 }
@@ -136,21 +131,117 @@ pub(crate) fn client_held(held: &Hand<Cell>, client: u32) -> &ClientPart
     }
 }
 
+/// The moment, where the clock is held, and else 0.
+fn now_held(held: &Hand<Cell>) -> Moment
+    ensures moment { result.0 ≡ clock_in (held_at held.now 0) }
+    ensures dated { IsDated result }
+{
+    match held.get(0) {
+        Some(Part::Clock(clock)) => clock.now(),
+        _ => Moment(0),
+    }
+}
+
+/// The semaphores, where they are held, and else none.
+fn semaphores_held<'a>(
+    held: &'a Hand<Cell>,
+    clients: u32,
+    none: &'a Named<SemaphoreRow>,
+) -> &'a Named<SemaphoreRow>
+    requires few { clients ≤ 64 }
+    requires none { none.now ≡ [] }
+    ensures { result.now ≡ semaphores_in (held_at held.now (semaphores_place clients)) }
+{
+    match held.get(u32::from(semaphores(clients))) {
+        Some(Part::Semaphores(semaphores)) => semaphores,
+        _ => none,
+    }
+}
+
+/// The parts of those clients.
+fn client_parts(told: &[u32], clients: u32) -> Parts
+    requires few { clients ≤ 64 }
+    ensures { IsSetOf result (client_parts clients told.now) }
+{
+    let mut parts = Parts::new();
+    for &client in told {
+        if 1 <= client && client <= clients {
+            parts.push((BEFORE_CLIENTS + client) as u8);
+        }
+    }
+    parts
+}
+
+/// Those parts of clients that are told something that are not held.
+fn untold(told: &[u32], clients: u32, held: &Hand<Cell>) -> Parts
+    requires few { clients ≤ 64 }
+    ensures { IsSetOf result (missing held.now (client_parts clients told.now)) }
+{
+    client_parts(told, clients).missing(held)
+}
+
+/// What is needed of the parts of those that are told something beside the one that is heard.
+fn also_need(
+    alloc: Global,
+    clients: u32,
+    held: &Hand<Cell>,
+    part: &ClientPart,
+    found: &Found<'_>,
+) -> Result<Parts, Memory>
+    requires many { clients ≡ clients_among (length held.now) }
+    requires few { clients ≤ 64 }
+    requires own { is_held held.now (client_place part.now.row.client) ≡ true }
+    ensures { IfOk result (λ parts. IsSetOf parts
+        (missing held.now (also_parts clients held.now part.now.row (meant found.now)))) }
+{
+    let none = Named::new(alloc);
+    let semaphores = semaphores_held(held, clients, &none);
+    let told = also_told(alloc, semaphores, now_held(held), part, found)?;
+    Ok(untold(&told, clients, held))
+}
+
+/// What a verdict needs, once the part of the client is held.
+fn found_need(
+    alloc: Global,
+    clients: u32,
+    held: &Hand<Cell>,
+    part: &ClientPart,
+    found: &Found<'_>,
+) -> Result<Parts, Memory>
+    requires many { clients ≡ clients_among (length held.now) }
+    requires few { clients ≤ 64 }
+    requires own { is_held held.now (client_place part.now.row.client) ≡ true }
+    ensures { IfOk result (λ parts. IsSetOf parts
+        (verdict_need clients held.now part.now.row (meant found.now))) }
+{
+    let missing = unheld(&heard_asks(found, clients), held);
+    if !missing.is_empty() {
+        return Ok(missing);
+    }
+    let missing = unheld(&heard_more(part, found, clients), held);
+    if !missing.is_empty() {
+        return Ok(missing);
+    }
+    also_need(alloc, clients, held, part, found)
+}
+
 /// What was read from a client needs, once its part is held.
 fn need_of(
+    alloc: Global,
     clients: u32,
     held: &Hand<Cell>,
     part: &ClientPart,
     read: &Result<Read, Refusal>,
 ) -> Result<Parts, Memory>
+    requires many { clients ≡ clients_among (length held.now) }
     requires few { clients ≤ 64 }
+    requires own { is_held held.now (client_place part.now.row.client) ≡ true }
     requires depth { IsDeep read.now }
     ensures { IfOk result (λ parts. IsSetOf parts (verdict_need clients held.now part.now.row
         (verdict_by part.now.row.association part.now.row (pdu_read read.now)))) }
 {
     let found = verdict_of(part, read)?;
-    let first = heard_asks(&found, clients);
-    Ok(missing_of(&first, &heard_more(part, &found, clients), held))
+    found_need(alloc, clients, held, part, &found)
 }
 
 /// What octets from a client need, of which that was read, once its part is held.
@@ -162,16 +253,101 @@ fn need_heard(
     octets: &[u8],
     reading: &Reading,
 ) -> Result<Parts, Memory>
+    requires many { clients ≡ clients_among (length held.now) }
     requires few { clients ≤ 64 }
+    requires own { is_held held.now (client_place part.now.row.client) ≡ true }
     requires reading { IsReadOf reading.now octets.now }
     ensures { IfOk result (λ parts.
         IsSetOf parts (heard_need clients held.now part.now.row octets.now)) }
 {
     let edition = part.constants().edition;
     match reading.by(edition) {
-        Some(read) => need_of(clients, held, part, read),
-        None => need_of(clients, held, part, &read(alloc, octets, edition)?),
+        Some(read) => need_of(alloc, clients, held, part, read),
+        None => need_of(alloc, clients, held, part, &read(alloc, octets, edition)?),
     }
+}
+
+/// What the loss of a client needs, once its part is held.
+fn need_lost(
+    alloc: Global,
+    clients: u32,
+    held: &Hand<Cell>,
+    part: &ClientPart,
+) -> Result<Parts, Memory>
+    requires many { clients ≡ clients_among (length held.now) }
+    requires few { clients ≤ 64 }
+    ensures { IfOk result (λ parts. IsSetOf parts (lost_need clients held.now part.now.row)) }
+{
+    let missing = unheld(&loss_asks(part, clients), held);
+    if !missing.is_empty() {
+        return Ok(missing);
+    }
+    let none = Named::new(alloc);
+    let semaphores = semaphores_held(held, clients, &none);
+    let told = loss_told(alloc, semaphores, now_held(held), part)?;
+    Ok(untold(&told, clients, held))
+}
+
+/// The parts of further tables that are used where a client is lost by what happened.
+fn abort_asks(happened: &[Happening], clients: u32) -> Parts
+    requires few { clients ≤ 64 }
+    ensures { IsSetOf result (placed clients (abort_asks (aborted happened.now))) }
+{
+    let _clients = clients;
+    if is_lossy(happened) {
+        Parts::of(&[VARIABLES, DOMAINS, JOURNALS])
+    } else {
+        Parts::new()
+    }
+}
+
+/// What is needed by time that goes by, of which something comes, once the clock and the semaphores are held.
+fn need_happened(
+    clients: u32,
+    held: &Hand<Cell>,
+    alloc: Global,
+    happened: &[Happening],
+) -> Result<Parts, Memory>
+    requires few { clients ≤ 64 }
+    ensures { IfOk result (λ parts. IsSetOf parts
+        (happened_need clients held.now happened.now)) }
+{
+    let missing = unheld(&abort_asks(happened, clients), held);
+    if !missing.is_empty() {
+        return Ok(missing);
+    }
+    let told = happened_to(alloc, happened)?;
+    Ok(untold(&told, clients, held))
+}
+
+/// What happens until a moment. Where no deadline is due, no semaphore is copied.
+#[tactic(auto, using(crate::proofs::Asked::nothing_due))]
+fn happening_until(
+    alloc: Global,
+    semaphores: &Named<SemaphoreRow>,
+    until: Moment,
+) -> Result<Vec<Happening>, Memory>
+    requires { IsDated until }
+    ensures { IfOk result (λ happened. happened.items ≡ (ticked until semaphores.now).happened) }
+{
+    if next_due(semaphores, until).is_none() {
+        return Ok(Vec::new(alloc));
+    }
+    Ok(tick(alloc, semaphores, until)?.happened)
+}
+
+/// What is needed by so many milliseconds that go by, once the clock and the semaphores are held.
+fn need_time(alloc: Global, clients: u32, held: &Hand<Cell>, ms: u32) -> Result<Parts, Memory>
+    requires many { clients ≡ clients_among (length held.now) }
+    requires few { clients ≤ 64 }
+    requires time { clock_in (held_at held.now 0) + ms ≤ last_moment }
+    ensures { IfOk result (λ parts. IsSetOf parts (time_need clients held.now ms)) }
+{
+    let none = Named::new(alloc);
+    let semaphores = semaphores_held(held, clients, &none);
+    let until = Moment(now_held(held).0 + u64::from(ms));
+    let happened = happening_until(alloc, semaphores, until)?;
+    need_happened(clients, held, alloc, &happened)
 }
 
 /// What the words of an event, once the parts are held that they tell, and these parts need.
@@ -187,6 +363,7 @@ fn need_more(
     requires clients { clients ≡ clients_among (length held.now) }
     requires among { IsAmong clients event.now }
     requires words { missing held.now (footprint clients event.now) ≡ [] }
+    requires time { IsInTime (clock_in (held_at held.now 0)) event.now }
     ensures { IfOk result (λ parts. IsSetOf parts (need event.now held.now)) }
 {
     match event {
@@ -196,9 +373,9 @@ fn need_more(
         }
         CellEvent::Lost { client } => {
             let part = client_held(held, *client);
-            Ok(unheld(&loss_asks(part, clients), held))
+            need_lost(alloc, clients, held, part)
         }
-        CellEvent::Tick { .. } => Ok(Parts::new()),
+        CellEvent::Tick { ms } => need_time(alloc, clients, held, *ms),
         CellEvent::Ends { .. } => Ok(Parts::new()),
         CellEvent::Drain { .. } => Ok(Parts::new()),
     }
@@ -206,7 +383,8 @@ fn need_more(
 
 /// The parts that the event's words and the held parts show to be needed, and that are not held. With parts of one
 /// state, more held parts show at least as much. `held` are parts of a state of the device, and a client of the event
-/// is one of its clients. Octets of which nothing was read are read here.
+/// is one of its clients; a tick from a clock that is held ends no later than the last moment. Octets of which nothing
+/// was read are read here.
 pub fn need_read(
     alloc: Global,
     event: &CellEvent,
@@ -216,6 +394,7 @@ pub fn need_read(
     requires of { (s : State) × ((count : ℕ) × IsSound count s) × IsHandOf held.now (parts_of s) }
     requires reading { IsReadingOf reading.now event.now }
     requires among { IsAmong (clients_among (length held.now)) event.now }
+    requires time { IsInTime (clock_in (held_at held.now 0)) event.now }
     ensures { IfOk result (λ parts. IsSetOf parts (need event.now held.now)) }
 {
     let clients = clients_of(held);
@@ -232,6 +411,7 @@ pub fn need_read(
 pub fn need(alloc: Global, event: &CellEvent, held: &Hand<Cell>) -> Result<Parts, Memory>
     requires of { (s : State) × ((count : ℕ) × IsSound count s) × IsHandOf held.now (parts_of s) }
     requires among { IsAmong (clients_among (length held.now)) event.now }
+    requires time { IsInTime (clock_in (held_at held.now 0)) event.now }
     ensures { IfOk result (λ parts. IsSetOf parts (need event.now held.now)) }
 {
     need_read(alloc, event, &Reading::none(), held)

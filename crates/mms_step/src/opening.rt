@@ -7,10 +7,12 @@ ghost use Rattle.variable_services.specs.Services.{configured};
 ghost use Rattle.mms_step.specs.State.{start, device_of};
 ghost use Rattle.mms_step.specs.Partition.{parts_of};
 
-use crate::{Client, Clock, Part};
+use crate::Part;
 use association::Constants;
 use cell_config::Config;
+use cell_services::{Client, Clock};
 use mms_types::Memory;
+use object_names::Named;
 use std::alloc::Global;
 use variable_services::VariableTables;
 
@@ -71,6 +73,6 @@ pub fn start_parts(alloc: Global, config: &Config) -> Result<Vec<Box<Part>>, Mem
             Part::Client(Client::new(alloc, client + 1, device)),
         )?;
     }
-    put(alloc, &mut parts, Part::Semaphores)?;
+    put(alloc, &mut parts, Part::Semaphores(Named::new(alloc)))?;
     Ok(parts)
 }

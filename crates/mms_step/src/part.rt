@@ -1,6 +1,8 @@
 //! The parts of the device.
 
-use crate::{Client, Clock};
+use cell_services::{Client, Clock};
+use mms_time::SemaphoreRow;
+use object_names::Named;
 use variable_services::VariableTables;
 
 /// A part of the device. With n clients there are n + 7 of them, in this order, with a part for each client.
@@ -20,6 +22,6 @@ pub enum Part {
     Journals,
     /// Part 5 + c, of client c.
     Client(Client),
-    /// Part 6 + n: semaphores. There are none yet.
-    Semaphores,
+    /// Part 6 + n: semaphores.
+    Semaphores(Named<SemaphoreRow>),
 }

@@ -4,17 +4,54 @@ ghost use Rattle.std.specs.Prelude.{◌≡◌, ◌+◌, ◌≤◌, length, OnOk,
 ghost use Rattle.part_table.specs.Held.{IsHandOf};
 ghost use Rattle.parted_state.specs.Lifted.{put_in_place, tables_shown};
 ghost use Rattle.mms_step.specs.State.{State};
-ghost use Rattle.mms_step.specs.Acts.{act_done, all_done, HoldsOwn, IsActTimely};
+ghost use Rattle.cell_services.specs.Acts.{all_done, plan_done};
+ghost use Rattle.cell_services.specs.Changes.{MayChange};
+ghost use Rattle.mms_step.specs.Tasks.{task_done, HoldsOwn, IsTimely};
 ghost use Rattle.mms_step.specs.Partition.{cell, clients_among, parts_of};
-ghost use Rattle.mms_step.specs.Telling.{outputs_to, with_rooms, IsSettled};
+ghost use Rattle.mms_step.specs.Rooms.{room_to, with_rooms, IsSettled};
 
 use crate::Cell;
-use crate::lifted::{Tables, lift, lower};
-use crate::planning::{Act, Plan, planned};
-use crate::telling::{Told, make_rooms, release_all, tell_all};
+use crate::lifted::{lift, lower};
+use crate::needs::client_held;
+use crate::telling::{make_rooms, release_all, tell_all};
+use cell_services::{Act, Plan, Tables, Told, planned, time_planned};
 use mms_types::Memory;
 use part_table::Hand;
 use std::alloc::Global;
+
+/// What is done on the tables.
+#[derive(Clone, Copy, Debug, PartialEq, Eq)]
+pub(crate) enum Task<'a> {
+    /// A client does something.
+    Client(u32, Act<'a>),
+    /// So many milliseconds go by.
+    Time(u32),
+}
+
+/// Plans a task. Nothing changes here.
+fn plan<'a>(
+    alloc: Global,
+    held: &Hand<Cell>,
+    tables: &Tables,
+    task: &Task<'a>,
+) -> Result<Plan<'a>, Memory>
+    requires own { HoldsOwn task.now held.now }
+    requires time { IsTimely task.now tables.now }
+    ensures done { IfOk result (λ plan. plan_done tables.now plan.change plan.told.items
+        ≡ task_done tables.now held.now task.now) }
+    ensures may { IfOk result (λ plan. MayChange plan.change tables.now) }
+{
+    match *task {
+        Task::Client(client, act) => planned(
+            alloc,
+            tables,
+            client,
+            client_held(held, client),
+            &act,
+        ),
+        Task::Time(ms) => time_planned(alloc, tables, ms),
+    }
+}
 
 /// Does on the tables that were lifted what is to be done, and answers who is told what, with room made for it. What
 /// is done is planned first; the tables change last. Without memory the tables and the parts are as before.
@@ -23,20 +60,20 @@ fn done(
     held: &mut Hand<Cell>,
     clients: u32,
     tables: &mut Tables,
-    act: &Act<'_>,
+    task: &Task<'_>,
 ) -> Result<Vec<(u32, Told)>, Memory>
     requires few { clients ≤ 64 }
     requires settled { IsSettled (clients + 1) held.old }
-    requires own { HoldsOwn act.now held.old }
-    requires time { IsActTimely act.now tables.old }
+    requires own { HoldsOwn task.now held.old }
+    requires time { IsTimely task.now tables.old }
     ensures done { IfOk result (λ told.
-        all_done tables.new told.items ≡ act_done tables.old held.old act.now) }
+        all_done tables.new told.items ≡ task_done tables.old held.old task.now) }
     ensures rooms { IfOk result (λ told.
-        held.new ≡ with_rooms (clients + 1) (outputs_to told.items) held.old) }
+        held.new ≡ with_rooms (clients + 1) (room_to told.items) held.old) }
     ensures kept { OnErr result (held.new ≡ held.old) }
     ensures same { OnErr result (tables.new ≡ tables.old) }
 {
-    let Plan { change, told } = planned(alloc, held, tables, act)?;
+    let Plan { change, told } = plan(alloc, held, tables, task)?;
     make_rooms(held, clients, told.as_slice())?;
     if let Err(error) = tables.change(alloc, change) {
         release_all(held, clients);
@@ -52,25 +89,25 @@ pub(crate) fn serve(
     alloc: Global,
     held: &mut Hand<Cell>,
     clients: u32,
-    act: &Act<'_>,
+    task: &Task<'_>,
 ) -> Result<(), Memory>
     requires of { (s : State) × IsHandOf held.old (parts_of s) }
     requires many { clients ≡ clients_among (length held.old) }
     requires few { clients ≤ 64 }
-    requires own { HoldsOwn act.now held.old }
-    requires time { IsActTimely act.now (tables_shown cell held.old) }
+    requires own { HoldsOwn task.now held.old }
+    requires time { IsTimely task.now (tables_shown cell held.old) }
     ensures put { OnOk result (held.new
-        ≡ put_in_place cell (act_done (tables_shown cell held.old) held.old act.now) held.old) }
+        ≡ put_in_place cell (task_done (tables_shown cell held.old) held.old task.now) held.old) }
     ensures kept { OnErr result (held.new ≡ held.old) }
 {
-    let mut tables = lift(alloc, held);
-    match done(alloc, held, clients, &mut tables, act) {
+    let mut tables = lift(alloc, held, clients);
+    match done(alloc, held, clients, &mut tables, task) {
         Err(error) => {
-            lower(held, tables);
+            lower(held, clients, tables);
             Err(error)
         }
         Ok(told) => {
-            lower(held, tables);
+            lower(held, clients, tables);
             tell_all(held, clients, told);
             Ok(())
         }

@@ -1,56 +1,72 @@
 //! What clients are told. Room for it is made in their parts first, which alone may want memory; telling them can't
 //! fail.
 
-ghost use Rattle.std.specs.Prelude.{◌≡◌, ◌+◌, ◌<◌, ◌≤◌, length, OnOk, OnErr};
+ghost use Rattle.std.specs.Prelude.{◌≡◌, ◌==◌, ◌&&◌, ◌+◌, ◌<◌, ◌≤◌, length, OnOk, OnErr};
 ghost use Rattle.std.specs.Option.{option_map};
 ghost use Rattle.part_table.specs.Held.{held_at};
 ghost use Rattle.parted_state.specs.Lifted.{told_all};
 ghost use Rattle.parted_state.specs.Served.{change};
 ghost use Rattle.mms_step.specs.Partition.{cell, client_place};
-ghost use Rattle.mms_step.specs.Telling.{effects_told, is_output, outputs_to, telling, with_room, with_rooms, without_rooms, AreClients, HasRoom, IsSettled};
+ghost use Rattle.cell_services.specs.Telling.{effects_told};
+ghost use Rattle.mms_step.specs.Rooms.{no_room, room_to, telling, with_room, with_rooms, without_rooms, AreClients, HasRoom, IsSettled};
 
 use crate::tables::BEFORE_CLIENTS;
 use crate::{Cell, Part};
-use mms_types::{Memory, What};
+use cell_services::Told;
+use mms_types::Memory;
 use part_table::Hand;
 
-/// What a client is told.
-#[derive(Debug, PartialEq, Eq, Drop)]
-pub(crate) enum Told {
-    /// One more output is to be sent.
-    Sends(What),
-    /// The association is gone.
-    Closes,
-    /// The request of that invokeID waits no more.
-    Answers(u32),
+/// Room in the part of a client.
+#[derive(Clone, Copy, Debug, PartialEq, Eq)]
+pub(crate) struct Room {
+    /// For so many outputs.
+    outputs: usize,
+    /// For so many requests that wait.
+    waiting: usize,
 }
 
-impl Told {
-    /// Whether it is an output, for which there has to be room.
-    pub(crate) fn is_output(&self) -> bool
-        ensures { result ≡ is_output self.now }
+impl Room {
+    /// Whether there is none.
+    fn is_none(&self) -> bool
+        ensures { result ≡ (self.now.outputs == 0 && self.now.waiting == 0) }
     {
-        match self {
-            Told::Sends(_) => true,
-            Told::Closes | Told::Answers(_) => false,
-        }
+        self.outputs == 0 && self.waiting == 0
     }
 }
 
 /// How many outputs a client is told.
 fn outputs_to(told: &[(u32, Told)], client: u32) -> usize
-    ensures { result ≡ outputs_to told.now client }
+    ensures { result ≡ (room_to told.now client).outputs }
 {
     told.iter()
         .filter(|t| t.0 == client && t.1.is_output())
         .count()
 }
 
-/// Makes room for so many outputs in the part of a client, where it is held, in place of the room that there was.
-fn make_room(held: &mut Hand<Cell>, client: u32, outputs: usize) -> Result<(), Memory>
+/// How many requests that wait a client is told.
+fn waits_to(told: &[(u32, Told)], client: u32) -> usize
+    ensures { result ≡ (room_to told.now client).waiting }
+{
+    told.iter()
+        .filter(|t| t.0 == client && t.1.is_wait())
+        .count()
+}
+
+/// The room that is used by what a client is told.
+fn room_to(told: &[(u32, Told)], client: u32) -> Room
+    ensures { result ≡ room_to told.now client }
+{
+    Room {
+        outputs: outputs_to(told, client),
+        waiting: waits_to(told, client),
+    }
+}
+
+/// Makes room in the part of a client, where it is held, in place of the room that there was.
+fn make_room(held: &mut Hand<Cell>, client: u32, room: Room) -> Result<(), Memory>
     requires small { client ≤ 64 }
     ensures made { OnOk result (held.new
-        ≡ change (option_map (with_room outputs)) held.old (client_place client)) }
+        ≡ change (option_map (with_room room)) held.old (client_place client)) }
     ensures kept { OnErr result (held.new ≡ held.old) }
 {
     let place = BEFORE_CLIENTS + client;
@@ -59,7 +75,7 @@ fn make_room(held: &mut Hand<Cell>, client: u32, outputs: usize) -> Result<(), M
     };
     match &mut *part {
         Part::Client(client) => {
-            let made = client.reserve(outputs);
+            let made = client.reserve(room.outputs, room.waiting);
             held.put(place, part);
             made
         }
@@ -73,7 +89,7 @@ fn make_room(held: &mut Hand<Cell>, client: u32, outputs: usize) -> Result<(), M
 /// Gives up the room in the part of a client, where it is held.
 fn release(held: &mut Hand<Cell>, client: u32)
     requires small { client ≤ 64 }
-    ensures { held.new ≡ change (option_map (with_room 0)) held.old (client_place client) }
+    ensures { held.new ≡ change (option_map (with_room no_room)) held.old (client_place client) }
 {
     let place = BEFORE_CLIENTS + client;
     let Some(mut part) = held.take(place) else {
@@ -97,7 +113,7 @@ pub(crate) fn release_all(held: &mut Hand<Cell>, clients: u32)
     }
 }
 
-/// Makes room in the parts of clients 1 to n for the outputs that each is told. Without memory there is none anywhere.
+/// Makes room in the parts of clients 1 to n for what each is told. Without memory there is none anywhere.
 pub(crate) fn make_rooms(
     held: &mut Hand<Cell>,
     clients: u32,
@@ -106,13 +122,13 @@ pub(crate) fn make_rooms(
     requires few { clients ≤ 64 }
     requires settled { IsSettled (clients + 1) held.old }
     ensures made { OnOk result
-        (held.new ≡ with_rooms (clients + 1) (outputs_to told.now) held.old) }
+        (held.new ≡ with_rooms (clients + 1) (room_to told.now) held.old) }
     ensures kept { OnErr result (held.new ≡ held.old) }
 {
     for client in 1..clients + 1 {
-        let outputs = outputs_to(told, client);
-        if outputs > 0 {
-            if let Err(error) = make_room(held, client, outputs) {
+        let room = room_to(told, client);
+        if !room.is_none() {
+            if let Err(error) = make_room(held, client, room) {
                 release_all(held, clients);
                 return Err(error);
             }
@@ -121,7 +137,7 @@ pub(crate) fn make_rooms(
     Ok(())
 }
 
-/// Tells a client something, where its part is held. An output uses the room for one.
+/// Tells a client something, where its part is held. It uses room that there is.
 fn tell(held: &mut Hand<Cell>, client: u32, told: Told)
     requires small { client ≤ 64 }
     requires room { HasRoom told (held_at held.old (client_place client)) }
@@ -157,7 +173,7 @@ fn tell_one(held: &mut Hand<Cell>, clients: u32, client: u32, told: Told)
 pub(crate) fn tell_all(held: &mut Hand<Cell>, clients: u32, told: Vec<(u32, Told)>)
     requires few { clients ≤ 64 }
     requires rooms { held.old
-        ≡ with_rooms (clients + 1) (outputs_to told.items) (without_rooms (clients + 1) held.old) }
+        ≡ with_rooms (clients + 1) (room_to told.items) (without_rooms (clients + 1) held.old) }
     requires are { AreClients clients held.old }
     ensures { held.new
         ≡ told_all cell clients (effects_told told.items) (without_rooms (clients + 1) held.old) }

@@ -1,14 +1,18 @@
-use Rattle.std.proofs.Common.{◌≡◌, List, length, [], ℕ, ap, refl, ◌∙◌, subst}
+use Rattle.std.proofs.Common.{◌≡◌, ◌+◌, ◌≤◌, List, length, [], ℕ, ap, refl, sym, ◌∙◌, subst}
 use Rattle.std.proofs.lemmas.Result.{on_ok_weaker}
 use Rattle.mms_types.specs.Actors.{IsAmong}
 use Rattle.mms_types.specs.declared.event.CellEvent.{CellEvent}
 use Rattle.mms_types.specs.declared.event.CellEvent.TheVariants.{Heard, Lost, Tick, Ends, Drain}
 use Rattle.parted_state.specs.Lifted.{put_in_place, tables_shown}
-use Rattle.mms_step.specs.Acts.{row_held}
-use Rattle.mms_step.specs.Association.{verdict}
-use Rattle.mms_step.specs.Partition.{cell, clients_among}
+use Rattle.mms_step.specs.Tasks.{row_held}
+use Rattle.cell_services.specs.Association.{verdict}
+use Rattle.part_table.specs.Held.{held_at}
+use Rattle.cell_services.specs.Tables.{last_moment}
+use Rattle.mms_step.specs.Step.{IsInTime}
+use Rattle.mms_step.proofs.Asked.{shown_now}
+use Rattle.mms_step.specs.Partition.{cell, clients_among, clock_in}
 use Rattle.mms_step.specs.Needs.{need}
-use Rattle.mms_step.specs.Serving.{hears}
+use Rattle.cell_services.specs.Serving.{hears}
 use Rattle.mms_step.proofs.Enough.{client_is_held, lost_is_held, heard_becomes, lost_becomes, ticked_becomes, ended_becomes, drained_becomes, becomes_as, places_either}
 use Rattle.mms_step.proofs.applying.apply_read.Goals as goal
 
@@ -24,6 +28,11 @@ serve-requires-clause-own c =
     let hand = c.args.held.now in
     lost_is_held hand c.in-Lost.client c.requires.of (subst (λ (e : CellEvent). IsAmong (clients_among (length hand)) e) c.in-Lost.is c.requires.among)
     (subst (λ (e : CellEvent). need e hand ≡ []) c.in-Lost.is c.requires.held)
+
+pub serve-requires-in-Tick-clause-time : goal.serve-requires-in-Tick-clause-time
+serve-requires-in-Tick-clause-time c =
+    subst (λ (now : ℕ). now + c.in-Tick.ms ≤ last_moment) (sym (shown_now c.args.held.now))
+    (subst (λ (e : CellEvent). IsInTime (clock_in (held_at c.args.held.now 0)) e) c.in-Tick.is c.requires.time)
 
 pub drain-outputs-requires-clause-held : goal.drain-outputs-requires-clause-held
 drain-outputs-requires-clause-held c =

@@ -2,10 +2,10 @@ use Rattle.std.proofs.Common.{ap, ◌∙◌, List, Option}
 use Rattle.std.proofs.lemmas.Result.{on_ok_weaker}
 use Rattle.parted_state.specs.Lifted.{put_in_place, tables_shown}
 use Rattle.mms_step.specs.declared.part.Part.{Part}
-use Rattle.mms_step.specs.Acts.{row_held}
-use Rattle.mms_step.specs.Association.{Takes}
+use Rattle.mms_step.specs.Tasks.{row_held}
+use Rattle.cell_services.specs.Association.{Takes}
 use Rattle.mms_step.specs.Partition.{cell}
-use Rattle.mms_step.specs.Serving.{hears}
+use Rattle.cell_services.specs.Serving.{hears}
 use Rattle.mms_step.proofs.applying.finish_request.Goals as goal
 
 pub returns-in-Ok-false-clause-put : goal.returns-in-Ok-false-clause-put

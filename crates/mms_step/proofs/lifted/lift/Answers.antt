@@ -1,22 +1,19 @@
-use Rattle.std.proofs.Common.{ℕ, List, Option, ap, ap₂, ◌∙◌, arith}
-use Rattle.std.specs.Option.{option_map}
-use Rattle.part_table.specs.Held.{held_at}
-use Rattle.parted_state.specs.LiftedLaws.{held_else}
-use Rattle.variable_services.specs.declared.tables.VariableTables.{VariableTables}
-use Rattle.mms_step.specs.declared.part.Part.{Part}
-use Rattle.mms_step.specs.Partition.{clock_or, on_clock, variables_in, variables_or}
-use Rattle.mms_step.specs.Tables.{Tables}
+use Rattle.std.proofs.Common.{◌∙◌}
+use Rattle.cell_services.specs.Meant.{no_tables}
+use Rattle.mms_step.proofs.ServeLaws.{exchanged, lifted_tables, still_many, three}
 use Rattle.mms_step.proofs.lifted.lift.Goals as goal
+
+pub exchange_semaphores-requires-clause-many : goal.exchange_semaphores-requires-clause-many
+exchange_semaphores-requires-clause-many c =
+    still_many c.args.clients _ _ c.args.held.now c.exchange_clock.new.held c.exchange_variables.new.held c.requires.many c.exchange_clock.ensures.part c.exchange_variables.ensures.part
 
 pub returns-clause-tables : goal.returns-clause-tables
 returns-clause-tables c =
-    ap₂ (λ (n : ℕ) (v : VariableTables). at n v)
-    (c.exchange_clock.ensures.clock ∙ ap (λ (n : ℕ). clock_or n (held_at c.args.held.now 0)) c.new-clock.ensures)
-    (c.exchange_variables.ensures.variables
-    ∙ ap (λ (v : VariableTables). variables_or v (held_at c.exchange_clock.new.held 1)) c.empty-variables.ensures
-    ∙ ap variables_in
-    (ap (λ (h : List (Option Part)). held_at h 1) c.exchange_clock.ensures.part
-    ∙ held_else (option_map (on_clock (λ was. c.new-clock.result))) c.args.held.now 0 1 (λ same. omega (arith, same))))
-  where
-    at : ℕ → VariableTables → Tables
-    at n v = record { now = n; variables = v }
+    lifted_tables (three c.tables.inside.clock c.tables.inside.variables c.tables.inside.semaphores) c.args.clients c.args.held.now c.exchange_clock.new.held c.exchange_variables.new.held
+    c.exchange_clock.new.clock c.exchange_variables.new.variables c.exchange_semaphores.new.semaphores (c.tables.view_is ∙ c.empty-tables.ensures) c.requires.many
+    c.exchange_clock.ensures.part c.exchange_variables.ensures.part c.exchange_clock.ensures.clock c.exchange_variables.ensures.variables c.exchange_semaphores.ensures.semaphores
+
+pub returns-clause-left : goal.returns-clause-left
+returns-clause-left c =
+    exchanged _ _ _ no_tables c.args.held.now c.exchange_clock.new.held c.exchange_variables.new.held c.exchange_semaphores.new.held (c.tables.view_is ∙ c.empty-tables.ensures)
+    c.exchange_clock.ensures.part c.exchange_variables.ensures.part c.exchange_semaphores.ensures.part

@@ -2,12 +2,15 @@ use Rattle.std.proofs.Common.{◌≡◌, [], ℕ, List, ap, sym, refl, ◌∙◌
 use Rattle.std.proofs.lemmas.Result.{IfOk-weaker}
 use Rattle.mms_types.specs.Actors.{IsAmong}
 use Rattle.mms_types.specs.declared.event.CellEvent.{CellEvent}
-use Rattle.mms_types.specs.declared.event.CellEvent.TheVariants.{Heard, Lost, Drain}
+use Rattle.mms_types.specs.declared.event.CellEvent.TheVariants.{Heard, Lost, Tick, Drain}
 use Rattle.parted_state.specs.Cut.{missing}
 use Rattle.parted_state.specs.Sets.{IsSetOf}
 use Rattle.parted_state.specs.SetLaws.{missing_set}
-use Rattle.mms_step.specs.Needs.{footprint, heard_need, need}
-use Rattle.mms_step.proofs.Enough.{client_by_words, own_is_held}
+use Rattle.part_table.specs.Held.{held_at}
+use Rattle.mms_step.specs.Needs.{footprint, heard_need, lost_need, need, time_need}
+use Rattle.mms_step.specs.Partition.{clock_in}
+use Rattle.mms_step.specs.Step.{IsInTime}
+use Rattle.mms_step.proofs.Enough.{client_by_words, own_held, own_is_held}
 use Rattle.mms_step.proofs.Needed.{need_heard, need_lost, need_ticked, need_ended, drain_needs_none}
 use Rattle.mms_step.proofs.needs.need_more.Goals as goal
 
@@ -36,30 +39,45 @@ returns-in-Heard c =
     (λ parts is. subst (IsSetOf parts) same is)
     c.need_heard.ensures
 
+pub need_heard-requires-clause-own : goal.need_heard-requires-clause-own
+need_heard-requires-clause-own c =
+    let among = subst (λ (e : CellEvent). IsAmong c.args.clients e) c.in-Heard.is c.requires.among in
+    own_held c.args.held.now c.in-Heard.client c.args.clients c.client_held-part.result.now c.requires.of c.requires.clients among.0 among.1 c.client_held-part.ensures
+
 pub returns-in-Lost : goal.returns-in-Lost
 returns-in-Lost c =
     let among = subst (λ (e : CellEvent). IsAmong c.args.clients e) c.in-Lost.is c.requires.among in
-    subst (IsSetOf c.unheld.result)
-    (sym (need_lost c.args.held.now c.in-Lost.client c.args.clients c.client_held-part-in-Lost.result.now c.requires.clients
+    let same : lost_need c.args.clients c.args.held.now c.client_held-part-in-Lost.result.now.row ≡ need c.args.event.now c.args.held.now =
+    sym (need_lost c.args.held.now c.in-Lost.client c.args.clients c.client_held-part-in-Lost.result.now c.requires.clients
     (subst (λ (e : CellEvent). missing c.args.held.now (footprint c.args.clients e) ≡ []) c.in-Lost.is c.requires.words) among.0 among.1 c.client_held-part-in-Lost.ensures)
-    ∙ ap (λ (e : CellEvent). need e c.args.held.now) (sym c.in-Lost.is))
-    (missing_set c.args.held.now c.loss_asks.result _ c.unheld.result c.loss_asks.ensures c.unheld.ensures)
+    ∙ ap (λ (e : CellEvent). need e c.args.held.now) (sym c.in-Lost.is) in
+    IfOk-weaker c.need_lost.result (λ parts. IsSetOf parts (lost_need c.args.clients c.args.held.now c.client_held-part-in-Lost.result.now.row))
+    (λ parts. IsSetOf parts (need c.args.event.now c.args.held.now))
+    (λ parts is. subst (IsSetOf parts) same is)
+    c.need_lost.ensures
+
+pub need_time-requires-clause-time : goal.need_time-requires-clause-time
+need_time-requires-clause-time c =
+    subst (λ (e : CellEvent). IsInTime (clock_in (held_at c.args.held.now 0)) e) c.in-Tick.is c.requires.time
 
 pub returns-in-Tick : goal.returns-in-Tick
 returns-in-Tick c =
-    subst (IsSetOf c.new.result)
-    (sym (need_ticked c.args.held.now c.in-Tick.ms c.args.clients c.requires.clients
+    let same : time_need c.args.clients c.args.held.now c.in-Tick.ms ≡ need c.args.event.now c.args.held.now =
+    sym (need_ticked c.args.held.now c.in-Tick.ms c.args.clients c.requires.clients
     (subst (λ (e : CellEvent). missing c.args.held.now (footprint c.args.clients e) ≡ []) c.in-Tick.is c.requires.words))
-    ∙ ap (λ (e : CellEvent). need e c.args.held.now) (sym c.in-Tick.is))
-    c.new.ensures.set
+    ∙ ap (λ (e : CellEvent). need e c.args.held.now) (sym c.in-Tick.is) in
+    IfOk-weaker c.need_time.result (λ parts. IsSetOf parts (time_need c.args.clients c.args.held.now c.in-Tick.ms))
+    (λ parts. IsSetOf parts (need c.args.event.now c.args.held.now))
+    (λ parts is. subst (IsSetOf parts) same is)
+    c.need_time.ensures
 
 pub returns-in-Ends : goal.returns-in-Ends
 returns-in-Ends c =
-    subst (IsSetOf c.new-in-Ends.result)
+    subst (IsSetOf c.new.result)
     (sym (need_ended c.args.held.now c.in-Ends.name c.args.clients c.requires.clients
     (subst (λ (e : CellEvent). missing c.args.held.now (footprint c.args.clients e) ≡ []) c.in-Ends.is c.requires.words))
     ∙ ap (λ (e : CellEvent). need e c.args.held.now) (sym c.in-Ends.is))
-    c.new-in-Ends.ensures.set
+    c.new.ensures.set
 
 pub returns-in-Drain : goal.returns-in-Drain
 returns-in-Drain c =

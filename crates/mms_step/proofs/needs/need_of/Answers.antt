@@ -1,11 +1,12 @@
 use Rattle.std.proofs.Common.{subst}
+use Rattle.std.proofs.lemmas.Result.{IfOk-weaker}
 use Rattle.parted_state.specs.Sets.{IsSetOf}
-use Rattle.parted_state.specs.SetLaws.{missing_stages}
-use Rattle.mms_step.specs.Association.{Verdict}
+use Rattle.cell_services.specs.Association.{Verdict}
 use Rattle.mms_step.specs.Needs.{verdict_need}
 use Rattle.mms_step.proofs.needs.need_of.Goals as goal
 
 pub returns : goal.returns
 returns c =
-    subst (λ (v : Verdict). IsSetOf c.missing_of.result (verdict_need c.args.clients c.args.held.now c.args.part.now.row v)) c.in_ok-found.ensures
-    (missing_stages c.args.held.now c.heard_asks-first.result c.heard_more.result _ _ c.missing_of.result c.heard_asks-first.ensures c.heard_more.ensures c.missing_of.ensures)
+    IfOk-weaker c.found_need.result _ _
+    (λ parts is. subst (λ (v : Verdict). IsSetOf parts (verdict_need c.args.clients c.args.held.now c.args.part.now.row v)) c.in_ok-found.ensures is)
+    c.found_need.ensures

@@ -3,20 +3,21 @@ use Rattle.std.specs.Option.{option_map}
 use Rattle.parted_state.specs.Served.{change}
 use Rattle.mms_step.specs.declared.part.Part.{Part}
 use Rattle.mms_step.specs.Partition.{client_place}
-use Rattle.mms_step.specs.Telling.{with_room, without_rooms, outputs_to}
-use Rattle.mms_step.proofs.ToldLaws.{no_rooms_yet, room_made, room_needless, rooms_gone}
+use Rattle.mms_step.specs.declared.telling.Room.{Room}
+use Rattle.mms_step.specs.Rooms.{no_room, with_room, without_rooms, room_to}
+use Rattle.mms_step.proofs.ToldLaws.{no_more_room, no_rooms_yet, room_made, room_needless, rooms_gone}
 use Rattle.mms_step.proofs.telling.make_rooms.Goals as goal
-use Rattle.mms_step.proofs.telling.make_rooms.Goals.{then-outputs-gt0+in_default, else-outputs-gt0}
+use Rattle.mms_step.proofs.telling.make_rooms.Goals.{then-not-is_none+in_default, else-not-is_none}
 
 pub loop-client-init : goal.loop-client-init
-loop-client-init c = record { some = omega arith; made = sym (no_rooms_yet (outputs_to c.args.told.now) c.args.held.now) }
+loop-client-init c = record { some = omega arith; made = sym (no_rooms_yet (room_to c.args.told.now) c.args.held.now) }
 
 pub returns-in-Err-clause-kept : goal.returns-in-Err-clause-kept
 returns-in-Err-clause-kept c =
     let below = c.loop-client-test.true in
     c.release_all.ensures
     ∙ ap (without_rooms _) (c.in-Err.ensures.kept ∙ c.loop-client.invariant.made)
-    ∙ rooms_gone c.loop-client.client _ (outputs_to c.args.told.now) c.args.held.now (omega (arith, below))
+    ∙ rooms_gone c.loop-client.client _ (room_to c.args.told.now) c.args.held.now (omega (arith, below))
     ∙ c.requires.settled
 
 pub loop-client-preserved : goal.loop-client-preserved
@@ -24,19 +25,17 @@ loop-client-preserved c =
     let some = c.loop-client.invariant.some in
     record {
       some = omega (arith, some);
-      made = elim c.if-outputs-gt0.branch [
-        | then-outputs-gt0+in_default w ↦
+      made = elim c.if-not-is_none.branch [
+        | then-not-is_none+in_default w ↦
             w.held-is ∙ w.in_default.ensures.made
-            ∙ ap (λ (r : ℕ). change (option_map (with_room r)) c.loop-client.held (client_place c.loop-client.client)) c.outputs_to-outputs.ensures
-            ∙ ap (λ (l : List (Option Part)). change (option_map (with_room (outputs_to c.args.told.now c.loop-client.client))) l (client_place c.loop-client.client))
+            ∙ ap (λ (r : Room). change (option_map (with_room r)) c.loop-client.held (client_place c.loop-client.client)) c.room_to-room.ensures
+            ∙ ap (λ (l : List (Option Part)). change (option_map (with_room (room_to c.args.told.now c.loop-client.client))) l (client_place c.loop-client.client))
             c.loop-client.invariant.made
-            ∙ room_made c.loop-client.client (outputs_to c.args.told.now) c.args.held.now some
-        | else-outputs-gt0 w ↦
+            ∙ room_made c.loop-client.client (room_to c.args.told.now) c.args.held.now some
+        | else-not-is_none w ↦
             let below = c.loop-client-test.true in
-            let few = w.if-outputs-gt0.false in
-            let same = c.outputs_to-outputs.ensures in
             w.held-is ∙ c.loop-client.invariant.made
-            ∙ room_needless c.loop-client.client (c.args.clients + 1) (outputs_to c.args.told.now) c.args.held.now some below c.requires.settled
-            (omega (arith, few, same))
+            ∙ room_needless c.loop-client.client (c.args.clients + 1) (room_to c.args.told.now) c.args.held.now some below c.requires.settled
+            (sym c.room_to-room.ensures ∙ no_more_room c.room_to-room.result (sym c.is_none.ensures ∙ w.if-not-is_none.false))
       ];
     }

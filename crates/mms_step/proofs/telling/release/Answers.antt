@@ -1,12 +1,12 @@
 use Rattle.std.proofs.Common.{◌+◌, ap}
 use Rattle.mms_step.specs.declared.part.Part.TheVariants.{Client}
-use Rattle.mms_step.specs.Telling.{with_room}
+use Rattle.mms_step.specs.Rooms.{no_room, with_room}
 use Rattle.mms_step.proofs.Changed.{client_arm, other_arm, free_changed, place_left}
 use Rattle.mms_step.proofs.ToldLaws.{with_room_other}
 use Rattle.mms_step.proofs.telling.release.Goals as goal
 
 pub returns-in_default : goal.returns-in_default
-returns-in_default c = free_changed (with_room 0) c.args.held.now c.take.new.self (5 + c.args.client) c.in_default.ensures.part c.in_default.ensures.left
+returns-in_default c = free_changed (with_room no_room) c.args.held.now c.take.new.self (5 + c.args.client) c.in_default.ensures.part c.in_default.ensures.left
 
 pub put-requires-clause-place : goal.put-requires-clause-place
 put-requires-clause-place c lifetimes = place_left c.args.held.now c.take.new.self (5 + c.args.client) c.in-Some.part.value c.in-Some.ensures.part c.in-Some.ensures.left
@@ -17,12 +17,12 @@ put-requires-in_default-deref_mut-clause-place c lifetimes =
 
 pub returns-in-Client : goal.returns-in-Client
 returns-in-Client c =
-    client_arm (with_room 0) c.args.held.now c.take.new.self c.put.new.self (5 + c.args.client) c.in-Some.part.value
+    client_arm (with_room no_room) c.args.held.now c.take.new.self c.put.new.self (5 + c.args.client) c.in-Some.part.value
     c.deref_mut.result.now c.in-Client.client c.release.new.self c.in-Some.ensures.part c.in-Some.ensures.left c.deref_mut.ensures.value c.in-Client.is
     (ap Client c.release.ensures) c.put.ensures
 
 pub returns-in_default-deref_mut : goal.returns-in_default-deref_mut
 returns-in_default-deref_mut c =
-    other_arm (with_room 0) c.args.held.now c.take.new.self c.put-in_default-deref_mut.new.self (5 + c.args.client) c.in-Some.part.value
+    other_arm (with_room no_room) c.args.held.now c.take.new.self c.put-in_default-deref_mut.new.self (5 + c.args.client) c.in-Some.part.value
     c.deref_mut.result.now c.in-Some.ensures.part c.in-Some.ensures.left c.deref_mut.ensures.value
-    (with_room_other 0 c.deref_mut.result.now c.in_default-deref_mut.not-Client) c.put-in_default-deref_mut.ensures
+    (with_room_other no_room c.deref_mut.result.now c.in_default-deref_mut.not-Client) c.put-in_default-deref_mut.ensures

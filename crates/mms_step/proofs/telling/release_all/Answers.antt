@@ -3,12 +3,12 @@ use Rattle.std.specs.Option.{option_map}
 use Rattle.parted_state.specs.Served.{change}
 use Rattle.mms_step.specs.declared.part.Part.{Part}
 use Rattle.mms_step.specs.Partition.{client_place}
-use Rattle.mms_step.specs.Telling.{with_room}
+use Rattle.mms_step.specs.Rooms.{no_room, with_room}
 use Rattle.mms_step.proofs.ToldLaws.{no_rooms_yet, room_made}
 use Rattle.mms_step.proofs.telling.release_all.Goals as goal
 
 pub loop-client-init : goal.loop-client-init
-loop-client-init c = record { some = omega arith; released = sym (no_rooms_yet (λ client. 0) c.args.held.now) }
+loop-client-init c = record { some = omega arith; released = sym (no_rooms_yet (λ client. no_room) c.args.held.now) }
 
 pub loop-client-preserved : goal.loop-client-preserved
 loop-client-preserved c =
@@ -17,6 +17,6 @@ loop-client-preserved c =
       some = omega (arith, some);
       released =
           c.release.ensures
-          ∙ ap (λ (l : List (Option Part)). change (option_map (with_room 0)) l (client_place c.loop-client.client)) c.loop-client.invariant.released
-          ∙ room_made c.loop-client.client (λ client. 0) c.args.held.now some;
+          ∙ ap (λ (l : List (Option Part)). change (option_map (with_room no_room)) l (client_place c.loop-client.client)) c.loop-client.invariant.released
+          ∙ room_made c.loop-client.client (λ client. no_room) c.args.held.now some;
     }

@@ -1,5 +1,5 @@
 use Rattle.std.proofs.Common.{◌≡◌, ◌≤◌}
-use Rattle.mms_step.specs.Telling.{without_rooms}
+use Rattle.mms_step.specs.Rooms.{without_rooms}
 use Rattle.mms_step.proofs.telling.release_all.Given as goal
 
 abbrev pub invariant-loop-client : goal.invariant-loop-client

@@ -1,6 +1,6 @@
 use Rattle.std.proofs.Common.{◌+◌, ap}
 use Rattle.mms_step.specs.declared.part.Part.TheVariants.{Client}
-use Rattle.mms_step.specs.Telling.{telling}
+use Rattle.mms_step.specs.Rooms.{telling}
 use Rattle.mms_step.proofs.Changed.{client_arm, other_arm, free_changed, place_left}
 use Rattle.mms_step.proofs.ToldLaws.{telling_other}
 use Rattle.mms_step.proofs.telling.tell.Goals as goal

@@ -1,5 +1,5 @@
 use Rattle.std.proofs.Common.{◌≡◌, ◌+◌, ◌++◌, length}
-use Rattle.mms_step.specs.Telling.{without_rooms}
+use Rattle.mms_step.specs.Rooms.{without_rooms}
 use Rattle.mms_step.proofs.ToldLaws.{Tells}
 use Rattle.mms_step.proofs.telling.tell_all.Given as goal
 

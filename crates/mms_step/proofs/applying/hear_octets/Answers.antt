@@ -1,0 +1,5 @@
+use Rattle.mms_pdu.specs.Heard.{pdu_heard}
+use Rattle.mms_step.proofs.applying.hear_octets.Goals as goal
+
+pub returns-clause-heard : goal.returns-clause-heard
+returns-clause-heard c = c.hear_told.ensures.heard (pdu_heard c.args.edition c.args.octets.now) c.read_pdu_to.ensures.pdu

@@ -1,0 +1,18 @@
+use Rattle.std.proofs.Common.{ap, ◌∙◌, sym}
+use Rattle.std.proofs.lemmas.Result.{on_ok_weaker}
+use Rattle.parted_state.specs.Lifted.{put_in_place, tables_shown}
+use Rattle.mms_step.specs.Tasks.{row_held}
+use Rattle.cell_services.specs.Association.{Verdict, verdict_by}
+use Rattle.mms_step.specs.Partition.{cell}
+use Rattle.cell_services.specs.Serving.{hears}
+use Rattle.mms_step.proofs.ServeLaws.{read_heard_so}
+use Rattle.mms_step.proofs.applying.hear_told.Goals as goal
+
+pub returns-clause-heard : goal.returns-clause-heard
+returns-clause-heard c = λ told heard.
+    on_ok_weaker c.hear_read.result
+    (λ put. put
+    ∙ ap (λ (v : Verdict). put_in_place cell (hears (tables_shown cell c.args.held.now) (row_held c.args.held.now c.args.client) c.args.client v) c.args.held.now)
+    (ap (verdict_by (row_held c.args.held.now c.args.client).association (row_held c.args.held.now c.args.client))
+    (read_heard_so c.args.read.now told (sym c.wants_memory.ensures ∙ c.if-wants_memory.false) heard)))
+    c.hear_read.ensures.heard

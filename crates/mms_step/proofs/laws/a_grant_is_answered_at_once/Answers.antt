@@ -1,0 +1,14 @@
+use Rattle.mms_step.proofs.Outboxes.{given_back, left_to, lost_to, ticked_to}
+use Rattle.mms_step.proofs.laws.a_grant_is_answered_at_once.Goals as goal
+
+pub returns-clause-given_back : goal.returns-clause-given_back
+returns-clause-given_back c = given_back
+
+pub returns-clause-left : goal.returns-clause-left
+returns-clause-left c = left_to
+
+pub returns-clause-lost : goal.returns-clause-lost
+returns-clause-lost c = lost_to
+
+pub returns-clause-ticked : goal.returns-clause-ticked
+returns-clause-ticked c = ticked_to

@@ -1,0 +1,8 @@
+use Rattle.mms_step.proofs.Sound.{tokens_sound}
+use Rattle.mms_step.proofs.laws.no_token_is_owned_twice.Goals as goal
+
+pub returns-clause-held : goal.returns-clause-held
+returns-clause-held c config history key row tokens is found of = (tokens_sound config history key row tokens is found of).few
+
+pub returns-clause-numbers : goal.returns-clause-numbers
+returns-clause-numbers c config history key row tokens is found of = (tokens_sound config history key row tokens is found of).rises

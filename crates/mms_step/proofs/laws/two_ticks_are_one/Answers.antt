@@ -1,0 +1,5 @@
+use Rattle.mms_step.proofs.TwoTicks.{two_ticks}
+use Rattle.mms_step.proofs.laws.two_ticks_are_one.Goals as goal
+
+pub returns : goal.returns
+returns c = two_ticks

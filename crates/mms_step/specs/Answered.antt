@@ -1,0 +1,56 @@
+-- Requests are answered, at once or when they wait no more (ISO 9506-1, environment and general management, and TakeControl).
+use Rattle.std.specs.Prelude.{◌≡◌, ◌⊎◌, ℕ, ◌≤◌, Option, None, Some, List, [], ◌∷◌, filter_map, length, Contains}
+use Rattle.mms_types.specs.declared.event.What.{What}
+use Rattle.mms_types.specs.declared.event.What.TheVariants.{Octets}
+use Rattle.mms_types.specs.declared.pdu.Answer.{Answer}
+use Rattle.mms_types.specs.declared.pdu.Answer.TheVariants as answer
+use Rattle.mms_types.specs.declared.pdu.Pdu.TheVariants as pdu
+use Rattle.mms_types.specs.declared.semaphore.TakeControlAnswer.TheVariants.{NoResult}
+use Rattle.mms_types.specs.declared.service_error.ServiceError.{ServiceError}
+use Rattle.mms_pdu.specs.Pdus.{pdu_octets}
+use Rattle.association.specs.declared.waiting.Waiting.{Waiting}
+use Rattle.token_sem.specs.declared.entry.Grant.{Grant}
+use Rattle.cell_services.specs.Association.{confirmed_error}
+use Rattle.cell_services.specs.Effects.{Effect, Sends, Opens, Closes, Waits, Answers, Drains}
+use Rattle.mms_step.specs.State.{State}
+use Rattle.mms_step.specs.Step.{outbox_of}
+
+-- ---- a token that is granted
+
+-- the answer to the request that waited: it has a token
+abbrev pub grant_answer : Grant → What
+grant_answer g = Octets (pdu_octets (pdu.ConfirmedResponse g.invoke (answer.TakeControl NoResult)))
+
+-- it is to be sent to the client that is granted the token
+abbrev pub IsAnswered : State → Grant → Type 0
+IsAnswered s g = 1 ≤ g.client → g.client ≤ length s.clients → Contains (outbox_of s g.client) (grant_answer g)
+
+-- ---- any request
+
+-- the request that waits by an effect
+abbrev pub wait_of : Effect → Option Waiting
+wait_of (Waits request) = Some request
+wait_of (Sends output) = None
+wait_of (Opens values) = None
+wait_of Closes = None
+wait_of (Answers invoke) = None
+wait_of Drains = None
+
+abbrev pub waits_told : List (ℕ × Effect) → List Waiting
+waits_told told = filter_map (λ t. wait_of t.1) told
+
+-- A request of that invokeID is answered by one output, and no request waits; or it waits, and nothing else is told.
+abbrev pub AnswersOrWaits : ℕ → ℕ → List Effect → List (ℕ × Effect) → Type 0
+AnswersOrWaits client invoke own also =
+    ((output : What) × (own ≡ Sends output ∷ []) × (waits_told also ≡ []))
+    ⊎ ((request : Waiting) × (request.invoke ≡ invoke) × (own ≡ []) × (also ≡ (client, Waits request) ∷ []))
+
+-- an output is a positive answer to a request of that invokeID, or tells why it is refused
+abbrev pub IsAnswerTo : ℕ → What → Type 0
+IsAnswerTo invoke output =
+    ((told : Answer) × (output ≡ Octets (pdu_octets (pdu.ConfirmedResponse invoke told))))
+    ⊎ ((error : ServiceError) × (output ≡ Octets (pdu_octets (confirmed_error invoke error))))
+
+-- where a client is told that a request of it waits no more, it is told an answer to it
+abbrev pub AreAnswered : List (ℕ × Effect) → Type 0
+AreAnswered told = (client invoke : ℕ) → Contains told (client, Answers invoke) → (output : What) × IsAnswerTo invoke output × Contains told (client, Sends output)

@@ -1,0 +1,61 @@
+-- What is done on the tables that are lifted out of held parts (this profile's choice).
+use Rattle.std.specs.Prelude.{◌≡◌, ℕ, ◌+◌, ◌≤◌, List, Option, Some}
+use Rattle.std.specs.Option.{option_map}
+use Rattle.part_table.specs.Held.{held_at}
+use Rattle.association.specs.Client.{ClientRow, Client as RoomyRow}
+use Rattle.variable_services.specs.declared.tables.VariableTables.{VariableTables}
+use Rattle.parted_state.specs.Served.{Done, change}
+use Rattle.cell_services.specs.Acts.{act_done, IsDoneOn}
+use Rattle.cell_services.specs.Association.{Verdict}
+use Rattle.cell_services.specs.Effects.{Effect, tell}
+use Rattle.cell_services.specs.Meant.{no_tables, row_after}
+use Rattle.cell_services.specs.Serving.{hears, own_told, passes}
+use Rattle.cell_services.specs.Tables.{Tables, last_moment}
+use Rattle.mms_step.specs.declared.part.Part.{Part}
+use Rattle.mms_step.specs.declared.part.Part.TheVariants.{Client, Variables}
+use Rattle.mms_step.specs.declared.serving.Task.{Task}
+use Rattle.mms_step.specs.declared.serving.Task.TheVariants as task
+use Rattle.mms_step.specs.Partition.{client_place, on_client, row_in, IsClient}
+
+-- ---- tasks
+
+-- the row of a client whose part is held
+abbrev pub row_held : List (Option Part) → ℕ → ClientRow
+row_held hand client = row_in (held_at hand (client_place client))
+
+abbrev pub task_done : Tables → List (Option Part) → Task → Done Tables Effect
+task_done t hand (task.Client client act) = act_done t (row_held hand client) client act
+task_done t hand (task.Time ms) = passes ms t
+
+-- the part of a client is held
+abbrev pub HoldsClient : ℕ → List (Option Part) → Type 0
+HoldsClient client hand = (client ≤ 64) × IsClient (held_at hand (client_place client))
+
+-- the part of its client is held
+abbrev pub HoldsOwn : Task → List (Option Part) → Type 0
+HoldsOwn (task.Client client act) hand = HoldsClient client hand
+HoldsOwn (task.Time ms) hand = Unit {0}
+
+-- time ends no later than the last moment
+abbrev pub IsTimely : Task → Tables → Type 0
+IsTimely (task.Client client act) t = Unit {0}
+IsTimely (task.Time ms) t = t.now + ms ≤ last_moment
+
+-- ---- what is done in place
+
+-- the part of the client and that of the variables, before and after it
+pub record AreDone (v : Verdict) (part table new now : Part) : Type 0 where
+  pub own : RoomyRow
+  pub after : RoomyRow
+  pub was : VariableTables
+  pub become : VariableTables
+  pub is_own : part ≡ Client own
+  pub is_table : table ≡ Variables was
+  pub is_after : new ≡ Client after
+  pub is_now : now ≡ Variables become
+  pub done : IsDoneOn own.row was become after v
+
+-- the client is told all that comes of a verdict, which uses no table and tells nobody else anything
+pub record IsHeardInPlace (client : ℕ) (v : Verdict) (hand new : List (Option Part)) : Type 0 where
+  pub is : new ≡ change (option_map (on_client (row_after v))) hand (client_place client)
+  pub alone : (t : Tables) → hears t (row_held hand client) client v ≡ record { tables = t; told = tell client (own_told no_tables (row_held hand client) v) }
