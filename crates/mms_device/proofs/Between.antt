@@ -47,8 +47,8 @@ module _ (config : Config) (is_config : IsConfig config) (event : CellEvent) (ol
       same_own old.by old.seen p.seen old.own taking.seen knew.own
       (sym (ap (λ (x : Caller). x.own) taking.pass) ∙ knows.own ∙ ap (λ (b : ℕ). places_of b p.seen) by)
 
-  pub time_held : (hand : List (Option Part)) → hand ≡ p.hand → need event p.taken ≡ [] → actor_of event ≡ old.by → IsTimely config old event
+  pub time_held : (hand : List (Option Part)) → hand ≡ p.hand → actor_of event ≡ old.by → IsTimely config old event
       → IsInTime (clock_in (held_at hand 0)) event
-  time_held hand is enough actor time =
+  time_held hand is actor time =
       subst (λ (h : List (Option Part)). IsInTime (clock_in (held_at h 0)) event) (sym (is ∙ taking.hand))
-      (in_time config p.table.callers old.by old.seen p.seen p.taken event knows.made of enough actor own time)
+      (in_time config p.table.callers old.by old.seen p.seen p.taken event knows.made of actor own time)

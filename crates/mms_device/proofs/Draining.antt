@@ -89,9 +89,9 @@ module _ (config : Config) (is_config : IsConfig config) (old p saw : Caller) (c
         ∙ outputs_held (led_to config h) saw.taken client of_state is_client (there h) saw_held
         ∙ ap (λ (k : ℕ). said config (all_events h) k) by
 
-  pub drain_served : (new : List (Option Part)) (r g : Caller) (ticket : ℕ) (h : History) → p.lost ≡ old.lost
-      → r ≡ record saw { seen = h ++ (saw.by, Drain client) ∷ []; own = saw.own ++ ticket ∷ []; left = saw.left - 1; taken = new; hand = new } → StartsWith h saw.seen → ticket ≡ length r.seen
+  pub drain_served : (q r g : Caller) (ticket : ℕ) (h : History) → p.lost ≡ old.lost → q ≡ record saw { hand = q.hand }
+      → r ≡ record q { seen = h ++ (q.by, Drain client) ∷ []; own = q.own ++ ticket ∷ []; left = q.left - 1; taken = q.hand } → StartsWith h q.seen → ticket ≡ length r.seen
       → IsTrueOf MayMake r → g ≡ record r { taken = nothing (length r.table.opening); hand = nothing (length r.table.opening) } → IsServed (Drain old.by) old g ticket h
-  drain_served new r g ticket h lost is_r begins place knows_r is_g =
+  drain_served q r g ticket h lost same is_r begins place knows_r is_g =
       subst (λ (k : ℕ). IsServed (Drain k) old g ticket h) by
-      (served (Drain client) old saw seeing idle knew (record saw { hand = new }) r g ticket h (ap (λ (x : Caller). x.lost) is_s ∙ lost) refl is_r begins place knows_r is_g)
+      (served (Drain client) old saw seeing idle knew q r g ticket h (ap (λ (x : Caller). x.lost) is_s ∙ lost) same is_r begins place knows_r is_g)

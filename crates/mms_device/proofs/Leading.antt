@@ -17,8 +17,9 @@ use Rattle.mms_step.specs.Partition.{parts_of, clock_in}
 use Rattle.mms_step.specs.Needs.{need}
 use Rattle.mms_step.specs.After.{parts_after}
 use Rattle.mms_device.specs.Making.{MayMake}
-use Rattle.mms_device.specs.Shared.{History, all_events, led_to, goes_by, ticks_in}
-use Rattle.mms_device.proofs.Steps.{parts_step, step_sized, length-start, now_step, clock_held}
+use Rattle.part_table.specs.Known.{IsTrueOf}
+use Rattle.mms_device.specs.Shared.{Caller, History, IsTimely, all_events, led_to, goes_by, ticks_in}
+use Rattle.mms_device.proofs.Steps.{parts_step, step_sized, length-start, now_step, clock_below}
 
 pub among_more : (event : CellEvent) (few many : ℕ) → few ≤ many → IsAmong few event → IsAmong many event
 among_more (Heard client octets) few many le among = (among.0, omega (arith, among.1))
@@ -107,14 +108,36 @@ now_led config callers history made =
 
 -- an event of a caller in time is in time by the clock that is held, whatever others did meanwhile
 pub in_time : (config : Config) (callers by : ℕ) (old new : History) (hand : List (Option Part)) (event : CellEvent) → IsMade callers MayMake new
-    → IsHandOf hand (parts_of (led_to config new)) → need event hand ≡ [] → actor_of event ≡ by → events_of by new ≡ events_of by old
+    → IsHandOf hand (parts_of (led_to config new)) → actor_of event ≡ by → events_of by new ≡ events_of by old
     → IsInTime (config.start.0 + ticks_in (events_of by old)) event → IsInTime (clock_in (held_at hand 0)) event
-in_time config callers by old new hand (Tick ms) made of enough actor own time =
-    let shows = clock_held (led_to config new) hand ms of enough in
+in_time config callers by old new hand (Tick ms) made of actor own time =
+    let shows = clock_below (led_to config new) hand of in
     let now = now_led config callers new made in
     let same : ticks_in (events_of 0 new) ≡ ticks_in (events_of by old) = ap (λ (b : ℕ). ticks_in (events_of b new)) actor ∙ ap ticks_in own in
     omega (arith, shows, now, same, time)
-in_time config callers by old new hand (Heard client octets) made of enough actor own time = tt
-in_time config callers by old new hand (Lost client) made of enough actor own time = tt
-in_time config callers by old new hand (Ends name) made of enough actor own time = tt
-in_time config callers by old new hand (Drain client) made of enough actor own time = tt
+in_time config callers by old new hand (Heard client octets) made of actor own time = tt
+in_time config callers by old new hand (Lost client) made of actor own time = tt
+in_time config callers by old new hand (Ends name) made of actor own time = tt
+in_time config callers by old new hand (Drain client) made of actor own time = tt
+
+-- a caller's event that was in time is in time for what the pass knows now
+pub timely_seen : (config : Config) (event : CellEvent) (old saw : Caller) → saw ≡ record old { seen = saw.seen } → StartsWith saw.seen old.seen → IsTrueOf MayMake old → IsTrueOf MayMake saw
+    → IsTimely config old event → IsTimely config saw event
+timely_seen config event old saw kept starts knew knows time =
+    subst (λ (events : List CellEvent). IsInTime (config.start.0 + ticks_in events) event) (sym own) time
+  where
+    by : saw.by ≡ old.by
+    by = ap (λ (x : Caller). x.by) kept
+
+    own : events_of saw.by saw.seen ≡ events_of old.by old.seen
+    own =
+        ap (λ (b : ℕ). events_of b saw.seen) by
+        ∙ same_own old.by old.seen saw.seen old.own starts knew.own
+        (sym (ap (λ (x : Caller). x.own) kept) ∙ knows.own ∙ ap (λ (b : ℕ). places_of b saw.seen) by)
+
+-- and it is while parts are taken
+pub timely_taken : (config : Config) (event : CellEvent) (old p : Caller) → p ≡ record old { lost = p.lost; taken = p.taken; hand = p.hand }
+    → IsTimely config old event → IsTimely config p event
+timely_taken config event old p same time =
+    subst (λ (events : List CellEvent). IsInTime (config.start.0 + ticks_in events) event)
+    (sym (ap₂ (λ (b : ℕ) (h : History). events_of b h) (ap (λ (x : Caller). x.by) same) (ap (λ (x : Caller). x.seen) same))) time

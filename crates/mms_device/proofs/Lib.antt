@@ -8,3 +8,4 @@ pub mod Trying
 pub mod Between
 pub mod Draining
 pub mod Gathering
+pub mod Sent

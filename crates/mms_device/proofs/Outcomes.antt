@@ -2,7 +2,7 @@
 use Rattle.std.specs.Prelude.{◌≡◌, ◌≢◌, ℕ, ◌+◌, ◌-◌, ◌<◌, true, not, Option, None, Some, List, [], ◌∷◌, ◌++◌, map, length, Contains, refl}
 use Rattle.std.proofs.Common.{ap, sym, ◌∙◌, subst, arith, get_or, append-nil, length-append}
 use Rattle.std.proofs.lemmas.List.Elements.{Contains-get_or}
-use Rattle.mms_types.specs.Actors.{IsAmong}
+use Rattle.mms_types.specs.Actors.{IsAmong, actor_of}
 use Rattle.mms_types.specs.declared.event.CellEvent.{CellEvent}
 use Rattle.cell_config.specs.declared.config.Config.{Config}
 use Rattle.cell_config.specs.Said.{IsConfig}
@@ -15,19 +15,20 @@ use Rattle.parted_state.specs.Sets.{IsSetOf}
 use Rattle.parted_state.specs.CutLaws as laws
 use Rattle.mms_step.specs.declared.part.Part.{Part}
 use Rattle.mms_step.specs.State.{State, start, IsSound}
-use Rattle.mms_step.specs.Partition.{parts_of, clients_among}
+use Rattle.mms_step.specs.Partition.{parts_of, clients_among, clock_in}
+use Rattle.mms_step.specs.Step.{IsInTime}
 use Rattle.mms_step.specs.Needs.{footprint, shown, need, wanted, is_held}
 use Rattle.mms_step.specs.After.{parts_after}
 use Rattle.mms_device.specs.declared.answers.Refused.{Refused}
 use Rattle.mms_device.specs.declared.answers.Refused.TheVariants as refused
 use Rattle.mms_device.specs.Making.{MayMake}
-use Rattle.mms_device.specs.Shared.{Caller, History, IsServed, IsAsBefore, IsBusy, IsOf, all_events, led_to}
+use Rattle.mms_device.specs.Shared.{Caller, History, IsServed, IsAsBefore, IsBusy, IsOf, IsTimely, all_events, led_to}
 use Rattle.mms_device.specs.Taken.{HasGrown, HasTaken, HoldsWanted, HasLost, IsStopped, IsTaking, Wants, free_count}
 use Rattle.mms_device.specs.Refusals.{IsRefused}
 use Rattle.mms_device.proofs.Steps.{clients_counted, parts_many, replay_sound, words_wanted, shown_wanted, wanted_within, length-start}
 use Rattle.mms_device.proofs.Growing.{taken_none, of_the_list, is_missing, one_fewer_free, still_held}
 use Rattle.mms_device.proofs.Wanting.{told_held, told_wants, shown_held, shown_wants, still_wants}
-use Rattle.mms_device.proofs.Leading.{leads, among_more, same_own, events_more, own_front}
+use Rattle.mms_device.proofs.Leading.{leads, among_more, same_own, events_more, in_time, own_front}
 
 -- ---- sets
 
@@ -293,3 +294,10 @@ module _ (event : CellEvent) (old p : Caller) (taking : IsTaking event old p) (i
   kept q g knows lost is_q is_g =
       let same = is_g ∙ ap {A = Caller} {B = Caller} (λ x. record x { taken = nothing (length x.table.opening); hand = nothing (length x.table.opening) }) is_q in
       without_memory p g refl ([], sym (append-nil p.seen)) knows same lost
+
+-- an event in time is in time by the clock that is held
+pub time_shown : (config : Config) (event : CellEvent) (saw : Caller) (hand : List (Option Part)) → SeesState config saw → hand ≡ saw.hand → actor_of event ≡ saw.by → IsTrueOf MayMake saw
+    → IsTimely config saw event → IsInTime (clock_in (held_at hand 0)) event
+time_shown config event saw hand state is actor knows time =
+    subst (λ (h : List (Option Part)). IsInTime (clock_in (held_at h 0)) event) (sym (is ∙ state.same))
+    (in_time config saw.table.callers saw.by saw.seen saw.seen saw.taken event knows.made state.hand actor refl time)

@@ -11,7 +11,7 @@ use Rattle.mms_types.specs.declared.event.CellEvent.TheVariants.{Heard, Lost, Ti
 use Rattle.cell_config.specs.declared.config.Config.{Config}
 use Rattle.cell_config.specs.Said.{IsConfig}
 use Rattle.part_table.specs.Held.{held_at, IsHandOf}
-use Rattle.part_table.specs.HeldLaws.{held_within}
+use Rattle.part_table.specs.HeldLaws.{held_of_list, held_within}
 use Rattle.parted_state.specs.CutLaws as laws
 use Rattle.parted_state.specs.DeviceLaws as device
 use Rattle.parted_state.specs.Served as parted
@@ -23,8 +23,8 @@ use Rattle.mms_step.specs.Partition.{cell, parts_of, state_in, client_part, clie
 use Rattle.mms_step.specs.Needs.{footprint, need, shown, wanted, wants, is_held}
 use Rattle.mms_step.specs.After.{parts_after}
 use Rattle.mms_step.specs.AfterLaws.{is_device, each_framed}
-use Rattle.mms_step.specs.Serving.{services, tables_lost}
-use Rattle.mms_step.specs.Tables.{Tables}
+use Rattle.cell_services.specs.Serving.{services, tables_lost}
+use Rattle.cell_services.specs.Tables.{Tables}
 use Rattle.mms_step.proofs.AllParts.{nothing_needed}
 use Rattle.mms_step.proofs.Holding as holding
 use Rattle.mms_step.proofs.Needed as needed
@@ -117,11 +117,16 @@ wanted_within s event i among is =
 
 -- ---- the clock
 
--- where a tick needs nothing, the clock is held
-pub clock_held : (s : State) (hand : List (Option Part)) (ms : ℕ) → IsHandOf hand (parts_of s) → need (Tick ms) hand ≡ [] → clock_in (held_at hand clock_place) ≡ s.now
-clock_held s hand ms of enough =
-    let held = wanted_held s hand (Tick ms) clock_place of enough (laws.in_contains (wanted (Tick ms) s) clock_place refl) in
-    ap clock_in (holding.held_part hand (parts_of s) clock_place (Clock s.now) of held refl)
+-- a clock that is held shows the moment, and where none is held the moment is shown as 0
+pub clock_below : (s : State) (hand : List (Option Part)) → IsHandOf hand (parts_of s) → clock_in (held_at hand clock_place) ≤ s.now
+clock_below s hand of = by_value (held_at hand clock_place) refl
+  where
+    by_value : (o : Option Part) → held_at hand clock_place ≡ o → clock_in o ≤ s.now
+    by_value None e = omega arith
+    by_value (Some x) e =
+        let both : Some (Clock s.now) ≡ Some x = held_of_list hand (parts_of s) clock_place x of e in
+        let same : Clock s.now ≡ x = cc both in
+        subst (λ (y : Part). clock_in (Some y) ≤ s.now) same (omega arith)
 
 -- ---- the part of a client
 

@@ -1,20 +1,24 @@
 //! Calls of the table of parts, where it is known that the parts are the cell's: that these may go from thread to thread
 //! is shown here once, and not in each caller's proof.
 
-ghost use Rattle.std.specs.Prelude.{◌≡◌, ◌+◌, ◌-◌, ◌<◌, ◌≤◌, ◌^◌, [], ◌∷◌, ◌++◌, ℕ, List, IfOk, OnErr, OnOk, length, map, vec_len};
+ghost use Rattle.std.specs.Prelude.{◌≡◌, ◌≢◌, ◌+◌, ◌-◌, ◌<◌, ◌≤◌, ◌^◌, [], ◌∷◌, ◌++◌, ℕ, List, None, Some, IfErr, IfOk, OnErr, OnOk, length, map, slice_set, vec_len};
 ghost use Rattle.std.specs.Box.{box_value};
 ghost use Rattle.std.specs.List.{range_with_len};
 ghost use Rattle.mms_types.specs.declared.event.CellEvent.{CellEvent};
-ghost use Rattle.part_table.specs.Held.{IsHandOf};
+ghost use Rattle.mms_types.specs.Actors.{IsAmong};
+ghost use Rattle.mms_types.specs.declared.event.CellEvent.TheVariants.{Drain};
+ghost use Rattle.part_table.specs.Held.{held_at, IsHandOf};
 ghost use Rattle.part_table.specs.History.{StartsWith, replayed};
 ghost use Rattle.part_table.specs.Known.{IsTrueOf, newcomer};
 ghost use Rattle.mms_step.specs.After.{after, parts_after};
-ghost use Rattle.mms_step.specs.Needs.{need};
+ghost use Rattle.mms_step.specs.Needs.{is_held, need};
+ghost use Rattle.mms_step.specs.Partition.{client_place, outbox_held, parts_of, IsClient};
+ghost use Rattle.mms_step.specs.State.{State};
 ghost use Rattle.mms_device.specs.Making.{MayMake};
 
 use mms_step::{Cell, Part, Reading, apply_read};
-use mms_types::{CellEvent, Memory};
-use part_table::{Hand, PartTable, Pass};
+use mms_types::{CellEvent, Memory, What};
+use part_table::{Hand, Held, PartTable, Pass};
 use std::alloc::Global;
 
 /// A table of these parts, and the passes of its callers, as `PartTable::new` makes them.
@@ -62,6 +66,41 @@ pub(crate) fn hand(pass: &Pass<Cell>) -> &Hand<Cell>
     ensures { result.now ≡ pass.now.hand }
 {
     pass.hand()
+}
+
+/// Whether the caller holds that part.
+pub(crate) fn holds(pass: &Pass<Cell>, part: u32) -> bool
+    ensures { result ≡ is_held pass.now.hand part }
+{
+    pass.hand().holds(part)
+}
+
+/// A pass has a place for each part.
+pub(crate) fn a_pass_has_a_place_for_each_part(pass: &Pass<Cell>)
+    ensures { length pass.now.taken ≡ length pass.now.table.opening }
+{
+    part_table::a_pass_has_a_place_for_each_part(pass);
+}
+
+/// Takes a part, unless another caller holds it, as `PartTable::try_take` does.
+pub(crate) fn try_take(
+    table: &PartTable<Cell>,
+    pass: &mut Pass<Cell>,
+    part: u32,
+) -> Result<(), Held>
+    requires table { pass.old.table ≡ table.now }
+    requires hand { pass.old.hand ≡ pass.old.taken }
+    requires part { part < length table.now.opening }
+    requires free { held_at pass.old.taken part ≡ None }
+    ensures taken { IfOk result (λ _. (value : Part)
+        × (pass.new ≡ record pass.old {
+          taken = slice_set pass.old.taken part (Some value);
+          hand = slice_set pass.old.hand part (Some value);
+        })) }
+    ensures lost { IfErr result (λ held. (held.by ≢ pass.old.by)
+        × (pass.new ≡ record pass.old { lost = pass.old.lost ++ (part, held.by) ∷ [] })) }
+{
+    table.try_take(pass, part)
 }
 
 /// The caller's number.
@@ -120,6 +159,19 @@ pub(crate) fn on_hand<S: OnHeld>(
     ensures kept { OnErr result (pass.new ≡ pass.old) }
 {
     step.on(alloc, pass.hand_mut())
+}
+
+/// Takes what is to be sent to a client out of its part, which the caller holds.
+pub(crate) fn drain(client: u32, pass: &mut Pass<Cell>) -> Vec<What>
+    requires small { client ≤ 64 }
+    requires held { IsClient (held_at pass.old.hand (client_place client)) }
+    ensures pass { pass.new ≡ record pass.old { hand = pass.new.hand } }
+    ensures outputs { result.items ≡ outbox_held (held_at pass.old.hand (client_place client)) }
+    ensures parts { (s : State) → IsHandOf pass.old.hand (parts_of s)
+        → IsAmong (length s.clients) (Drain client)
+        → pass.new.hand ≡ after (Drain client) pass.old.hand }
+{
+    mms_step::drain(client, pass.hand_mut())
 }
 
 /// Adds an event to the history, as `PartTable::commit` does.

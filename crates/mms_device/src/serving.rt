@@ -8,7 +8,7 @@ ghost use Rattle.part_table.specs.History.{StartsWith};
 ghost use Rattle.part_table.specs.Known.{HoldsNothing};
 ghost use Rattle.mms_step.specs.Needs.{footprint, need};
 ghost use Rattle.mms_step.specs.Partition.{parts_of};
-ghost use Rattle.mms_step.specs.Reads.{IsReadingOf};
+ghost use Rattle.cell_services.specs.Reads.{IsReadingOf};
 ghost use Rattle.mms_step.specs.Step.{said};
 ghost use Rattle.mms_device.specs.Making.{MayMake};
 ghost use Rattle.mms_device.specs.Refusals.{IsRefused};
@@ -20,9 +20,9 @@ use crate::giving::give_all;
 use crate::taking::take_each;
 use crate::{Device, Drained, calls};
 use cell_io::{Gate, Point};
-use mms_step::{Cell, Reading, drain, footprint, need_read, read_event};
+use mms_step::{Cell, Reading, footprint, need_read, read_event};
 use mms_types::{CellEvent, Memory};
-use part_table::{Pass, a_pass_knows_its_own_places};
+use part_table::Pass;
 use std::alloc::Global;
 use std::sync::Wait;
 
@@ -39,9 +39,11 @@ impl Device {
         requires table { pass.old.table ≡ self.now.table }
         requires hand { pass.old.hand ≡ pass.old.taken }
         requires actor { MayMake pass.old.by event.now }
+        requires time { IsTimely self.now.config pass.old event.now }
         requires reading { IsReadingOf reading.now event.now }
         requires wanted { HoldsWanted event.now pass.old.taken }
         ensures taking { IsTaking event.now pass.old pass.new }
+        ensures time { IsTimely self.now.config pass.new event.now }
         ensures all { IfOk result (λ all. all ≡ true → (need event.now pass.new.taken ≡ [])
             × IsHandOf pass.new.taken (parts_of (led_to self.now.config pass.new.seen))) }
         ensures more { IfOk result (λ all. all ≡ false
@@ -49,6 +51,7 @@ impl Device {
         ensures lost { OnOk result (pass.new.lost ≡ pass.old.lost) }
         ensures stopped { IfErr result (IsStopped event.now pass.old pass.new) }
     {
+        calls::a_pass_knows_its_own_places(pass);
         calls::see(&self.table, pass);
         calls::a_pass_knows_its_own_places(pass);
         let Ok(missing) = need_read(alloc, event, reading, calls::hand(pass)) else {
@@ -73,14 +76,16 @@ impl Device {
         requires table { pass.old.table ≡ self.now.table }
         requires idle { HoldsNothing pass.old }
         requires actor { MayMake pass.old.by event.now }
+        requires time { IsTimely self.now.config pass.old event.now }
         ensures taking { IsTaking event.now pass.old pass.new }
+        ensures time { IsTimely self.now.config pass.new event.now }
         ensures told { IfOk result (λ _.
             AreHeld pass.new.taken (footprint self.now.config.clients event.now)
             × (pass.new.lost ≡ pass.old.lost)) }
         ensures stopped { IfErr result
             (λ busy. HasLost event.now pass.old pass.new busy.part busy.by) }
     {
-        a_pass_knows_its_own_places(pass);
+        calls::a_pass_knows_its_own_places(pass);
         let parts = footprint(event, self.clients);
         take_each(&self.table, pass, &parts, gate)
     }
@@ -97,6 +102,7 @@ impl Device {
         requires table { pass.old.table ≡ self.now.table }
         requires idle { HoldsNothing pass.old }
         requires actor { MayMake pass.old.by event.now }
+        requires time { IsTimely self.now.config pass.old event.now }
         requires reading { IsReadingOf reading.now event.now }
         ensures taking { IsTaking event.now pass.old pass.new }
         ensures all { IfOk result (λ _. (need event.now pass.new.taken ≡ [])
@@ -250,20 +256,20 @@ impl Device {
         ensures busy { IfErr result (λ busy.
             IsBusy self.now.config (Drain pass.old.by) pass.old pass.new busy.part busy.by) }
     {
-        a_pass_knows_its_own_places(pass);
-        let client = pass.by();
+        calls::a_pass_knows_its_own_places(pass);
+        let client = calls::by(pass);
         let event = CellEvent::Drain { client };
         if let Err(busy) = self.take_told(pass, &event, gate) {
-            self.table.see(pass);
-            a_pass_knows_its_own_places(pass);
+            calls::see(&self.table, pass);
+            calls::a_pass_knows_its_own_places(pass);
             give_all(&self.table, pass);
             gate.pass(client, Point::Busy(busy.part));
             return Err(busy);
         }
-        self.table.see(pass);
-        a_pass_knows_its_own_places(pass);
-        let outputs = drain(client, pass.hand_mut());
-        let ticket = self.table.commit(pass, &event);
+        calls::see(&self.table, pass);
+        calls::a_pass_knows_its_own_places(pass);
+        let outputs = calls::drain(client, pass);
+        let ticket = calls::commit(&self.table, pass, &event);
         gate.pass(client, Point::Committed);
         give_all(&self.table, pass);
         Ok(Drained { ticket, outputs })

@@ -5,9 +5,10 @@ ghost use Rattle.mms_step.specs.Needs.{is_held};
 ghost use Rattle.mms_device.specs.Taken.{AreHeld, HasTaken};
 
 use crate::answers::Busy;
+use crate::calls;
 use cell_io::{Gate, Point};
 use mms_step::{Cell, Parts};
-use part_table::{PartTable, Pass, a_pass_has_a_place_for_each_part};
+use part_table::{PartTable, Pass};
 
 /// Takes a part, unless the pass holds it already.
 pub(crate) fn take<G: Gate>(
@@ -25,13 +26,13 @@ pub(crate) fn take<G: Gate>(
         × (pass.new.lost ≡ pass.old.lost ++ (part, busy.by) ∷ [])) }
     ensures taken { HasTaken (part ∷ []) pass.old pass.new }
 {
-    if pass.hand().holds(part) {
+    if calls::holds(pass, part) {
         return Ok(());
     }
-    a_pass_has_a_place_for_each_part(pass);
-    match table.try_take(pass, part) {
+    calls::a_pass_has_a_place_for_each_part(pass);
+    match calls::try_take(table, pass, part) {
         Ok(()) => {
-            gate.pass(pass.by(), Point::Took(part));
+            gate.pass(calls::by(pass), Point::Took(part));
             Ok(())
         }
         Err(held) => Err(Busy { part, by: held.by }),

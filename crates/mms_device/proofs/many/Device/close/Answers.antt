@@ -1,3 +1,4 @@
+use denote.Param.Send.{param_send, arg_send}
 use Rattle.std.proofs.Common.{◌≡◌, ℕ, List, map, ap, ◌∙◌, subst}
 use Rattle.std.specs.Box.{box_value}
 use Rattle.mms_types.specs.declared.event.CellEvent.{CellEvent}
@@ -9,7 +10,11 @@ use Rattle.mms_step.specs.After.{parts_after}
 use Rattle.mms_device.specs.Making.{MayMake}
 use Rattle.mms_device.specs.Shared.{Shared, led_to}
 use Rattle.mms_device.proofs.Leading.{leads}
+use Rattle.mms_device.proofs.Sent.{part_send}
 use Rattle.mms_device.proofs.many.Device.close.Goals as goal
+
+pub close-requires-send-O-Part : goal.close-requires-send-O-Part
+close-requires-send-O-Part _ _ = param_send 1 _ (arg_send _ denote.Exit.yes _ part_send)
 
 pub returns-in-Ok-clause-parts : goal.returns-in-Ok-clause-parts
 returns-in-Ok-clause-parts c =

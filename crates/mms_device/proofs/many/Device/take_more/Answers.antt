@@ -8,9 +8,10 @@ use Rattle.mms_step.specs.declared.part.Part.{Part}
 use Rattle.mms_step.specs.Needs.{need}
 use Rattle.mms_step.specs.Partition.{parts_of}
 use Rattle.mms_device.specs.Making.{MayMake}
-use Rattle.mms_device.specs.Shared.{IsOf, Caller, Shared, led_to}
+use Rattle.mms_device.specs.Shared.{IsOf, IsTimely, Caller, Shared, led_to}
 use Rattle.mms_device.specs.Taken.{HoldsWanted}
-use Rattle.mms_device.proofs.Outcomes.{actor_among, sees, state_shown, among_shown, missing_shown, missing_within, fewer, more_taken, lost_more}
+use Rattle.mms_device.proofs.Outcomes.{actor_among, sees, state_shown, among_shown, missing_shown, missing_within, fewer, more_taken, lost_more, time_shown}
+use Rattle.mms_device.proofs.Leading.{timely_seen, timely_taken}
 use Rattle.mms_device.proofs.many.Device.take_more.Goals as goal
 
 pub need_read-requires-clause-of : goal.need_read-requires-clause-of
@@ -27,8 +28,41 @@ need_read-requires-clause-among g c =
     let is = subst (λ t. IsOf t config) (sym table) c.self.invariant.0 in
     let state = sees config c.args.pass.now c.see.new.pass c.self.invariant.1 is c.see.ensures.parts c.see.ensures.kept c.requires.hand in
     let may = subst (λ (b : ℕ). MayMake b c.args.event.now) (sym (ap (λ (p : Caller). p.by) c.see.ensures.kept)) c.requires.actor in
-    let among = actor_among config c.see.new.pass c.args.event.now is c.a_pass_knows_its_own_places.ensures.number may in
+    let among = actor_among config c.see.new.pass c.args.event.now is c.a_pass_knows_its_own_places-2.ensures.number may in
     among_shown config c.see.new.pass state c.args.event.now c.hand.result.now c.hand.ensures among
+
+pub need_read-requires-clause-time : goal.need_read-requires-clause-time
+need_read-requires-clause-time g c =
+    let config = c.self.inside.config.value in
+    let table = ap (λ (p : Caller). p.table) c.see.ensures.kept ∙ c.requires.table ∙ sym (ap (λ (d : Shared). d.table) c.self.view_is) in
+    let state = sees config c.args.pass.now c.see.new.pass c.self.invariant.1 (subst (λ t. IsOf t config) (sym table) c.self.invariant.0) c.see.ensures.parts c.see.ensures.kept c.requires.hand in
+    let time = subst (λ (d : Shared). IsTimely d.config c.args.pass.now c.args.event.now) (sym c.self.view_is) c.requires.time in
+    let actor = c.requires.actor.0 ∙ sym (ap (λ (p : Caller). p.by) c.see.ensures.kept) in
+    time_shown config c.args.event.now c.see.new.pass c.hand.result.now state c.hand.ensures actor c.a_pass_knows_its_own_places-2.ensures
+    (timely_seen config c.args.event.now c.args.pass.now c.see.new.pass c.see.ensures.kept c.see.ensures.seen c.a_pass_knows_its_own_places.ensures
+    c.a_pass_knows_its_own_places-2.ensures time)
+
+pub returns-in_default-clause-time : goal.returns-in_default-clause-time
+returns-in_default-clause-time g c =
+    timely_seen c.args.self.now.config c.args.event.now c.args.pass.now c.see.new.pass c.see.ensures.kept c.see.ensures.seen c.a_pass_knows_its_own_places.ensures
+    c.a_pass_knows_its_own_places-2.ensures c.requires.time
+
+pub returns-then-is_empty-clause-time : goal.returns-then-is_empty-clause-time
+returns-then-is_empty-clause-time g c =
+    timely_seen c.args.self.now.config c.args.event.now c.args.pass.now c.see.new.pass c.see.ensures.kept c.see.ensures.seen c.a_pass_knows_its_own_places.ensures
+    c.a_pass_knows_its_own_places-2.ensures c.requires.time
+
+pub returns-in-Ok-take_each-clause-time : goal.returns-in-Ok-take_each-clause-time
+returns-in-Ok-take_each-clause-time g c =
+    timely_taken c.args.self.now.config c.args.event.now c.see.new.pass c.take_each.new.pass c.take_each.ensures.taken.pass
+    (timely_seen c.args.self.now.config c.args.event.now c.args.pass.now c.see.new.pass c.see.ensures.kept c.see.ensures.seen c.a_pass_knows_its_own_places.ensures
+    c.a_pass_knows_its_own_places-2.ensures c.requires.time)
+
+pub returns-in-Err-clause-time : goal.returns-in-Err-clause-time
+returns-in-Err-clause-time g c =
+    timely_taken c.args.self.now.config c.args.event.now c.see.new.pass c.take_each.new.pass c.take_each.ensures.taken.pass
+    (timely_seen c.args.self.now.config c.args.event.now c.args.pass.now c.see.new.pass c.see.ensures.kept c.see.ensures.seen c.a_pass_knows_its_own_places.ensures
+    c.a_pass_knows_its_own_places-2.ensures c.requires.time)
 
 pub returns-then-is_empty-clause-all : goal.returns-then-is_empty-clause-all
 returns-then-is_empty-clause-all g c same =
@@ -47,7 +81,7 @@ take_each-requires-clause-parts g c =
     let is = subst (λ t. IsOf t config) (sym table) c.self.invariant.0 in
     let state = sees config c.args.pass.now c.see.new.pass c.self.invariant.1 is c.see.ensures.parts c.see.ensures.kept c.requires.hand in
     let may = subst (λ (b : ℕ). MayMake b c.args.event.now) (sym (ap (λ (p : Caller). p.by) c.see.ensures.kept)) c.requires.actor in
-    let among = actor_among config c.see.new.pass c.args.event.now is c.a_pass_knows_its_own_places.ensures.number may in
+    let among = actor_among config c.see.new.pass c.args.event.now is c.a_pass_knows_its_own_places-2.ensures.number may in
     subst (λ t. (i : ℕ) → Contains c.in-Ok.missing i → i < length t.opening) table
     (missing_within config c.see.new.pass state c.args.event.now c.hand.result.now c.in-Ok.missing c.hand.ensures c.in-Ok.ensures among)
 

@@ -37,7 +37,7 @@ on_hand-requires g c =
       reading = c.requires.reading;
       among = among_held config c.self.invariant.1 c.args.event.now c.args.pass.now p taking of_table knew knows of p.hand refl c.requires.actor;
       held = ap (λ (h : List (Option Part)). need c.args.event.now h) taking.hand ∙ c.in_default.ensures.all.0;
-      time = time_held config c.self.invariant.1 c.args.event.now c.args.pass.now p taking of_table knew knows of p.hand refl c.in_default.ensures.all.0 c.requires.actor.0 time;
+      time = time_held config c.self.invariant.1 c.args.event.now c.args.pass.now p taking of_table knew knows of p.hand refl c.requires.actor.0 time;
     } in
     record { may = asked }
 
