@@ -11,9 +11,10 @@ use Rattle.association.specs.declared.negotiation.Association.{Association}
 use Rattle.association.specs.declared.negotiation.Association.TheVariants.{Idle, Open}
 use Rattle.parted_state.specs.Served as parted
 use Rattle.mms_step.specs.Partition.{cell}
-use Rattle.mms_step.specs.Serving.{services, tables_lost}
-use Rattle.mms_step.specs.State.{State, start, last_moment}
-use Rattle.mms_step.specs.Tables.{Tables}
+use Rattle.cell_services.specs.Serving.{services, tables_lost}
+use Rattle.mms_step.specs.State.{State, start}
+use Rattle.cell_services.specs.Tables.{last_moment}
+use Rattle.cell_services.specs.Tables.{Tables}
 use Rattle.mms_step.specs.Step.{step, replay, said, outbox_of, MayCome, IsInTime}
 use Rattle.mms_step.proofs.PartsAfter.{length-start, step_still}
 use Rattle.mms_step.proofs.PartsAfter.{step_sized as as_many_clients}

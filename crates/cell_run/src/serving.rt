@@ -6,7 +6,7 @@ ghost use Rattle.std.specs.Io.KnownBytes.{Appends};
 ghost use Rattle.cell_io.specs.Faults.{Rose};
 ghost use Rattle.cell_io.specs.Prefix.{AppendsPrefix};
 ghost use Rattle.mms_types.specs.Actors.{clients_to};
-ghost use Rattle.mms_step.specs.State.{last_moment};
+ghost use Rattle.cell_services.specs.Tables.{last_moment};
 ghost use Rattle.cell_record.specs.EventLine.{IsRecorded};
 ghost use Rattle.cell_record.specs.Grammar.{phase_ms};
 ghost use Rattle.cell_record.specs.History.{drains};
