@@ -1,0 +1,311 @@
+-- A token of a client whose association ends goes to the first that waits, or is free.
+use Rattle.std.proofs.Common.{◌≡◌, ℕ, zero, suc, ◌≤◌, ◌⊎◌, inl, inr, Bool, true, false, not, cond, ◌&&◌, List, [], ◌∷◌, ◌++◌, map, filter, length, Option, None, Some, option_map, option_to_list, refl, sym, ◌∙◌, ap, subst, arith}
+use Rattle.std.specs.List.{Contains, flat_map}
+use Rattle.std.specs.Map.{keys_of, lookup}
+use Rattle.std.proofs.lemmas.List.Elements.{Contains-append_right}
+use Rattle.std.proofs.lemmas.Map.Entries.{lookup-filter-keys}
+use Rattle.std.proofs.lemmas.Map.Made.{lookup-map_values}
+use Rattle.mms_types.specs.Order.{key_eq, scope_eq}
+use Rattle.mms_types.specs.declared.event.CellEvent.{CellEvent}
+use Rattle.mms_types.specs.declared.event.CellEvent.TheVariants.{Heard, Lost, Tick, Ends, Drain}
+use Rattle.mms_types.specs.declared.key.Key.{Key}
+use Rattle.mms_types.specs.declared.key.Scope.TheVariants.{Association}
+use Rattle.mms_types.specs.declared.moment.Moment.{Moment}
+use Rattle.association.specs.declared.negotiation.Association.{Association as IsOpen}
+use Rattle.association.specs.declared.negotiation.Association.TheVariants.{Idle, Open}
+use Rattle.association.specs.declared.negotiation.Negotiated.{Negotiated}
+use Rattle.association.specs.Client.{ClientRow}
+use Rattle.cell_config.specs.declared.config.Config.{Config}
+use Rattle.cell_config.specs.Said.{IsConfig}
+use Rattle.token_sem.specs.declared.entry.Grant.{Grant}
+use Rattle.token_sem.specs.declared.entry.SemEntry.{SemEntry}
+use Rattle.token_sem.specs.Semaphore.{IsSem, Loss, Sem, aborts, after_freeing, grant_of, is_owner, is_queued, loss_of, next, without}
+use Rattle.token_sem.proofs.Keeping.{Among}
+use Rattle.token_sem.proofs.Least.{Stands}
+use Rattle.token_sem.proofs.Losing.{owner-not_queued}
+use Rattle.mms_time.specs.Deadlines.{NamedDeadline, expire_after}
+use Rattle.mms_time.specs.Loss.{all_changed, grants_of, lost, lost_grants, sorted_keys, without_client}
+use Rattle.mms_time.specs.Semaphores.{IsSound, Rows, changed_row, entries_in}
+use Rattle.mms_time.specs.declared.row.Semaphore.{Semaphore}
+use Rattle.mms_time.specs.declared.row.Semaphore.TheVariants.{Token}
+use Rattle.mms_time.specs.declared.row.SemaphoreRow.{SemaphoreRow}
+use Rattle.mms_time.proofs.TwoSteps.{each_grant, each_semaphore}
+use Rattle.parted_state.specs.Served.{delivered, row_at}
+use Rattle.sem_ticks.specs.Sound.{AreSound}
+use Rattle.sem_ticks.specs.Ticks.{Ticking, abort_told, expiry_told}
+use Rattle.sem_ticks.specs.declared.ticks.Happening.TheVariants as happens
+use Rattle.sem_ticks.proofs.Kept.{row_found}
+use Rattle.cell_services.specs.Association.{Verdict, Concludes, Aborts, loss_told, verdict}
+use Rattle.cell_services.specs.Effects.{Effect, tell}
+use Rattle.cell_services.specs.Services.{grants_told}
+use Rattle.cell_services.specs.Serving.{all_told, also_lost, also_told, own_told, tables_heard, tables_lost}
+use Rattle.mms_step.specs.Answered.{IsAnswered}
+use Rattle.mms_step.specs.Partition.{cell}
+use Rattle.mms_step.specs.State.{State, IsSound as IsSoundState}
+use Rattle.mms_step.specs.Step.{replay, step}
+use Rattle.mms_step.proofs.Outboxes.{left_to, lost_to}
+use Rattle.mms_step.proofs.PartsAfter.{step_sized}
+use Rattle.mms_step.proofs.Sound.{replay_sound}
+use Rattle.cell_laws.specs.Freed.{IsPassedOn, Leaves, OwnsUnkept, TimesOut, entries_found}
+use Rattle.cell_laws.specs.Linked.{asker}
+use Rattle.cell_laws.proofs.Bound.{Bound, both-true, key-same}
+use Rattle.cell_laws.proofs.Claims.{Single, lost-one}
+use Rattle.cell_laws.proofs.ClaimsKept.{AreSingle, SingleMeanwhile, expired-single, next-single, replay_single}
+use Rattle.cell_laws.proofs.Freeing.{Found, IsTold, freed, next-left, passes-on, stands-contains}
+use Rattle.cell_laws.proofs.Granted.{answered-none, next-range, told-of}
+use Rattle.cell_laws.proofs.Hears.{waits_in}
+use Rattle.cell_laws.proofs.Linking.{Meanwhile, Meant, expiry-left, numbered-client, verdict-meant}
+use Rattle.cell_laws.proofs.Meetings.{bound-met, sound-met}
+use Rattle.cell_laws.proofs.Queues.{sorted-stands}
+use Rattle.cell_laws.proofs.Replayed.{replay_linked}
+use Rattle.cell_laws.proofs.Sent.{told-many}
+use Rattle.cell_laws.proofs.TimedOut.{at_point, expiry, happens-then, is_expired, reached-keeps, told-then}
+
+-- ---- lists
+
+contains-among : (es : List SemEntry) (o : SemEntry) → Contains es o → Among es o
+contains-among [] o h = let low = h.1 in absurd (omega (arith, low))
+contains-among (e ∷ es) o (zero, low, same) = inl same
+contains-among (e ∷ es) o (suc k, low, same) = inr (contains-among es o (k, omega (arith, low), same))
+
+stands-left : {A : Type 0} (xs ys : List A) (x : A) → Stands xs x → Stands (xs ++ ys) x
+stands-left [] ys x s = absurd s
+stands-left (y ∷ xs) ys x (inl same) = inl same
+stands-left (y ∷ xs) ys x (inr s) = inr (stands-left xs ys x s)
+
+stands-right : {A : Type 0} (xs ys : List A) (x : A) → Stands ys x → Stands (xs ++ ys) x
+stands-right [] ys x s = s
+stands-right (y ∷ xs) ys x s = inr (stands-right xs ys x s)
+
+flat-stands : {K A : Type 0} (f : K → List A) (ks : List K) (k : K) (x : A) → Stands ks k → Stands (f k) x → Stands (flat_map f ks) x
+flat-stands f [] k x s h = absurd s
+flat-stands f (l ∷ ks) k x (inl same) h = stands-left (f l) (flat_map f ks) x (subst (λ j. Stands (f j) x) (sym same) h)
+flat-stands f (l ∷ ks) k x (inr s) h = stands-right (f l) (flat_map f ks) x (flat-stands f ks k x s h)
+
+map-stands : {A B : Type 0} (f : A → B) (xs : List A) (x : A) → Stands xs x → Stands (map f xs) (f x)
+map-stands f [] x s = absurd s
+map-stands f (y ∷ xs) x (inl same) = inl (ap f same)
+map-stands f (y ∷ xs) x (inr s) = inr (map-stands f xs x s)
+
+-- ---- a client is lost, in all semaphores
+
+pub record Has (key : Key) (rows : Rows) (owner : SemEntry) : Type 0 where
+  pub sem : Sem
+  pub found : Found key rows sem
+  pub sound : IsSem sem
+  pub single : Single sem.entries
+  pub among : Among sem.entries owner
+
+has-owner : (key : Key) (rows : Rows) (owner : SemEntry) → AreSound rows → AreSingle rows → Contains (entries_found (lookup (key_eq key) rows)) owner → Has key rows owner
+has-owner key rows owner sound single there = by_row (lookup (key_eq key) rows) refl there
+  where
+    by_semaphore : (row : SemaphoreRow) → lookup (key_eq key) rows ≡ Some row → (t : Semaphore) → row.semaphore ≡ t → IsSound t → Single (entries_in t)
+        → Contains (entries_in t) owner → Has key rows owner
+    by_semaphore row found (Token s) same is one h = record {
+      sem = s;
+      found = record { row = row; there = found; is = same };
+      sound = is;
+      single = one;
+      among = contains-among s.entries owner h;
+    }
+
+    by_row : (o : Option SemaphoreRow) → lookup (key_eq key) rows ≡ o → Contains (entries_found o) owner → Has key rows owner
+    by_row None e h = let low = h.1 in absurd (omega (arith, low))
+    by_row (Some row) e h = by_semaphore row e row.semaphore refl (row_found rows key row sound.each e) (single key row e) h
+
+module _ (key : Key) (rows : Rows) (client : ℕ) (now : Moment) (sound : AreSound rows) (single : AreSingle rows) (owns : OwnsUnkept key rows client) where
+  pub has : Has key rows owns.owner
+  has = has-owner key rows owns.owner sound single owns.there
+
+  pub holds : is_queued owns.owner ≡ false
+  holds = owner-not_queued owns.owner owns.owns
+
+  -- its token alone is freed
+  lost-its : loss_of client now has.sem.entries
+      ≡ record { entries = after_freeing now (without owns.owner.number has.sem.entries); grants = option_to_list (option_map grant_of (next (without owns.owner.number has.sem.entries))) }
+  lost-its = lost-one has.sem client now owns.owner has.single has.among owns.its owns.owns owns.unkept
+
+  pub then-found : Found key (lost client now rows) (freed owns.owner.number now has.sem)
+  then-found = record {
+    row = changed_row (without_client client now) has.found.row;
+    there =
+        ap (λ (all : Rows). lookup (key_eq key) (filter (λ row. not (scope_eq row.0.scope (Association client))) all)) (sym (each_semaphore client now rows))
+        ∙ lookup-filter-keys (key_eq key) (λ x. not (scope_eq x.scope (Association client))) (not (scope_eq key.scope (Association client)))
+        (λ x h. ap (λ (y : Key). not (scope_eq y.scope (Association client))) (sym (key-same key x h))) (all_changed (without_client client now) rows)
+        ∙ ap (λ b. cond (not b) (lookup (key_eq key) (all_changed (without_client client now) rows)) None) owns.lasting
+        ∙ lookup-map_values (changed_row (without_client client now)) (key_eq key) rows
+        ∙ ap (option_map (changed_row (without_client client now))) has.found.there;
+    is = ap (without_client client now) has.found.is ∙ ap (λ (l : Loss). Token (record has.sem { entries = l.entries })) lost-its;
+  }
+
+  pub granted-there : (e : SemEntry) → next has.sem.entries ≡ Some e → Stands (lost_grants client now rows) (grant_of e)
+  granted-there e first =
+      subst (λ (l : List Grant). Stands l (grant_of e)) (each_grant client now rows (sorted_keys (keys_of rows)))
+      (flat-stands (λ k. grants_of client now (lookup (key_eq k) rows)) (sorted_keys (keys_of rows)) key (grant_of e) (sorted-stands rows key has.found.row has.found.there)
+      (subst (λ (l : List Grant). Stands l (grant_of e)) (sym grants) (inl refl)))
+    where
+      heir : next (without owns.owner.number has.sem.entries) ≡ Some e
+      heir = next-left has.sem owns.owner has.sound has.among holds ∙ first
+
+      grants : grants_of client now (lookup (key_eq key) rows) ≡ grant_of e ∷ []
+      grants =
+          ap (grants_of client now) has.found.there
+          ∙ ap (λ (t : Semaphore). (loss_of client now (entries_in t)).grants) has.found.is
+          ∙ ap (λ (l : Loss). l.grants) lost-its
+          ∙ ap (λ (o : Option SemEntry). option_to_list (option_map grant_of o)) heir
+
+  -- so it is passed on
+  pub lost-on : (new : Rows) (t : State) → new ≡ lost client now rows → ((e : SemEntry) → next has.sem.entries ≡ Some e → Stands (lost_grants client now rows) (grant_of e) → IsTold t e)
+      → IsPassedOn key now rows new t
+  lost-on new t became told =
+      passes-on key now rows new t has.sem owns.owner has.sound has.among holds has.found
+      (subst (λ (all : Rows). Found key all (freed owns.owner.number now has.sem)) (sym became) then-found) (λ e first. told e first (granted-there e first))
+
+-- ---- its association ends
+
+module _ (count : ℕ) (s : State) (sound : IsSoundState count s) (bound : Bound (asker s.semaphores) (waits_in s.clients)) (single : AreSingle s.semaphores) (key : Key) where
+  abbrev pub now : Moment
+  now = record { 0 = s.now }
+
+  -- the tokens of that client are freed, and those who are granted them are told
+  ends : (client leaver : ℕ) (event : CellEvent) → client ≡ leaver → (own : List (ℕ × Effect)) → (step s event).semaphores ≡ lost client now s.semaphores
+      → (step s event).clients ≡ delivered cell (own ++ grants_told (lost_grants client now s.semaphores)) s.clients
+      → ((g : Grant) → Contains (lost_grants client now s.semaphores) g → IsAnswered (step s event) g)
+      → OwnsUnkept key s.semaphores leaver → IsPassedOn key now s.semaphores (step s event).semaphores (step s event)
+  ends client leaver event same own became told answered owns =
+      lost-on key s.semaphores client now sound.semaphores single mine (step s event).semaphores (step s event) became each
+    where
+      mine : OwnsUnkept key s.semaphores client
+      mine = subst (OwnsUnkept key s.semaphores) (sym same) owns
+
+      each : (e : SemEntry) → next (has key s.semaphores client now sound.semaphores single mine).sem.entries ≡ Some e → Stands (lost_grants client now s.semaphores) (grant_of e)
+          → IsTold (step s event) e
+      each e first stands =
+          told-of (step s event) e range.0 (let few = range.1 in let sized = step_sized s event in omega (arith, few, sized))
+          (ap (λ (rows : List ClientRow). waits_in rows e.client e.invoke) told ∙ answered-none own (lost_grants client now s.semaphores) s.clients (grant_of e) stands)
+          (answered (grant_of e) (stands-contains (lost_grants client now s.semaphores) (grant_of e) stands))
+        where
+          range : (1 ≤ e.client) × (e.client ≤ length s.clients)
+          range =
+              next-range key s.semaphores (has key s.semaphores client now sound.semaphores single mine).sem s.clients
+              (has key s.semaphores client now sound.semaphores single mine).found (has key s.semaphores client now sound.semaphores single mine).sound bound e first
+
+  module _ (client : ℕ) where
+    abbrev pub its : ClientRow
+    its = row_at cell client s.clients
+
+    unidle : (v : Verdict) → (v ≡ Concludes) ⊎ (v ≡ Aborts) → Meant its v → its.association ≡ Idle → ⊥
+    unidle v (inl e) m = subst (Meant its) e m
+    unidle v (inr e) m = subst (Meant its) e m
+
+    ending : (v : Verdict) → (v ≡ Concludes) ⊎ (v ≡ Aborts) → (tables_heard (cell.tables_of s) its v).semaphores ≡ lost its.client now s.semaphores
+    ending v (inl e) = ap (λ (w : Verdict). (tables_heard (cell.tables_of s) its w).semaphores) e
+    ending v (inr e) = ap (λ (w : Verdict). (tables_heard (cell.tables_of s) its w).semaphores) e
+
+    telling : (v : Verdict) → (v ≡ Concludes) ⊎ (v ≡ Aborts) → also_told (cell.tables_of s) its v ≡ grants_told (lost_grants its.client now s.semaphores)
+    telling v (inl e) = ap (λ (w : Verdict). also_told (cell.tables_of s) its w) e
+    telling v (inr e) = ap (λ (w : Verdict). also_told (cell.tables_of s) its w) e
+
+    heard-ends : (leaver : ℕ) (octets : List ℕ) → client ≡ leaver → (verdict its octets ≡ Concludes) ⊎ (verdict its octets ≡ Aborts)
+        → OwnsUnkept key s.semaphores leaver → IsPassedOn key now s.semaphores (step s (Heard client octets)).semaphores (step s (Heard client octets))
+    heard-ends leaver octets same so owns =
+        ends its.client leaver (Heard client octets)
+        (numbered-client count s client sound (unidle (verdict its octets) so (verdict-meant its octets)) ∙ same)
+        (tell client (own_told (cell.tables_of s) its (verdict its octets))) (ending (verdict its octets) so)
+        (ap (λ (l : List (ℕ × Effect)). delivered cell (tell client (own_told (cell.tables_of s) its (verdict its octets)) ++ l) s.clients) (telling (verdict its octets) so))
+        (λ g grants. left_to s client octets g (verdict its octets) refl so grants) owns
+
+  lost-ends : (client leaver : ℕ) (values : Negotiated) → client ≡ leaver → (row_at cell client s.clients).association ≡ Open values
+      → OwnsUnkept key s.semaphores leaver → IsPassedOn key now s.semaphores (step s (Lost client)).semaphores (step s (Lost client))
+  lost-ends client leaver values same is owns =
+      ends (row_at cell client s.clients).client leaver (Lost client) (numbered-client count s client sound (λ idle. cc (sym is ∙ idle)) ∙ same)
+      (tell client (loss_told (row_at cell client s.clients).association))
+      (ap (λ (a : IsOpen). (tables_lost a (row_at cell client s.clients).client (cell.tables_of s)).semaphores) is)
+      (ap (λ (a : IsOpen). delivered cell (tell client (loss_told (row_at cell client s.clients).association) ++ also_lost a (row_at cell client s.clients).client (cell.tables_of s)) s.clients) is)
+      (λ g grants. lost_to s client g values is grants) owns
+
+  pub leaves : (event : CellEvent) (leaver : ℕ) → Leaves leaver s event → OwnsUnkept key s.semaphores leaver
+      → IsPassedOn key now s.semaphores (step s event).semaphores (step s event)
+  leaves (Heard client octets) leaver is owns =
+      heard-ends client leaver octets is.0 is.1 owns
+  leaves (Lost client) leaver is owns = lost-ends client leaver is.1 is.0 is.2 owns
+  leaves (Tick ms) leaver is owns = absurd is
+  leaves (Ends name) leaver is owns = absurd is
+  leaves (Drain client) leaver is owns = absurd is
+
+pub replay_left : (config : Config) (history : List CellEvent) (event : CellEvent) (client : ℕ) (key : Key) → IsConfig config
+    → Leaves client (replay config history) event → OwnsUnkept key (replay config history).semaphores client
+    → IsPassedOn key (record { 0 = (replay config history).now }) (replay config history).semaphores (step (replay config history) event).semaphores
+    (step (replay config history) event)
+replay_left config history event client key is ends owns =
+    leaves (length history) (replay config history) (replay_sound config history is) (replay_linked config history is).bound (replay_single config history is) key event client ends owns
+
+-- ---- its association is aborted where control times out
+
+module _ (count : ℕ) (s : State) (sound : IsSoundState count s) (bound : Bound (asker s.semaphores) (waits_in s.clients)) (single : AreSingle s.semaphores) (ms : ℕ)
+    (point : Ticking) (due : NamedDeadline) (entry : SemEntry) (times : TimesOut s ms point due entry) (owner : is_owner entry ≡ true) (abort : entry.abort ≡ Some true) (key : Key) where
+  abbrev pub gone : Rows
+  gone = expire_after due.key due.entry due.at point.rows
+
+  at : Meanwhile s.clients point
+  at = at_point count s sound bound ms point due entry times
+
+  abbrev pub met_clients : List ClientRow
+  met_clients = delivered cell (all_told (expiry_told (expiry count s sound bound ms point due entry times))) (delivered cell (all_told point.happened) s.clients)
+
+  gone-bound : Bound (asker gone) (waits_in met_clients)
+  gone-bound =
+      bound-met point.rows (waits_in (delivered cell (all_told point.happened) s.clients)) (waits_in met_clients) at.bound at.sound due.key due.entry due.at
+      (expiry count s sound bound ms point due entry times) (is_expired count s sound bound ms point due entry times)
+      (expiry-left (expiry count s sound bound ms point due entry times) (delivered cell (all_told point.happened) s.clients))
+
+  gone-sound : AreSound gone
+  gone-sound =
+      sound-met point.rows (waits_in (delivered cell (all_told point.happened) s.clients)) (waits_in met_clients) at.bound at.sound due.key due.entry due.at
+
+  point-single : AreSingle point.rows
+  point-single =
+      (reached-keeps _ (SingleMeanwhile s.clients) (next-single s.clients _) times.many (record { rows = s.semaphores; happened = [] }) point times.reached
+      (record { bound = bound; sound = sound.semaphores }, single)).1
+
+  gone-single : AreSingle gone
+  gone-single = expired-single due.key due.entry due.at point.rows at.sound point-single
+
+  -- what is told of it
+  abort-there : (g : Grant) → Stands (lost_grants entry.client due.at gone) g
+      → Contains (expiry_told (expiry count s sound bound ms point due entry times) ++ abort_told (is_owner entry && aborts entry.abort) entry.client due.at gone) (happens.Grants g)
+  abort-there g stands =
+      Contains-append_right (expiry_told (expiry count s sound bound ms point due entry times)) (abort_told (is_owner entry && aborts entry.abort) entry.client due.at gone) (happens.Grants g)
+      (subst (λ (b : Bool). Contains (abort_told b entry.client due.at gone) (happens.Grants g)) (sym (both-true (is_owner entry) (aborts entry.abort) owner (ap aborts abort)))
+      (stands-contains (happens.Aborts entry.client ∷ map happens.Grants (lost_grants entry.client due.at gone)) (happens.Grants g)
+      (inr (map-stands happens.Grants (lost_grants entry.client due.at gone) g stands))))
+
+  pub aborted-on : OwnsUnkept key gone entry.client → IsPassedOn key due.at gone (lost entry.client due.at gone) (step s (Tick ms))
+  aborted-on owns = lost-on key gone entry.client due.at gone-sound gone-single owns (lost entry.client due.at gone) (step s (Tick ms)) refl each
+    where
+      each : (e : SemEntry) → next (has key gone entry.client due.at gone-sound gone-single owns).sem.entries ≡ Some e → Stands (lost_grants entry.client due.at gone) (grant_of e)
+          → IsTold (step s (Tick ms)) e
+      each e first stands =
+          told-then count s sound bound ms point due entry times e (range.0, few)
+          (happens-then count s sound bound ms point due entry times (grant_of e) (abort-there (grant_of e) stands))
+        where
+          range : (1 ≤ e.client) × (e.client ≤ length met_clients)
+          range =
+              next-range key gone (has key gone entry.client due.at gone-sound gone-single owns).sem met_clients
+              (has key gone entry.client due.at gone-sound gone-single owns).found (has key gone entry.client due.at gone-sound gone-single owns).sound gone-bound e first
+
+          few : e.client ≤ length s.clients
+          few =
+              let low = range.1 in
+              let one = told-many (all_told (expiry_told (expiry count s sound bound ms point due entry times))) (delivered cell (all_told point.happened) s.clients) in
+              let two = told-many (all_told point.happened) s.clients in
+              omega (arith, low, one, two)
+
+pub replay_aborted : (config : Config) (history : List CellEvent) (ms : ℕ) (point : Ticking) (due : NamedDeadline) (entry : SemEntry) (key : Key) → IsConfig config
+    → TimesOut (replay config history) ms point due entry → is_owner entry ≡ true → entry.abort ≡ Some true
+    → OwnsUnkept key (expire_after due.key due.entry due.at point.rows) entry.client
+    → IsPassedOn key due.at (expire_after due.key due.entry due.at point.rows) (lost entry.client due.at (expire_after due.key due.entry due.at point.rows))
+    (step (replay config history) (Tick ms))
+replay_aborted config history ms point due entry key is times owner abort owns =
+    aborted-on (length history) (replay config history) (replay_sound config history is) (replay_linked config history is).bound (replay_single config history is) ms point due entry
+    times owner abort key owns

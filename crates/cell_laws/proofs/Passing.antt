@@ -1,0 +1,189 @@
+-- Time that goes by answers what waited, but for what waits then.
+use Rattle.std.proofs.Common.{◌≡◌, ℕ, ◌+◌, inl, Bool, true, false, cond, ◌==◌, List, [], ◌∷◌, ◌++◌, Option, None, Some, option_and_then, option_map, option_to_list, if◌then◌else◌, refl, sym, ◌∙◌, ap, subst, arith}
+use Rattle.std.specs.Map.{lookup}
+use Rattle.mms_types.specs.Order.{key_eq}
+use Rattle.mms_types.specs.declared.event.What.TheVariants.{Abort}
+use Rattle.mms_types.specs.declared.key.Key.{Key}
+use Rattle.mms_types.specs.declared.moment.Moment.{Moment}
+use Rattle.association.specs.declared.waiting.Waiting.{Waiting}
+use Rattle.association.specs.Client.{ClientRow}
+use Rattle.token_sem.specs.declared.entry.Expired.{Expired}
+use Rattle.token_sem.specs.declared.entry.Grant.{Grant}
+use Rattle.token_sem.specs.declared.entry.SemEntry.{SemEntry}
+use Rattle.token_sem.specs.Semaphore.{after_freeing, expired_of, grant_of, is_queued, next, numbered, without}
+use Rattle.token_sem.proofs.Keeping.{among-find, rises-without}
+use Rattle.token_sem.proofs.Least.{Stands}
+use Rattle.mms_time.specs.Deadlines.{NamedDeadline, expired, expired_entry, expired_in, expire_after, next_due}
+use Rattle.mms_time.specs.Loss.{lost_grants}
+use Rattle.mms_time.specs.Semaphores.{IsSound, Rows, entries_in, entries_of}
+use Rattle.mms_time.specs.declared.row.Semaphore.{Semaphore}
+use Rattle.mms_time.specs.declared.row.Semaphore.TheVariants.{Token}
+use Rattle.mms_time.specs.declared.row.SemaphoreRow.{SemaphoreRow}
+use Rattle.parted_state.specs.Served.{reached, delivered}
+use Rattle.sem_ticks.specs.Sound.{AreSound}
+use Rattle.sem_ticks.specs.Ticks.{Ticking, abort_told, entries_left, expiry_told, granted, met, met_as, next_met, ticked_on}
+use Rattle.sem_ticks.specs.declared.ticks.Happening.{Happening}
+use Rattle.sem_ticks.specs.declared.ticks.Happening.TheVariants as happens
+use Rattle.sem_ticks.proofs.Kept.{row_found}
+use Rattle.sem_ticks.proofs.Settling.{settle-keeps}
+use Rattle.cell_services.specs.Association.{confirmed_error, timeout_error}
+use Rattle.cell_services.specs.Effects.{Effect, Sends, Closes}
+use Rattle.cell_services.specs.Services.{grants_told}
+use Rattle.cell_services.specs.Serving.{all_told, happening_told}
+use Rattle.mms_step.specs.Partition.{cell}
+use Rattle.cell_laws.specs.Linked.{asker, asker_of}
+use Rattle.cell_laws.proofs.Answering.{retake}
+use Rattle.cell_laws.proofs.Bound.{Bound}
+use Rattle.cell_laws.proofs.Entries.{Frees, asker_at, drops-nothing, drops-without, frees-one, not_queued, same-frees}
+use Rattle.cell_laws.proofs.Events.{fair-grants, unopening-grants}
+use Rattle.cell_laws.proofs.Fair.{Outcome, Unopening, join, none_taken, piece-abort, piece-answered, piece-closes}
+use Rattle.cell_laws.proofs.Hears.{reached-closed, reached-still, waits_in}
+use Rattle.cell_laws.proofs.Linking.{Meanwhile, expiry-left, one-met, told-grants}
+use Rattle.cell_laws.proofs.Meetings.{bound-met, sound-met}
+use Rattle.cell_laws.proofs.Once.{lost-apart, lost-waits}
+use Rattle.cell_laws.proofs.Queues.{asker_in, rise}
+
+-- ---- whose requests are answered where a deadline is met
+
+abbrev Asked : Rows → Key → ℕ → Expired → Type 0
+Asked rows key number x = (x.waited ≡ true → asker rows key number ≡ Some (x.client, x.invoke))
+    × (x.waited ≡ false → (g : Grant) → Stands (option_to_list x.grant) g → asker rows key g.entry ≡ Some (g.client, g.invoke))
+
+met-asks : (rows : Rows) → AreSound rows → (key : Key) (number : ℕ) (x : Expired) → expired key number rows ≡ Some x → Asked rows key number x
+met-asks rows sound key number x is = by_row (lookup (key_eq key) rows) refl is
+  where
+    in_semaphore : (s : Semaphore) → IsSound s → (o : Option SemEntry) → numbered number (entries_in s) ≡ o → expired_entry (entries_in s) o ≡ Some x
+        → (x.waited ≡ true → asker_at number (entries_in s) ≡ Some (x.client, x.invoke))
+        × (x.waited ≡ false → (g : Grant) → Stands (option_to_list x.grant) g → asker_at g.entry (entries_in s) ≡ Some (g.client, g.invoke))
+    in_semaphore s is_sound None e h = absurd (cc h)
+    in_semaphore (Token s) is_sound (Some e) at h =
+        let same : expired_of e s.entries ≡ x = cc h in
+        subst (λ (y : Expired). (y.waited ≡ true → asker_at number s.entries ≡ Some (y.client, y.invoke))
+        × (y.waited ≡ false → (g : Grant) → Stands (option_to_list y.grant) g → asker_at g.entry s.entries ≡ Some (g.client, g.invoke))) same (
+          λ q. ap asker_of at ∙ ap (λ t. cond t (Some (e.client, e.invoke)) None) q,
+          λ q g t. (frees q).each g (subst (λ (b : Bool). Stands (option_to_list (if b then None else option_map grant_of (next (without e.number s.entries)))) g) q t),
+        )
+      where
+        frees : is_queued e ≡ false → Frees s.entries (option_to_list (option_map grant_of (next (without e.number s.entries)))) (after_freeing (record { 0 = 0 }) (without e.number s.entries))
+        frees q =
+            same-frees s.entries (without e.number s.entries) (after_freeing (record { 0 = 0 }) (without e.number s.entries)) (option_to_list (option_map grant_of (next (without e.number s.entries))))
+            (drops-nothing e.number s.entries (without e.number s.entries)
+            (not_queued s.made s.entries e is_sound.rises (among-find (λ y. y.number == number) s.entries e at).0 q) (drops-without e.number s.entries))
+            (frees-one s.made (record { 0 = 0 }) (without e.number s.entries) (rises-without 0 s.made e.number s.entries is_sound.rises))
+
+    by_row : (p : Option SemaphoreRow) → lookup (key_eq key) rows ≡ p → option_and_then (expired_in number) p ≡ Some x
+        → (x.waited ≡ true → asker rows key number ≡ Some (x.client, x.invoke))
+        × (x.waited ≡ false → (g : Grant) → Stands (option_to_list x.grant) g → asker rows key g.entry ≡ Some (g.client, g.invoke))
+    by_row None e h = absurd (cc h)
+    by_row (Some row) e h =
+        let found = in_semaphore row.semaphore (row_found rows key row sound.each e) (numbered number (entries_of row)) refl h in
+        (λ q. ap (asker_in number) e ∙ found.0 q, λ q g t. ap (asker_in g.entry) e ∙ found.1 q g t)
+
+-- ---- one deadline is met
+
+unopening-all : (happened : List Happening) → Unopening (all_told happened)
+unopening-all [] = tt
+unopening-all (happens.WaitEnds client invoke ∷ rest) = (refl, (refl, unopening-all rest))
+unopening-all (happens.Grants grant ∷ rest) = (refl, (refl, unopening-all rest))
+unopening-all (happens.Aborts client ∷ rest) = (refl, (refl, unopening-all rest))
+
+pub told-unopening : (happened : List Happening) → Unopening (all_told happened)
+told-unopening = unopening-all
+
+all-both : (xs ys : List Happening) → all_told (xs ++ ys) ≡ all_told xs ++ all_told ys
+all-both [] ys = refl
+all-both (x ∷ xs) ys = ap (λ (l : List (ℕ × Effect)). happening_told x ++ l) (all-both xs ys) ∙ append-all (happening_told x) (all_told xs) (all_told ys)
+  where
+    append-all : (a b d : List (ℕ × Effect)) → a ++ (b ++ d) ≡ (a ++ b) ++ d
+    append-all [] b d = refl
+    append-all (y ∷ a) b d = ap (λ (l : List (ℕ × Effect)). y ∷ l) (append-all a b d)
+
+join-all : (c : ℕ) (xs ys : List Happening) (clients : List ClientRow) → Outcome c (all_told xs) clients none_taken → Outcome c (all_told ys) (delivered cell (all_told xs) clients) none_taken
+    → Outcome c (all_told (xs ++ ys)) clients none_taken
+join-all c xs ys clients first second =
+    subst (λ (l : List (ℕ × Effect)). Outcome c l clients none_taken) (sym (all-both xs ys))
+    (retake c (all_told xs ++ all_told ys) clients (λ i. none_taken i + none_taken i) none_taken (λ i. omega arith)
+    (join c (all_told xs) (all_told ys) clients none_taken none_taken (unopening-all ys) first second))
+
+module _ (c : ℕ) (rows : Rows) (clients : List ClientRow) (bound : Bound (asker rows) (waits_in clients)) (sound : AreSound rows) where
+  expiry-fair : (key : Key) (number : ℕ) (x : Expired) → expired key number rows ≡ Some x → Outcome c (all_told (expiry_told x)) clients none_taken
+  expiry-fair key number x is = by_waited x.waited refl
+    where
+      asks : (x.waited ≡ true → asker rows key number ≡ Some (x.client, x.invoke))
+          × (x.waited ≡ false → (g : Grant) → Stands (option_to_list x.grant) g → asker rows key g.entry ≡ Some (g.client, g.invoke))
+      asks = met-asks rows sound key number x is
+
+      by_grant : (o : Option Grant) → ((g : Grant) → Stands (option_to_list o) g → asker rows key g.entry ≡ Some (g.client, g.invoke)) → Outcome c (all_told (granted o)) clients none_taken
+      by_grant None each = inl (record { pdus = []; spelled = refl; balance = λ i. refl })
+      by_grant (Some g) each = fair-grants c (g ∷ []) clients (refl, tt) (λ h t. (_, bound.waiting key h.entry h.client h.invoke (each h t)))
+
+      by_waited : (b : Bool) → x.waited ≡ b → Outcome c (all_told (if b then happens.WaitEnds x.client x.invoke ∷ [] else granted x.grant)) clients none_taken
+      by_waited true q = inl (piece-answered c x.client x.invoke (confirmed_error x.invoke timeout_error) clients _ (bound.waiting key number x.client x.invoke (asks.0 q)) (λ i. refl))
+      by_waited false q = by_grant x.grant (asks.1 q)
+
+  abort-fair : (client : ℕ) (now : Moment) → Outcome c (all_told (abort_told true client now rows)) clients none_taken
+  abort-fair client now =
+      subst (λ (l : List (ℕ × Effect)). Outcome c ((client, Sends Abort) ∷ (client, Closes) ∷ l) clients none_taken) (sym (told-grants grants))
+      (retake c ((client, Sends Abort) ∷ (client, Closes) ∷ grants_told grants) clients (λ i. none_taken i + none_taken i) none_taken (λ i. omega arith)
+      (join c ((client, Sends Abort) ∷ []) ((client, Closes) ∷ grants_told grants) clients none_taken none_taken (refl, unopening-grants grants) (inl (piece-abort c client clients))
+      (retake c ((client, Closes) ∷ grants_told grants) (reached cell client (Sends Abort) clients) (λ i. none_taken i + none_taken i) none_taken (λ i. omega arith)
+      (join c ((client, Closes) ∷ []) (grants_told grants) (reached cell client (Sends Abort) clients) none_taken none_taken (unopening-grants grants)
+      (piece-closes c client (reached cell client (Sends Abort) clients))
+      (fair-grants c grants (reached cell client Closes (reached cell client (Sends Abort) clients))
+      (lost-apart client now rows (rise rows sound) (waits_in clients) bound sound.names)
+      (λ g t. still g (lost-waits client now rows (rise rows sound) (waits_in clients) bound g t)))))))
+    where
+      grants : List Grant
+      grants = lost_grants client now rows
+
+      still : (g : Grant) → (w : Waiting) × (cond (g.client == client) None (waits_in clients g.client g.invoke) ≡ Some w)
+          → (w : Waiting) × (waits_in (reached cell client Closes (reached cell client (Sends Abort) clients)) g.client g.invoke ≡ Some w)
+      still g w = (
+        w.0,
+        reached-closed client (reached cell client (Sends Abort) clients) g.client g.invoke
+            ∙ ap (cond (g.client == client) None) (reached-still (Sends Abort) tt client clients g.client g.invoke) ∙ w.1,
+      )
+
+-- ---- all that are met
+
+pub record FairMeanwhile (c : ℕ) (clients : List ClientRow) (s : Ticking) : Type 0 where
+  pub link : Meanwhile clients s
+  pub fair : Outcome c (all_told s.happened) clients none_taken
+
+module _ (c : ℕ) (clients : List ClientRow) where
+  fair-met : (s : Ticking) (d : NamedDeadline) (x : Expired) → expired d.key d.entry s.rows ≡ Some x → FairMeanwhile c clients s → FairMeanwhile c clients (met_as s d x)
+  fair-met s d x is are = record { link = one-met clients s d x is are.link; fair = join-all c s.happened (expiry_told x ++ abort_told x.abort x.client d.at rows) clients are.fair rest }
+    where
+      rows : Rows
+      rows = expire_after d.key d.entry d.at s.rows
+
+      told : List ClientRow
+      told = delivered cell (all_told s.happened) clients
+
+      met_clients : List ClientRow
+      met_clients = delivered cell (all_told (expiry_told x)) told
+
+      met_bound : Bound (asker rows) (waits_in met_clients)
+      met_bound = bound-met s.rows (waits_in told) (waits_in met_clients) are.link.bound are.link.sound d.key d.entry d.at x is (expiry-left x told)
+
+      by_abort : (b : Bool) → Outcome c (all_told (abort_told b x.client d.at rows)) met_clients none_taken
+      by_abort true = abort-fair c rows met_clients met_bound (sound-met s.rows (waits_in told) (waits_in met_clients) are.link.bound are.link.sound d.key d.entry d.at) x.client d.at
+      by_abort false = inl (record { pdus = []; spelled = refl; balance = λ i. refl })
+
+      rest : Outcome c (all_told (expiry_told x ++ abort_told x.abort x.client d.at rows)) told none_taken
+      rest =
+          join-all c (expiry_told x) (abort_told x.abort x.client d.at rows) told (expiry-fair c s.rows told are.link.bound are.link.sound d.key d.entry x is) (by_abort x.abort)
+
+  fair-next : (until : Moment) (s t : Ticking) → next_met until s ≡ Some t → FairMeanwhile c clients s → FairMeanwhile c clients t
+  fair-next until s t same are = by_due (next_due until s.rows) same
+    where
+      by_expired : (d : NamedDeadline) (o : Option Expired) → expired d.key d.entry s.rows ≡ o → option_map (met_as s d) o ≡ Some t → FairMeanwhile c clients t
+      by_expired d None e h = absurd (cc h)
+      by_expired d (Some x) e h = let one : met_as s d x ≡ t = cc h in subst (FairMeanwhile c clients) one (fair-met s d x e are)
+
+      by_due : (o : Option NamedDeadline) → option_and_then (met s) o ≡ Some t → FairMeanwhile c clients t
+      by_due None h = absurd (cc h)
+      by_due (Some d) h = by_expired d (expired d.key d.entry s.rows) refl h
+
+  pub fair-ticked : (until : Moment) (s : Ticking) → FairMeanwhile c clients s → FairMeanwhile c clients (ticked_on until s)
+  fair-ticked until s are = settle-keeps (next_met until) (FairMeanwhile c clients) (fair-next until) (entries_left s.rows) s are

@@ -1,0 +1,115 @@
+-- How many requests of a client were taken since its association opened, and how many were answered (ISO 9506-1: each confirmed request has one answer).
+use Rattle.std.specs.Prelude.{◌≡◌, ℕ, ◌+◌, Bool, true, false, ◌==◌, ◌&&◌, List, [], ◌∷◌, ◌++◌, count_by, fold, if◌then◌else◌}
+use Rattle.std.specs.List.{list_any}
+use Rattle.mms_types.specs.declared.event.CellEvent.{CellEvent}
+use Rattle.mms_types.specs.declared.event.CellEvent.TheVariants.{Heard, Lost, Tick, Ends, Drain}
+use Rattle.mms_types.specs.declared.event.What.{What}
+use Rattle.mms_types.specs.declared.event.What.TheVariants.{Octets, Abort}
+use Rattle.mms_types.specs.declared.pdu.Pdu.{Pdu}
+use Rattle.mms_types.specs.declared.pdu.Pdu.TheVariants as pdu
+use Rattle.mms_pdu.specs.Pdus.{pdu_octets}
+use Rattle.cell_config.specs.declared.config.Config.{Config}
+use Rattle.association.specs.Waiting.{is_waiting}
+use Rattle.parted_state.specs.Served.{done_of, row_at}
+use Rattle.cell_services.specs.Association.{Verdict, Tells, Takes, Concludes, Cancels, Aborts, verdict}
+use Rattle.cell_services.specs.Effects.{Effect, Sends, Opens, Closes, Waits, Answers, Drains}
+use Rattle.cell_services.specs.Serving.{services}
+use Rattle.mms_step.specs.Partition.{cell}
+use Rattle.mms_step.specs.State.{State, start}
+use Rattle.mms_step.specs.Step.{outbox_of, step}
+
+-- a confirmed response or a confirmed error of that invokeID
+abbrev pub is_answer : ℕ → Pdu → Bool
+is_answer invoke (pdu.ConfirmedResponse other answer) = invoke == other
+is_answer invoke (pdu.ConfirmedError error) = invoke == error.invoke
+is_answer invoke p = false
+
+-- the outputs are these PDUs, each spelled; an abort is none
+abbrev pub AreSpelled : List What → List Pdu → Type 0
+AreSpelled [] ps = ps ≡ []
+AreSpelled (Octets octets ∷ outputs) [] = ⊥
+AreSpelled (Octets octets ∷ outputs) (p ∷ ps) = (octets ≡ pdu_octets p) × AreSpelled outputs ps
+AreSpelled (Abort ∷ outputs) ps = AreSpelled outputs ps
+
+-- what an effect sends
+abbrev pub sent_by : Effect → List What
+sent_by (Sends output) = output ∷ []
+sent_by (Opens values) = []
+sent_by Closes = []
+sent_by (Waits request) = []
+sent_by (Answers invoke) = []
+sent_by Drains = []
+
+-- what is sent to a client by what is told
+abbrev pub sent_to : ℕ → List (ℕ × Effect) → List What
+sent_to client [] = []
+sent_to client (t ∷ told) = (if client == t.0 then sent_by t.1 else []) ++ sent_to client told
+
+abbrev pub is_opening : Effect → Bool
+is_opening (Sends output) = false
+is_opening (Opens values) = true
+is_opening Closes = false
+is_opening (Waits request) = false
+is_opening (Answers invoke) = false
+is_opening Drains = false
+
+-- the association of a client opens
+abbrev pub opens : ℕ → List (ℕ × Effect) → Bool
+opens client told = list_any (λ t. client == t.0 && is_opening t.1) told
+
+-- the invokeIDs of requests that are taken: against these stands no reject
+abbrev pub taken_by : Verdict → List ℕ
+taken_by (Takes invoke asked) = invoke ∷ []
+taken_by (Tells effects) = []
+taken_by Concludes = []
+taken_by (Cancels invoke) = []
+taken_by Aborts = []
+
+abbrev pub taken_from : ℕ → State → CellEvent → List ℕ
+taken_from client s (Heard other octets) = if client == other then taken_by (verdict (row_at cell other s.clients) octets) else []
+taken_from client s (Lost other) = []
+taken_from client s (Tick ms) = []
+taken_from client s (Ends name) = []
+taken_from client s (Drain other) = []
+
+-- a state; of a client the invokeIDs of the requests that were taken since its association opened, and what was sent to it since then
+pub record Account : Type 0 where
+  pub state : State
+  pub taken : List ℕ
+  pub sent : List What
+
+abbrev pub told_in : State → CellEvent → List (ℕ × Effect)
+told_in s event = (done_of cell services s event).told
+
+abbrev pub account_after : ℕ → Account → CellEvent → Account
+account_after client a event = record {
+  state = step a.state event;
+  taken = (if opens client (told_in a.state event) then [] else a.taken) ++ taken_from client a.state event;
+  sent = (if opens client (told_in a.state event) then [] else a.sent) ++ sent_to client (told_in a.state event);
+}
+
+abbrev pub account : Config → List CellEvent → ℕ → Account
+account config history client = fold (account_after client) (record { state = start config; taken = []; sent = [] }) history
+
+-- The requests of a client that were taken have one answer each: what was sent are PDUs, and of each invokeID as many requests were taken as the confirmed
+-- responses and confirmed errors among them, and one more where a request of it waits.
+pub record HaveOneAnswerEach (client : ℕ) (s : State) (taken : List ℕ) (sent : List What) : Type 0 where
+  pub pdus : List Pdu
+  pub spelled : AreSpelled sent pdus
+  pub balance : (invoke : ℕ) → count_by (λ other. invoke == other) taken
+      ≡ count_by (is_answer invoke) pdus + (if is_waiting invoke (row_at cell client s.clients).waiting then 1 else 0)
+
+-- ---- what a client takes
+
+-- a client takes away what is to be sent to it
+abbrev pub drains : ℕ → CellEvent → Bool
+drains client (Heard other octets) = false
+drains client (Lost other) = false
+drains client (Tick ms) = false
+drains client (Ends name) = false
+drains client (Drain other) = client == other
+
+-- what it takes so in the course of events, in order
+abbrev pub drained : ℕ → State → List CellEvent → List What
+drained client s [] = []
+drained client s (event ∷ rest) = (if drains client event then outbox_of s client else []) ++ drained client (step s event) rest
