@@ -1,6 +1,6 @@
 -- Readings and openings, one after the other.
 use Rattle.cell_config.specs.declared.config.Config.{Config}
-use Rattle.std.proofs.Common.{◌≡◌, ℕ, zero, suc, ◌+◌, List, [], ◌∷◌, ◌++◌, length, refl, sym, ap, ◌∙◌, subst, arith, append_assoc, append-nil, length-append, Some, None, IfSome}
+use Rattle.std.proofs.Common.{◌≡◌, ℕ, zero, suc, ◌+◌, ◌≤◌, ◌<◌, List, [], ◌∷◌, ◌++◌, length, refl, sym, ap, ◌∙◌, subst, arith, append_assoc, append-nil, length-append, Some, None, IfSome}
 use Rattle.std.proofs.lemmas.List.Elements.{All-append}
 use Rattle.std.specs.List.{All}
 use Rattle.cell_record.specs.EventLine.{IsRecorded}
@@ -82,6 +82,10 @@ recorded_more config xs ys e h p q = subst (All (IsRecorded config)) (sym h) (Al
 
 pub size_more : (xs ys : List CellEvent) (e : CellEvent) (c d : Counts) → ys ≡ xs ++ e ∷ [] → length xs ≡ c.events → d ≡ counted c e → length ys ≡ d.events
 size_more xs ys e c d h s m = ap length h ∙ length-append xs (e ∷ []) ∙ ap (λ (n : ℕ). n + 1) s ∙ sym (ap (λ (x : Counts). x.events) m)
+
+-- an event takes a line
+pub one_line : (xs ys : List CellEvent) (e : CellEvent) (start before after : ℕ) → ys ≡ xs ++ e ∷ [] → start + length xs ≤ before → before < after → start + length ys ≤ after
+one_line xs ys e start before after h le lt = let n = ap length h in omega (arith, length-append xs (e ∷ []))
 
 phase_ms-append : (xs ys : List CellEvent) → phase_ms (xs ++ ys) ≡ phase_ms xs + phase_ms ys
 phase_ms-append [] ys = omega arith

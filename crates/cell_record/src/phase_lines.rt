@@ -187,6 +187,8 @@ pub fn read_phase<S: Source>(
     ensures stops { IfErr result (λ e. e ≡ RecordError.ReadFault → StopsInPhase (phases config.now counts.old) lines.old.held (place_at lines.old) (S.left input.old) (S.left input.new)) }
     ensures seen { IsEndSeen lines.old.held (S.left input.old) → IsEndSeen lines.new.held (S.left input.new) }
     ensures grows { IfOk result (λ p. p.last ≡ false → lines.old.held.given < lines.new.held.given) }
+    ensures lines { IfOk result (λ p. lines.old.held.given + length p.events ≤ lines.new.held.given) }
+    ensures most { IfOk result (λ _. lines.new.held.given ≤ 4294967296) }
     ensures order { lines.old.held.given ≤ lines.new.held.given }
     ensures left { IsPart (S.left input.old) (S.left input.new) }
     ensures later { S.faults input.old ≤ S.faults input.new }

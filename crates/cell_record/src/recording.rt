@@ -142,6 +142,10 @@ impl Recording {
         ensures recorded { IfOk result (λ o. MatchOption o ⊤ (λ p. All (IsRecorded self.new.config) p.events)) }
         ensures few { IfOk result (λ o. MatchOption o ⊤ (λ p. length p.events ≤ 16384)) }
 
+        // Each event stands in a line of its own.
+        ensures lines { IfOk result (λ o. MatchOption o ⊤ (λ p. self.old.held.given + length p.events ≤ self.new.held.given)) }
+        ensures most { IfOk result (λ o. MatchOption o ⊤ (λ _. self.new.held.given ≤ 4294967296)) }
+
         // The moment goes on with the phase's ticks, and never passes the last one.
         ensures moment { IfOk result (λ o. MatchOption o ⊤ (λ p. self.new.moment ≡ self.old.moment + phase_ms p.events)) }
         ensures dated { self.new.moment ≤ 5662310399999 }
@@ -189,6 +193,8 @@ impl Recording {
         ensures phase { IfOk result (λ es. Becomes (rest_of self.old (S.left input.old)) (with_phase es) (rest_of self.new (S.left input.new))) }
         ensures recorded { IfOk result (λ es. All (IsRecorded self.old.config) es) }
         ensures few { IfOk result (λ es. length es ≤ 16384) }
+        ensures lines { IfOk result (λ es. self.old.held.given + length es ≤ self.new.held.given) }
+        ensures most { IfOk result (λ _. self.new.held.given ≤ 4294967296) }
         ensures moment { IfOk result (λ es. self.new.moment ≡ self.old.moment + phase_ms es) }
         ensures over { OnOk result (self.new.over ≡ true → self.new.held.ended ≡ true) }
         ensures leads { IfOk result (λ es. Leads (rest_in self.old) self.old.held (place_of self.old) (S.left input.old) (with_phase es)

@@ -1,6 +1,6 @@
 use Rattle.std.proofs.Common.{arith, [], ◌∷◌, ◌++◌, refl, sym, ap, ◌∙◌}
 use Rattle.cell_record.specs.declared.counts.Counts.{Counts}
-use Rattle.cell_record.proofs.Readings.{with_events, event_after, phase_after, part_then, same_events, same_next, recorded_more, size_more, moment_more}
+use Rattle.cell_record.proofs.Readings.{with_events, event_after, phase_after, part_then, same_events, same_next, recorded_more, size_more, moment_more, one_line}
 use Rattle.std.proofs.lemmas.Result.{err_from_is_err_and}
 use Rattle.cell_record.specs.Recording.{with_event, with_phase}
 use Rattle.cell_record.proofs.Stopping.{leads_more, leads_then, leads_nowhere, phase_then}
@@ -16,6 +16,7 @@ loop-turn-preserved-in-Some-Nothing g c = record {
   within = c.in_ok-next_said.ensures.within;
   moment = ap (λ (x : Counts). x.moment) (rw (c.in-Some-Nothing.is, c.in-Some-Nothing.field-0-is) at c.in_ok-next_said.ensures.counts) ∙ c.loop-turn.invariant.moment;
   turns = omega (arith, c.loop-turn.invariant.turns, (rw c.in-Some-Nothing.is at c.in_ok-next_said.ensures.grows));
+  lines = omega (arith, c.loop-turn.invariant.lines, (rw c.in-Some-Nothing.is at c.in_ok-next_said.ensures.grows));
   most = c.next_said.ensures.most;
   left = part_then _ _ _ c.loop-turn.invariant.left c.next_said.ensures.left;
   faults = omega (arith, c.loop-turn.invariant.faults, c.next_said.ensures.later);
@@ -32,6 +33,7 @@ loop-turn-preserved g c = record {
   within = c.in_ok-next_said.ensures.within;
   moment = moment_more c.loop-turn.events _ c.in-Some-Happens.event c.loop-turn.counts _ c.args.counts.now.moment c.in_ok-push-in-Some-Happens.ensures.appended c.loop-turn.invariant.moment (rw (c.in-Some-Happens.is, c.in-Some-Happens.field-0-is) at c.in_ok-next_said.ensures.counts);
   turns = omega (arith, c.loop-turn.invariant.turns, (rw c.in-Some-Happens.is at c.in_ok-next_said.ensures.grows));
+  lines = one_line c.loop-turn.events _ c.in-Some-Happens.event _ _ _ c.in_ok-push-in-Some-Happens.ensures.appended c.loop-turn.invariant.lines (rw c.in-Some-Happens.is at c.in_ok-next_said.ensures.grows);
   most = c.next_said.ensures.most;
   left = part_then _ _ _ c.loop-turn.invariant.left c.next_said.ensures.left;
   faults = omega (arith, c.loop-turn.invariant.faults, c.next_said.ensures.later);

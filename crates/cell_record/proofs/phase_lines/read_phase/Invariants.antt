@@ -20,6 +20,7 @@ invariant-loop-turn g l = record {
   within : IsWithin l.counts;
   moment : l.counts.moment ≡ l.initial.counts.moment + phase_ms l.events;
   turns : l._turn + l.initial.lines.held.given ≤ l.lines.held.given;
+  lines : l.initial.lines.held.given + length l.events ≤ l.lines.held.given;
   most : l.lines.held.given ≤ 4294967296;
   left : IsPart (g.S.Source.left l.initial.input) (g.S.Source.left l.input);
   faults : g.S.Source.faults l.initial.input ≤ g.S.Source.faults l.input;
