@@ -1,5 +1,5 @@
-//! Calls of the table of parts, where it is known that the parts are the cell's: that these may go from thread to thread
-//! is shown here once, and not in each caller's proof.
+//! Calls of the table of parts, where it is known that the parts are the cell's: that these may go from thread to
+//! thread is shown here once, and not in each caller's proof.
 
 ghost use Rattle.std.specs.Prelude.{◌≡◌, ◌≢◌, ◌+◌, ◌-◌, ◌<◌, ◌≤◌, ◌^◌, [], ◌∷◌, ◌++◌, ℕ, List, None, Some, IfErr, IfOk, OnErr, OnOk, length, map, slice_set, vec_len};
 ghost use Rattle.std.specs.Box.{box_value};

@@ -106,8 +106,8 @@ impl Device {
     }
 
     /// All passes of the device, in the order of their numbers, then know one history as far as the answer says, which
-    /// is the number of all their own places together. It begins with what each pass had seen, and each of its places is
-    /// an own place of exactly one of them. Nothing else of the passes changes.
+    /// is the number of all their own places together. It begins with what each pass had seen, and each of its places
+    /// is an own place of exactly one of them. Nothing else of the passes changes.
     pub fn gather(&self, passes: &mut [Pass<Cell>]) -> u64
         requires all { AreAll self.now.table passes.old }
         ensures gathered { (common : List (ℕ × CellEvent))

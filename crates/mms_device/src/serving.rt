@@ -215,8 +215,8 @@ impl Device {
         unreachable!()
     }
 
-    /// Serves an event as `try_serve`, and tries again while it is busy. So it may wait, and never return. The claims that
-    /// were lost meanwhile are noted. The error is want of memory.
+    /// Serves an event as `try_serve`, and tries again while it is busy. So it may wait, and never return. The claims
+    /// that were lost meanwhile are noted. The error is want of memory.
     pub fn serve<R: Wait, G: Gate>(
         &self,
         rt: &R,

@@ -1,0 +1,93 @@
+//! Turns of jobs on the device: in each an actor has its next event served.
+
+ghost use Rattle.std.specs.Prelude.{◌≡◌, ◌↔◌, ◌⊎◌, []};
+ghost use Rattle.mms_device.specs.Shared.{IsAsBefore};
+ghost use Rattle.mms_device.specs.Turns.{HasMoved, IsFit, IsHeldUp, MadeOf, SameWork};
+ghost use Rattle.cell_pool.specs.declared.turn.Step.TheVariants as step;
+
+use crate::{Agenda, Device, Refused};
+use cell_io::Gate;
+use cell_pool::{Step, Turn};
+use mms_step::Cell;
+use part_table::Pass;
+use std::alloc::Global;
+
+/// What an actor has to have served in a phase: its pass, and its events, of which those that were served have their
+/// places.
+#[derive(Drop)]
+pub struct CellJob {
+    /// The actor's pass.
+    pub pass: Pass<Cell>,
+    /// Its events in their order.
+    pub agenda: Agenda,
+}
+
+/// Turns on a device. In a turn the first event that is left is served, unless a part that it wants is held by another.
+#[derive(Drop)]
+pub struct CellTurns<'a> {
+    /// The device.
+    pub device: &'a Device,
+    /// Where the memory comes from.
+    pub alloc: Global,
+}
+
+/// Has the next event served. `Done` is answered exactly where none is left, and `Moved` exactly where the first one
+/// was served. `Busy` is answered exactly where a claim was lost, on a part that it wants.
+fn serve_next<G: Gate>(device: &Device, alloc: Global, job: &mut CellJob, gate: &G) -> Step
+    requires fit { IsFit device.now job.old }
+    ensures fit { IsFit device.now job.new }
+    ensures made { MadeOf job.old job.new }
+    ensures ended { (result ≡ step.Done) ↔ (job.old.agenda.rest ≡ []) }
+    ensures kept { result ≡ step.Done → job.new ≡ job.old }
+    ensures moved { (result ≡ step.Moved) ↔ HasMoved job.old job.new }
+    ensures held_up { (result ≡ step.Busy) ↔ IsHeldUp device.now job.old job.new }
+    ensures short { result ≡ step.Memory → IsAsBefore job.old.pass job.new.pass }
+    ensures same { (result ≡ step.Busy) ⊎ (result ≡ step.Memory) → SameWork job.old job.new }
+{
+    let Some(event) = job.agenda.first() else {
+        return Step::Done;
+    };
+    match device.try_serve(alloc, &mut job.pass, event, gate) {
+        Ok(served) => {
+            job.agenda.pass_on(served.ticket);
+            Step::Moved
+        }
+        Err(Refused::Busy(_)) => Step::Busy,
+        Err(Refused::Memory) => Step::Memory,
+    }
+}
+
+impl<'a> Turn for CellTurns<'a> {
+    ghost use Rattle.std.specs.Prelude.{◌≡◌, []};
+    ghost use Rattle.mms_device.specs.Turns.{IsFit, MadeOf, SameWork, made_of_itself, made_of_made};
+
+    type Job = CellJob;
+
+    ghost fit = { λ turns job. IsFit turns.device.now job };
+
+    ghost done = { λ job. job.agenda.rest ≡ [] };
+
+    ghost same_work = { SameWork };
+
+    ghost made = { MadeOf };
+
+    ghost same = { made_of_itself };
+
+    ghost joins = { made_of_made };
+
+    /// One turn of a job that is fit. `Done` is answered exactly where no event was left, `Moved` exactly where the
+    /// first one was served, and `Busy` exactly where a claim was lost on a part that it wants, which another caller
+    /// held. `Memory` may be answered where an event is left. After `Busy` and `Memory` the job's work is as before.
+    fn turn<G: Gate>(&self, job: &mut CellJob, gate: &G) -> Step
+        requires fit { ∥ IsFit self.now.device.now job.old ∥₁ }
+        ensures fit { ∥ IsFit self.now.device.now job.new ∥₁ }
+        ensures made { ∥ MadeOf job.old job.new ∥₁ }
+        ensures done { result ≡ step.Done → ∥ job.new.agenda.rest ≡ [] ∥₁ }
+        ensures same { (result ≡ step.Busy) ⊎ (result ≡ step.Memory) → ∥ SameWork job.old job.new ∥₁ }
+        ensures ended { (result ≡ step.Done) ↔ (job.old.agenda.rest ≡ []) }
+        ensures moved { (result ≡ step.Moved) ↔ HasMoved job.old job.new }
+        ensures held_up { (result ≡ step.Busy) ↔ IsHeldUp self.now.device.now job.old job.new }
+    {
+        serve_next(self.device, self.alloc, job, gate)
+    }
+}
