@@ -9,7 +9,6 @@ use Rattle.cell_record.specs.History.{Interleaves}
 use Rattle.cell_record.specs.Recording.{Reading, Opening, config_in, after_opening, opening_of_text}
 use Rattle.cell_record.proofs.Valid.{recording_is_read}
 use Rattle.cell_run.specs.declared.words.Command.{Command}
-use Rattle.cell_run.specs.declared.words.Command.TheVariants.{Replay}
 use Rattle.cell_run.specs.Words.{Serves}
 use Rattle.cell_run.specs.declared.status.Status.{Status}
 use Rattle.cell_run.specs.declared.status.Status.TheVariants as status
@@ -17,9 +16,9 @@ use Rattle.cell_run.specs.Codes.{code_of}
 use Rattle.cell_run.specs.Outcome.{Completes, IsFinal, PrintsBy, WritesAll, last_line, report_of, status_of, status_for}
 
 -- what is promised of a text
-abbrev pub Promise : Status → Option (List ℕ) → Option (List ℕ) → Type 0 → Type 0 → List ℕ → Type 0
-Promise s a b R K text =
-    (config : Config) (phases : List (List CellEvent)) → ReadsRecording text config phases → (R → ⊥) → (K → ⊥) → (code_of s ≡ 3) ⊎ ((code_of s ≡ 0) × Completes Replay config phases a b)
+abbrev pub Promise : Command → Status → Option (List ℕ) → Option (List ℕ) → Type 0 → Type 0 → List ℕ → Type 0
+Promise command s a b R K text =
+    (config : Config) (phases : List (List CellEvent)) → ReadsRecording text config phases → (R → ⊥) → (K → ⊥) → (code_of s ≡ 3) ⊎ ((code_of s ≡ 0) × Completes command config phases a b)
 
 is_done : (text : List ℕ) (config : Config) (phases : List (List CellEvent)) → ReadsRecording text config phases → status_of text ≡ status.Done
 is_done text config phases r = ap (λ (y : Reading). status_for y.refusal) (recording_is_read text config phases r).1
@@ -39,18 +38,18 @@ report_so command config phases (Ok o) printed a b is said p w =
       written = subst (Appends a b) whole w;
     }
 
-reported : (text : List ℕ) (config : Config) (phases : List (List CellEvent)) (a b : Option (List ℕ)) → ReadsRecording text config phases → WritesAll Replay text a b → Completes Replay config phases a b
-reported text config phases a b r w =
-    let read = recording_is_read text config phases r in report_so Replay config phases (opening_of_text text) w.printed a b read.0 read.1 w.prints w.written
+reported : (command : Command) (text : List ℕ) (config : Config) (phases : List (List CellEvent)) (a b : Option (List ℕ)) → ReadsRecording text config phases → WritesAll command text a b → Completes command config phases a b
+reported command text config phases a b r w =
+    let read = recording_is_read text config phases r in report_so command config phases (opening_of_text text) w.printed a b read.0 read.1 w.prints w.written
 
-pub completes : (s : Status) (left a b : Option (List ℕ)) (R K : Type 0) → (IsFinal s → IfSome left (λ text. (s ≡ status_of text) × WritesAll Replay text a b))
-    → (s ≡ status.ReadFault → R) → (s ≡ status.WriteFault → K) → (s ≡ status.Usage → ⊥) → IfSome left (Promise s a b R K)
-completes s None a b R K stated read write usage = tt
-completes status.Done (Some text) a b R K stated read write usage = λ config phases r nr nk. inr (refl, reported text config phases a b r (stated tt).1)
-completes status.Memory (Some text) a b R K stated read write usage = λ config phases r nr nk. inl refl
-completes status.ReadFault (Some text) a b R K stated read write usage = λ config phases r nr nk. absurd (nr (read refl))
-completes status.WriteFault (Some text) a b R K stated read write usage = λ config phases r nr nk. absurd (nk (write refl))
-completes status.Usage (Some text) a b R K stated read write usage = λ config phases r nr nk. absurd (usage refl)
-completes status.Bad (Some text) a b R K stated read write usage = λ config phases r nr nk. let e = (stated tt).0 ∙ is_done text config phases r in cc
-completes status.BadConfig (Some text) a b R K stated read write usage = λ config phases r nr nk. let e = (stated tt).0 ∙ is_done text config phases r in cc
-completes status.TooMuch (Some text) a b R K stated read write usage = λ config phases r nr nk. let e = (stated tt).0 ∙ is_done text config phases r in cc
+pub completes : (command : Command) (s : Status) (left a b : Option (List ℕ)) (R K : Type 0) → (IsFinal s → IfSome left (λ text. (s ≡ status_of text) × WritesAll command text a b))
+    → (s ≡ status.ReadFault → R) → (s ≡ status.WriteFault → K) → (s ≡ status.Usage → ⊥) → IfSome left (Promise command s a b R K)
+completes command s None a b R K stated read write usage = tt
+completes command status.Done (Some text) a b R K stated read write usage = λ config phases r nr nk. inr (refl, reported command text config phases a b r (stated tt).1)
+completes command status.Memory (Some text) a b R K stated read write usage = λ config phases r nr nk. inl refl
+completes command status.ReadFault (Some text) a b R K stated read write usage = λ config phases r nr nk. absurd (nr (read refl))
+completes command status.WriteFault (Some text) a b R K stated read write usage = λ config phases r nr nk. absurd (nk (write refl))
+completes command status.Usage (Some text) a b R K stated read write usage = λ config phases r nr nk. absurd (usage refl)
+completes command status.Bad (Some text) a b R K stated read write usage = λ config phases r nr nk. let e = (stated tt).0 ∙ is_done text config phases r in cc
+completes command status.BadConfig (Some text) a b R K stated read write usage = λ config phases r nr nk. let e = (stated tt).0 ∙ is_done text config phases r in cc
+completes command status.TooMuch (Some text) a b R K stated read write usage = λ config phases r nr nk. let e = (stated tt).0 ∙ is_done text config phases r in cc

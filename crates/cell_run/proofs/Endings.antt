@@ -1,7 +1,8 @@
--- How `replay` ends.
+-- How a command that serves a recording ends.
 use Rattle.std.proofs.Common.{◌≡◌, ◌≢◌, ◌⊎◌, ℕ, List, [], ◌∷◌, ◌++◌, ◌≤◌, length, ap, subst, refl, sym, ◌∙◌, Some, None, Ok, Err, IfSome, arith}
 use Rattle.std.specs.declared.option.Option.{Option}
 use Rattle.std.specs.Io.KnownBytes.{Appends, IsAtEnd}
+use Rattle.std.proofs.KnownBytes.{Appends-nil}
 use Rattle.cell_io.specs.Faults.{Rose}
 use Rattle.cell_io.specs.Prefix.{AppendsPrefix}
 use Rattle.mms_types.specs.declared.event.CellEvent.{CellEvent}
@@ -9,7 +10,8 @@ use Rattle.cell_config.specs.declared.config.Config.{Config}
 use Rattle.cell_record.specs.Grammar.{ReadsRecording}
 use Rattle.cell_record.specs.Recording.{Place, Reading, Opening, after_opening, config_in, opening_of_text, reading_of_text}
 use Rattle.cell_run.specs.declared.words.Command.{Command}
-use Rattle.cell_run.specs.declared.words.Command.TheVariants.{Replay}
+use Rattle.cell_run.specs.declared.words.Command.TheVariants.{Replay, Run}
+use Rattle.cell_run.specs.Words.{Serves}
 use Rattle.cell_run.specs.declared.status.Status.{Status}
 use Rattle.cell_run.specs.declared.status.Status.TheVariants as status
 use Rattle.cell_run.specs.Codes.{code_of}
@@ -22,29 +24,35 @@ use Rattle.cell_io.specs.Held.{Held, IsLaterPart}
 use Rattle.cell_record.specs.Progress.{Becomes}
 use Rattle.cell_record.specs.Stops.{LeadsText, ReadsText, lines_in}
 use Rattle.cell_run.specs.Serving.{WritesAllOf, WritesSomeOf, WritesToStop, interleaves_self}
-use Rattle.cell_run.proofs.Fronts.{Tells}
+use Rattle.cell_run.proofs.Fronts.{Tells, none_written}
 use Rattle.cell_run.proofs.Complete.{completes}
 
-prints : (opening : Opening) → PrintsBy Replay opening (printed_by opening)
-prints (Err e) = refl
-prints (Ok o) = let said = after_opening (Ok o) in record { bodies = said.phases; interleave = interleaves_self said.phases; serve = refl; is = refl }
+-- phases may be served by themselves
+serves_self : (command : Command) (phases : List (List CellEvent)) → Serves command phases phases
+serves_self Replay phases = refl
+serves_self (Run workers) phases = tt
 
-all : (s : Status) (left old new : Option (List ℕ)) → IfSome left (λ text. (s ≡ status_of text) × Appends old new (printed text)) → IfSome left (λ text. (s ≡ status_of text) × WritesAll Replay text old new)
-all s None old new h = tt
-all s (Some text) old new h = (h.0, record { printed = printed text; prints = prints (opening_of_text text); written = h.1 })
+prints : (command : Command) (opening : Opening) → PrintsBy command opening (printed_by opening)
+prints command (Err e) = refl
+prints command (Ok o) = let said = after_opening (Ok o) in record { bodies = said.phases; interleave = interleaves_self said.phases; serve = serves_self command said.phases; is = refl }
 
-some : (left old new : Option (List ℕ)) → IfSome left (λ text. AppendsPrefix old new (printed text)) → IfSome left (λ text. WritesSome Replay text old new)
-some None old new h = tt
-some (Some text) old new h = record { printed = printed text; prints = prints (opening_of_text text); written = h }
+all : (command : Command) (s : Status) (left old new : Option (List ℕ)) → IfSome left (λ text. (s ≡ status_of text) × Appends old new (printed text)) → IfSome left (λ text. (s ≡ status_of text) × WritesAll command text old new)
+all command s None old new h = tt
+all command s (Some text) old new h = (h.0, record { printed = printed text; prints = prints command (opening_of_text text); written = h.1 })
 
-pub replay_ends : (s : Status) (input rest out after : Seen) → s ≢ status.Usage → (IsFinal s → IfSome input.octets (λ text. (s ≡ status_of text) × Appends out.octets after.octets (printed text)))
+some : (command : Command) (left old new : Option (List ℕ)) → IfSome left (λ text. AppendsPrefix old new (printed text)) → IfSome left (λ text. WritesSome command text old new)
+some command None old new h = tt
+some command (Some text) old new h = record { printed = printed text; prints = prints command (opening_of_text text); written = h }
+
+-- how it ends where the lines up to `end` are refused, or memory is wanting
+pub opening_ends : (command : Command) (s : Status) (input rest out after : Seen) → s ≢ status.Usage → (IsFinal s → IfSome input.octets (λ text. (s ≡ status_of text) × Appends out.octets after.octets (printed text)))
     → IfSome input.octets (λ text. AppendsPrefix out.octets after.octets (printed text)) → (s ≡ status.Done → IsAtEnd rest.octets) → (s ≡ status.ReadFault → Rose input.faults rest.faults)
-    → (s ≡ status.ReadFault → IfSome input.octets (λ text. IsCut Replay text rest.octets out.octets after.octets)) → (s ≡ status.WriteFault → Rose out.faults after.faults)
-    → EndsServing Replay s input rest out after
-replay_ends s input rest out after known whole part ended read cut write = record {
+    → (s ≡ status.ReadFault → IfSome input.octets (λ text. IsCut command text rest.octets out.octets after.octets)) → (s ≡ status.WriteFault → Rose out.faults after.faults)
+    → EndsServing command s input rest out after
+opening_ends command s input rest out after known whole part ended read cut write = record {
   known = known;
-  whole = λ final. all s input.octets out.octets after.octets (whole final);
-  part = some input.octets out.octets after.octets part;
+  whole = λ final. all command s input.octets out.octets after.octets (whole final);
+  part = some command input.octets out.octets after.octets part;
   ended = ended;
   read = read;
   cut = cut;
@@ -112,16 +120,22 @@ pub rose_later : (a b c : ℕ) → a ≤ b → Rose b c → Rose a c
 rose_later a b c h r = omega (arith, h, r)
 
 -- a recording that no fault hinders
-pub replay_completes : (s : Status) (code : ℕ) (input rest out after : Seen) → code ≡ code_of s → EndsServing Replay s input rest out after
+serving_completes : (command : Command) (s : Status) (code : ℕ) (input rest out after : Seen) → code ≡ code_of s → EndsServing command s input rest out after
     → IfSome input.octets (λ text. (config : Config) (phases : List (List CellEvent)) → ReadsRecording text config phases → (Rose input.faults rest.faults → ⊥) → (Rose out.faults after.faults → ⊥)
-    → (code ≡ 3) ⊎ ((code ≡ 0) × Completes Replay config phases out.octets after.octets))
-replay_completes s code input rest out after is e = rw is (completes s input.octets out.octets after.octets (Rose input.faults rest.faults) (Rose out.faults after.faults) e.whole e.read e.write e.known)
+    → (code ≡ 3) ⊎ ((code ≡ 0) × Completes command config phases out.octets after.octets))
+serving_completes command s code input rest out after is e = rw is (completes command s input.octets out.octets after.octets (Rose input.faults rest.faults) (Rose out.faults after.faults) e.whole e.read e.write e.known)
 
 pub completes_with : (command : Command) (asked : Option Command) (s : Status) (code : ℕ) (input rest out after : Seen) → code ≡ code_of s → asked ≡ Some command → Ends asked s input rest out after
     → IfSome input.octets (λ text. (config : Config) (phases : List (List CellEvent)) → ReadsRecording text config phases → (Rose input.faults rest.faults → ⊥) → (Rose out.faults after.faults → ⊥)
     → (code ≡ 3) ⊎ ((code ≡ 0) × Completes command config phases out.octets after.octets))
-completes_with Replay asked s code input rest out after is e ends = replay_completes s code input rest out after is (subst (λ (x : Option Command). Ends x s input rest out after) e ends)
+completes_with command asked s code input rest out after is e ends = serving_completes command s code input rest out after is (subst (λ (x : Option Command). Ends x s input rest out after) e ends)
 
--- the words ask for `replay`, which is the one command
-pub asked_replay : (command : Command) (asked : Option Command) (s : Status) (input rest out after : Seen) → asked ≡ Some command → EndsServing Replay s input rest out after → Ends asked s input rest out after
-asked_replay Replay asked s input rest out after is e = subst (λ (x : Option Command). Ends x s input rest out after) (sym is) e
+-- the words ask for the command
+pub asked_ends : (command : Command) (asked : Option Command) (s : Status) (input rest out after : Seen) → asked ≡ Some command → EndsServing command s input rest out after → Ends asked s input rest out after
+asked_ends command asked s input rest out after is e = subst (λ (x : Option Command). Ends x s input rest out after) (sym is) e
+
+-- memory was wanting before the words were read
+pub memory_ends : (asked : Option Command) (input out : Seen) → Ends asked status.Memory input input out out
+memory_ends None input out = Appends-nil out.octets
+memory_ends (Some command) input out =
+    opening_ends command status.Memory input input out out (λ e. cc) (λ f. absurd f) (none_written input.octets out.octets) (λ e. cc) (λ e. cc) (λ e. cc) (λ e. cc)

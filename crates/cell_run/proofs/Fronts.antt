@@ -18,7 +18,7 @@ use Rattle.cell_record.specs.History.{drains, history}
 use Rattle.cell_record.specs.Report.{placed_from, taken, phase_text, report_from}
 use Rattle.cell_run.specs.Outcome.{IsCut, IsFinal, WritesCut, last_line, status_of, status_for}
 use Rattle.cell_run.specs.Printed.{printed, printed_by}
-use Rattle.cell_run.specs.declared.words.Command.TheVariants.{Replay}
+use Rattle.cell_run.specs.declared.words.Command.{Command}
 use Rattle.cell_run.specs.declared.status.Status.{Status}
 
 -- phases before those of a reading
@@ -72,12 +72,12 @@ final_stated s Memory is final = subst IsFinal is final
 -- ---- where the source fails
 
 -- nothing was written before the line `end`
-pub cut_in_opening : (left last out0 out1 : Option (List ℕ)) → Keeps out0 out1 → IfSome left (λ text. IsCutInOpening text last) → IfSome left (λ text. IsCut Replay text last out0 out1)
-cut_in_opening None last out0 out1 p k = tt
-cut_in_opening (Some text) last out0 out1 p k = record {
+pub cut_in_opening : (command : Command) (left last out0 out1 : Option (List ℕ)) → Keeps out0 out1 → IfSome left (λ text. IsCutInOpening text last) → IfSome left (λ text. IsCut command text last out0 out1)
+cut_in_opening command None last out0 out1 p k = tt
+cut_in_opening command (Some text) last out0 out1 p k = record {
   octets = k.octets;
   read = k.read;
-  written = subst (λ (o : Opening). WritesCut Replay o (length (lines_in k.octets)) out0 out1) (sym k.says) (k.word, refl, Appends-kept out0 out0 out1 [] (Appends-nil out0) p);
+  written = subst (λ (o : Opening). WritesCut command o (length (lines_in k.octets)) out0 out1) (sym k.says) (k.word, refl, Appends-kept out0 out0 out1 [] (Appends-nil out0) p);
 }
 
 pub later_then : (a b c : Option (List ℕ)) → IsLaterPart a b → IsLaterPart b c → IsLaterPart a c

@@ -1,7 +1,19 @@
-pub mod WordLemmas
+mod Asked
 pub mod Alongside
 pub mod Fronts
 pub mod Phases
 pub mod Replayed
 pub mod Complete
 pub mod Endings
+pub mod OwnEvents
+pub mod SinceGathered
+pub mod OwnCounts
+pub mod EachDrained
+pub mod Before
+pub mod Worked
+pub mod OnePhase
+pub mod Given
+pub mod Laid
+pub mod Begun
+pub mod CrewPhase
+pub mod Ranges

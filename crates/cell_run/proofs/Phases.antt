@@ -15,16 +15,17 @@ use Rattle.cell_record.specs.Grammar.{all_ms, phase_ms}
 use Rattle.cell_record.specs.History.{Interleaves, history}
 use Rattle.cell_record.specs.Report.{report_from}
 use Rattle.cell_run.specs.declared.words.Command.{Command}
-use Rattle.cell_run.specs.declared.words.Command.TheVariants.{Replay}
+use Rattle.cell_run.specs.declared.words.Command.TheVariants.{Replay, Run}
 use Rattle.cell_run.specs.declared.status.Status.{Status}
 use Rattle.cell_run.specs.Words.{Serves}
 use Rattle.cell_run.specs.Outcome.{IsFinal, last_line, report_of, status_for}
+use Rattle.cell_run.specs.Running.{size_of}
 use Rattle.cell_run.specs.Serving.{body_text, interleaves_self, WritesAllOf, WritesSomeOf}
 use Rattle.cell_run.proofs.Fronts.{with_phases, report-append, report-snoc, final_stated}
 
 -- ---- bodies
 
-interleaves-append : (bs ps cs qs : List (List CellEvent)) → Interleaves bs ps → Interleaves cs qs → Interleaves (bs ++ cs) (ps ++ qs)
+pub interleaves-append : (bs ps cs qs : List (List CellEvent)) → Interleaves bs ps → Interleaves cs qs → Interleaves (bs ++ cs) (ps ++ qs)
 interleaves-append [] [] cs qs h k = k
 interleaves-append [] (p ∷ ps) cs qs h k = absurd h
 interleaves-append (b ∷ bs) [] cs qs h k = absurd h
@@ -39,10 +40,15 @@ interleaves_length (b ∷ bs) (p ∷ ps) h = let rest = interleaves_length bs ps
 -- phases that are still to come may be served by themselves
 serves_more : (command : Command) (bs ps more : List (List CellEvent)) → Serves command bs ps → Serves command (bs ++ more) (ps ++ more)
 serves_more Replay bs ps more h = ap (λ (l : List (List CellEvent)). l ++ more) h
+serves_more (Run workers) bs ps more h = tt
 
 pub all_ms-append : (ps : List (List CellEvent)) (x : List CellEvent) → all_ms (ps ++ x ∷ []) ≡ all_ms ps + phase_ms x
 all_ms-append [] x = omega arith
 all_ms-append (p ∷ ps) x = let rest = all_ms-append ps x in omega (arith, rest)
+
+pub size-append : (ps : List (List CellEvent)) (x : List CellEvent) → size_of (ps ++ x ∷ []) ≡ size_of ps + length x
+size-append [] x = omega arith
+size-append (p ∷ ps) x = let rest = size-append ps x in omega (arith, rest)
 
 -- ---- what is written
 

@@ -1,5 +1,5 @@
 -- How a run ends (this profile's choice).
-use Rattle.std.specs.Prelude.{◌≡◌, ◌≢◌, ◌≤◌, ℕ, List, IfSome, Some, None}
+use Rattle.std.specs.Prelude.{◌≡◌, ◌≢◌, ◌≤◌, ℕ, List, [], IfSome, Some, None}
 use Rattle.std.specs.Io.KnownBytes.{Appends, IsAtEnd}
 use Rattle.std.specs.declared.option.Option.{Option}
 use Rattle.cell_io.specs.Faults.{Rose}
@@ -16,13 +16,13 @@ pub record Seen : Type 0 where
   pub octets : Option (List ℕ)
   pub faults : ℕ
 
--- with other words the usage line is written, unless the sink fails
+-- with other words the usage line is written, unless the sink fails or memory is wanting
 abbrev pub EndsUsage : Status → Seen → Seen → Type 0
 EndsUsage status.Usage out after = Appends out.octets after.octets usage_text
 EndsUsage status.WriteFault out after = Rose out.faults after.faults × AppendsPrefix out.octets after.octets usage_text
 EndsUsage status.Done out after = ⊥
 EndsUsage status.Bad out after = ⊥
-EndsUsage status.Memory out after = ⊥
+EndsUsage status.Memory out after = Appends out.octets after.octets []
 EndsUsage status.ReadFault out after = ⊥
 EndsUsage status.BadConfig out after = ⊥
 EndsUsage status.TooMuch out after = ⊥

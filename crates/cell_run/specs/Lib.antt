@@ -5,3 +5,8 @@ pub mod Printed
 pub mod Serving
 pub mod Codes
 pub mod Along
+pub mod Parser
+pub mod Laying
+pub mod Drained
+pub mod Jobs
+pub mod Running

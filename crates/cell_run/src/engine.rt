@@ -20,9 +20,10 @@ use mms_device::Whole;
 use std::alloc::Global;
 
 /// More phases than a recording has.
-const PHASES: u64 = 4_294_967_296;
+pub(crate) const PHASES: u64 = 4_294_967_296;
 
-/// Serves a recording phase by phase on one thread, and writes its report.
+/// Serves a recording phase by phase on one thread, in its own order, and writes its report. It takes no runtime: it
+/// waits for nobody, and always returns.
 pub fn replay<S: Source, K: Sink>(alloc: Global, input: &mut S, out: &mut K) -> Status
     ensures ends { EndsServing Command.Replay result (record { octets = S.left input.old; faults = S.faults input.old }) (record { octets = S.left input.new; faults = S.faults input.new })
         (record { octets = K.held out.old; faults = K.faults out.old }) (record { octets = K.held out.new; faults = K.faults out.new }) }

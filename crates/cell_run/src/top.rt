@@ -13,6 +13,7 @@ ghost use Rattle.cell_run.specs.Ending.{Ends, EndsUsage, EndsWith};
 use crate::engine::replay;
 use crate::status::Status;
 use crate::words::{Command, command_of};
+use crate::workers::run;
 use cell_io::{Gate, Sink, Source, write_all};
 use std::alloc::Global;
 use std::sync::Wait;
@@ -33,42 +34,35 @@ fn usage<K: Sink>(out: &mut K) -> Status
 }
 
 /// Does what the words ask, and tells how it ended.
-fn serve<S: Source, K: Sink>(alloc: Global, words: &[String], input: &mut S, out: &mut K) -> Status
+fn serve<R: Threads + Wait + Sync, S: Source, K: Sink, G: Gate + Sync>(
+    rt: &R,
+    alloc: Global,
+    words: &[String],
+    input: &mut S,
+    out: &mut K,
+    gate: &G,
+) -> Status
     ensures ends { Ends (command_in (texts words.now)) result (record { octets = S.left input.old; faults = S.faults input.old }) (record { octets = S.left input.new; faults = S.faults input.new })
         (record { octets = K.held out.old; faults = K.faults out.old }) (record { octets = K.held out.new; faults = K.faults out.new }) }
     ensures nothing_read { command_in (texts words.now) ≡ None → input.new ≡ input.old }
     ensures reads { S.faults input.old ≤ S.faults input.new }
     ensures writes { K.faults out.old ≤ K.faults out.new }
 {
-    match command_of(words) {
-        None => usage(out),
-        Some(Command::Replay) => replay(alloc, input, out),
+    match command_of(alloc, words) {
+        Err(_) => Status::Memory,
+        Ok(None) => usage(out),
+        Ok(Some(Command::Replay)) => replay(alloc, input, out),
+        Ok(Some(Command::Run { workers })) => run(rt, alloc, workers, input, out, gate),
     }
-}
-
-/// Does what the words ask, for the commands that one thread serves, and answers the exit status. It waits for nobody,
-/// and always returns.
-pub fn serve_alone<S: Source, K: Sink>(
-    alloc: Global,
-    words: &[String],
-    input: &mut S,
-    out: &mut K,
-) -> u8
-    ensures ends { EndsWith (command_in (texts words.now)) result (record { octets = S.left input.old; faults = S.faults input.old }) (record { octets = S.left input.new; faults = S.faults input.new })
-        (record { octets = K.held out.old; faults = K.faults out.old }) (record { octets = K.held out.new; faults = K.faults out.new }) }
-    ensures nothing_read { command_in (texts words.now) ≡ None → input.new ≡ input.old }
-    ensures complete { (command : Command) → command_in (texts words.now) ≡ Some command → IfSome (S.left input.old) (λ text. (config : Config) (phases : List (List CellEvent))
-        → ReadsRecording text config phases → (Rose (S.faults input.old) (S.faults input.new) → ⊥) → (Rose (K.faults out.old) (K.faults out.new) → ⊥)
-        → (result ≡ 3) ⊎ ((result ≡ 0) × Completes command config phases (K.held out.old) (K.held out.new))) }
-{
-    serve(alloc, words, input, out).code()
 }
 
 /// Does what the words after the program's name ask, and answers the exit status.
 ///
-/// The one form of the command is the word `replay`: it reads a recording from `input` to its end, serves it on one
-/// thread, phase by phase, and writes the report to `out`; it is `serve_alone`, which waits for nobody. `rt` and `gate` are
-/// for the forms that serve by several workers.
+/// The forms of the command are `replay` and `run --workers N`, or `--workers=N`, with 1 to 20 digits from 1 to 16. Each
+/// reads a recording from `input` to its end, serves it phase by phase, and writes the report to `out`. `replay` serves
+/// it on one thread in its own order: what it calls waits for nobody. `run` serves each phase by N workers on threads of
+/// their own, and may wait; its report is that of the one history that came about. Each caller of the device passes
+/// `gate`.
 ///
 /// | status | comes | written |
 /// |---|---|---|
@@ -83,12 +77,12 @@ pub fn serve_alone<S: Source, K: Sink>(
 ///
 /// What stands first in the input decides, and each yields to 3, 4 and 5 where these came first.
 pub fn run_cell<R: Threads + Wait + Sync, S: Source, K: Sink, G: Gate + Sync>(
-    _rt: &R,
+    rt: &R,
     alloc: Global,
     words: &[String],
     input: &mut S,
     out: &mut K,
-    _gate: &G,
+    gate: &G,
 ) -> u8
     // How it ends by the words, with which status, and what was read and written.
     ensures ends { EndsWith (command_in (texts words.now)) result (record { octets = S.left input.old; faults = S.faults input.old }) (record { octets = S.left input.new; faults = S.faults input.new })
@@ -102,5 +96,5 @@ pub fn run_cell<R: Threads + Wait + Sync, S: Source, K: Sink, G: Gate + Sync>(
         → ReadsRecording text config phases → (Rose (S.faults input.old) (S.faults input.new) → ⊥) → (Rose (K.faults out.old) (K.faults out.new) → ⊥)
         → (result ≡ 3) ⊎ ((result ≡ 0) × Completes command config phases (K.held out.old) (K.held out.new))) }
 {
-    serve_alone(alloc, words, input, out)
+    serve(rt, alloc, words, input, out, gate).code()
 }

@@ -1,0 +1,37 @@
+-- Events at their places in a history: the words of clauses inside the crate.
+use Rattle.std.specs.Prelude.{◌≡◌, ◌≤◌, ◌⊎◌, ℕ, ◌+◌, ◌-◌, ◌==◌, if◌then◌else◌, List, [], ◌∷◌, Option, Some, None, slice_get, length}
+use Rattle.part_table.specs.History.{IsMade}
+use Rattle.mms_types.specs.declared.event.CellEvent.{CellEvent}
+use Rattle.mms_device.specs.Agendas.{Parted}
+use Rattle.mms_device.specs.Making.{MayMake}
+
+-- it is one of these
+abbrev pub Has : {X : Type 0} → List X → X → Type 0
+Has [] x = ⊥
+Has (y ∷ ys) x = (y ≡ x) ⊎ Has ys x
+
+module _ {E : Type 0} where
+  -- the events of a caller with their places, where the first event has the place at
+  abbrev pub placed_of : ℕ → ℕ → List (ℕ × E) → List (ℕ × E)
+  placed_of at caller [] = []
+  placed_of at caller (made ∷ history) = if made.0 == caller then (at, made.1) ∷ placed_of (at + 1) caller history else placed_of (at + 1) caller history
+
+  -- the event stands at its place among these, the first of which has the place first
+  abbrev pub Stands : ℕ → List E → ℕ × E → Type 0
+  Stands first events placed = (first ≤ placed.0) × (slice_get events (placed.0 - first) ≡ Some placed.1)
+
+  -- the event of that index lies in its slot
+  abbrev pub IsLaid : List (Option E) → List E → ℕ → Type 0
+  IsLaid slots events index = (event : E) → slice_get events index ≡ Some event → slice_get slots index ≡ Some (Some event)
+
+  -- those that are there
+  abbrev pub filled : List (Option E) → List E
+  filled [] = []
+  filled (None ∷ slots) = filled slots
+  filled (Some event ∷ slots) = event ∷ filled slots
+
+-- of a body that begins at a place: each actor was served just the events that it has there, at their places, and none is left
+pub record IsServedBy (first : ℕ) (agendas : List Parted) (body : List (ℕ × CellEvent)) : Type 0 where
+  pub made : IsMade (length agendas) MayMake body
+  pub rest : (i : ℕ) (a : Parted) → slice_get agendas i ≡ Some a → a.rest ≡ []
+  pub served : (i : ℕ) (a : Parted) → slice_get agendas i ≡ Some a → a.served ≡ placed_of first i body

@@ -1,0 +1,95 @@
+//! The events that were served in a phase, in the order of their places.
+
+ghost use Rattle.std.specs.Prelude.{◌≡◌, ◌≤◌, ◌<◌, ◌+◌, ◌-◌, ◌^◌, ◌⊎◌, [], ◌∷◌, ℕ, List, Option, None, Some, IfOk, length, map, slice_get, slice_set};
+ghost use Rattle.std.specs.List.{zip};
+ghost use Rattle.mms_types.specs.declared.event.CellEvent.{CellEvent as EventOf};
+ghost use Rattle.mms_device.specs.Shared.{History, all_events};
+ghost use Rattle.cell_record.specs.Report.{placed_from};
+ghost use Rattle.cell_run.specs.Laying.{Has, IsLaid, IsServedBy, Stands, filled};
+
+use cell_record::PlacedEvents;
+use mms_device::Agenda;
+use mms_types::{CellEvent, Events, Memory};
+use std::alloc::Global;
+
+/// So many slots, all empty.
+fn empty_slots(alloc: Global, count: usize) -> Result<Vec<Option<CellEvent>>, Memory>
+    ensures { IfOk result (λ slots. length slots.items ≡ count) }
+{
+    let mut slots = Vec::new(alloc);
+    for _slot in 0..count {
+        slots.push(None)?;
+    }
+    Ok(slots)
+}
+
+/// Puts an event into a slot.
+fn put(slots: &mut [Option<CellEvent>], index: usize, event: CellEvent)
+    requires { index < length slots.old }
+    ensures { slots.new ≡ slice_set slots.old index (Some event) }
+{
+    slots[index] = Some(event);
+}
+
+/// Lays each event in the slot of its place, where the first slot is that of the place `first`.
+fn lay(slots: &mut [Option<CellEvent>], first: u64, places: Vec<u64>, events: Vec<CellEvent>)
+    requires pairs { length places.items ≡ length events.items }
+    requires stands { (all : List EventOf) × (length all ≡ length slots.old) × ((q : ℕ × EventOf) → Has (zip places.items events.items) q → Stands first all q) }
+    ensures count { length slots.new ≡ length slots.old }
+    ensures laid { (all : List EventOf) (index : ℕ) → ((q : ℕ × EventOf) → Has (zip places.items events.items) q → Stands first all q)
+        → (IsLaid slots.old all index) ⊎ ((e : EventOf) → slice_get all index ≡ Some e → Has (zip places.items events.items) (first + index, e))
+        → IsLaid slots.new all index }
+{
+    let mut places = places;
+    let mut events = events;
+    while let Some(event) = events.pop() {
+        let Some(place) = places.pop() else {
+            unreachable!()
+        };
+        let index = (place - first) as usize;
+        put(slots, index, event);
+    }
+}
+
+/// Lays the events of all agendas, of a body that begins at the place `first`.
+fn lay_all(slots: &mut [Option<CellEvent>], first: u64, agendas: Vec<Agenda>)
+    requires body { (body : History) × (length body ≡ length slots.old) × IsServedBy first agendas.items body }
+    ensures count { length slots.new ≡ length slots.old }
+    ensures laid { (body : History) → IsServedBy first agendas.items body → (index : ℕ) → IsLaid slots.new (all_events body) index }
+{
+    for agenda in agendas {
+        let served = agenda.into_served();
+        lay(slots, first, served.0, served.1);
+    }
+}
+
+/// What lies in the slots, in their order.
+fn in_order(alloc: Global, slots: Vec<Option<CellEvent>>) -> Result<Events, Memory>
+    ensures { IfOk result (λ events. events ≡ filled slots.items) }
+{
+    let mut events = Events::new(alloc);
+    for slot in slots {
+        if let Some(event) = slot {
+            events.push(event)?;
+        }
+    }
+    Ok(events)
+}
+
+/// The body that the actors were served, of so many events, the first of which has the place `first`.
+pub(crate) fn placed(
+    alloc: Global,
+    first: u64,
+    count: usize,
+    agendas: Vec<Agenda>,
+) -> Result<PlacedEvents, Memory>
+    requires body { (body : History) × (length body ≡ count) × IsServedBy first agendas.items body }
+    requires few { first + count < 2 ^ 64 }
+    ensures { (body : History) → length body ≡ count → IsServedBy first agendas.items body
+        → IfOk result (λ served. served ≡ placed_from first (all_events body)) }
+{
+    let mut slots = empty_slots(alloc, count)?;
+    lay_all(slots.as_mut_slice(), first, agendas);
+    let events = in_order(alloc, slots)?;
+    PlacedEvents::consecutive(alloc, first, events)
+}
