@@ -1,7 +1,9 @@
-//! Runs the rows of `data/`: recordings with the reports and statuses that they must have. A row is a few lines of a file
-//! and takes no proof; docs/ROWS.md says how they are written.
+//! Runs the rows of `data/`: recordings with the reports and statuses that they must have. What a row replays is served
+//! by workers too. A row is a few lines of a file and takes no proof; docs/ROWS.md says how they are written.
 #![tactic(auto)]
 
+mod by_workers;
+mod history;
 mod number;
 mod row;
 mod row_file;
@@ -10,12 +12,17 @@ mod shorthand;
 mod steps;
 
 use anyhow::{Context, Result};
+use by_workers::{WORKERS, is_replayed, run_apart};
 use row::Row;
 use row_file::rows_of;
 use running::first_difference;
 use shorthand::Shorthands;
+use std::alloc::Global;
+use std::fmt::Write;
 use std::fs;
 use std::process::ExitCode;
+use std::sync::Wait;
+use std::thread::Threads;
 
 /// The names of the files of a folder that end so, in order.
 fn files_of(rt: &HostRuntime, folder: &str, ending: &str) -> Result<Vec<String>> {
@@ -64,16 +71,59 @@ fn all_rows(rt: &HostRuntime) -> Result<Vec<Row>> {
     Ok(rows)
 }
 
-/// Prints a line for each row that differs, and how many agree.
-fn main(rt: HostRuntime) -> Result<ExitCode> {
-    let rows = all_rows(&rt)?;
+/// How many rows agree. Puts a line for each that differs behind `differences`.
+fn agreeing_rows<R: Threads + Wait + Sync>(
+    rt: &R,
+    alloc: Global,
+    rows: &[Row],
+    differences: &mut String,
+) -> Result<u64> {
     let mut agree = 0u64;
-    for row in &rows {
-        match first_difference(&rt, rt.alloc(), row)? {
+    for row in rows {
+        match first_difference(rt, alloc, row)? {
             None => agree = agree.saturating_add(1),
-            Some(difference) => println!(rt; "{}, line {}: {difference}", row.file, row.line)?,
+            Some(it) => writeln!(differences, "{}, line {}: {it}", row.file, row.line)?,
         }
     }
-    println!(rt; "{agree} rows agree")?;
-    Ok(ExitCode::from(u8::from(agree < rows.len() as u64)))
+    Ok(agree)
+}
+
+/// How many runs by workers agree, of the recordings that the rows replay. Puts a line for each that differs behind
+/// `differences`.
+fn agreeing_runs<R: Threads + Wait + Sync>(
+    rt: &R,
+    alloc: Global,
+    rows: &[Row],
+    differences: &mut String,
+) -> Result<u64> {
+    let mut agree = 0u64;
+    for row in rows {
+        if !is_replayed(row) {
+            continue;
+        }
+        for by in WORKERS {
+            match run_apart(rt, alloc, row, by)? {
+                None => agree = agree.saturating_add(1),
+                Some(it) => {
+                    writeln!(
+                        differences,
+                        "{}, line {}, by {by}: {it}",
+                        row.file, row.line
+                    )?;
+                }
+            }
+        }
+    }
+    Ok(agree)
+}
+
+/// Runs all rows, and the recordings that they replay by workers too. Prints a line for each that differs, and how many
+/// agree.
+fn main(rt: HostRuntime) -> Result<ExitCode> {
+    let rows = all_rows(&rt)?;
+    let mut differences = String::new(rt.alloc());
+    let agree = agreeing_rows(&rt, rt.alloc(), &rows, &mut differences)?;
+    let runs = agreeing_runs(&rt, rt.alloc(), &rows, &mut differences)?;
+    print!(rt; "{differences}{agree} rows agree\n{runs} runs by workers agree\n")?;
+    Ok(ExitCode::from(u8::from(!differences.is_empty())))
 }

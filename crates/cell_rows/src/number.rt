@@ -3,7 +3,8 @@
 use anyhow::{Result, bail};
 use std::alloc::{AllocError, Global};
 
-/// The number that digits in that base say, which is 10 or 16; None for other texts. One beyond the last u32 is that one.
+/// The number that digits in that base say, which is 10 or 16; None for other texts. One beyond the last u32 is that
+/// one.
 fn value(text: &str, base: u32) -> Option<u32> {
     if text.is_empty() {
         return None;

@@ -41,11 +41,7 @@ impl Row {
             file,
             line,
             words: Vec::new(alloc),
-            limits: Limits {
-                failing_reads: Vec::new(alloc),
-                failing_writes: Vec::new(alloc),
-                room: ROOM,
-            },
+            limits: Limits::room(alloc, ROOM),
             recording: Vec::new(alloc),
             status: 0,
             report: Vec::new(alloc),
@@ -69,11 +65,7 @@ impl Row {
     /// A row of a line `= <words> | read <k> fails | write <k> fails | room <n>`, given without its `= `.
     pub(crate) fn headed(alloc: Global, file: &str, line: usize, head: &str) -> Result<Row> {
         let mut words = Vec::new(alloc);
-        let mut limits = Limits {
-            failing_reads: Vec::new(alloc),
-            failing_writes: Vec::new(alloc),
-            room: ROOM,
-        };
+        let mut limits = Limits::room(alloc, ROOM);
         let mut parts = head.split('|');
         for word in parts.next().unwrap_or("").split_whitespace() {
             words.push(String::from_str(alloc, word)?)?;
@@ -89,6 +81,15 @@ impl Row {
 }
 
 impl Limits {
+    /// No call fails, and the sink has room for so many octets.
+    pub(crate) fn room(alloc: Global, room: usize) -> Limits {
+        Limits {
+            failing_reads: Vec::new(alloc),
+            failing_writes: Vec::new(alloc),
+            room,
+        }
+    }
+
     /// Takes in which call fails, or the room.
     fn take(&mut self, part: &str) -> Result<()> {
         let call = part.strip_suffix(" fails").unwrap_or(part);

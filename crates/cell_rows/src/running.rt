@@ -1,6 +1,6 @@
-//! A row is run, and what comes of it compared.
+//! What is run, and where what comes of it differs from what is wanted.
 
-use crate::row::Row;
+use crate::row::{Limits, Row};
 use anyhow::Result;
 use cell_io::{MemorySink, MemorySource, Open};
 use cell_run::run_cell;
@@ -9,7 +9,7 @@ use std::fmt;
 use std::sync::Wait;
 use std::thread::Threads;
 
-/// Where a run differs from its row.
+/// Where a run differs from what is wanted.
 #[derive(Drop)]
 pub(crate) enum Difference {
     /// Another status.
@@ -17,8 +17,9 @@ pub(crate) enum Difference {
         wanted: u32,
         given: u32,
     },
-    /// A line of the report, from 1: what was wanted, and what was written.
-    Report {
+    /// A line, from 1, of the report or of what is made of it: what was wanted, and what was given.
+    Line {
+        of: &'static str,
         line: usize,
         wanted: String,
         given: String,
@@ -31,16 +32,42 @@ impl fmt::Display for Difference {
             Difference::Status { wanted, given } => {
                 write!(f, "status {given} in place of {wanted}")
             }
-            Difference::Report {
+            Difference::Line {
+                of,
                 line,
                 wanted,
                 given,
-            } => write!(
-                f,
-                "line {line} of the report is {given:?} in place of {wanted:?}"
-            ),
+            } => write!(f, "line {line} of {of} is {given:?} in place of {wanted:?}"),
         }
     }
+}
+
+/// What a run came to.
+#[derive(Drop)]
+pub(crate) struct Outcome {
+    pub status: u32,
+    pub report: Vec<u8>,
+}
+
+/// Runs the command of these words on a recording.
+pub(crate) fn outcome_of<R: Threads + Wait + Sync>(
+    rt: &R,
+    alloc: Global,
+    words: &[String],
+    recording: &[u8],
+    limits: &Limits,
+) -> Result<Outcome> {
+    let mut source = MemorySource::new(
+        Vec::from_slice(alloc, recording)?,
+        Vec::from_slice(alloc, &limits.failing_reads)?,
+    );
+    let failing_writes = Vec::from_slice(alloc, &limits.failing_writes)?;
+    let mut sink = MemorySink::new(alloc, limits.room, failing_writes)?;
+    let status = u32::from(run_cell(rt, alloc, words, &mut source, &mut sink, &Open));
+    Ok(Outcome {
+        status,
+        report: Vec::from_slice(alloc, sink.holds())?,
+    })
 }
 
 /// Runs a row, and answers where what comes of it first differs, if it does.
@@ -49,30 +76,31 @@ pub(crate) fn first_difference<R: Threads + Wait + Sync>(
     alloc: Global,
     row: &Row,
 ) -> Result<Option<Difference>> {
-    let mut source = MemorySource::new(
-        Vec::from_slice(alloc, &row.recording)?,
-        Vec::from_slice(alloc, &row.limits.failing_reads)?,
-    );
-    let mut sink = MemorySink::new(
-        alloc,
-        row.limits.room,
-        Vec::from_slice(alloc, &row.limits.failing_writes)?,
-    )?;
-    let given = u32::from(run_cell(rt, alloc, &row.words, &mut source, &mut sink, &Open));
-    if sink.holds() != row.report.as_slice() {
-        return Ok(Some(first_line_apart(alloc, &row.report, sink.holds())?));
+    let given = outcome_of(rt, alloc, &row.words, &row.recording, &row.limits)?;
+    if let Some(apart) = line_apart(alloc, "the report", &row.report, &given.report)? {
+        return Ok(Some(apart));
     }
-    if given != row.status {
-        return Ok(Some(Difference::Status {
-            wanted: row.status,
-            given,
-        }));
-    }
-    Ok(None)
+    Ok(status_apart(row.status, given.status))
 }
 
-/// The first line in which two reports differ.
-fn first_line_apart(alloc: Global, wanted: &[u8], given: &[u8]) -> Result<Difference> {
+/// Whether another status was given.
+pub(crate) fn status_apart(wanted: u32, given: u32) -> Option<Difference> {
+    if given == wanted {
+        return None;
+    }
+    Some(Difference::Status { wanted, given })
+}
+
+/// The first line in which two texts differ.
+pub(crate) fn line_apart(
+    alloc: Global,
+    of: &'static str,
+    wanted: &[u8],
+    given: &[u8],
+) -> Result<Option<Difference>> {
+    if wanted == given {
+        return Ok(None);
+    }
     let wanted = String::from_utf8_lossy(alloc, wanted)?;
     let given = String::from_utf8_lossy(alloc, given)?;
     let mut wanted_lines = wanted.split('\n');
@@ -81,17 +109,24 @@ fn first_line_apart(alloc: Global, wanted: &[u8], given: &[u8]) -> Result<Differ
         line = line.saturating_add(1);
         match wanted_lines.next() {
             Some(wanted_line) if wanted_line == given_line => {}
-            wanted_line => return apart(alloc, line, wanted_line.unwrap_or(""), given_line),
+            wanted_line => return apart(alloc, of, line, wanted_line.unwrap_or(""), given_line),
         }
     }
     line = line.saturating_add(1);
-    apart(alloc, line, wanted_lines.next().unwrap_or(""), "")
+    apart(alloc, of, line, wanted_lines.next().unwrap_or(""), "")
 }
 
-fn apart(alloc: Global, line: usize, wanted: &str, given: &str) -> Result<Difference> {
-    Ok(Difference::Report {
+fn apart(
+    alloc: Global,
+    of: &'static str,
+    line: usize,
+    wanted: &str,
+    given: &str,
+) -> Result<Option<Difference>> {
+    Ok(Some(Difference::Line {
+        of,
         line,
         wanted: String::from_str(alloc, wanted)?,
         given: String::from_str(alloc, given)?,
-    })
+    }))
 }

@@ -4,7 +4,8 @@ use crate::number::{number, octet};
 use anyhow::{Context, Result, bail};
 use std::alloc::{AllocError, Global};
 
-/// Texts under names, which rows cite as `<NAME>`: each is what stands between its line `= NAME` and the next such line.
+/// Texts under names, which rows cite as `<NAME>`: each is what stands between its line `= NAME` and the next such
+/// line.
 #[derive(Clone, Copy)]
 pub(crate) struct Shorthands<'a> {
     content: &'a str,

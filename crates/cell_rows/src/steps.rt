@@ -123,9 +123,9 @@ impl<'a> Steps<'a> {
     }
 }
 
-/// Puts what a step makes the device send to a client, `<output>, <client>: <output>`, and the head of the client's section
-/// before it, where that isn't there yet. Answers whether it is there then. An output that names no client is sent to the
-/// client of the event.
+/// Puts what a step makes the device send to a client, `<output>, <client>: <output>`, and the head of the client's
+/// section before it, where that isn't there yet. Answers whether it is there then. An output that names no client is
+/// sent to the client of the event.
 fn put_outputs(
     alloc: Global,
     text: &mut String,

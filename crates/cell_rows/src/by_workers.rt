@@ -1,0 +1,83 @@
+//! The recordings that `replay` serves are served by workers too. What they write is another history of the same
+//! phases, and as a recording it is replayed with the same report.
+
+use crate::history::{by_actors, recorded, refusal};
+use crate::row::{Limits, Row};
+use crate::running::{Difference, Outcome, line_apart, outcome_of, status_apart};
+use anyhow::Result;
+use std::alloc::Global;
+use std::sync::Wait;
+use std::thread::Threads;
+
+/// How many workers serve a recording, one after the other.
+pub(crate) const WORKERS: [&str; 3] = ["1", "2", "4"];
+
+/// The status of a sink that failed: where it failed is then another place of another report.
+const WRITE_FAULT: u32 = 5;
+
+/// Whether a row replays its recording.
+pub(crate) fn is_replayed(row: &Row) -> bool {
+    row.words.len() == 1 && row.words.iter().all(|word| word.as_str() == "replay")
+}
+
+/// The words, each as a text of its own.
+fn words_of(alloc: Global, words: &[&str]) -> Result<Vec<String>> {
+    let mut texts = Vec::new(alloc);
+    for word in words {
+        texts.push(String::from_str(alloc, word)?)?;
+    }
+    Ok(texts)
+}
+
+/// The lines of a recording before the one that ends its configuration.
+fn head_of(recording: &str) -> &str {
+    recording.split_once("\nend").unwrap_or((recording, "")).0
+}
+
+/// Has the recording of a row served by workers, and answers where what they write differs from what it may be.
+pub(crate) fn run_apart<R: Threads + Wait + Sync>(
+    rt: &R,
+    alloc: Global,
+    row: &Row,
+    workers: &str,
+) -> Result<Option<Difference>> {
+    let words = words_of(alloc, &["run", "--workers", workers])?;
+    let run = outcome_of(rt, alloc, &words, &row.recording, &row.limits)?;
+    if run.status != row.status || row.status == WRITE_FAULT {
+        return Ok(status_apart(row.status, run.status));
+    }
+    if !row.report.starts_with(b"phase ") {
+        return line_apart(alloc, "the report", &row.report, &run.report);
+    }
+    history_apart(rt, alloc, row, &run)
+}
+
+/// Replays the history that a run of a row tells, and answers where it differs: in its events, where those of an actor
+/// aren't the row's, or in the report that is written of it.
+fn history_apart<R: Threads + Wait + Sync>(
+    rt: &R,
+    alloc: Global,
+    row: &Row,
+    run: &Outcome,
+) -> Result<Option<Difference>> {
+    let report = String::from_utf8_lossy(alloc, &run.report)?;
+    let wanted = String::from_utf8_lossy(alloc, &row.report)?;
+    let events = by_actors(alloc, &report)?;
+    let recorded_events = by_actors(alloc, &wanted)?;
+    let apart = line_apart(
+        alloc,
+        "the actors' events",
+        recorded_events.as_bytes(),
+        events.as_bytes(),
+    )?;
+    if apart.is_some() {
+        return Ok(apart);
+    }
+    let recording = String::from_utf8_lossy(alloc, &row.recording)?;
+    let history = recorded(alloc, head_of(&recording), &report)?;
+    let replay = words_of(alloc, &["replay"])?;
+    let limits = Limits::room(alloc, row.limits.room);
+    let mut again = outcome_of(rt, alloc, &replay, history.as_bytes(), &limits)?;
+    again.report.extend_from_slice(refusal(&wanted).as_bytes())?;
+    line_apart(alloc, "the report", &again.report, &run.report)
+}
