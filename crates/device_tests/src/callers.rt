@@ -23,6 +23,17 @@ pub(crate) struct OpenDevice {
     pub(crate) second: Pass<Cell>,
 }
 
+/// The three passes that these are, in their order, and None where there aren't so many.
+fn taken_apart(mut passes: Vec<Pass<Cell>>) -> Option<(Pass<Cell>, Pass<Cell>, Pass<Cell>)>
+    requires { length passes.items ≡ 3 }
+    ensures { IfSome result (λ apart. passes.items ≡ apart.0 ∷ apart.1 ∷ apart.2 ∷ []) }
+{
+    let second = passes.pop()?;
+    let first = passes.pop()?;
+    let cell = passes.pop()?;
+    Some((cell, first, second))
+}
+
 /// The device of two clients.
 pub(crate) fn opened(alloc: Global, config: &Config) -> Option<OpenDevice>
     requires config { IsConfig config.now × (config.now.clients ≡ 2) }
@@ -31,16 +42,23 @@ pub(crate) fn opened(alloc: Global, config: &Config) -> Option<OpenDevice>
         (made.cell ∷ made.first ∷ made.second ∷ [])) }
     ensures left { IfSome result (λ made. (0 < made.first.left) × (0 < made.second.left)) }
 {
-    let (device, mut passes) = Device::new(alloc, config).ok()?;
-    let (Some(second), Some(first), Some(cell)) = (passes.pop(), passes.pop(), passes.pop()) else {
+    let Ok((device, passes)) = Device::new(alloc, config) else {
         return None;
     };
+    let (cell, first, second) = taken_apart(passes)?;
     Some(OpenDevice {
         device,
         cell,
         first,
         second,
     })
+}
+
+/// How many events the caller may still commit.
+pub(crate) fn commits_left(pass: &Pass<Cell>) -> u64
+    ensures { result ≡ pass.now.left }
+{
+    pass.left()
 }
 
 /// Serves octets of a client: the place of the event.
@@ -92,12 +110,31 @@ pub(crate) fn try_octets<G: Gate>(
     Ok(device.try_serve(alloc, pass, &event, gate)?.ticket)
 }
 
-/// Gathers all passes and closes the device: how many events were made.
-pub(crate) fn finish(alloc: Global, device: Device, mut passes: Vec<Pass<Cell>>) -> Option<u64>
+/// Gathers the passes and closes the device: how many events were made.
+fn closed(alloc: Global, device: Device, mut passes: Vec<Pass<Cell>>) -> Option<u64>
     requires count { length passes.items ≡ device.table.callers }
     requires order { AreInOrder device.table 0 passes.items }
 {
     let places = device.gather(passes.as_mut_slice());
     let _parts = device.close(alloc, passes).ok()?;
     Some(places)
+}
+
+/// Gathers the passes of the cell and of both clients, and closes the device: how many events were made.
+pub(crate) fn finish(
+    alloc: Global,
+    device: Device,
+    cell: Pass<Cell>,
+    first: Pass<Cell>,
+    second: Pass<Cell>,
+) -> Option<u64>
+    requires callers { device.table.callers ≡ 3 }
+    requires cell { (cell.table ≡ device.table) × (cell.by ≡ 0) × HoldsNothing cell }
+    requires first { (first.table ≡ device.table) × (first.by ≡ 1) × HoldsNothing first }
+    requires second { (second.table ≡ device.table) × (second.by ≡ 2) × HoldsNothing second }
+{
+    let Ok(passes) = vec![in alloc; cell, first, second] else {
+        return None;
+    };
+    closed(alloc, device, passes)
 }

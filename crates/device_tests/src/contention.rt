@@ -5,7 +5,7 @@ ghost use Rattle.cell_config.specs.Said.{IsConfig};
 ghost use Rattle.part_table.specs.Known.{HoldsNothing};
 
 use crate::asking::{sent, two_clients};
-use crate::callers::{finish, opened, serve_octets};
+use crate::callers::{commits_left, finish, opened, serve_octets};
 use cell_config::Config;
 use cell_io::Open;
 use mms_device::{Device, Drained, Whole};
@@ -38,7 +38,7 @@ fn drain_at_last<R: Wait>(rt: &R, device: &Device, pass: &mut Pass<Cell>) -> Opt
     ensures idle { HoldsNothing pass.new }
 {
     for _ in rt.forever() {
-        if pass.left() == 0 {
+        if commits_left(pass) == 0 {
             return None;
         }
         if let Ok(drained) = device.drain(pass, &Open) {
@@ -65,7 +65,7 @@ fn play<R: Wait>(
 {
     let mut places = Vec::new(alloc);
     for step in 0..STEPS {
-        if pass.left() == 0 {
+        if commits_left(&pass) == 0 {
             return None;
         }
         let octets = sent(step);
@@ -104,10 +104,8 @@ fn stands_at(place: u64, clients: [(&[u64], u64); 2]) -> Option<Stands> {
 }
 
 /// Lets a client of the device of one thread be heard.
-fn hear(alloc: Global, device: &mut Whole, client: u32, octets: &[u8]) -> Option<u64>
-    requires client { 1 ≤ client }
-{
-    if client > device.clients() || device.count() > 1_000_000 {
+fn hear(alloc: Global, device: &mut Whole, client: u32, octets: &[u8]) -> Option<u64> {
+    if client == 0 || client > device.clients() || device.count() > 1_000_000 {
         return None;
     }
     let event = CellEvent::Heard {
@@ -118,10 +116,8 @@ fn hear(alloc: Global, device: &mut Whole, client: u32, octets: &[u8]) -> Option
 }
 
 /// Lets a client of the device of one thread take what is to be sent to it.
-fn take(device: &mut Whole, client: u32) -> Option<Drained>
-    requires client { 1 ≤ client }
-{
-    if client > device.clients() || device.count() > 1_000_000 {
+fn take(device: &mut Whole, client: u32) -> Option<Drained> {
+    if client == 0 || client > device.clients() || device.count() > 1_000_000 {
         return None;
     }
     Some(device.drain(client))
@@ -133,7 +129,6 @@ fn is_replayed(alloc: Global, config: &Config, first: &Played, second: &Played) 
     requires config { IsConfig config.now }
 {
     let mut device = Whole::new(alloc, config).ok()?;
-    let drains = [&first.drained, &second.drained];
     let mut same = true;
     for place in 1..=(2 * STEPS as u64 + 2) {
         let clients = [
@@ -146,7 +141,12 @@ fn is_replayed(alloc: Global, config: &Config, first: &Played, second: &Played) 
             }
             Stands::Drain(client) => {
                 let taken = take(&mut device, client)?;
-                same = same && taken.outputs == drains[client as usize - 1].outputs;
+                let told = if client == 1 {
+                    &first.drained
+                } else {
+                    &second.drained
+                };
+                same = same && taken.outputs == told.outputs;
             }
         }
     }
@@ -167,8 +167,7 @@ fn play_both<R: Threads + Wait + Sync>(rt: &R, alloc: Global) -> Option<(u64, bo
     let (first, second) = (first?, second?);
     let same = is_replayed(alloc, &config, &first, &second)?;
     let sizes = (first.drained.outputs.len(), second.drained.outputs.len());
-    let passes = vec![in alloc; made.cell, first.pass, second.pass].ok()?;
-    let events = finish(alloc, device, passes)?;
+    let events = finish(alloc, device, made.cell, first.pass, second.pass)?;
     Some((events, same, sizes.0, sizes.1))
 }
 

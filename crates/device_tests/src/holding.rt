@@ -4,7 +4,7 @@ ghost use Rattle.std.specs.Prelude.{◌≡◌, ◌<◌, ◌≤◌, IfSome};
 ghost use Rattle.part_table.specs.Known.{HoldsNothing};
 
 use crate::asking::{DEFINE, OPEN, READ, TAKE, two_clients};
-use crate::callers::{finish, opened, serve_octets, try_octets};
+use crate::callers::{commits_left, finish, opened, serve_octets, try_octets};
 use cell_io::{Gate, Open, Point};
 use mms_device::{Busy, Device, Refused};
 use mms_step::Cell;
@@ -57,12 +57,12 @@ impl<R: Clock> Gate for Holding<'_, R> {
 }
 
 /// The first client opens, and reads through the gate: the place of the read.
-fn read_held<R: Wait + Clock>(
+fn read_held<R: Wait, G: Gate>(
     rt: &R,
     alloc: Global,
     device: &Device,
     mut pass: Pass<Cell>,
-    gate: &Holding<'_, R>,
+    gate: &G,
 ) -> Option<(Pass<Cell>, u64)>
     requires table { pass.table ≡ device.now.table }
     requires idle { HoldsNothing pass }
@@ -71,11 +71,11 @@ fn read_held<R: Wait + Clock>(
     ensures by { IfSome result (λ read. read.0.by ≡ 1) }
     ensures idle { IfSome result (λ read. HoldsNothing read.0) }
 {
-    if pass.left() == 0 {
+    if commits_left(&pass) == 0 {
         return None;
     }
     let _opened = serve_octets(rt, alloc, device, &mut pass, 1, OPEN, &Open).ok()?;
-    if pass.left() == 0 {
+    if commits_left(&pass) == 0 {
         return None;
     }
     let place = serve_octets(rt, alloc, device, &mut pass, 1, READ, gate).ok()?;
@@ -92,12 +92,13 @@ struct Met {
 
 /// The second client opens and defines a semaphore, waits until the first is held, tries to read, and asks for the
 /// token.
-fn ask_meanwhile<R: Wait + Clock>(
+fn ask_meanwhile<R: Wait + Clock, G: Gate>(
     rt: &R,
     alloc: Global,
     device: &Device,
     mut pass: Pass<Cell>,
-    gate: &Holding<'_, R>,
+    held: &AtomicU64,
+    gate: &G,
 ) -> Option<(Pass<Cell>, Met)>
     requires table { pass.table ≡ device.now.table }
     requires idle { HoldsNothing pass }
@@ -106,48 +107,79 @@ fn ask_meanwhile<R: Wait + Clock>(
     ensures by { IfSome result (λ asked. asked.0.by ≡ 2) }
     ensures idle { IfSome result (λ asked. HoldsNothing asked.0) }
 {
-    if pass.left() == 0 {
+    if commits_left(&pass) == 0 {
         return None;
     }
     let _opened = serve_octets(rt, alloc, device, &mut pass, 2, OPEN, &Open).ok()?;
-    if pass.left() == 0 {
+    if commits_left(&pass) == 0 {
         return None;
     }
     let _defined = serve_octets(rt, alloc, device, &mut pass, 2, DEFINE, &Open).ok()?;
-    if pass.left() == 0 || !is_raised(rt, &gate.held) {
+    if commits_left(&pass) == 0 || !is_raised(rt, held) {
         return None;
     }
     let busy = match try_octets(alloc, device, &mut pass, 2, READ, &Open) {
         Err(Refused::Busy(busy)) => Some(busy),
         _ => None,
     };
-    if pass.left() == 0 {
+    if commits_left(&pass) == 0 {
         return None;
     }
     let place = serve_octets(rt, alloc, device, &mut pass, 2, TAKE, gate).ok()?;
     Some((pass, Met { busy, place }))
 }
 
-/// Lets both clients be served on two threads: what the second met, and the places of its request and of the first's
-/// read, and how many events were made.
-fn serve_both<R: Threads + Wait + Clock + Sync>(rt: &R, alloc: Global) -> Option<(Met, u64, u64)> {
+/// Closes the device, once both clients are served: what the second met, and the places of its request and of the
+/// first's read, and how many events were made.
+fn met_at_last(
+    alloc: Global,
+    device: Device,
+    cell: Pass<Cell>,
+    first: Option<(Pass<Cell>, u64)>,
+    second: Option<(Pass<Cell>, Met)>,
+) -> Option<(Met, u64, u64)>
+    requires callers { device.table.callers ≡ 3 }
+    requires cell { (cell.table ≡ device.table) × (cell.by ≡ 0) × HoldsNothing cell }
+    requires first_table { IfSome first (λ read. read.0.table ≡ device.table) }
+    requires first_by { IfSome first (λ read. read.0.by ≡ 1) }
+    requires first_idle { IfSome first (λ read. HoldsNothing read.0) }
+    requires second_table { IfSome second (λ asked. asked.0.table ≡ device.table) }
+    requires second_by { IfSome second (λ asked. asked.0.by ≡ 2) }
+    requires second_idle { IfSome second (λ asked. HoldsNothing asked.0) }
+{
+    let (first, read) = first?;
+    let (second, met) = second?;
+    let events = finish(alloc, device, cell, first, second)?;
+    Some((met, read, events))
+}
+
+/// Lets both clients be served on two threads, through a gate that holds the first until a word is raised: what the
+/// second met, and the places of its request and of the first's read, and how many events were made.
+fn serve_through<R: Threads + Wait + Clock + Sync, G: Gate + Sync>(
+    rt: &R,
+    alloc: Global,
+    held: &AtomicU64,
+    gate: &G,
+) -> Option<(Met, u64, u64)> {
     let config = two_clients(alloc)?;
     let made = opened(alloc, &config)?;
     let device = made.device;
+    let (first, second) = join(
+        rt,
+        || read_held(rt, alloc, &device, made.first, gate),
+        || ask_meanwhile(rt, alloc, &device, made.second, held, gate),
+    );
+    met_at_last(alloc, device, made.cell, first, second)
+}
+
+/// Lets both clients be served, and the first be held until an event of the second is committed.
+fn serve_both<R: Threads + Wait + Clock + Sync>(rt: &R, alloc: Global) -> Option<(Met, u64, u64)> {
     let gate = Holding {
         rt,
         held: AtomicU64::new(0),
         committed: AtomicU64::new(0),
     };
-    let (first, second) = join(
-        rt,
-        || read_held(rt, alloc, &device, made.first, &gate),
-        || ask_meanwhile(rt, alloc, &device, made.second, &gate),
-    );
-    let ((first, read), (second, met)) = (first?, second?);
-    let passes = vec![in alloc; made.cell, first, second].ok()?;
-    let events = finish(alloc, device, passes)?;
-    Some((met, read, events))
+    serve_through(rt, alloc, &gate.held, &gate)
 }
 
 #[test]
@@ -157,8 +189,8 @@ fn a_caller_is_served_while_another_holds_what_it_does_not_want(rt: HostRuntime)
         match found {
             Some((met, read, events)) => {
                 met.busy == Some(Busy { part: 1, by: 1 })
-                    && met.place == read - 1
                     && read == 5
+                    && met.place == read - 1
                     && events == 5
             }
             None => false,
