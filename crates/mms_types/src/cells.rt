@@ -1,8 +1,8 @@
-//! The cells of a device and the names that it is configured with.
+//! The cells of a device, and the names and the pools that it is configured with.
 
 ghost use Rattle.std.specs.Prelude.{◌≡◌, IfOk};
 
-use crate::{Data, Identifier, Listed, Memory, TypeSpec};
+use crate::{Data, Identifier, Identifiers, Listed, Memory, TypeSpec, copied_name};
 use std::alloc::Global;
 
 /// A cell, as it is configured: a variable that has an address and no name of its own (ISO 9506-1, unnamed variable).
@@ -14,6 +14,9 @@ pub struct CellRow {
     pub of: TypeSpec,
     /// Its value at the start.
     pub value: Data,
+    /// The semaphore of the VMD of which a client has to own a token that writes it, where it is guarded. It need not
+    /// be there.
+    pub guard: Option<Identifier>,
 }
 
 /// Cells in order. Contracts see the list of them.
@@ -31,6 +34,18 @@ pub struct NamedCell {
 /// Configured variables in order. Contracts see the list of them.
 pub type NamedCells = Listed<NamedCell>;
 
+/// A pool of the VMD that is configured, and can't be deleted (ISO 9506-1, pool semaphore).
+#[derive(Debug, PartialEq, Eq, Drop)]
+pub struct PoolRow {
+    /// Its name.
+    pub name: Identifier,
+    /// The names of its tokens, from 1 to 256 in a configuration, in the order of the text.
+    pub tokens: Identifiers,
+}
+
+/// Configured pools in order. Contracts see the list of them.
+pub type Pools = Listed<PoolRow>;
+
 impl Listed<CellRow> {
     /// A copy. Memory where memory runs out.
     pub fn copy(&self, alloc: Global) -> Result<Cells, Memory>
@@ -42,6 +57,7 @@ impl Listed<CellRow> {
                 number: cell.number,
                 of: cell.of.copy(alloc)?,
                 value: cell.value.copy(alloc)?,
+                guard: copied_name(alloc, &cell.guard)?,
             })?;
         }
         Ok(cells)
@@ -61,5 +77,21 @@ impl Listed<NamedCell> {
             })?;
         }
         Ok(variables)
+    }
+}
+
+impl Listed<PoolRow> {
+    /// A copy. Memory where memory runs out.
+    pub fn copy(&self, alloc: Global) -> Result<Pools, Memory>
+        ensures { IfOk result (λ pools. pools ≡ self.now) }
+    {
+        let mut pools = Listed::new(alloc);
+        for pool in self.as_slice() {
+            pools.push(PoolRow {
+                name: pool.name.copy(alloc)?,
+                tokens: pool.tokens.copy(alloc)?,
+            })?;
+        }
+        Ok(pools)
     }
 }

@@ -224,3 +224,13 @@ impl Hash for Identifier {
         self.text.hash(state);
     }
 }
+
+/// A copy of a name, where there is one. Memory where memory runs out.
+pub fn copied_name(alloc: Global, name: &Option<Identifier>) -> Result<Option<Identifier>, Memory>
+    ensures { IfOk result (λ copy. copy ≡ name.now) }
+{
+    match name {
+        None => Ok(None),
+        Some(name) => Ok(Some(name.copy(alloc)?)),
+    }
+}

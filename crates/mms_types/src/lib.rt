@@ -33,10 +33,10 @@ pub use access_result::{
     AccessResult, AccessResults, DataAccessError, DataList, WriteAnswer, WriteResult, WriteResults,
 };
 pub use boxed::Boxed;
-pub use cells::{CellRow, Cells, NamedCell, NamedCells};
+pub use cells::{CellRow, Cells, NamedCell, NamedCells, PoolRow, Pools};
 pub use data::{BitString, Data, DataKind};
 pub use event::{CellEvent, Events, Output, What};
-pub use identifier::{BadName, Edition, Identifier, Unnamed};
+pub use identifier::{BadName, Edition, Identifier, Unnamed, copied_name};
 pub use identifiers::Identifiers;
 pub use initiate::{Initiate, InitiateAnswer, InitiateDetail, ParameterOptions, ServiceOptions};
 pub use key::{Key, Scope};
