@@ -5,6 +5,7 @@ ghost use Rattle.std.specs.Map.{lookup, keys_of};
 ghost use Rattle.std.specs.Option.{option_copied};
 ghost use Rattle.mms_types.specs.KeyLaws.{keys_equal};
 ghost use Rattle.mms_types.specs.Order.{key_eq, key_of, scope_eq};
+ghost use Rattle.mms_types.specs.declared.key.Scope.TheVariants.{Vmd};
 ghost use Rattle.object_names.specs.Borrowed.{key_meant, scope_meant};
 ghost use Rattle.object_names.specs.BorrowedHash.{keys_alike, keys_hash};
 
@@ -50,6 +51,16 @@ impl<'a> KeyRef<'a> {
 }
 
 impl<'a> KeyRef<'a> {
+    /// The key of the object of the VMD that has that name.
+    fn of_vmd(item: &'a Identifier) -> KeyRef<'a>
+        ensures { key_meant result ≡ record { scope = Vmd; item = item.now } }
+    {
+        KeyRef {
+            scope: ScopeRef::Vmd,
+            item,
+        }
+    }
+
     fn is(&self, key: &Key) -> bool
         ensures { result ≡ key_eq (key_meant self.entry.now) key.now }
     {
@@ -104,5 +115,16 @@ impl<T: Drop> Named<T> {
         ensures found { IsSome result ↔ Contains (keys_of self.now) (key_of client name.now) }
     {
         self.rows.get(KeyRef::of(client, name))
+    }
+
+    /// The value under a name of the VMD, as `named` has it.
+    #[tactic(auto, using(crate::proofs::Found::found_shared))]
+    pub fn of_vmd(&self, item: &Identifier) -> Option<&T>
+        ensures value { option_copied result
+            ≡ lookup (key_eq (record { scope = Vmd; item = item.now })) self.now }
+        ensures found { IsSome result
+            ↔ Contains (keys_of self.now) (record { scope = Vmd; item = item.now }) }
+    {
+        self.rows.get(KeyRef::of_vmd(item))
     }
 }
