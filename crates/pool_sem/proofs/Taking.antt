@@ -95,7 +95,7 @@ later-preempts (Some ms) now n k h = by_test (ms == 0) h
     by_test false g = cc g
 
 pub outcome-gets : (p : Pool) (ask : Ask) (now : Moment) (t : ℕ) → outcome p ask now ≡ Gets t → free_token ask.token (length p.tokens) p.entries ≡ Some t
-outcome-gets p ask now t h = by_claim (has_claim ask p.entries) h
+outcome-gets p ask now t h = by_claim (has_claim ask.client ask.token p.entries) h
   where
     by_free : (k : Option ℕ) → outcome_free k ask.delay now ≡ Gets t → k ≡ Some t
     by_free (Some u) g = let same : u ≡ t = cc g in ap Some same
@@ -116,7 +116,7 @@ is_wait (WaitsUntil d) = true
 is_wait other = false
 
 pub outcome-waits : (p : Pool) (ask : Ask) (now : Moment) → is_wait (outcome p ask now) ≡ true → free_token ask.token (length p.tokens) p.entries ≡ None
-outcome-waits p ask now h = by_claim (has_claim ask p.entries) h
+outcome-waits p ask now h = by_claim (has_claim ask.client ask.token p.entries) h
   where
     by_free : (k : Option ℕ) → is_wait (outcome_free k ask.delay now) ≡ true → k ≡ None
     by_free (Some u) g = absurd (cc g)
@@ -154,7 +154,7 @@ preempted-hung (Some client) asked es o h =
     record { hung = o; among = is.0; is_hung = hung-holds client asked o is.1; number = refl; token = refl }
 
 pub outcome-preempts : (p : Pool) (ask : Ask) (now : Moment) (n : ℕ) (k : Option ℕ) → outcome p ask now ≡ Preempts n k → HungAt p.entries n k
-outcome-preempts p ask now n k h = by_claim (has_claim ask p.entries) h
+outcome-preempts p ask now n k h = by_claim (has_claim ask.client ask.token p.entries) h
   where
     by_free : (f : Option ℕ) → outcome_free f ask.delay now ≡ Preempts n k → HungAt p.entries n k
     by_free (Some u) g = absurd (cc g)

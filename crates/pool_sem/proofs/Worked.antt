@@ -10,7 +10,7 @@ use Rattle.token_sem.specs.declared.entry.SemState.TheVariants.{Queued, Owner, H
 use Rattle.token_sem.specs.declared.entry.Taken.TheVariants.{Granted, Waits, TimedOut}
 use Rattle.token_sem.specs.declared.entry.TakeRefused.TheVariants.{Twice}
 use Rattle.pool_sem.specs.declared.outcome.TokenState.TheVariants as status
-use Rattle.pool_sem.specs.Pools.{Pool, after_expire, after_relinquish, after_take, expired_of, has_token, loss_of, place_of, relinquish_answer, take_answer, token_state}
+use Rattle.pool_sem.specs.Pools.{Pool, after_expire, after_relinquish, after_take, expired_of, has_token, loss_of, place_of, relinquish_answer, take_answer, token_got, token_state}
 
 -- a function answers each row of a table with its second column
 abbrev Answers : {A B : Type 0} → (A → B) → List (A × B) → Type 0
@@ -183,6 +183,17 @@ at_once : Answers (λ (x : Pool × Option ℕ × Option ℕ). has_token x.1 x.2 
     ((robots 2 (hung 1 1 0 ∷ owner 2 2 1 ∷ []), Some 1, None), true) ∷
     ((robots 2 (hung 1 1 0 ∷ owner 2 2 1 ∷ []), Some 1, Some 1), false) ∷ [])
 at_once = refl
+
+-- and which one that is
+which : Answers (λ (x : Pool × Option ℕ × Option ℕ). token_got x.1 x.2 x.0) (
+    ((both, None, None), None) ∷
+    ((robots 1 (owner 1 1 0 ∷ []), None, None), Some 1) ∷
+    ((robots 1 (owner 1 1 1 ∷ []), None, None), Some 0) ∷
+    ((robots 1 (owner 1 1 1 ∷ []), None, Some 1), None) ∷
+    ((robots 2 (owner 1 2 0 ∷ hung 2 1 1 ∷ []), Some 1, None), Some 1) ∷
+    ((robots 1 (hung 1 1 1 ∷ []), Some 1, None), Some 1) ∷
+    ((robots 1 (hung 1 1 1 ∷ []), Some 1, Some 0), Some 0) ∷ [])
+which = refl
 
 -- what a status tells of tokens
 states : Answers (λ (x : ℕ × List SemEntry). token_state x.0 x.1) (

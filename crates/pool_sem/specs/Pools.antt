@@ -123,11 +123,11 @@ relinquish_answer p client token = answer_giving_back (owner_of client token p.e
 -- TakeControl: what a request comes to
 
 -- the client waits for a token of the pool, or owns the one that it names; a hung entry is no claim
-abbrev pub is_claim : Ask → SemEntry → Bool
-is_claim ask e = e.client == ask.client && (is_queued e || (is_owner e && names ask.token e.token))
+abbrev pub is_claim : ℕ → Option ℕ → SemEntry → Bool
+is_claim client asked e = e.client == client && (is_queued e || (is_owner e && names asked e.token))
 
-abbrev pub has_claim : Ask → List SemEntry → Bool
-has_claim ask entries = list_any (is_claim ask) entries
+abbrev pub has_claim : ℕ → Option ℕ → List SemEntry → Bool
+has_claim client asked entries = list_any (is_claim client asked) entries
 
 -- of two entries the one whose token stands first in order of octets
 abbrev pub lower : SemEntry → SemEntry → Bool
@@ -155,6 +155,14 @@ free_token asked count entries = find (meets asked entries) (range_with_len 0 co
 abbrev pub has_token : Option ℕ → Option ℕ → Pool → Bool
 has_token client asked p = is_some (hung_to_preempt client asked p.entries) || is_some (free_token asked (length p.tokens) p.entries)
 
+-- the token that is had at once, if one is: that of the hung entry, or the free one
+abbrev pub got_of : Option SemEntry → Option ℕ → Option ℕ
+got_of (Some hung) free = hung.token
+got_of None free = free
+
+abbrev pub token_got : Option ℕ → Option ℕ → Pool → Option ℕ
+token_got client asked p = got_of (hung_to_preempt client asked p.entries) (free_token asked (length p.tokens) p.entries)
+
 -- no token is to be had now: ISO 9506-1, TakeControl, acceptableDelay
 abbrev pub outcome_later : Option ℕ → Moment → PoolOutcome
 outcome_later None now = WaitsForEver
@@ -171,7 +179,7 @@ outcome_now None p ask now = outcome_free (free_token ask.token (length p.tokens
 -- a client with a claim is refused; else a hung token is preempted; else a free one is had; else the client waits
 abbrev pub outcome : Pool → Ask → Moment → PoolOutcome
 outcome p ask now =
-    if has_claim ask p.entries then Refused else outcome_now (hung_to_preempt ask.preempt ask.token p.entries) p ask now
+    if has_claim ask.client ask.token p.entries then Refused else outcome_now (hung_to_preempt ask.preempt ask.token p.entries) p ask now
 
 -- the request makes an entry
 abbrev pub makes_entry : PoolOutcome → Bool

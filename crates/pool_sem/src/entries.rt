@@ -161,18 +161,17 @@ pub(crate) fn owner_of(client: u32, token: Option<u32>, entries: &[SemEntry]) ->
 }
 
 /// Whether the entry has the client refused.
-fn is_claim(ask: &Ask, entry: &SemEntry) -> bool
-    ensures { result ≡ is_claim ask.now entry.now }
+fn is_claim(client: u32, asked: Option<u32>, entry: &SemEntry) -> bool
+    ensures { result ≡ is_claim client asked entry.now }
 {
-    entry.client == ask.client
-        && (entry.is_queued() || (entry.is_owner() && names(ask.token, entry.token)))
+    entry.client == client && (entry.is_queued() || (entry.is_owner() && names(asked, entry.token)))
 }
 
 /// Whether the client waits for a token of the pool, or owns the one that it names.
-pub(crate) fn has_claim(ask: &Ask, entries: &[SemEntry]) -> bool
-    ensures { result ≡ has_claim ask.now entries.now }
+pub(crate) fn has_claim(client: u32, asked: Option<u32>, entries: &[SemEntry]) -> bool
+    ensures { result ≡ has_claim client asked entries.now }
 {
-    entries.iter().any(|entry| is_claim(ask, entry))
+    entries.iter().any(|entry| is_claim(client, asked, entry))
 }
 
 /// Whether the token of the one stands before that of the other.

@@ -1,11 +1,11 @@
-ghost use Rattle.std.specs.Prelude.{◌≡◌, ◌≢◌, ◌==◌, ◌<◌, ◌≤◌, ◌^◌, Err, IfOk, IfSome, None, OnErr, OnOk, Some, [], count_by, length, not, option_and_then, option_map, slice_get, true};
+ghost use Rattle.std.specs.Prelude.{◌≡◌, ◌≢◌, ◌==◌, ◌<◌, ◌≤◌, ◌^◌, Err, IfOk, IfSome, None, OnErr, OnOk, Some, [], count_by, is_some, length, not, option_and_then, option_map, slice_get, true};
 ghost use Rattle.std.specs.List.{list_any};
 ghost use Rattle.std.specs.Option.{option_copied};
 ghost use Rattle.mms_types.specs.Moments.{IsDated};
 ghost use Rattle.token_sem.specs.declared.entry.SemEntry.{SemEntry};
 ghost use Rattle.token_sem.specs.declared.entry.TakeRefused.TheVariants.{Memory as OutOfMemory};
 ghost use Rattle.token_sem.specs.Semaphore.{deadline_at, first_deadline, is_hung, is_owner, is_queued, moment_and_entry, numbered, owned_by};
-ghost use Rattle.pool_sem.specs.Pools.{IsPool, NamesRise, after_cancel, after_expire, after_lose, after_relinquish, after_take, expired_of, has_claim, has_token, heir_of, is_place, is_placed, loss_of, makes_entry, outcome, owner_of, place_of, relinquish_answer, take_answer, token_state};
+ghost use Rattle.pool_sem.specs.Pools.{IsPool, NamesRise, after_cancel, after_expire, after_lose, after_relinquish, after_take, expired_of, has_claim, has_token, heir_of, is_place, is_placed, loss_of, makes_entry, outcome, owner_of, place_of, relinquish_answer, take_answer, token_got, token_state};
 
 use crate::entries::{
     free_of, free_token, grant_to, has_claim, heir, hung_to_preempt, lose_owners, outcome_later,
@@ -90,7 +90,7 @@ impl PoolSem {
         requires { IsDated now }
         ensures { result ≡ outcome self.now ask.now now }
     {
-        if has_claim(ask, &self.entries) {
+        if has_claim(ask.client, ask.token, &self.entries) {
             return PoolOutcome::Refused;
         }
         if let Some(hung) = hung_to_preempt(ask.preempt, ask.token, &self.entries) {
@@ -252,11 +252,11 @@ impl PoolSem {
         &self.entries
     }
 
-    /// Whether the client of the request waits for a token of the pool, or owns the one that the request names.
-    pub fn has_claim(&self, ask: &Ask) -> bool
-        ensures { result ≡ has_claim ask.now self.now.entries }
+    /// Whether the client waits for a token of the pool, or owns the one that it asks for.
+    pub fn has_claim(&self, client: u32, asked: Option<u32>) -> bool
+        ensures { result ≡ has_claim client asked self.now.entries }
     {
-        has_claim(ask, &self.entries)
+        has_claim(client, asked, &self.entries)
     }
 
     /// Whether a request for that token, or for any, that may preempt that client gets one at once: that of a hung
@@ -266,6 +266,24 @@ impl PoolSem {
     {
         hung_to_preempt(preempt, asked, &self.entries).is_some()
             || free_token(asked, self.count(), &self.entries).is_some()
+    }
+
+    /// Which token a request for that token, or for any, that may preempt that client gets at once. None where none is
+    /// to be had.
+    pub fn token_got(&self, preempt: Option<u32>, asked: Option<u32>) -> Option<u32>
+        ensures { result ≡ token_got preempt asked self.now }
+    {
+        match hung_to_preempt(preempt, asked, &self.entries) {
+            Some(hung) => hung.token,
+            None => free_token(asked, self.count(), &self.entries),
+        }
+    }
+
+    /// Whether the client has an owner entry of that token. No client has one where no token is named.
+    pub fn owns_token(&self, client: u32, token: Option<u32>) -> bool
+        ensures { result ≡ is_some (owner_of client token self.now.entries) }
+    {
+        owner_of(client, token, &self.entries).is_some()
     }
 
     /// Whether the client has an owner entry.
