@@ -4,8 +4,10 @@ pub mod KeyOrder
 pub mod Listed
 pub mod Names
 pub mod NextDeadline
+pub mod Places
 pub mod Soonest
 pub mod Told
+pub mod TokenNames
 pub mod TwoSteps
 pub mod Unowned
 pub mod Unopposed

@@ -5,14 +5,15 @@ use Rattle.std.specs.Map.{lookup}
 use Rattle.mms_types.specs.Order.{key_eq}
 use Rattle.mms_types.specs.declared.key.Key.{Key}
 use Rattle.mms_types.specs.declared.moment.Moment.{Moment}
+use Rattle.pool_sem.specs.Pools as pool
 use Rattle.token_sem.specs.Semaphore.{Loss, is_owner_state, is_queued_state, loss_of, loss_of_one, owned_by, waits_for}
 use Rattle.token_sem.specs.declared.entry.SemEntry.{SemEntry}
 use Rattle.token_sem.specs.declared.entry.SemState.{SemState}
 use Rattle.token_sem.specs.declared.entry.SemState.TheVariants.{Queued, Owner, Hung}
-use Rattle.mms_time.specs.Loss.{all_changed, grants_of, owner_grants, owners_lost, without_client, without_owners, without_waiters}
+use Rattle.mms_time.specs.Loss.{all_changed, grants_of, keyed, owner_grants, owners_lost, pool_owners_lost, without_client, without_owners, without_waiters}
 use Rattle.mms_time.specs.Semaphores.{Rows, changed_row}
 use Rattle.mms_time.specs.declared.row.Semaphore.{Semaphore}
-use Rattle.mms_time.specs.declared.row.Semaphore.TheVariants.{Token}
+use Rattle.mms_time.specs.declared.row.Semaphore.TheVariants.{Token, Pool}
 use Rattle.mms_time.specs.declared.row.SemaphoreRow.{SemaphoreRow}
 
 -- an owner doesn't wait
@@ -46,8 +47,14 @@ one_loss client now es =
     ap (fold (loss_of_one now) (record { entries = filter (λ e. not (waits_for client e)) es; grants = [] }))
     (sym (still_owned (owned_by client) (waits_for client) (apart client) es))
 
+pool_one_loss : (client : ℕ) (now : Moment) (es : List SemEntry) → pool.loss_of client now es ≡ pool_owners_lost client now (filter (λ e. not (waits_for client e)) es)
+pool_one_loss client now es =
+    ap (fold (pool.loss_of_one now) (record { entries = filter (λ e. not (waits_for client e)) es; grants = [] }))
+    (sym (still_owned (owned_by client) (waits_for client) (apart client) es))
+
 one_semaphore : (client : ℕ) (now : Moment) (s : Semaphore) → without_client client now s ≡ without_owners client now (without_waiters client s)
 one_semaphore client now (Token s) = ap (λ (l : Loss). Token (record s { entries = l.entries })) (one_loss client now s.entries)
+one_semaphore client now (Pool p) = ap (λ (l : Loss). Pool (record p { entries = l.entries })) (pool_one_loss client now p.entries)
 
 pub each_semaphore : (client : ℕ) (now : Moment) (rows : Rows) → all_changed (without_client client now) rows ≡ all_changed (without_owners client now) (all_changed (without_waiters client) rows)
 each_semaphore client now [] = refl
@@ -73,13 +80,15 @@ one_grant client now (Some row) = in_semaphore row.semaphore
   where
     in_semaphore : (s : Semaphore) → grants_of client now (Some (record row { semaphore = s })) ≡ owner_grants client now (Some (record row { semaphore = without_waiters client s }))
     in_semaphore (Token s) = ap (λ (l : Loss). l.grants) (one_loss client now s.entries)
+    in_semaphore (Pool p) = ap (λ (l : Loss). l.grants) (pool_one_loss client now p.entries)
 
 each_key : {A : Type 0} (f g : Key → List A) → ((k : Key) → f k ≡ g k) → (keys : List Key) → flat_map f keys ≡ flat_map g keys
 each_key f g same [] = refl
 each_key f g same (key ∷ keys) = ap (λ l. l ++ flat_map f keys) (same key) ∙ ap (λ l. g key ++ l) (each_key f g same keys)
 
-pub each_grant : (client : ℕ) (now : Moment) (rows : Rows) (keys : List Key) → flat_map (λ key. grants_of client now (lookup (key_eq key) rows)) keys
-    ≡ flat_map (λ key. owner_grants client now (lookup (key_eq key) (all_changed (without_waiters client) rows))) keys
+pub each_grant : (client : ℕ) (now : Moment) (rows : Rows) (keys : List Key) → flat_map (λ key. keyed key (grants_of client now (lookup (key_eq key) rows))) keys
+    ≡ flat_map (λ key. keyed key (owner_grants client now (lookup (key_eq key) (all_changed (without_waiters client) rows)))) keys
 each_grant client now rows =
-    each_key (λ key. grants_of client now (lookup (key_eq key) rows)) (λ key. owner_grants client now (lookup (key_eq key) (all_changed (without_waiters client) rows)))
-    (λ key. one_grant client now (lookup (key_eq key) rows) ∙ ap (owner_grants client now) (sym (found_changed (without_waiters client) (key_eq key) rows)))
+    each_key (λ key. keyed key (grants_of client now (lookup (key_eq key) rows)))
+    (λ key. keyed key (owner_grants client now (lookup (key_eq key) (all_changed (without_waiters client) rows))))
+    (λ key. ap (keyed key) (one_grant client now (lookup (key_eq key) rows) ∙ ap (owner_grants client now) (sym (found_changed (without_waiters client) (key_eq key) rows))))

@@ -2,6 +2,7 @@
 use Rattle.std.proofs.Common.{◌≡◌, ap, refl, ℕ, Bool, true, false, not, ◌||◌, cond, List, [], ◌∷◌, filter, fold}
 use Rattle.std.specs.List.{list_any}
 use Rattle.mms_types.specs.declared.moment.Moment.{Moment}
+use Rattle.pool_sem.specs.Pools as pool
 use Rattle.token_sem.specs.Semaphore.{loss_of, loss_of_one, owned_by, waits_for}
 use Rattle.token_sem.specs.declared.entry.SemEntry.{SemEntry}
 
@@ -16,3 +17,7 @@ none_passes p (x ∷ es) e = by_first (p x) (none_passes p es) e
 pub none_granted : (client : ℕ) (now : Moment) (es : List SemEntry) → list_any (owned_by client) es ≡ false → (loss_of client now es).grants ≡ []
 none_granted client now es e =
     ap (λ (owners : List SemEntry). (fold (loss_of_one now) (record { entries = filter (λ x. not (waits_for client x)) es; grants = [] }) owners).grants) (none_passes (owned_by client) es e)
+
+pub none_granted_in : (client : ℕ) (now : Moment) (es : List SemEntry) → list_any (owned_by client) es ≡ false → (pool.loss_of client now es).grants ≡ []
+none_granted_in client now es e =
+    ap (λ (owners : List SemEntry). (fold (pool.loss_of_one now) (record { entries = filter (λ x. not (waits_for client x)) es; grants = [] }) owners).grants) (none_passes (owned_by client) es e)

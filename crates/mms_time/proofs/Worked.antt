@@ -11,22 +11,25 @@ use Rattle.mms_types.specs.declared.semaphore.DefineSemaphore.{DefineSemaphore}
 use Rattle.mms_types.specs.declared.semaphore.EntryClass.TheVariants.{Simple}
 use Rattle.mms_types.specs.declared.semaphore.EntryState.TheVariants as state
 use Rattle.mms_types.specs.declared.semaphore.EntryStatus.{EntryStatus}
+use Rattle.mms_types.specs.declared.semaphore.NamedToken.TheVariants as of_pool
 use Rattle.mms_types.specs.declared.semaphore.RelinquishControl.{RelinquishControl}
+use Rattle.mms_types.specs.declared.semaphore.ReportPoolSemaphoreStatus.{ReportPoolSemaphoreStatus}
 use Rattle.mms_types.specs.declared.semaphore.ReportSemaphoreEntryStatus.{ReportSemaphoreEntryStatus}
 use Rattle.mms_types.specs.declared.semaphore.SemaphoreClass.TheVariants as class
 use Rattle.mms_types.specs.declared.semaphore.TakeControl.{TakeControl}
-use Rattle.mms_types.specs.declared.semaphore.TakeControlAnswer.TheVariants.{NoResult}
+use Rattle.mms_types.specs.declared.semaphore.TakeControlAnswer.TheVariants.{NoResult, NamedToken}
 use Rattle.object_names.specs.Listing.{names_after}
 use Rattle.token_sem.specs.declared.entry.Grant.{Grant}
 use Rattle.token_sem.specs.declared.entry.SemEntry.{SemEntry}
 use Rattle.token_sem.specs.declared.entry.SemState.{SemState}
 use Rattle.token_sem.specs.declared.entry.SemState.TheVariants.{Queued, Owner, Hung}
 use Rattle.mms_time.specs.Deadlines.{expire_after, expired, next_due}
+use Rattle.mms_time.specs.Guards.{owns_guard}
 use Rattle.mms_time.specs.Loss.{lost, lost_grants}
 use Rattle.mms_time.specs.Semaphores.{Rows}
-use Rattle.mms_time.specs.Services.{cancelled, define_after, define_cause, delete_after, delete_cause, relinquish_after, relinquish_cause, relinquish_grant, take_after, take_cause, take_told}
-use Rattle.mms_time.specs.Statuses.{entry_status_answer, pool_status_cause, status, status_cause}
-use Rattle.mms_time.specs.declared.row.Semaphore.TheVariants.{Token}
+use Rattle.mms_time.specs.Services.{cancelled, define_after, define_cause, delete_after, delete_cause, grant_answer, relinquish_after, relinquish_cause, relinquish_grant, take_after, take_cause, take_told}
+use Rattle.mms_time.specs.Statuses.{entry_status_answer, pool_status_answer, pool_status_cause, status, status_cause}
+use Rattle.mms_time.specs.declared.row.Semaphore.TheVariants.{Token, Pool}
 use Rattle.mms_time.specs.declared.row.SemaphoreRow.{SemaphoreRow}
 use Rattle.mms_time.specs.declared.taking.TakeDone.TheVariants.{Answered, Waits}
 
@@ -297,7 +300,7 @@ both = row u_key false 2 (entry 1 1 Owner None ∷ entry 2 2 Queued None ∷ [])
     ∷ row (record { scope = scope.Association 1; item = 84 ∷ [] }) false 1 (entry 1 1 Owner None ∷ [])
     ∷ row t_key false 3 (entry 1 1 Owner None ∷ entry 2 4 Queued None ∷ entry 3 3 Queued None ∷ []) ∷ []
 
-losing : lost_grants 1 (at 5) both ≡ grant 4 2 ∷ grant 2 2 ∷ []
+losing : lost_grants 1 (at 5) both ≡ (t_key, grant 4 2) ∷ (u_key, grant 2 2) ∷ []
 losing = refl
 
 after_losing : lost 1 (at 5) both
@@ -309,3 +312,167 @@ losing_waiters : lost 4 (at 5) both
     ∷ row (record { scope = scope.Association 1; item = 84 ∷ [] }) false 1 (entry 1 1 Owner None ∷ [])
     ∷ row t_key false 3 (entry 1 1 Owner None ∷ entry 3 3 Queued None ∷ []) ∷ []
 losing_waiters = refl
+
+-- ---- a pool P that was configured, with the tokens R1 and R2
+
+abbrev p : ObjectName
+p = name.Vmd (80 ∷ [])
+
+abbrev p_key : Key
+p_key = record { scope = scope.Vmd; item = 80 ∷ [] }
+
+abbrev r : ℕ → List ℕ
+r digit = 82 ∷ digit ∷ []
+
+abbrev robots : ℕ → List SemEntry → Rows
+robots made entries = (p_key, record { configured = true; semaphore = Pool (record { tokens = r 49 ∷ r 50 ∷ []; made = made; entries = entries }) }) ∷ []
+
+abbrev with_token : Option ℕ → SemEntry → SemEntry
+with_token token e = record e { token = token }
+
+-- client 1 owns R1 and client 2 R2
+abbrev both_owned : Rows
+both_owned = robots 2 (with_token (Some 0) (entry 1 1 Owner None) ∷ with_token (Some 1) (entry 2 2 Owner None) ∷ [])
+
+abbrev named_take : ℕ → TakeControl
+named_take digit = record (plain p) { token = Some (r digit) }
+
+abbrev now_or_never : TakeControl → TakeControl
+now_or_never asked = record asked { delay = Some 0 }
+
+abbrev give_named : ℕ → RelinquishControl
+give_named digit = record { name = p; token = Some (r digit) }
+
+-- a token that the pool doesn't have; one that the client owns, though it may wait for another or for any; a delay of 0 where none is to be had
+pool_take_causes : Answers (λ (x : ℕ × TakeControl). take_cause x.0 x.1 both_owned) (
+    ((1, now_or_never (named_take 51)), Some object_non_existent) ∷
+    ((1, now_or_never (named_take 49)), Some object_state_conflict) ∷
+    ((1, now_or_never (named_take 50)), Some timeout) ∷
+    ((1, now_or_never (plain p)), Some timeout) ∷
+    ((1, named_take 50), None) ∷
+    ((1, plain p), None) ∷
+    ((7, named_take 49), None) ∷ [])
+pool_take_causes = refl
+
+-- who waits can't take another, also where one is free
+pool_waiting_cause : take_cause 3 (plain p) (robots 2 (with_token (Some 0) (entry 1 1 Owner None) ∷ with_token (Some 0) (entry 2 3 Queued None) ∷ [])) ≡ Some object_state_conflict
+pool_waiting_cause = refl
+
+-- a pool's token is named where it is given back
+pool_relinquish_causes : Answers (λ (x : ℕ × RelinquishControl). relinquish_cause x.0 x.1 both_owned) (
+    ((7, give p), Some type_inconsistent) ∷
+    ((7, give_named 51), Some object_non_existent) ∷
+    ((1, give_named 50), Some object_state_conflict) ∷
+    ((7, give_named 49), Some object_state_conflict) ∷
+    ((1, give_named 49), None) ∷ [])
+pool_relinquish_causes = refl
+
+-- it was configured, so it can't be deleted, though nobody has an entry
+pool_delete_cause : delete_cause 7 p (robots 0 []) ≡ Some object_access_denied
+pool_delete_cause = refl
+
+-- any is asked for: the least free one is told; one that is named isn't told again
+pool_told : Answers (λ (x : ℕ × TakeControl × Rows). take_told x.0 x.1 x.2) (
+    ((1, plain p, robots 0 []), Some (Answered (NamedToken (r 49)))) ∷
+    ((1, named_take 50, robots 0 []), Some (Answered NoResult)) ∷
+    ((2, plain p, robots 1 (with_token (Some 0) (entry 1 1 Owner None) ∷ [])), Some (Answered (NamedToken (r 50)))) ∷
+    ((2, named_take 49, robots 1 (with_token (Some 0) (entry 1 1 Owner None) ∷ [])), Some (Waits 2)) ∷
+    ((3, plain p, both_owned), Some (Waits 3)) ∷ [])
+pool_told = refl
+
+pool_taking : take_after 2 10 (at 0) (plain p) (take_after 1 10 (at 0) (plain p) (robots 0 [])) ≡ both_owned
+pool_taking = refl
+
+-- client 3 waits for R2, client 4 for any with a better rank, client 5 for any
+abbrev three_wait : Rows
+three_wait = take_after 5 10 (at 0) (plain p) (take_after 4 10 (at 0) (record (plain p) { priority = 10 }) (take_after 3 10 (at 0) (named_take 50) both_owned))
+
+abbrev one_given : Rows
+one_given = relinquish_after 1 (at 0) (give_named 49) three_wait
+
+-- R1 goes to client 4, which is told its name; then R2 goes to client 3, which named it
+pool_granted : relinquish_grant 1 (give_named 49) three_wait ∷ relinquish_grant 2 (give_named 50) one_given ∷ []
+    ≡ Some (Some (record { client = 4; invoke = 10; entry = 4; token = Some 0 })) ∷ Some (Some (record { client = 3; invoke = 10; entry = 3; token = None })) ∷ []
+pool_granted = refl
+
+pool_answers : Answers (λ (x : Key × Grant). grant_answer x.0 x.1 three_wait) (
+    ((p_key, record (grant 4 4) { token = Some 0 }), NamedToken (r 49)) ∷
+    ((p_key, record (grant 4 4) { token = Some 1 }), NamedToken (r 50)) ∷
+    ((p_key, grant 3 3), NoResult) ∷
+    ((t_key, grant 3 3), NoResult) ∷ [])
+pool_answers = refl
+
+pool_status_told : status 7 p three_wait ≡ Some (record { deletable = false; class = class.Pool; tokens = 2; owned = 2; hung = 0 })
+pool_status_told = refl
+
+-- the tokens of a pool, after a name that need not be there
+abbrev half_hung : Rows
+half_hung = robots 1 (with_token (Some 1) (entry 1 1 Hung None) ∷ [])
+
+abbrev tokens_after : Option (List ℕ) → ReportPoolSemaphoreStatus
+tokens_after name = record { name = p; after = name }
+
+pool_tokens : Answers (λ (x : Option (List ℕ) × Rows). pool_status_answer 7 (tokens_after x.0) x.1) (
+    ((None, both_owned), Some (record { tokens = of_pool.Owned (r 49) ∷ of_pool.Owned (r 50) ∷ []; more = false })) ∷
+    ((None, half_hung), Some (record { tokens = of_pool.Free (r 49) ∷ of_pool.Hung (r 50) ∷ []; more = false })) ∷
+    ((Some (r 49), half_hung), Some (record { tokens = of_pool.Hung (r 50) ∷ []; more = false })) ∷
+    ((Some (82 ∷ []), half_hung), Some (record { tokens = of_pool.Free (r 49) ∷ of_pool.Hung (r 50) ∷ []; more = false })) ∷
+    ((Some (r 50), half_hung), Some (record { tokens = []; more = false })) ∷ [])
+pool_tokens = refl
+
+-- 12 at once
+abbrev many : ℕ → Rows
+many count = (p_key, record { configured = true; semaphore = Pool (record { tokens = replicate count (r 49); made = 0; entries = [] }) }) ∷ []
+
+more_tokens : Answers (λ (count : ℕ). pool_status_answer 7 (tokens_after None) (many count)) (
+    (12, Some (record { tokens = replicate 12 (of_pool.Free (r 49)); more = false })) ∷
+    (13, Some (record { tokens = replicate 12 (of_pool.Free (r 49)); more = true })) ∷ [])
+more_tokens = refl
+
+-- an entry's token is told where it has or wants a named one
+pool_entries : Answers (λ (x : ReportSemaphoreEntryStatus). entry_status_answer 7 (at 0) x three_wait) ((
+  record { name = p; state = state.Queued; after = None },
+  Some (record {
+    entries = record (told 3) { token = Some (r 50); remaining = None } ∷ record (told 4) { token = None; priority = 10; remaining = None } ∷ record (told 5) { token = None; remaining = None } ∷ [];
+    more = false;
+  }),
+) ∷ (
+  record { name = p; state = state.Owner; after = None },
+  Some (record {
+    entries = record (told 1) { token = Some (r 49); remaining = None } ∷ record (told 2) { token = Some (r 50); remaining = None } ∷ [];
+    more = false;
+  }),
+) ∷ [])
+pool_entries = refl
+
+-- who owns a guard: an owner of any token of it; a hung one is owned by nobody, and so is one that isn't there or isn't the VMD's
+guards : Answers (λ (x : ℕ × List ℕ × Rows). owns_guard x.0 x.1 x.2) (
+    ((1, 80 ∷ [], both_owned), true) ∷
+    ((2, 80 ∷ [], both_owned), true) ∷
+    ((3, 80 ∷ [], three_wait), false) ∷
+    ((1, 80 ∷ [], half_hung), false) ∷
+    ((1, 84 ∷ [], owned), true) ∷
+    ((2, 84 ∷ [], waited), false) ∷
+    ((1, 85 ∷ [], owned), false) ∷
+    ((1, 84 ∷ [], row (record { scope = scope.Association 1; item = 84 ∷ [] }) false 1 (entry 1 1 Owner None ∷ []) ∷ []), false) ∷ [])
+guards = refl
+
+-- client 2 is lost, and R2 goes to client 4
+pool_losing : lost_grants 2 (at 5) three_wait ≡ (p_key, record (grant 4 4) { token = Some 1 }) ∷ []
+pool_losing = refl
+
+pool_after_losing : status 7 p (lost 1 (at 5) (lost 2 (at 5) both_owned)) ≡ Some (record { deletable = false; class = class.Pool; tokens = 2; owned = 0; hung = 0 })
+pool_after_losing = refl
+
+-- a time of control of 10 ends, and who waits for that token has it
+abbrev pool_timed : Rows
+pool_timed = take_after 2 10 (at 0) (named_take 49) (take_after 1 10 (at 0) (record (named_take 49) { control = Some 10 }) (robots 0 []))
+
+pool_end : next_due (at 20) pool_timed ≡ Some (record { at = at 10; kind = 0; key = p_key; entry = 1 })
+pool_end = refl
+
+pool_ended : expired p_key 1 pool_timed ≡ Some (record { client = 1; invoke = 10; waited = false; abort = false; grant = Some (grant 2 2) })
+pool_ended = refl
+
+pool_after_end : expire_after p_key 1 (at 10) pool_timed ≡ robots 2 (with_token (Some 0) (entry 2 2 Owner None) ∷ [])
+pool_after_end = refl

@@ -8,6 +8,7 @@ use Rattle.std.specs.Ordering.{is_lt, nat_cmp, ordering_then}
 use Rattle.mms_types.specs.Order.{key_eq, key_order}
 use Rattle.mms_types.specs.declared.key.Key.{Key}
 use Rattle.mms_types.specs.declared.moment.Moment.{Moment}
+use Rattle.pool_sem.specs.Pools as pool
 use Rattle.token_sem.specs.Semaphore.{after_expire, deadline_at, deadlines, earlier, expired_of, least, numbered}
 use Rattle.token_sem.specs.declared.entry.Deadline.{Deadline}
 use Rattle.token_sem.specs.declared.entry.Expired.{Expired}
@@ -15,7 +16,7 @@ use Rattle.token_sem.specs.declared.entry.SemEntry.{SemEntry}
 use Rattle.mms_time.specs.Semaphores.{Rows, changed, entries_of}
 use Rattle.mms_time.specs.declared.due.Due.{Due}
 use Rattle.mms_time.specs.declared.row.Semaphore.{Semaphore}
-use Rattle.mms_time.specs.declared.row.Semaphore.TheVariants.{Token}
+use Rattle.mms_time.specs.declared.row.Semaphore.TheVariants.{Token, Pool}
 use Rattle.mms_time.specs.declared.row.SemaphoreRow.{SemaphoreRow}
 
 -- a deadline: its moment, its kind (`control_time_out` or `acceptable_delay`), the name of its semaphore and the number of its entry
@@ -71,16 +72,21 @@ deadline_in key number rows = option_and_then (λ row. deadline_at number (entri
 
 abbrev pub without_due : ℕ → Moment → Semaphore → Semaphore
 without_due number now (Token s) = Token (after_expire s number now)
+without_due number now (Pool p) = Pool (pool.after_expire p number now)
 
 abbrev pub expire_after : Key → ℕ → Moment → Rows → Rows
 expire_after key number now rows = changed (without_due number now) key rows
 
-abbrev pub expired_entry : List SemEntry → Option SemEntry → Option Expired
-expired_entry entries None = None
-expired_entry entries (Some e) = Some (expired_of e entries)
+abbrev pub expired_from : SemEntry → Semaphore → Expired
+expired_from e (Token s) = expired_of e s.entries
+expired_from e (Pool p) = pool.expired_of e p.entries
+
+abbrev pub expired_entry : Semaphore → Option SemEntry → Option Expired
+expired_entry semaphore None = None
+expired_entry semaphore (Some e) = Some (expired_from e semaphore)
 
 abbrev pub expired_in : ℕ → SemaphoreRow → Option Expired
-expired_in number row = expired_entry (entries_of row) (numbered number (entries_of row))
+expired_in number row = expired_entry row.semaphore (numbered number (entries_of row))
 
 -- what is told of it: whose entry it was, whether it waited, whether its client is lost, and who gets the token
 abbrev pub expired : Key → ℕ → Rows → Option Expired

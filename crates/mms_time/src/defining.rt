@@ -65,6 +65,7 @@ impl SemaphoreRow {
     {
         match &self.semaphore {
             Semaphore::Token(tokens) => tokens.in_use(),
+            Semaphore::Pool(pool) => pool.in_use(),
         }
     }
 }

@@ -62,6 +62,7 @@ impl SemaphoreRow {
     {
         match &self.semaphore {
             Semaphore::Token(tokens) => tokens.deadline(),
+            Semaphore::Pool(pool) => pool.deadline(),
         }
     }
 }
@@ -125,6 +126,7 @@ impl SemaphoreRow {
     {
         match &mut self.semaphore {
             Semaphore::Token(tokens) => tokens.expire(entry, now),
+            Semaphore::Pool(pool) => pool.expire(entry, now),
         }
     }
 }

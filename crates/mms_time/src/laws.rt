@@ -9,8 +9,9 @@ ghost use Rattle.token_sem.specs.Semaphore.{Sem, grant_to, has_token, relinquish
 ghost use Rattle.token_sem.specs.declared.entry.Taken.TheVariants.{Granted, Waits};
 ghost use Rattle.mms_time.specs.Deadlines.{NamedDeadline, all_deadlines, due_sooner, next_due};
 ghost use Rattle.mms_time.specs.Semaphores.{IsSound, Rows};
-ghost use Rattle.mms_time.specs.Services.{ask_of, relinquish_conditions_in, relinquish_grant_in, take_conditions_in};
-ghost use Rattle.mms_time.specs.declared.row.Semaphore.TheVariants.{Token};
+ghost use Rattle.pool_sem.specs.Pools as pool;
+ghost use Rattle.mms_time.specs.Services.{ask_of, place_asked, relinquish_conditions_in, relinquish_grant_in, take_conditions_in};
+ghost use Rattle.mms_time.specs.declared.row.Semaphore.TheVariants.{Token, Pool};
 
 use crate::{Semaphore, SemaphoreRow};
 use object_names::Named;
@@ -23,11 +24,15 @@ fn semaphore_is_sound(row: &SemaphoreRow)
         Semaphore::Token(tokens) => {
             let _ = tokens.tokens();
         }
+        Semaphore::Pool(pool) => {
+            let _ = pool.tokens();
+        }
     }
 }
 
 /// Of every semaphore of a device it holds at any time, so after each call too: its entries are distinct and in order
-/// of number, no more tokens are owned or hung than there are, and where one is free no entry waits.
+/// of number, no more tokens are owned or hung than there are, each token of a pool by one entry at most, and no entry
+/// waits for a token that is free.
 pub fn each_semaphore_is_sound(semaphores: &Named<SemaphoreRow>)
     ensures { All (λ row. IsSound row.1.semaphore) semaphores.now }
 {
@@ -54,15 +59,28 @@ pub fn the_next_deadline_is_the_least()
 /// request for a token, the semaphore grants one exactly where the client is told that it has one, and else the client
 /// waits in the entry that it is told.
 pub fn a_take_is_as_told()
-    ensures { (s : Sem) (client invoke : ℕ) (asked : TakeControl) (now : Instant)
+    ensures tokens { (s : Sem) (client invoke : ℕ) (asked : TakeControl) (now : Instant)
         → first_of (take_conditions_in client asked (Token s)) ≡ None
-        → take_answer s (ask_of client invoke asked) now ≡ Ok (if has_token asked.preempt s
-        then Granted (grant_to (s.made + 1) (ask_of client invoke asked)) else Waits (s.made + 1)) }
+        → take_answer s (ask_of client invoke None asked) now ≡ Ok (if has_token asked.preempt s
+        then Granted (grant_to (s.made + 1) (ask_of client invoke None asked))
+        else Waits (s.made + 1)) }
+    ensures pools { (p : pool.Pool) (client invoke : ℕ) (asked : TakeControl) (now : Instant)
+        → first_of (take_conditions_in client asked (Pool p)) ≡ None
+        → pool.take_answer p (ask_of client invoke (place_asked asked.token p.tokens) asked) now
+        ≡ Ok (if pool.has_token asked.preempt (place_asked asked.token p.tokens) p
+        then Granted (pool.grant_to (p.made + 1)
+        (ask_of client invoke (place_asked asked.token p.tokens) asked)
+        (pool.token_got asked.preempt (place_asked asked.token p.tokens) p))
+        else Waits (p.made + 1)) }
 {}
 
 /// And where nothing stands against a token that is given back, it is granted to whom it is told.
 pub fn a_grant_is_as_told()
-    ensures { (s : Sem) (client : ℕ) (asked : RelinquishControl)
+    ensures tokens { (s : Sem) (client : ℕ) (asked : RelinquishControl)
         → first_of (relinquish_conditions_in client asked (Token s)) ≡ None
-        → relinquish_answer s client ≡ Ok (relinquish_grant_in client (Token s)) }
+        → relinquish_answer s client ≡ Ok (relinquish_grant_in client asked (Token s)) }
+    ensures pools { (p : pool.Pool) (client : ℕ) (asked : RelinquishControl)
+        → first_of (relinquish_conditions_in client asked (Pool p)) ≡ None
+        → pool.relinquish_answer p client (place_asked asked.token p.tokens)
+        ≡ Ok (relinquish_grant_in client asked (Pool p)) }
 {}

@@ -5,7 +5,7 @@ ghost use Rattle.std.specs.Map.{keys_of, lookup};
 ghost use Rattle.mms_types.specs.Moments.{IsDated};
 ghost use Rattle.mms_types.specs.Order.{key_eq};
 ghost use Rattle.mms_time.specs.Semaphores.{changed_row};
-ghost use Rattle.mms_time.specs.Loss.{all_changed, grants_of, grants_of_each, lost, lost_grants, sorted_keys, without_client};
+ghost use Rattle.mms_time.specs.Loss.{all_changed, grants_of, grants_of_each, keyed, lost, lost_grants, sorted_keys, without_client};
 
 use crate::{Semaphore, SemaphoreRow};
 use mms_types::{Key, Memory, Moment, Scope};
@@ -43,7 +43,7 @@ fn sorted_keys<'a>(
 
 impl SemaphoreRow {
     /// Who is granted a token where a client is lost.
-    #[tactic(auto, using(crate::proofs::Unowned::none_granted))]
+    #[tactic(auto, using(crate::proofs::Unowned::none_granted, crate::proofs::Unowned::none_granted_in))]
     fn grants(&self, alloc: Global, client: u32, now: Moment) -> Result<Vec<Grant>, Memory>
         requires { IsDated now }
         ensures { IfOk result (λ grants. grants.items ≡ grants_of client now (Some self.now)) }
@@ -54,6 +54,13 @@ impl SemaphoreRow {
                     return Ok(Vec::new(alloc));
                 }
                 let mut left = tokens.copy(alloc)?;
+                left.lose(alloc, client, now)
+            }
+            Semaphore::Pool(pool) => {
+                if !pool.owns(client) {
+                    return Ok(Vec::new(alloc));
+                }
+                let mut left = pool.copy(alloc)?;
                 left.lose(alloc, client, now)
             }
         }
@@ -67,6 +74,9 @@ impl SemaphoreRow {
         match &mut self.semaphore {
             Semaphore::Token(tokens) => {
                 tokens.lose(alloc, client, now)?;
+            }
+            Semaphore::Pool(pool) => {
+                pool.lose(alloc, client, now)?;
             }
         }
         Ok(())
@@ -91,33 +101,45 @@ fn grants_at(
     }
 }
 
+/// Grants with the name of their semaphore, copied.
+fn keyed(alloc: Global, key: &Key, grants: &[Grant]) -> Result<Vec<(Key, Grant)>, Memory>
+    ensures { IfOk result (λ all. all.items ≡ keyed key.now grants.now) }
+{
+    let mut all = Vec::new(alloc);
+    for grant in grants {
+        all.push((key.copy(alloc)?, *grant))?;
+    }
+    Ok(all)
+}
+
 /// Who is granted a token where a client is lost, by name of semaphore and number of the client's entry.
 fn grants_of_each(
     alloc: Global,
     semaphores: &Named<SemaphoreRow>,
     client: u32,
     now: Moment,
-) -> Result<Vec<Grant>, Memory>
+) -> Result<Vec<(Key, Grant)>, Memory>
     requires { IsDated now }
     ensures { IfOk result (λ grants. grants.items ≡ grants_of_each client now semaphores.now) }
 {
     let keys = sorted_keys(alloc, semaphores)?;
     let mut grants = Vec::new(alloc);
     for key in &keys {
-        let more = grants_at(alloc, semaphores, *key, client, now)?;
-        grants.extend_from_slice(&more)?;
+        let here = grants_at(alloc, semaphores, *key, client, now)?;
+        let mut more = keyed(alloc, *key, &here)?;
+        grants.append(&mut more)?;
     }
     Ok(grants)
 }
 
-/// Who is granted a token where a client is lost, by name of semaphore and number of the client's entry. Nothing changes
-/// yet.
+/// Who is granted a token where a client is lost, each with the name of the semaphore, by that name and the number of
+/// the client's entry. Nothing changes yet.
 pub fn lose_told(
     alloc: Global,
     semaphores: &Named<SemaphoreRow>,
     client: u32,
     now: Moment,
-) -> Result<Vec<Grant>, Memory>
+) -> Result<Vec<(Key, Grant)>, Memory>
     requires { IsDated now }
     ensures { IfOk result (λ grants. grants.items ≡ lost_grants client now semaphores.now) }
 {
@@ -147,14 +169,15 @@ fn lose_each(
 
 /// A client is lost (ISO 9506-1, TakeControl, relinquishIfConnectionLost): its queued entries go; then each of its
 /// owner entries becomes hung where its token is kept, and else goes, and its token is granted to the entry that is
-/// served next, or is free; then the semaphores of its association go. Who is granted a token is told by name of
-/// semaphore and number of the client's entry. The one refusal is want of memory; then all is as before.
+/// served next, or is free; then the semaphores of its association go. Who is granted a token is told with the name of
+/// its semaphore, by that name and the number of the client's entry. The one refusal is want of memory; then all is as
+/// before.
 pub fn lose(
     alloc: Global,
     semaphores: &mut Named<SemaphoreRow>,
     client: u32,
     now: Moment,
-) -> Result<Vec<Grant>, Memory>
+) -> Result<Vec<(Key, Grant)>, Memory>
     requires { IsDated now }
     ensures grants { IfOk result (λ grants. grants.items ≡ lost_grants client now semaphores.old) }
     ensures lost { OnOk result (semaphores.new ≡ lost client now semaphores.old) }

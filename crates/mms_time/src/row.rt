@@ -1,5 +1,6 @@
 use mms_types::Memory;
 use object_names::Copied;
+use pool_sem::PoolSem;
 use std::alloc::Global;
 use token_sem::TokenSem;
 
@@ -8,6 +9,8 @@ use token_sem::TokenSem;
 pub enum Semaphore {
     /// One whose tokens are equal.
     Token(TokenSem),
+    /// One whose tokens have names.
+    Pool(PoolSem),
 }
 
 /// A semaphore of a device.
@@ -23,6 +26,7 @@ impl Copied for SemaphoreRow {
     fn copied(&self, alloc: Global) -> Result<SemaphoreRow, Memory> {
         let semaphore = match &self.semaphore {
             Semaphore::Token(tokens) => Semaphore::Token(tokens.copy(alloc)?),
+            Semaphore::Pool(pool) => Semaphore::Pool(pool.copy(alloc)?),
         };
         Ok(SemaphoreRow {
             configured: self.configured,

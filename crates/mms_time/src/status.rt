@@ -1,22 +1,28 @@
 //! ReportSemaphoreStatus, ReportPoolSemaphoreStatus and ReportSemaphoreEntryStatus.
 
-ghost use Rattle.std.specs.Prelude.{◌≡◌, All, IfOk, None};
+ghost use Rattle.std.specs.Prelude.{◌≡◌, ◌<◌, [], All, IfOk};
+ghost use Rattle.std.specs.Option.{option_copied};
 ghost use Rattle.mms_types.specs.Serves.{Serves};
-ghost use Rattle.mms_time.specs.Semaphores.{entries_of, semaphore};
-ghost use Rattle.mms_time.specs.Statuses.{entry_status, entry_status_answer, entry_status_cause, entry_statuses, is_in_state, is_listed, left_until, pool_status_cause, status, status_cause, status_in};
+ghost use Rattle.mms_time.specs.Semaphores.{entries_of, names_in, semaphore};
+ghost use Rattle.mms_time.specs.Statuses.{entry_status, entry_status_answer, entry_status_cause, entry_statuses, is_in_state, is_listed, left_until, name_follows, pool_status, pool_status_answer, pool_status_cause, status, status_cause, status_in, token_status};
 
+use crate::tokens::name_at;
 use crate::{Semaphore, SemaphoreRow};
 use mms_types::{
-    EntryClass, EntryNumber, EntryState, EntryStatus, EntryStatuses, Listed, Memory, Moment,
-    ObjectName, Octets, PoolStatus, Refuse, ReportPoolSemaphoreStatus, ReportSemaphoreEntryStatus,
-    SemaphoreClass, SemaphoreStatus, ServiceError,
+    EntryClass, EntryNumber, EntryState, EntryStatus, EntryStatuses, Identifier, Listed, Memory,
+    Moment, NamedToken, ObjectName, Octets, PoolStatus, Refuse, ReportPoolSemaphoreStatus,
+    ReportSemaphoreEntryStatus, SemaphoreClass, SemaphoreStatus, ServiceError,
 };
 use object_names::Named;
+use pool_sem::{PoolSem, TokenState};
 use std::alloc::Global;
 use token_sem::{SemEntry, SemState};
 
 /// The most entries that are told at once.
 const MOST_ENTRIES: usize = 6;
+
+/// The most tokens that are told at once.
+const MOST_TOKENS: usize = 12;
 
 impl SemaphoreRow {
     /// What the semaphore is and has.
@@ -31,6 +37,13 @@ impl SemaphoreRow {
                 owned: tokens.owned(),
                 hung: tokens.hung(),
             },
+            Semaphore::Pool(pool) => SemaphoreStatus {
+                deletable: !self.configured,
+                class: SemaphoreClass::Pool,
+                tokens: pool.tokens().len() as u16,
+                owned: pool.owned(),
+                hung: pool.hung(),
+            },
         }
     }
 
@@ -40,6 +53,17 @@ impl SemaphoreRow {
     {
         match &self.semaphore {
             Semaphore::Token(tokens) => tokens.entries(),
+            Semaphore::Pool(pool) => pool.entries(),
+        }
+    }
+
+    /// The names of its tokens, in order of octets: none where they are equal.
+    pub fn names(&self) -> &[Identifier]
+        ensures { result.now ≡ names_in self.now.semaphore }
+    {
+        match &self.semaphore {
+            Semaphore::Token(_) => &[],
+            Semaphore::Pool(pool) => pool.tokens(),
         }
     }
 }
@@ -59,20 +83,82 @@ pub fn report_semaphore_status(
     }
 }
 
-/// The tokens of a pool (ISO 9506-2, ReportPoolSemaphoreStatus). Object-non-existent where the semaphore is missing;
-/// type-inconsistent where it is a token semaphore, which all semaphores are as yet.
+/// Whether a name comes after that one.
+fn comes_after(name: &Identifier, after: Option<&Identifier>) -> bool
+    ensures { result ≡ name_follows (option_copied after.entry) name.now }
+{
+    match after {
+        None => true,
+        Some(other) => other.cmp(name).is_lt(),
+    }
+}
+
+/// What is told of a token of a pool.
+fn token_status(
+    alloc: Global,
+    pool: &PoolSem,
+    place: usize,
+    name: &Identifier,
+) -> Result<NamedToken, Memory>
+    requires { place < 256 }
+    ensures { IfOk result (λ told. told ≡ token_status pool.now (place, name.now)) }
+{
+    let name = name.copy(alloc)?;
+    Ok(match pool.token_state(place as u32) {
+        TokenState::Free => NamedToken::Free(name),
+        TokenState::Owned => NamedToken::Owned(name),
+        TokenState::Hung => NamedToken::Hung(name),
+    })
+}
+
+/// The first of the tokens that come after that name, and whether there are more.
+fn pool_status(
+    alloc: Global,
+    pool: &PoolSem,
+    after: Option<&Identifier>,
+) -> Result<PoolStatus, Memory>
+    ensures { IfOk result (λ told. told ≡ pool_status (option_copied after.entry) pool.now) }
+{
+    let names = pool.tokens();
+    let mut list = Listed::new(alloc);
+    for place in 0..names.len() {
+        let Some(name) = names.get(place) else {
+            unreachable!()
+        };
+        if comes_after(name, after) {
+            if list.len() == MOST_TOKENS {
+                return Ok(PoolStatus {
+                    tokens: list,
+                    more: true,
+                });
+            }
+            list.push(token_status(alloc, pool, place, name)?)?;
+        }
+    }
+    Ok(PoolStatus {
+        tokens: list,
+        more: false,
+    })
+}
+
+/// The tokens of a pool (ISO 9506-2, ReportPoolSemaphoreStatus), free, owned and hung, in order of octets after the
+/// name that is given, which need not be there: the first 12 of them, and whether there are more. Object-non-existent
+/// where the semaphore is missing; type-inconsistent where it is a token semaphore.
 pub fn report_pool_semaphore_status(
+    alloc: Global,
     semaphores: &Named<SemaphoreRow>,
     client: u32,
     asked: &ReportPoolSemaphoreStatus,
 ) -> Result<PoolStatus, Refuse>
-    ensures { Serves result (pool_status_cause client asked.now.name semaphores.now) None }
+    ensures { Serves result (pool_status_cause client asked.now.name semaphores.now)
+        (pool_status_answer client asked.now semaphores.now) }
 {
     let Some(row) = semaphores.named(client, &asked.name) else {
         return Err(Refuse::Service(ServiceError::OBJECT_NON_EXISTENT));
     };
     match &row.semaphore {
         Semaphore::Token(_) => Err(Refuse::Service(ServiceError::TYPE_INCONSISTENT)),
+        Semaphore::Pool(pool) => Ok(pool_status(alloc, pool, asked.after.as_ref())?),
     }
 }
 
@@ -114,7 +200,7 @@ fn left_until(now: Moment, at: Moment) -> u32
 
 /// How many milliseconds are left until the deadline.
 fn remaining(entry: &SemEntry, now: Moment) -> Option<u32>
-    ensures { result ≡ (entry_status now entry.now).remaining }
+    ensures { result ≡ (entry_status [] now entry.now).remaining }
 {
     match entry.deadline {
         None => None,
@@ -123,14 +209,19 @@ fn remaining(entry: &SemEntry, now: Moment) -> Option<u32>
 }
 
 /// What is told of an entry.
-fn entry_status(alloc: Global, entry: &SemEntry, now: Moment) -> Result<EntryStatus, Memory>
-    ensures { IfOk result (λ told. told ≡ entry_status now entry.now) }
+fn entry_status(
+    alloc: Global,
+    names: &[Identifier],
+    entry: &SemEntry,
+    now: Moment,
+) -> Result<EntryStatus, Memory>
+    ensures { IfOk result (λ told. told ≡ entry_status names.now now entry.now) }
 {
     Ok(EntryStatus {
         number: Octets::from_slice(alloc, &entry.number.to_be_bytes())?,
         class: EntryClass::Simple,
         client: entry.client,
-        token: None,
+        token: name_at(alloc, entry.token, names)?,
         priority: entry.priority,
         remaining: remaining(entry, now),
         abort: entry.abort,
@@ -142,12 +233,13 @@ fn entry_status(alloc: Global, entry: &SemEntry, now: Moment) -> Result<EntrySta
 #[tactic(auto, using(crate::proofs::Listed::listed_more, crate::proofs::Listed::listed_all))]
 fn entry_statuses(
     alloc: Global,
+    names: &[Identifier],
     entries: &[SemEntry],
     now: Moment,
     state: EntryState,
     after: Option<EntryNumber>,
 ) -> Result<EntryStatuses, Memory>
-    ensures { IfOk result (λ told. told ≡ entry_statuses now state after entries.now) }
+    ensures { IfOk result (λ told. told ≡ entry_statuses names.now now state after entries.now) }
 {
     let mut list = Listed::new(alloc);
     for entry in entries {
@@ -158,7 +250,7 @@ fn entry_statuses(
                     more: true,
                 });
             }
-            list.push(entry_status(alloc, entry, now)?)?;
+            list.push(entry_status(alloc, names, entry, now)?)?;
         }
     }
     Ok(EntryStatuses {
@@ -183,5 +275,12 @@ pub fn report_semaphore_entry_status(
     let Some(row) = semaphores.named(client, &asked.name) else {
         return Err(Refuse::Service(ServiceError::OBJECT_NON_EXISTENT));
     };
-    Ok(entry_statuses(alloc, row.entries(), now, asked.state, asked.after)?)
+    Ok(entry_statuses(
+        alloc,
+        row.names(),
+        row.entries(),
+        now,
+        asked.state,
+        asked.after,
+    )?)
 }

@@ -1,18 +1,24 @@
 //! TakeControl, RelinquishControl, and Cancel of a TakeControl.
 
-ghost use Rattle.std.specs.Prelude.{◌≡◌, IfOk, OnErr, OnOk, Some, is_none, option_map, true};
+ghost use Rattle.std.specs.Prelude.{◌≡◌, ◌+◌, IfOk, OnErr, OnOk, Some, option_map, true};
+ghost use Rattle.std.specs.Option.{option_copied};
 ghost use Rattle.mms_types.specs.Errors.{first_of};
 ghost use Rattle.mms_types.specs.Moments.{IsDated};
 ghost use Rattle.mms_types.specs.Serves.{Serves};
+ghost use Rattle.pool_sem.specs.Pools.{token_told};
 ghost use Rattle.token_sem.specs.Semaphore.{is_queued, numbered};
 ghost use Rattle.mms_time.specs.Semaphores.{changed_row, entries_of, entry_in, entry_waits};
-ghost use Rattle.mms_time.specs.Services.{ask_of, cancel_after, cancelled, relinquish_cause, relinquish_conditions_in, relinquish_grant, relinquish_grant_in, relinquished, take_after, take_cause, take_conditions_in, take_told, take_told_in, with_take, with_token_back, without_entry};
+ghost use Rattle.mms_time.specs.Services.{ask_of, cancel_after, cancelled, pool_answer, relinquish_cause, relinquish_conditions_in, relinquish_grant, relinquish_grant_in, relinquished, take_after, take_cause, take_conditions_in, take_told, take_told_in, with_take, with_token_back, without_entry};
+ghost use Rattle.mms_time.specs.declared.row.Semaphore.TheVariants.{Token, Pool};
 
+use crate::tokens::{name_at, named_answer, place_asked};
 use crate::{Semaphore, SemaphoreRow};
 use mms_types::{
-    Key, Memory, Moment, Refuse, RelinquishControl, ServiceError, TakeControl, TakeControlAnswer,
+    Identifier, Key, Memory, Moment, Refuse, RelinquishControl, ServiceError, TakeControl,
+    TakeControlAnswer,
 };
 use object_names::Named;
+use pool_sem::PoolSem;
 use std::alloc::Global;
 use token_sem::entries::numbered;
 use token_sem::{Ask, Grant, SemEntry, TakeRefused, TokenSem};
@@ -26,31 +32,97 @@ pub enum TakeDone {
     Waits(u64),
 }
 
+/// Why no token of a token semaphore is taken.
+fn token_take_cause(tokens: &TokenSem, client: u32, asked: &TakeControl) -> Option<ServiceError>
+    ensures { result ≡ first_of (take_conditions_in client asked.now (Token tokens.now)) }
+{
+    if asked.token.is_some() {
+        return Some(ServiceError::TYPE_INCONSISTENT);
+    }
+    if tokens.has_claim(client) {
+        return Some(ServiceError::OBJECT_STATE_CONFLICT);
+    }
+    if !tokens.has_token(asked.preempt) && asked.delay == Some(0) {
+        return Some(ServiceError::TIMEOUT);
+    }
+    None
+}
+
+/// Why no token of a pool is taken.
+fn pool_take_cause(pool: &PoolSem, client: u32, asked: &TakeControl) -> Option<ServiceError>
+    ensures { result ≡ first_of (take_conditions_in client asked.now (Pool pool.now)) }
+{
+    let place = place_asked(pool, asked.token.as_ref());
+    if asked.token.is_some() && place.is_none() {
+        return Some(ServiceError::OBJECT_NON_EXISTENT);
+    }
+    if pool.has_claim(client, place) {
+        return Some(ServiceError::OBJECT_STATE_CONFLICT);
+    }
+    if !pool.has_token(asked.preempt, place) && asked.delay == Some(0) {
+        return Some(ServiceError::TIMEOUT);
+    }
+    None
+}
+
 /// Why no token of a semaphore is taken.
 fn take_cause(semaphore: &Semaphore, client: u32, asked: &TakeControl) -> Option<ServiceError>
     ensures { result ≡ first_of (take_conditions_in client asked.now semaphore.now) }
 {
     match semaphore {
-        Semaphore::Token(tokens) => {
-            if asked.token.is_some() {
-                return Some(ServiceError::TYPE_INCONSISTENT);
-            }
-            if tokens.has_claim(client) {
-                return Some(ServiceError::OBJECT_STATE_CONFLICT);
-            }
-            if !tokens.has_token(asked.preempt) && asked.delay == Some(0) {
-                return Some(ServiceError::TIMEOUT);
-            }
-            None
-        }
+        Semaphore::Token(tokens) => token_take_cause(tokens, client, asked),
+        Semaphore::Pool(pool) => pool_take_cause(pool, client, asked),
     }
 }
 
 /// As many entries as a semaphore has numbers for. That it made so many counts as want of memory.
 const MOST_MADE: u64 = 1 << 63;
 
+/// The number of the next entry.
+fn next_number(made: u64) -> Result<u64, Memory>
+    ensures { IfOk result (λ number. number ≡ made + 1) }
+{
+    if made < MOST_MADE {
+        Ok(made + 1)
+    } else {
+        Err(Memory)
+    }
+}
+
+/// Which token an answer names.
+fn token_told(asked: Option<u32>, got: Option<u32>) -> Option<u32>
+    ensures { result ≡ token_told asked got }
+{
+    if asked.is_some() { None } else { got }
+}
+
+/// What is answered to a client that gets a token of a pool, by the place that it asked for.
+fn pool_answer(
+    alloc: Global,
+    pool: &PoolSem,
+    preempt: Option<u32>,
+    place: Option<u32>,
+) -> Result<TakeControlAnswer, Memory>
+    ensures { IfOk result (λ answer. answer ≡ pool_answer preempt place pool.now) }
+{
+    let told = token_told(place, pool.token_got(preempt, place));
+    Ok(named_answer(name_at(alloc, told, pool.tokens())?))
+}
+
+/// Whether the client has a token of a pool or waits.
+fn pool_take_told(alloc: Global, pool: &PoolSem, asked: &TakeControl) -> Result<TakeDone, Memory>
+    ensures { IfOk result (λ done. done ≡ take_told_in asked.now (Pool pool.now)) }
+{
+    let place = place_asked(pool, asked.token.as_ref());
+    if pool.has_token(asked.preempt, place) {
+        Ok(TakeDone::Answered(pool_answer(alloc, pool, asked.preempt, place)?))
+    } else {
+        Ok(TakeDone::Waits(next_number(pool.made())?))
+    }
+}
+
 /// Whether the client has a token or waits.
-fn take_told(semaphore: &Semaphore, asked: &TakeControl) -> Result<TakeDone, Memory>
+fn take_told(alloc: Global, semaphore: &Semaphore, asked: &TakeControl) -> Result<TakeDone, Memory>
     ensures { IfOk result (λ done. done ≡ take_told_in asked.now semaphore.now) }
 {
     match semaphore {
@@ -63,14 +135,17 @@ fn take_told(semaphore: &Semaphore, asked: &TakeControl) -> Result<TakeDone, Mem
                 Err(Memory)
             }
         }
+        Semaphore::Pool(pool) => pool_take_told(alloc, pool, asked),
     }
 }
 
-/// What a client is told that asks for a token (ISO 9506-2, TakeControl): that it has one, or nothing yet, where it
-/// waits. Object-non-existent where the semaphore is missing; type-inconsistent where a token of a token semaphore is
-/// named; object-state-conflict where the client waits for a token of it or owns one; timeout where no token is to be
-/// had and the client does not wait. Nothing is taken yet.
+/// What a client is told that asks for a token (ISO 9506-2, TakeControl): that it has one, with its name where a pool
+/// was asked for any, or nothing yet, where it waits. Object-non-existent where the semaphore is missing;
+/// type-inconsistent where a token of a token semaphore is named; object-non-existent where the pool has no token of
+/// that name; object-state-conflict where the client waits for a token of it, or owns one of a token semaphore or the
+/// one that it names; timeout where no token is to be had and the client does not wait. Nothing is taken yet.
 pub fn take_control_told(
+    alloc: Global,
     semaphores: &Named<SemaphoreRow>,
     client: u32,
     asked: &TakeControl,
@@ -83,18 +158,18 @@ pub fn take_control_told(
     };
     match take_cause(&row.semaphore, client, asked) {
         Some(error) => Err(Refuse::Service(error)),
-        None => Ok(take_told(&row.semaphore, asked)?),
+        None => Ok(take_told(alloc, &row.semaphore, asked)?),
     }
 }
 
-/// The request on one semaphore.
-fn ask_of(client: u32, invoke: u32, asked: &TakeControl) -> Ask
-    ensures { result ≡ ask_of client invoke asked.now }
+/// The request on one semaphore, for the token of that place or any.
+fn ask_of(client: u32, invoke: u32, token: Option<u32>, asked: &TakeControl) -> Ask
+    ensures { result ≡ ask_of client invoke token asked.now }
 {
     Ask {
         client,
         invoke,
-        token: None,
+        token,
         priority: asked.priority,
         delay: asked.delay,
         control: asked.control,
@@ -106,10 +181,16 @@ fn ask_of(client: u32, invoke: u32, asked: &TakeControl) -> Ask
 
 impl SemaphoreRow {
     /// A token is asked for.
-    fn take(&mut self, ask: &Ask, now: Moment) -> Result<(), Memory>
-        requires unnamed { is_none ask.now.token ≡ true }
+    fn take(
+        &mut self,
+        client: u32,
+        invoke: u32,
+        asked: &TakeControl,
+        now: Moment,
+    ) -> Result<(), Memory>
         requires now { IsDated now }
-        ensures taken { OnOk result (self.new ≡ changed_row (with_take ask.now now) self.old) }
+        ensures taken { OnOk result
+            (self.new ≡ changed_row (with_take client invoke asked.now now) self.old) }
         ensures kept { OnErr result (self.new ≡ self.old) }
     {
         match &mut self.semaphore {
@@ -117,7 +198,17 @@ impl SemaphoreRow {
                 if tokens.made() >= MOST_MADE {
                     return Err(Memory);
                 }
-                match tokens.take(ask, now) {
+                match tokens.take(&ask_of(client, invoke, None, asked), now) {
+                    Err(TakeRefused::Memory) => Err(Memory),
+                    _ => Ok(()),
+                }
+            }
+            Semaphore::Pool(pool) => {
+                if pool.made() >= MOST_MADE {
+                    return Err(Memory);
+                }
+                let place = place_asked(pool, asked.token.as_ref());
+                match pool.take(&ask_of(client, invoke, place, asked), now) {
                     Err(TakeRefused::Memory) => Err(Memory),
                     _ => Ok(()),
                 }
@@ -126,13 +217,18 @@ impl SemaphoreRow {
     }
 
     /// A token is given back.
-    fn relinquish(&mut self, client: u32, now: Moment)
+    fn relinquish(&mut self, client: u32, token: Option<&Identifier>, now: Moment)
         requires { IsDated now }
-        ensures { self.new ≡ changed_row (with_token_back client now) self.old }
+        ensures { self.new
+            ≡ changed_row (with_token_back client (option_copied token.entry) now) self.old }
     {
         match &mut self.semaphore {
             Semaphore::Token(tokens) => {
                 let _ = tokens.relinquish(client, None, now);
+            }
+            Semaphore::Pool(pool) => {
+                let place = place_asked(pool, token);
+                let _ = pool.relinquish(client, place, now);
             }
         }
     }
@@ -144,6 +240,7 @@ impl SemaphoreRow {
     {
         match &mut self.semaphore {
             Semaphore::Token(tokens) => tokens.cancel(entry),
+            Semaphore::Pool(pool) => pool.cancel(entry),
         }
     }
 }
@@ -164,11 +261,48 @@ pub fn take_control(
     ensures kept { OnErr result (semaphores.new ≡ semaphores.old) }
 {
     let key = asked.name.key(alloc, client)?;
-    let ask = ask_of(client, invoke, asked);
     match semaphores.get_mut(&key) {
         None => Ok(()),
-        Some(row) => row.take(&ask, now),
+        Some(row) => row.take(client, invoke, asked, now),
     }
+}
+
+/// Why a token of a token semaphore is not given back.
+fn token_relinquish_cause(
+    tokens: &TokenSem,
+    client: u32,
+    asked: &RelinquishControl,
+) -> Option<ServiceError>
+    ensures { result ≡ first_of (relinquish_conditions_in client asked.now (Token tokens.now)) }
+{
+    if asked.token.is_some() {
+        return Some(ServiceError::TYPE_INCONSISTENT);
+    }
+    if !tokens.owns(client) {
+        return Some(ServiceError::OBJECT_STATE_CONFLICT);
+    }
+    None
+}
+
+/// Why a token of a pool is not given back.
+fn pool_relinquish_cause(
+    pool: &PoolSem,
+    client: u32,
+    asked: &RelinquishControl,
+) -> Option<ServiceError>
+    ensures { result ≡ first_of (relinquish_conditions_in client asked.now (Pool pool.now)) }
+{
+    if asked.token.is_none() {
+        return Some(ServiceError::TYPE_INCONSISTENT);
+    }
+    let place = place_asked(pool, asked.token.as_ref());
+    if place.is_none() {
+        return Some(ServiceError::OBJECT_NON_EXISTENT);
+    }
+    if !pool.owns_token(client, place) {
+        return Some(ServiceError::OBJECT_STATE_CONFLICT);
+    }
+    None
 }
 
 /// Why a token is not given back.
@@ -180,30 +314,25 @@ fn relinquish_cause(
     ensures { result ≡ first_of (relinquish_conditions_in client asked.now semaphore.now) }
 {
     match semaphore {
-        Semaphore::Token(tokens) => {
-            if asked.token.is_some() {
-                return Some(ServiceError::TYPE_INCONSISTENT);
-            }
-            if !tokens.owns(client) {
-                return Some(ServiceError::OBJECT_STATE_CONFLICT);
-            }
-            None
-        }
+        Semaphore::Token(tokens) => token_relinquish_cause(tokens, client, asked),
+        Semaphore::Pool(pool) => pool_relinquish_cause(pool, client, asked),
     }
 }
 
 /// Who is granted the token that the client gives back.
-fn relinquish_grant(semaphore: &Semaphore, client: u32) -> Option<Grant>
-    ensures { result ≡ relinquish_grant_in client semaphore.now }
+fn relinquish_grant(semaphore: &Semaphore, client: u32, asked: &RelinquishControl) -> Option<Grant>
+    ensures { result ≡ relinquish_grant_in client asked.now semaphore.now }
 {
     match semaphore {
         Semaphore::Token(tokens) => tokens.heir(client),
+        Semaphore::Pool(pool) => pool.heir(client, place_asked(pool, asked.token.as_ref())),
     }
 }
 
 /// Who is granted the token that a client gives back (ISO 9506-2, RelinquishControl), if anyone is; the client itself
 /// is answered at once. Object-non-existent where the semaphore is missing; type-inconsistent where a token of a token
-/// semaphore is named; object-state-conflict where the client owns none. Nothing is given back yet.
+/// semaphore is named, or none of a pool; object-non-existent where the pool has no token of that name;
+/// object-state-conflict where the client owns none, or not that one. Nothing is given back yet.
 pub fn relinquish_control_told(
     semaphores: &Named<SemaphoreRow>,
     client: u32,
@@ -217,18 +346,25 @@ pub fn relinquish_control_told(
     };
     match relinquish_cause(&row.semaphore, client, asked) {
         Some(error) => Err(Refuse::Service(error)),
-        None => Ok(relinquish_grant(&row.semaphore, client)),
+        None => Ok(relinquish_grant(&row.semaphore, client, asked)),
     }
 }
 
-/// Gives the client's token of the semaphore of that name back (ISO 9506-1, RelinquishControl): it is granted to the
-/// entry that is served next, or is free. It takes no memory.
-pub fn relinquish_control(semaphores: &mut Named<SemaphoreRow>, key: &Key, client: u32, now: Moment)
+/// Gives the client's token of the semaphore of that name back (ISO 9506-1, RelinquishControl), of a pool the one that
+/// is named: it is granted to the entry that is served next with it, or is free. It takes no memory.
+pub fn relinquish_control(
+    semaphores: &mut Named<SemaphoreRow>,
+    key: &Key,
+    client: u32,
+    token: Option<&Identifier>,
+    now: Moment,
+)
     requires { IsDated now }
-    ensures { semaphores.new ≡ relinquished key.now client now semaphores.old }
+    ensures { semaphores.new
+        ≡ relinquished key.now client (option_copied token.entry) now semaphores.old }
 {
     if let Some(row) = semaphores.get_mut(key) {
-        row.relinquish(client, now);
+        row.relinquish(client, token, now);
     }
 }
 
