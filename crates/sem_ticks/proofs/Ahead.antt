@@ -17,7 +17,7 @@ use Rattle.token_sem.proofs.Serving.{numbered-at}
 use Rattle.mms_time.specs.Deadlines.{NamedDeadline, all_deadlines, deadlines_of, due_sooner, expired, expired_entry, expired_in, first_due, named_deadline, next_due, until_only}
 use Rattle.mms_time.specs.Semaphores.{IsSound, Rows, entries_in, entries_of}
 use Rattle.mms_time.specs.declared.row.Semaphore.{Semaphore}
-use Rattle.mms_time.specs.declared.row.Semaphore.TheVariants.{Token}
+use Rattle.mms_time.specs.declared.row.Semaphore.TheVariants.{Token, Pool}
 use Rattle.mms_time.specs.declared.row.SemaphoreRow.{SemaphoreRow}
 use Rattle.mms_time.proofs.NextDeadline.{next_none}
 use Rattle.sem_ticks.specs.Sound.{AreSound}
@@ -90,13 +90,15 @@ in_rows (row ∷ rows) d h = elim (stands_append (deadlines_of row) (flat_map de
 is_numbered : (s : Semaphore) (number : ℕ) → IsSound s → IsOf (entries_in s) number → (e : SemEntry) × (numbered number (entries_in s) ≡ Some e)
 is_numbered (Token s) number sound of =
     (of.entry, ap (λ (n : ℕ). numbered n s.entries) (sym of.same) ∙ numbered-at 0 s.made s.entries of.entry sound.rises of.there)
+is_numbered (Pool p) number sound of =
+    (of.entry, ap (λ (n : ℕ). numbered n p.entries) (sym of.same) ∙ numbered-at 0 p.made p.entries of.entry sound.rises of.there)
 
 not_none : (rows : Rows) (d : NamedDeadline) → AreSound rows → Stands (all_deadlines rows) d → expired d.key d.entry rows ≢ None
 not_none rows d is stands none =
     let r = in_rows rows d stands in
     let found : lookup (key_eq d.key) rows ≡ Some r.row = lookup_from_place keys_equal rows r.place d.key r.row is.names r.there in
     let e = is_numbered r.row.semaphore d.entry (row_found rows d.key r.row is.each found) r.of in
-    let some = ap (option_and_then (expired_in d.entry)) found ∙ ap (expired_entry (entries_of r.row)) e.1 in
+    let some = ap (option_and_then (expired_in d.entry)) found ∙ ap (expired_entry r.row.semaphore) e.1 in
     cc (sym some ∙ none)
 
 -- what is due is met

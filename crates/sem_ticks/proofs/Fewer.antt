@@ -20,7 +20,8 @@ use Rattle.mms_time.specs.Deadlines.{NamedDeadline, expire_after, expired, expir
 use Rattle.mms_time.specs.Loss.{all_changed, lost, without_owners, without_waiters}
 use Rattle.mms_time.specs.Semaphores.{Rows, changed_row, changed_to, entries_in, entries_of}
 use Rattle.mms_time.specs.declared.row.Semaphore.{Semaphore}
-use Rattle.mms_time.specs.declared.row.Semaphore.TheVariants.{Token}
+use Rattle.mms_time.specs.declared.row.Semaphore.TheVariants.{Token, Pool}
+use Rattle.pool_sem.specs.Pools as pool
 use Rattle.mms_time.specs.declared.row.SemaphoreRow.{SemaphoreRow}
 use Rattle.sem_ticks.specs.Ticks.{Ticking, after_abort, entries_left, met, met_as, next_met}
 
@@ -55,14 +56,59 @@ fewer_expired s e now there = by_state (is_queued e)
     by_state true = fewer_among s.entries e there
     by_state false = omega (arith, as_many_freed now (without e.number s.entries), fewer_among s.entries e there)
 
+-- ---- the entries of one pool
+
+as_many_freed_in_pool : (token : ℕ) (now : Moment) (es : List SemEntry) → length (pool.after_freeing token now es) ≡ length es
+as_many_freed_in_pool token now es = by_next (pool.next token es)
+  where
+    by_next : (o : Option SemEntry) → length (pool.granted_to o token now es) ≡ length es
+    by_next None = refl
+    by_next (Some e) = length-map es (pool.granted_entry e.number token now)
+
+as_many_left : (o : SemEntry) (now : Moment) (es : List SemEntry) → length (pool.after_leaving o now es) ≡ length (without o.number es)
+as_many_left o now es = by_token o.token
+  where
+    by_token : (t : Option ℕ) → length (pool.after_freeing_of t now (without o.number es)) ≡ length (without o.number es)
+    by_token None = refl
+    by_token (Some t) = as_many_freed_in_pool t now (without o.number es)
+
+fewer_expired_in_pool : (p : pool.Pool) (e : SemEntry) (now : Moment) → Among p.entries e → length (pool.expired_entry (Some e) now p).entries < length p.entries
+fewer_expired_in_pool p e now there = by_state (is_queued e)
+  where
+    by_state : (b : Bool) → length (if b then pool.after_cancel p e.number else record p { entries = pool.after_leaving e now p.entries }).entries < length p.entries
+    by_state true = fewer_among p.entries e there
+    by_state false = omega (arith, as_many_left e now p.entries, fewer_among p.entries e there)
+
+pool_one_lost : (now : Moment) (l : Loss) (o : SemEntry) → length (pool.loss_of_one now l o).entries ≤ length l.entries
+pool_one_lost now l o = by_keep o.keep
+  where
+    by_keep : (b : Bool)
+        → length (if b then record l { entries = map (hung_entry o.number) l.entries } else record {
+          entries = pool.after_leaving o now l.entries;
+          grants = l.grants ++ option_to_list (pool.grant_leaving o l.entries);
+        }).entries ≤ length l.entries
+    by_keep true = omega (arith, length-map l.entries (hung_entry o.number))
+    by_keep false = omega (arith, as_many_left o now l.entries, fewer_filtered (λ e. not (e.number == o.number)) l.entries)
+
+pool_all_lost : (now : Moment) (os : List SemEntry) (l : Loss) → length (fold (pool.loss_of_one now) l os).entries ≤ length l.entries
+pool_all_lost now [] l = omega arith
+pool_all_lost now (o ∷ os) l = omega (arith, pool_all_lost now os (pool.loss_of_one now l o), pool_one_lost now l o)
+
+-- ---- either
+
 fewer_due : (s : Semaphore) (number : ℕ) (e : SemEntry) (now : Moment) → numbered number (entries_in s) ≡ Some e → length (entries_in (without_due number now s)) < length (entries_in s)
 fewer_due (Token s) number e now found =
     let is : length (after_expire s number now).entries ≡ length (token.expired_entry (Some e) now s).entries = ap (λ (o : Option SemEntry). length (token.expired_entry o now s).entries) found in
     let there = (among-find (λ x. x.number == number) s.entries e found).0 in
     omega (arith, is, fewer_expired s e now there)
+fewer_due (Pool p) number e now found =
+    let is : length (pool.after_expire p number now).entries ≡ length (pool.expired_entry (Some e) now p).entries = ap (λ (o : Option SemEntry). length (pool.expired_entry o now p).entries) found in
+    let there = (among-find (λ x. x.number == number) p.entries e found).0 in
+    omega (arith, is, fewer_expired_in_pool p e now there)
 
 no_more_waiters : (client : ℕ) (s : Semaphore) → length (entries_in (without_waiters client s)) ≤ length (entries_in s)
 no_more_waiters client (Token s) = fewer_filtered (λ e. not (waits_for client e)) s.entries
+no_more_waiters client (Pool p) = fewer_filtered (λ e. not (waits_for client e)) p.entries
 
 one_lost : (now : Moment) (l : Loss) (o : SemEntry) → length (loss_of_one now l o).entries ≤ length l.entries
 one_lost now l o = by_keep o.keep
@@ -81,6 +127,7 @@ all_lost now (o ∷ os) l = omega (arith, all_lost now os (loss_of_one now l o),
 
 no_more_owners : (client : ℕ) (now : Moment) (s : Semaphore) → length (entries_in (without_owners client now s)) ≤ length (entries_in s)
 no_more_owners client now (Token s) = all_lost now (filter (owned_by client) s.entries) (record { entries = s.entries; grants = [] })
+no_more_owners client now (Pool p) = pool_all_lost now (filter (owned_by client) p.entries) (record { entries = p.entries; grants = [] })
 
 -- ---- the entries of all
 
@@ -126,7 +173,7 @@ left_expired key number now rows x is = by_row (lookup (key_eq key) rows) refl i
     by_row None found h = absurd (cc h)
     by_row (Some row) found h = by_entry (numbered number (entries_of row)) refl h
       where
-        by_entry : (o : Option SemEntry) → numbered number (entries_of row) ≡ o → expired_entry (entries_of row) o ≡ Some x
+        by_entry : (o : Option SemEntry) → numbered number (entries_of row) ≡ o → expired_entry row.semaphore o ≡ Some x
             → entries_left (set_value (key_eq key) rows (changed_row (without_due number now) row)) < entries_left rows
         by_entry None there k = absurd (cc k)
         by_entry (Some e) there k =

@@ -16,7 +16,9 @@ use Rattle.mms_time.specs.Deadlines.{NamedDeadline, expired, expire_after, next_
 use Rattle.mms_time.specs.Loss.{all_changed, lost, without_client, without_owners, without_waiters}
 use Rattle.mms_time.specs.Semaphores.{IsSound, Rows, changed, changed_row, changed_to}
 use Rattle.mms_time.specs.declared.row.Semaphore.{Semaphore}
-use Rattle.mms_time.specs.declared.row.Semaphore.TheVariants.{Token}
+use Rattle.mms_time.specs.declared.row.Semaphore.TheVariants.{Token, Pool}
+use Rattle.pool_sem.proofs.Losing as pool-lose
+use Rattle.pool_sem.proofs.Freeing as pool-free
 use Rattle.mms_time.specs.declared.row.SemaphoreRow.{SemaphoreRow}
 use Rattle.mms_time.proofs.TwoSteps.{each_semaphore}
 use Rattle.sem_ticks.specs.Settling.{settle}
@@ -70,6 +72,7 @@ keeps_left p rows is = record { names = IsDistinct-keys_filter key_eq p rows is.
 -- a client is lost
 client_lost : (client : ℕ) (now : Moment) (s : Semaphore) → IsSound s → IsSound (without_client client now s)
 client_lost client now (Token s) is = lose-keeps s client now is
+client_lost client now (Pool p) is = pool-lose.lose-keeps p client now is
 
 pub keeps_lost : (client : ℕ) (now : Moment) (rows : Rows) → AreSound rows → AreSound (lost client now rows)
 keeps_lost client now rows is =
@@ -80,6 +83,7 @@ keeps_lost client now rows is =
 -- a deadline is met
 due_met : (number : ℕ) (now : Moment) (s : Semaphore) → IsSound s → IsSound (without_due number now s)
 due_met number now (Token s) is = expire-keeps s number now is
+due_met number now (Pool p) is = pool-free.expire-keeps p number now is
 
 keeps_aborted : (aborts : Bool) (client : ℕ) (now : Moment) (rows : Rows) → AreSound rows → AreSound (after_abort aborts client now rows)
 keeps_aborted true client now rows is = keeps_lost client now rows is

@@ -17,12 +17,15 @@ use Rattle.token_sem.specs.declared.entry.Outcome.TheVariants.{Refused, Preempts
 use Rattle.token_sem.specs.declared.entry.SemEntry.{SemEntry}
 use Rattle.token_sem.specs.declared.entry.SemState.{SemState}
 use Rattle.token_sem.proofs.Least.{Stands}
+use Rattle.pool_sem.specs.Pools as pool
+use Rattle.pool_sem.specs.declared.outcome.PoolOutcome.{PoolOutcome}
+use Rattle.pool_sem.specs.declared.outcome.PoolOutcome.TheVariants as pooled
 use Rattle.mms_time.specs.Deadlines.{NamedDeadline, all_deadlines, deadlines_of, named_deadline}
 use Rattle.mms_time.specs.Loss.{all_changed, lost, without_owners, without_waiters}
 use Rattle.mms_time.specs.Semaphores.{Rows, changed, changed_row, changed_to, entries_in, entries_of, entry_in, entry_waits}
-use Rattle.mms_time.specs.Services.{ask_of, cancel_after, cancelled, define_after, deleted, relinquished, take_after, with_take, with_token_back, without_entry}
+use Rattle.mms_time.specs.Services.{ask_of, cancel_after, cancelled, define_after, deleted, place_asked, relinquished, take_after, with_take, with_token_back, without_entry}
 use Rattle.mms_time.specs.declared.row.Semaphore.{Semaphore}
-use Rattle.mms_time.specs.declared.row.Semaphore.TheVariants.{Token}
+use Rattle.mms_time.specs.declared.row.Semaphore.TheVariants.{Token, Pool}
 use Rattle.mms_time.specs.declared.row.SemaphoreRow.{SemaphoreRow}
 use Rattle.sem_ticks.specs.Sound.{LieAhead}
 
@@ -113,21 +116,94 @@ module _ (now : Moment) where
       by_claim true h = absurd (cc h)
       by_claim false h = by_hung (Rattle.token_sem.specs.Semaphore.hung_to_preempt ask.preempt s.entries) h
 
-  taken : (ask : Ask) (s : Semaphore) → AreAt (entries_in s) → AreAt (entries_in (with_take ask now s))
-  taken ask (Token s) all = taken_by (outcome s ask now) s ask (waits_later s ask) all
+  -- ---- one pool
 
-  given_back : (client : ℕ) (s : Semaphore) → AreAt (entries_in s) → AreAt (entries_in (with_token_back client now s))
-  given_back client (Token s) all = by_owner (owner_of client s.entries)
+  pool_granted_one : (n token : ℕ) (e : SemEntry) → IsAt e.deadline → IsAt (pool.granted_entry n token now e).deadline
+  pool_granted_one n token e at = by_test (e.number == n)
+    where
+      by_test : (b : Bool) → IsAt (cond b (pool.owner_from token now e) e).deadline
+      by_test true = controlled e.control
+      by_test false = at
+
+  pool_freed : (token : ℕ) (es : List SemEntry) → AreAt es → AreAt (pool.after_freeing token now es)
+  pool_freed token es all = by_next (pool.next token es)
+    where
+      by_next : (o : Option SemEntry) → AreAt (pool.granted_to o token now es)
+      by_next None = all
+      by_next (Some e) = mapped (pool.granted_entry e.number token now) (pool_granted_one e.number token) es all
+
+  left : (o : SemEntry) (es : List SemEntry) → AreAt es → AreAt (pool.after_leaving o now es)
+  left o es all = by_token o.token
+    where
+      by_token : (t : Option ℕ) → AreAt (pool.after_freeing_of t now (without o.number es))
+      by_token None = kept (λ e. not (e.number == o.number)) es all
+      by_token (Some t) = pool_freed t (without o.number es) (kept (λ e. not (e.number == o.number)) es all)
+
+  pool_taken_by : (o : PoolOutcome) (p : pool.Pool) (ask : Ask) → ((d : Moment) → o ≡ pooled.WaitsUntil d → now.0 < d.0) → AreAt p.entries → AreAt (pool.effect_of o p ask now).entries
+  pool_taken_by pooled.Refused p ask later all = all
+  pool_taken_by (pooled.Preempts n t) p ask later all = one_more (without n p.entries) _ (kept (λ e. not (e.number == n)) p.entries all) (controlled ask.control)
+  pool_taken_by (pooled.Gets t) p ask later all = one_more p.entries _ all (controlled ask.control)
+  pool_taken_by pooled.TimesOut p ask later all = all
+  pool_taken_by (pooled.WaitsUntil d) p ask later all = one_more p.entries _ all (later d refl)
+  pool_taken_by pooled.WaitsForEver p ask later all = one_more p.entries _ all tt
+
+  pool_waits_later : (p : pool.Pool) (ask : Ask) (d : Moment) → pool.outcome p ask now ≡ pooled.WaitsUntil d → now.0 < d.0
+  pool_waits_later p ask d is = by_claim (pool.has_claim ask.client ask.token p.entries) is
+    where
+      by_zero : (ms : ℕ) (b : Bool) → (ms == 0) ≡ b → (if b then pooled.TimesOut else pooled.WaitsUntil (record { 0 = now.0 + ms })) ≡ pooled.WaitsUntil d → now.0 < d.0
+      by_zero ms true e h = absurd (cc h)
+      by_zero ms false e h =
+          let same : record { 0 = now.0 + ms } ≡ d = cc h in
+          let past : now.0 < now.0 + ms = grind (arith, nat_tests) in
+          subst (λ (m : Moment). now.0 < m.0) same past
+
+      by_delay : (o : Option ℕ) → pool.outcome_later o now ≡ pooled.WaitsUntil d → now.0 < d.0
+      by_delay None h = absurd (cc h)
+      by_delay (Some ms) h = by_zero ms (ms == 0) refl h
+
+      by_free : (o : Option ℕ) → pool.outcome_free o ask.delay now ≡ pooled.WaitsUntil d → now.0 < d.0
+      by_free (Some token) h = absurd (cc h)
+      by_free None h = by_delay ask.delay h
+
+      by_hung : (o : Option SemEntry) → pool.outcome_now o p ask now ≡ pooled.WaitsUntil d → now.0 < d.0
+      by_hung None h = by_free (pool.free_token ask.token (length p.tokens) p.entries) h
+      by_hung (Some hung) h = absurd (cc h)
+
+      by_claim : (b : Bool) → (if b then pooled.Refused else pool.outcome_now (pool.hung_to_preempt ask.preempt ask.token p.entries) p ask now) ≡ pooled.WaitsUntil d → now.0 < d.0
+      by_claim true h = absurd (cc h)
+      by_claim false h = by_hung (pool.hung_to_preempt ask.preempt ask.token p.entries) h
+
+  -- ---- either
+
+  taken : (client invoke : ℕ) (asked : TakeControl) (s : Semaphore) → AreAt (entries_in s) → AreAt (entries_in (with_take client invoke asked now s))
+  taken client invoke asked (Token s) all = taken_by (outcome s ask now) s ask (waits_later s ask) all
+    where
+      ask : Ask
+      ask = ask_of client invoke None asked
+  taken client invoke asked (Pool p) all = pool_taken_by (pool.outcome p ask now) p ask (pool_waits_later p ask) all
+    where
+      ask : Ask
+      ask = ask_of client invoke (place_asked asked.token p.tokens) asked
+
+  given_back : (client : ℕ) (token : Option (List ℕ)) (s : Semaphore) → AreAt (entries_in s) → AreAt (entries_in (with_token_back client token now s))
+  given_back client token (Token s) all = by_owner (owner_of client s.entries)
     where
       by_owner : (o : Option SemEntry) → AreAt (after_giving_back o now s).entries
       by_owner None = all
       by_owner (Some owner) = freed (without owner.number s.entries) (kept (λ e. not (e.number == owner.number)) s.entries all)
+  given_back client token (Pool p) all = by_owner (pool.owner_of client (place_asked token p.tokens) p.entries)
+    where
+      by_owner : (o : Option SemEntry) → AreAt (pool.after_giving_back o now p).entries
+      by_owner None = all
+      by_owner (Some owner) = left owner p.entries all
 
   waits_no_more : (number : ℕ) (s : Semaphore) → AreAt (entries_in s) → AreAt (entries_in (without_entry number s))
   waits_no_more number (Token s) all = kept (λ e. not (e.number == number)) s.entries all
+  waits_no_more number (Pool p) all = kept (λ e. not (e.number == number)) p.entries all
 
   no_waiters : (client : ℕ) (s : Semaphore) → AreAt (entries_in s) → AreAt (entries_in (without_waiters client s))
   no_waiters client (Token s) all = kept (λ e. not (waits_for client e)) s.entries all
+  no_waiters client (Pool p) all = kept (λ e. not (waits_for client e)) p.entries all
 
   hung_one : (n : ℕ) (e : SemEntry) → IsAt e.deadline → IsAt (hung_entry n e).deadline
   hung_one n e at = by_test (e.number == n)
@@ -150,8 +226,23 @@ module _ (now : Moment) where
   all_lost [] l all = all
   all_lost (o ∷ os) l all = all_lost os (loss_of_one now l o) (one_lost l o all)
 
+  pool_one_lost : (l : Loss) (o : SemEntry) → AreAt l.entries → AreAt (pool.loss_of_one now l o).entries
+  pool_one_lost l o all = by_keep o.keep
+    where
+      by_keep : (b : Bool) → AreAt (if b then record l { entries = map (hung_entry o.number) l.entries } else record {
+        entries = pool.after_leaving o now l.entries;
+        grants = l.grants ++ option_to_list (pool.grant_leaving o l.entries);
+      }).entries
+      by_keep true = mapped (hung_entry o.number) (hung_one o.number) l.entries all
+      by_keep false = left o l.entries all
+
+  pool_all_lost : (os : List SemEntry) (l : Loss) → AreAt l.entries → AreAt (fold (pool.loss_of_one now) l os).entries
+  pool_all_lost [] l all = all
+  pool_all_lost (o ∷ os) l all = pool_all_lost os (pool.loss_of_one now l o) (pool_one_lost l o all)
+
   no_owners : (client : ℕ) (s : Semaphore) → AreAt (entries_in s) → AreAt (entries_in (without_owners client now s))
   no_owners client (Token s) all = all_lost (filter (owned_by client) s.entries) (record { entries = s.entries; grants = [] }) all
+  no_owners client (Pool p) all = pool_all_lost (filter (owned_by client) p.entries) (record { entries = p.entries; grants = [] }) all
 
   -- ---- all semaphores
 
@@ -277,10 +368,10 @@ module _ (now : Moment) where
 
   pub ahead_taken : (client invoke : ℕ) (asked : TakeControl) (rows : Rows) → LieAhead now rows → LieAhead now (take_after client invoke now asked rows)
   ahead_taken client invoke asked rows all =
-      lie_ahead _ (rows_changed (with_take (ask_of client invoke asked) now) (taken (ask_of client invoke asked)) (key_of client asked.name) rows (ahead_rows rows all))
+      lie_ahead _ (rows_changed (with_take client invoke asked now) (taken client invoke asked) (key_of client asked.name) rows (ahead_rows rows all))
 
-  pub ahead_relinquished : (key : Key) (client : ℕ) (rows : Rows) → LieAhead now rows → LieAhead now (relinquished key client now rows)
-  ahead_relinquished key client rows all = lie_ahead _ (rows_changed (with_token_back client now) (given_back client) key rows (ahead_rows rows all))
+  pub ahead_relinquished : (key : Key) (client : ℕ) (token : Option (List ℕ)) (rows : Rows) → LieAhead now rows → LieAhead now (relinquished key client token now rows)
+  ahead_relinquished key client token rows all = lie_ahead _ (rows_changed (with_token_back client token now) (given_back client token) key rows (ahead_rows rows all))
 
   pub ahead_cancelled : (key : Key) (number : ℕ) (rows : Rows) → LieAhead now rows → LieAhead now (cancelled key number rows)
   ahead_cancelled key number rows all = by_test (entry_waits (entry_in key number rows))

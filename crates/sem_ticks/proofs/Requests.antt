@@ -21,32 +21,50 @@ use Rattle.token_sem.specs.declared.entry.SemEntry.{SemEntry}
 use Rattle.token_sem.proofs.Keeping.{cancel-keeps, relinquish-keeps}
 use Rattle.token_sem.proofs.Taking.{take-keeps}
 use Rattle.mms_time.specs.Semaphores.{IsSound, Rows, entries_in, entries_of, entry_in, entry_waits}
-use Rattle.mms_time.specs.Services.{ask_of, cancel_after, cancelled, define_after, define_cause, deleted, new_semaphore, relinquished, take_after, with_take, with_token_back, without_entry}
+use Rattle.mms_time.specs.Services.{ask_of, cancel_after, cancelled, define_after, define_cause, deleted, new_semaphore, place_asked, relinquished, take_after, with_take, with_token_back, without_entry}
 use Rattle.mms_time.specs.declared.row.Semaphore.{Semaphore}
-use Rattle.mms_time.specs.declared.row.Semaphore.TheVariants.{Token}
+use Rattle.mms_time.specs.declared.row.Semaphore.TheVariants.{Token, Pool}
+use Rattle.pool_sem.specs.Pools.{is_place}
+use Rattle.pool_sem.specs.Pools as pool
+use Rattle.pool_sem.proofs.Taking as pool-take
+use Rattle.pool_sem.proofs.Freeing as pool-free
+use Rattle.std.specs.Prelude.{length, nat_eq, nat_lt}
+use Rattle.std.specs.List.{position_or_len}
+use Rattle.std.specs.Cmp.Lexicographic.{pointwise}
 use Rattle.mms_time.specs.declared.row.SemaphoreRow.{SemaphoreRow}
 use Rattle.mms_time.proofs.Unopposed.{nothing_against}
 use Rattle.sem_ticks.specs.Sound.{AreSound}
 use Rattle.sem_ticks.proofs.Kept.{IsSoundRow, keeps_changed}
 
 -- a token is asked for
-taken : (ask : Ask) (now : Moment) (s : Semaphore) → IsSound s → IsSound (with_take ask now s)
-taken ask now (Token s) is = take-keeps s ask now is
+placed : (count place : ℕ) (b : Bool) → nat_lt place count ≡ b → is_place count (if b then Some place else None) ≡ true
+placed count place true e = e
+placed count place false e = refl
+
+asked_placed : (asked : Option (List ℕ)) (tokens : List (List ℕ)) → is_place (length tokens) (place_asked asked tokens) ≡ true
+asked_placed None tokens = refl
+asked_placed (Some name) tokens = placed (length tokens) (position_or_len (pointwise nat_eq name) tokens) (nat_lt (position_or_len (pointwise nat_eq name) tokens) (length tokens)) refl
+
+taken : (client invoke : ℕ) (asked : TakeControl) (now : Moment) (s : Semaphore) → IsSound s → IsSound (with_take client invoke asked now s)
+taken client invoke asked now (Token s) is = take-keeps s (ask_of client invoke None asked) now is
+taken client invoke asked now (Pool p) is = pool-take.take-keeps p (ask_of client invoke (place_asked asked.token p.tokens) asked) now is (asked_placed asked.token p.tokens)
 
 pub keeps_taken : (client invoke : ℕ) (now : Moment) (asked : TakeControl) (rows : Rows) → AreSound rows → AreSound (take_after client invoke now asked rows)
 keeps_taken client invoke now asked rows =
-    keeps_changed (with_take (ask_of client invoke asked) now) (key_of client asked.name) rows (λ row found sound. taken (ask_of client invoke asked) now row.semaphore sound)
+    keeps_changed (with_take client invoke asked now) (key_of client asked.name) rows (λ row found sound. taken client invoke asked now row.semaphore sound)
 
 -- a token is given back
-given_back : (client : ℕ) (now : Moment) (s : Semaphore) → IsSound s → IsSound (with_token_back client now s)
-given_back client now (Token s) is = relinquish-keeps s client now is
+given_back : (client : ℕ) (token : Option (List ℕ)) (now : Moment) (s : Semaphore) → IsSound s → IsSound (with_token_back client token now s)
+given_back client token now (Token s) is = relinquish-keeps s client now is
+given_back client token now (Pool p) is = pool-free.relinquish-keeps p client (place_asked token p.tokens) now is
 
-pub keeps_relinquished : (key : Key) (client : ℕ) (now : Moment) (rows : Rows) → AreSound rows → AreSound (relinquished key client now rows)
-keeps_relinquished key client now rows = keeps_changed (with_token_back client now) key rows (λ row found sound. given_back client now row.semaphore sound)
+pub keeps_relinquished : (key : Key) (client : ℕ) (token : Option (List ℕ)) (now : Moment) (rows : Rows) → AreSound rows → AreSound (relinquished key client token now rows)
+keeps_relinquished key client token now rows = keeps_changed (with_token_back client token now) key rows (λ row found sound. given_back client token now row.semaphore sound)
 
 -- an entry waits no more
 waits_no_more : (number : ℕ) (s : Semaphore) → option_map is_queued (numbered number (entries_in s)) ≡ Some true → IsSound s → IsSound (without_entry number s)
 waits_no_more number (Token s) waits is = cancel-keeps s number is waits
+waits_no_more number (Pool p) waits is = pool-free.cancel-keeps p number is waits
 
 it_waits : (o : Option SemEntry) → entry_waits o ≡ true → option_map is_queued o ≡ Some true
 it_waits None waits = absurd (cc waits)

@@ -4,13 +4,14 @@ use Rattle.std.proofs.Common.{refl}
 use Rattle.mms_types.specs.declared.key.Key.{Key}
 use Rattle.mms_types.specs.declared.key.Scope.TheVariants as scope
 use Rattle.mms_types.specs.declared.moment.Moment.{Moment}
-use Rattle.token_sem.specs.declared.entry.Grant.{Grant}
+use Rattle.mms_types.specs.declared.semaphore.TakeControlAnswer.TheVariants.{NoResult}
 use Rattle.token_sem.specs.declared.entry.SemEntry.{SemEntry}
 use Rattle.token_sem.specs.declared.entry.SemState.{SemState}
 use Rattle.token_sem.specs.declared.entry.SemState.TheVariants.{Queued, Owner, Hung}
 use Rattle.mms_time.specs.Semaphores.{Rows}
 use Rattle.mms_time.specs.declared.row.Semaphore.TheVariants.{Token}
 use Rattle.mms_time.specs.declared.row.SemaphoreRow.{SemaphoreRow}
+use Rattle.sem_ticks.specs.declared.granted.Granted.{Granted}
 use Rattle.sem_ticks.specs.Ticks.{Ticking, ticked, ticked_on}
 use Rattle.sem_ticks.specs.declared.ticks.Happening.{Happening}
 use Rattle.sem_ticks.specs.declared.ticks.Happening.TheVariants.{WaitEnds, Grants, Aborts}
@@ -43,8 +44,8 @@ entry number client held control deadline = record {
 abbrev row : Key → ℕ → List SemEntry → Key × SemaphoreRow
 row key made entries = (key, record { configured = false; semaphore = Token (record { tokens = 1; made = made; entries = entries }) })
 
-abbrev grant : ℕ → ℕ → Grant
-grant client number = record { client = client; invoke = 10; entry = number; token = None }
+abbrev grant : ℕ → Granted
+grant client = record { client = client; invoke = 10; answer = NoResult }
 
 -- clients 1 and 2 asked for T with 10 ms of control each: client 1 has it until 10, and client 2 from then until 20
 abbrev timed : Rows
@@ -55,12 +56,12 @@ too_early = refl
 
 to_the_second : ticked (at 10) timed ≡ record {
   rows = row t_key 2 (entry 2 2 Owner (Some 10) (Some (at 20)) ∷ []) ∷ [];
-  happened = Grants (grant 2 2) ∷ [];
+  happened = Grants (grant 2) ∷ [];
 }
 to_the_second = refl
 
 -- a deadline that arises meanwhile is met as well, at its own moment
-both_over : ticked (at 20) timed ≡ record { rows = row t_key 2 [] ∷ []; happened = Grants (grant 2 2) ∷ [] }
+both_over : ticked (at 20) timed ≡ record { rows = row t_key 2 [] ∷ []; happened = Grants (grant 2) ∷ [] }
 both_over = refl
 
 in_two_ticks : ticked_on (at 20) (ticked (at 10) timed) ≡ ticked (at 20) timed
@@ -74,7 +75,7 @@ aborting =
 
 aborted : ticked (at 10) aborting ≡ record {
   rows = row t_key 2 (entry 2 2 Owner None None ∷ []) ∷ row u_key 2 (entry 2 3 Owner None None ∷ []) ∷ [];
-  happened = Grants (grant 2 2) ∷ Aborts 1 ∷ Grants (grant 3 2) ∷ [];
+  happened = Grants (grant 2) ∷ Aborts 1 ∷ Grants (grant 3) ∷ [];
 }
 aborted = refl
 
@@ -93,7 +94,7 @@ waits_end = refl
 -- a control time-out comes before a delay of the same moment: who waits has the token then, and its wait is over
 just_in_time : ticked (at 10) (row t_key 2 (entry 1 1 Owner (Some 10) (Some (at 10)) ∷ entry 2 2 Queued None (Some (at 10)) ∷ []) ∷ []) ≡ record {
   rows = row t_key 2 (entry 2 2 Owner None None ∷ []) ∷ [];
-  happened = Grants (grant 2 2) ∷ [];
+  happened = Grants (grant 2) ∷ [];
 }
 just_in_time = refl
 

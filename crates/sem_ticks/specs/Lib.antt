@@ -1,3 +1,4 @@
+pub mod Granted
 pub mod Meant
 pub mod Settling
 pub mod Sound

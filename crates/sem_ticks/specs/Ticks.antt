@@ -3,12 +3,14 @@
 use Rattle.std.specs.Prelude.{ℕ, Bool, List, [], ◌∷◌, ◌++◌, map, length, Option, None, Some, option_and_then, option_map, if◌then◌else◌}
 use Rattle.std.specs.List.{sum_by}
 use Rattle.std.specs.Map.{values_of}
+use Rattle.mms_types.specs.declared.key.Key.{Key}
 use Rattle.mms_types.specs.declared.moment.Moment.{Moment}
 use Rattle.token_sem.specs.declared.entry.Expired.{Expired}
 use Rattle.token_sem.specs.declared.entry.Grant.{Grant}
 use Rattle.mms_time.specs.Deadlines.{NamedDeadline, expire_after, expired, next_due}
-use Rattle.mms_time.specs.Loss.{lost, lost_grants}
+use Rattle.mms_time.specs.Loss.{lost}
 use Rattle.mms_time.specs.Semaphores.{Rows, entries_of}
+use Rattle.sem_ticks.specs.Granted.{granted, lost_granted}
 use Rattle.sem_ticks.specs.Settling.{settle}
 use Rattle.sem_ticks.specs.declared.ticks.Happening.{Happening}
 use Rattle.sem_ticks.specs.declared.ticks.Happening.TheVariants.{WaitEnds, Grants, Aborts}
@@ -18,26 +20,26 @@ pub record Ticking : Type 0 where
   pub rows : Rows
   pub happened : List Happening
 
-abbrev pub granted : Option Grant → List Happening
-granted None = []
-granted (Some grant) = Grants grant ∷ []
+abbrev pub grant_told : Rows → Key → Option Grant → List Happening
+grant_told rows key None = []
+grant_told rows key (Some grant) = Grants (granted rows (key, grant)) ∷ []
 
--- a wait ends, or a token is freed, and granted to the entry that is served next, if there is one
-abbrev pub expiry_told : Expired → List Happening
-expiry_told x = if x.waited then WaitEnds x.client x.invoke ∷ [] else granted x.grant
+-- in the semaphore of that name a wait ends, or a token is freed, and granted to the entry that is served next, if there is one
+abbrev pub expiry_told : Rows → Key → Expired → List Happening
+expiry_told rows key x = if x.waited then WaitEnds x.client x.invoke ∷ [] else grant_told rows key x.grant
 
 -- an owner's association may have to be aborted then: its client is lost
 abbrev pub after_abort : Bool → ℕ → Moment → Rows → Rows
 after_abort aborts client now rows = if aborts then lost client now rows else rows
 
 abbrev pub abort_told : Bool → ℕ → Moment → Rows → List Happening
-abort_told aborts client now rows = if aborts then Aborts client ∷ map Grants (lost_grants client now rows) else []
+abort_told aborts client now rows = if aborts then Aborts client ∷ map Grants (lost_granted client now rows) else []
 
 -- a deadline is met at its moment, of which that is told
 abbrev pub met_as : Ticking → NamedDeadline → Expired → Ticking
 met_as s d x = record {
   rows = after_abort x.abort x.client d.at (expire_after d.key d.entry d.at s.rows);
-  happened = s.happened ++ (expiry_told x ++ abort_told x.abort x.client d.at (expire_after d.key d.entry d.at s.rows));
+  happened = s.happened ++ (expiry_told (expire_after d.key d.entry d.at s.rows) d.key x ++ abort_told x.abort x.client d.at (expire_after d.key d.entry d.at s.rows));
 }
 
 abbrev pub met : Ticking → NamedDeadline → Option Ticking

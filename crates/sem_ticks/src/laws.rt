@@ -1,6 +1,6 @@
 //! Laws of time. Each function has no body: its contract is the law.
 
-ghost use Rattle.std.specs.Prelude.{◌≡◌, ◌≤◌, ℕ, Bool, None, []};
+ghost use Rattle.std.specs.Prelude.{◌≡◌, ◌≤◌, ℕ, Bool, List, None, Option, []};
 ghost use Rattle.mms_types.specs.declared.key.Key.{Key};
 ghost use Rattle.mms_types.specs.declared.semaphore.DefineSemaphore.{DefineSemaphore};
 ghost use Rattle.mms_types.specs.declared.semaphore.TakeControl.{TakeControl};
@@ -24,8 +24,8 @@ pub fn every_deadline_lies_ahead()
     ensures none { (now : Moment) → LieAhead now [] }
     ensures taken { (now : Moment) (client invoke : ℕ) (asked : TakeControl) (rows : Rows)
         → LieAhead now rows → LieAhead now (take_after client invoke now asked rows) }
-    ensures relinquished { (now : Moment) (key : Key) (client : ℕ) (rows : Rows)
-        → LieAhead now rows → LieAhead now (relinquished key client now rows) }
+    ensures relinquished { (now : Moment) (key : Key) (client : ℕ) (token : Option (List ℕ)) (rows : Rows)
+        → LieAhead now rows → LieAhead now (relinquished key client token now rows) }
     ensures cancelled { (now : Moment) (key : Key) (number : ℕ) (rows : Rows)
         → LieAhead now rows → LieAhead now (cancelled key number rows) }
     ensures defined { (now : Moment) (client : ℕ) (asked : DefineSemaphore) (rows : Rows)
@@ -46,8 +46,8 @@ pub fn the_semaphores_stay_sound()
     ensures none { AreSound [] }
     ensures taken { (client invoke : ℕ) (now : Moment) (asked : TakeControl) (rows : Rows)
         → AreSound rows → AreSound (take_after client invoke now asked rows) }
-    ensures relinquished { (key : Key) (client : ℕ) (now : Moment) (rows : Rows)
-        → AreSound rows → AreSound (relinquished key client now rows) }
+    ensures relinquished { (key : Key) (client : ℕ) (token : Option (List ℕ)) (now : Moment) (rows : Rows)
+        → AreSound rows → AreSound (relinquished key client token now rows) }
     ensures cancelled { (key : Key) (number : ℕ) (rows : Rows)
         → AreSound rows → AreSound (cancelled key number rows) }
     ensures defined { (live : Bool) (client : ℕ) (asked : DefineSemaphore) (rows : Rows)

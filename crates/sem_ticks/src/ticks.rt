@@ -3,23 +3,24 @@
 ghost use Rattle.std.specs.Prelude.{◌≡◌, ◌++◌, ◌∷◌, ◌≤◌, [], map, option_map, IfOk, IfSome, OnOk, Some};
 ghost use Rattle.mms_types.specs.Moments.{IsDated};
 ghost use Rattle.mms_time.specs.Deadlines.{NamedDeadline, deadline_in, next_due};
-ghost use Rattle.mms_time.specs.Loss.{lost, lost_grants};
+ghost use Rattle.mms_time.specs.Loss.{lost};
 ghost use Rattle.sem_ticks.specs.Meant.{next_meant, state_of};
 ghost use Rattle.sem_ticks.specs.Ticks.{abort_told, after_abort, expiry_told, met, ticked};
 
+use crate::granted::{Granted, lose_told, with_answer};
 use mms_time::{SemaphoreRow, expire, lose, next_due};
 use mms_types::{Key, Memory, Moment};
 use object_names::Named;
 use std::alloc::Global;
-use token_sem::{Expired, Grant};
+use token_sem::Expired;
 
 /// What happens where a deadline is met.
-#[derive(Clone, Copy, Debug, PartialEq, Eq)]
+#[derive(Debug, PartialEq, Eq, Drop)]
 pub enum Happening {
     /// The acceptable delay of a request for a token ends: the client waits no more for the answer of that invokeID.
     WaitEnds { client: u32, invoke: u32 },
     /// A token is granted to an entry that waited.
-    Grants(Grant),
+    Grants(Granted),
     /// The time of control of a client of that number ends, and its association is aborted: it is lost.
     Aborts(u32),
 }
@@ -65,27 +66,34 @@ fn next_of(
 }
 
 /// Tells what became of an entry whose deadline was met.
-fn tell_expiry(happened: &mut Vec<Happening>, expired: &Expired) -> Result<(), Memory>
-    ensures { OnOk result
-        (happened.new.items ≡ happened.old.items ++ expiry_told expired.now) }
+fn tell_expiry(
+    alloc: Global,
+    semaphores: &Named<SemaphoreRow>,
+    happened: &mut Vec<Happening>,
+    key: &Key,
+    expired: &Expired,
+) -> Result<(), Memory>
+    ensures { OnOk result (happened.new.items
+        ≡ happened.old.items ++ expiry_told semaphores.now key.now expired.now) }
 {
     if expired.waited {
         let client = expired.client;
         let invoke = expired.invoke;
         happened.push(Happening::WaitEnds { client, invoke })?;
     } else if let Some(grant) = expired.grant {
-        happened.push(Happening::Grants(grant))?;
+        let told = with_answer(alloc, semaphores, key, &grant)?;
+        happened.push(Happening::Grants(told))?;
     }
     Ok(())
 }
 
 /// Tells who is granted a token.
-fn tell_grants(happened: &mut Vec<Happening>, grants: &[Grant]) -> Result<(), Memory>
+fn tell_grants(happened: &mut Vec<Happening>, grants: Vec<Granted>) -> Result<(), Memory>
     ensures { OnOk result
-        (happened.new.items ≡ happened.old.items ++ map Happening.Grants grants.now) }
+        (happened.new.items ≡ happened.old.items ++ map Happening.Grants grants.items) }
 {
     for grant in grants {
-        happened.push(Happening::Grants(*grant))?;
+        happened.push(Happening::Grants(grant))?;
     }
     Ok(())
 }
@@ -108,8 +116,9 @@ fn abort(
         return Ok(());
     }
     happened.push(Happening::Aborts(client))?;
-    let grants = lose(alloc, semaphores, client, now)?;
-    tell_grants(happened, grants.as_slice())
+    tell_grants(happened, lose_told(alloc, semaphores, client, now)?)?;
+    let _grants = lose(alloc, semaphores, client, now)?;
+    Ok(())
 }
 
 /// Meets a deadline.
@@ -121,7 +130,13 @@ fn meet(alloc: Global, ticked: &mut Ticked, next: &Next) -> Result<(), Memory>
         ≡ Some (state_of ticked.new)) }
 {
     let expired = expire(&mut ticked.semaphores, &next.key, next.entry, next.at);
-    tell_expiry(&mut ticked.happened, &expired)?;
+    tell_expiry(
+        alloc,
+        &ticked.semaphores,
+        &mut ticked.happened,
+        &next.key,
+        &expired,
+    )?;
     abort(
         alloc,
         &mut ticked.semaphores,

@@ -1,7 +1,7 @@
-use Rattle.std.proofs.Common.{◌≡◌, ◌++◌, map, take}
+use Rattle.std.proofs.Common.{◌≡◌, ◌++◌, map}
 use Rattle.sem_ticks.specs.declared.ticks.Happening.TheVariants.{Grants}
 use Rattle.sem_ticks.proofs.ticks.tell_grants.Given as goal
 
--- those up to the index are told
+-- what is told so far, and then those that are left
 abbrev pub invariant-loop-grant : goal.invariant-loop-grant
-invariant-loop-grant l = l.happened.items ≡ l.fn.happened.items ++ map Grants (take l.grant-index l.grants)
+invariant-loop-grant l = l.happened.items ++ map Grants l.grant-iterator.rest.items ≡ l.initial.happened.items ++ map Grants l.fn.grants.items

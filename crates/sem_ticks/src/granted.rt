@@ -1,0 +1,90 @@
+//! Who is granted a token.
+
+ghost use Rattle.std.specs.Prelude.{◌≡◌, IfOk};
+ghost use Rattle.mms_types.specs.Moments.{IsDated};
+ghost use Rattle.mms_types.specs.Serves.{Serves};
+ghost use Rattle.mms_time.specs.Services.{relinquish_cause};
+ghost use Rattle.sem_ticks.specs.Granted.{all_granted, granted, lost_granted, relinquish_granted};
+
+use mms_time::{SemaphoreRow, grant_answer, relinquish_control_told};
+use mms_types::{Key, Memory, Moment, Refuse, RelinquishControl, TakeControlAnswer};
+use object_names::Named;
+use std::alloc::Global;
+use token_sem::Grant;
+
+/// A client that waited for a token has one: its request of that invokeID is answered so (ISO 9506-2, TakeControl).
+#[derive(Debug, PartialEq, Eq, Drop)]
+pub struct Granted {
+    /// The client.
+    pub client: u32,
+    /// The invokeID of its request.
+    pub invoke: u32,
+    /// The name of the token where a pool was asked for any, and no result else.
+    pub answer: TakeControlAnswer,
+}
+
+/// A grant in the semaphore of that name, with what is answered.
+pub(crate) fn with_answer(
+    alloc: Global,
+    semaphores: &Named<SemaphoreRow>,
+    key: &Key,
+    grant: &Grant,
+) -> Result<Granted, Memory>
+    ensures { IfOk result (λ told. told ≡ granted semaphores.now (key.now, grant.now)) }
+{
+    Ok(Granted {
+        client: grant.client,
+        invoke: grant.invoke,
+        answer: grant_answer(alloc, semaphores, key, grant)?,
+    })
+}
+
+/// Grants, each in the semaphore of its name, with what is answered.
+fn all_granted(
+    alloc: Global,
+    semaphores: &Named<SemaphoreRow>,
+    grants: &[(Key, Grant)],
+) -> Result<Vec<Granted>, Memory>
+    ensures { IfOk result (λ told. told.items ≡ all_granted semaphores.now grants.now) }
+{
+    let mut told = Vec::with_capacity(alloc, grants.len())?;
+    for named in grants {
+        told.push(with_answer(alloc, semaphores, &named.0, &named.1)?)?;
+    }
+    Ok(told)
+}
+
+/// Who is granted the token that a client gives back, if anyone is, or why it isn't given back (ISO 9506-1,
+/// RelinquishControl), as `mms_time` has it. Nothing changes.
+pub fn relinquish_told(
+    alloc: Global,
+    semaphores: &Named<SemaphoreRow>,
+    client: u32,
+    asked: &RelinquishControl,
+) -> Result<Option<Granted>, Refuse>
+    ensures { Serves result (relinquish_cause client asked.now semaphores.now)
+        (relinquish_granted client asked.now semaphores.now) }
+{
+    match relinquish_control_told(semaphores, client, asked)? {
+        None => Ok(None),
+        Some(grant) => {
+            let key = asked.name.key(alloc, client)?;
+            Ok(Some(with_answer(alloc, semaphores, &key, &grant)?))
+        }
+    }
+}
+
+/// Who is granted a token where a client is lost, by name of semaphore and number of the client's entry. Nothing
+/// changes.
+pub fn lose_told(
+    alloc: Global,
+    semaphores: &Named<SemaphoreRow>,
+    client: u32,
+    now: Moment,
+) -> Result<Vec<Granted>, Memory>
+    requires { IsDated now }
+    ensures { IfOk result (λ grants. grants.items ≡ lost_granted client now semaphores.now) }
+{
+    let grants = mms_time::lose_told(alloc, semaphores, client, now)?;
+    all_granted(alloc, semaphores, &grants)
+}
