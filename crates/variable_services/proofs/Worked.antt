@@ -1,5 +1,6 @@
 -- Worked examples of the services for variables: what each tells and does, typed by hand from its definition.
-use Rattle.std.specs.Prelude.{◌≡◌, ℕ, pos, Bool, true, false, List, [], ◌∷◌, map, Option, Some, None}
+use Rattle.std.specs.Prelude.{◌≡◌, ℕ, nat_eq, pos, Bool, true, false, List, [], ◌∷◌, map, Option, Some, None}
+use Rattle.std.specs.Cmp.Lexicographic.{pointwise}
 use Rattle.std.proofs.Common.{refl}
 use Rattle.mms_types.specs.Datum.{Datum, integer, boolean}
 use Rattle.mms_types.specs.Shape as shape
@@ -8,7 +9,7 @@ use Rattle.mms_types.specs.declared.access_result.AccessResult.{AccessResult}
 use Rattle.mms_types.specs.declared.access_result.AccessResult.TheVariants as read
 use Rattle.mms_types.specs.declared.access_result.WriteResult.{WriteResult}
 use Rattle.mms_types.specs.declared.access_result.WriteResult.TheVariants as write
-use Rattle.mms_types.specs.declared.access_result.DataAccessError.TheVariants.{TypeInconsistent, ObjectNonExistent}
+use Rattle.mms_types.specs.declared.access_result.DataAccessError.TheVariants.{ObjectAccessDenied, TypeInconsistent, ObjectNonExistent}
 use Rattle.mms_types.specs.declared.key.Key.{Key}
 use Rattle.mms_types.specs.declared.key.Scope.{Scope}
 use Rattle.mms_types.specs.declared.key.Scope.TheVariants.{Vmd, Association}
@@ -26,7 +27,7 @@ use Rattle.mms_types.specs.declared.variable.Write.{Write}
 use Rattle.variables.specs.declared.rows.Variable.{Variable}
 use Rattle.variable_lists.specs.declared.row.VariableList.{VariableList}
 use Rattle.variable_services.specs.declared.tables.VariableTables.{VariableTables}
-use Rattle.variable_services.specs.Services.{read_answer, write_cause, write_answer, write_after, define_cause, delete_answer, delete_after, delete_lists_answer, lost}
+use Rattle.variable_services.specs.Services.{guards, is_guarded, guards_owned, read_answer, write_cause, write_answer, write_after, define_cause, delete_answer, delete_after, delete_lists_answer, lost}
 
 -- a function answers each row of a table with its second column
 abbrev Answers : {A B : Type 0} → (A → B) → List (A × B) → Type 0
@@ -66,7 +67,7 @@ aa item = spec.Name (name.Association item)
 abbrev tables : VariableTables
 tables = record {
   vars = record {
-    cells = (0, record { of = shape.integer 8; value = integer (pos 7) }) ∷ (9, record { of = shape.boolean; value = boolean true }) ∷ [];
+    cells = (0, record { of = shape.integer 8; value = integer (pos 7); guard = None }) ∷ (9, record { of = shape.boolean; value = boolean true; guard = None }) ∷ [];
     variables = (key Vmd s, variable 0 true) ∷ (key Vmd a, variable 9 false) ∷ (key Vmd b, variable 0 false) ∷ (key (Association 2) a, variable 0 false) ∷ [];
   };
   lists = (key Vmd l, list (aa a ∷ spec.Name (name.Vmd b) ∷ spec.Name (name.Vmd l) ∷ [])) ∷ (key (Association 2) l, list (names (a ∷ []))) ∷ [];
@@ -93,7 +94,7 @@ abbrev write_of : Access × List Datum → Write
 write_of asked = record { access = asked.0; values = asked.1 }
 
 abbrev write_results : Access × List Datum → List WriteResult
-write_results asked = write_answer 1 (write_of asked) tables
+write_results asked = write_answer [] 1 (write_of asked) tables
 
 -- what fails doesn't stop those after it
 each_written : Answers write_results ((
@@ -105,13 +106,50 @@ each_written = refl
 
 -- the last data that a cell takes stay in it, and what it can't take changes nothing
 abbrev after_write : Access × List Datum → List AccessResult
-after_write asked = (read_answer 1 (record { with_access = false; access = access.Specs (spec.Address 0 ∷ spec.Address 9 ∷ []) }) (write_after 1 (write_of asked) tables)).results
+after_write asked = (read_answer 1 (record { with_access = false; access = access.Specs (spec.Address 0 ∷ spec.Address 9 ∷ []) }) (write_after [] 1 (write_of asked) tables)).results
 
 last_stays : Answers after_write (
     ((access.Specs (names (s ∷ b ∷ a ∷ [])), integer (pos 1) ∷ integer (pos 2) ∷ integer (pos 3) ∷ []), read.Success (integer (pos 2)) ∷ read.Success (boolean true) ∷ [])
     ∷ ((access.Specs (spec.Address 9 ∷ spec.Address 0 ∷ []), boolean false ∷ integer (pos 300) ∷ []), read.Success (integer (pos 7)) ∷ read.Success (boolean false) ∷ [])
     ∷ [])
 last_stays = refl
+
+-- cell 0 is guarded by S: what is missing is told before the guard, and the guard before the type; a cell without a guard takes data from each
+abbrev guarded_tables : VariableTables
+guarded_tables = record tables {
+  vars = record tables.vars {
+    cells = (0, record { of = shape.integer 8; value = integer (pos 7); guard = Some s }) ∷ (9, record { of = shape.boolean; value = boolean true; guard = None }) ∷ [];
+  };
+}
+
+abbrev mixed : Write
+mixed = write_of (access.Specs (names (b ∷ l ∷ a ∷ s ∷ [])), integer (pos 1) ∷ integer (pos 2) ∷ boolean false ∷ integer (pos 300) ∷ [])
+
+guarded_results : Answers (λ (owns : List Bool). write_answer owns 1 mixed guarded_tables) (
+    ([], write.Failure ObjectAccessDenied ∷ write.Failure ObjectNonExistent ∷ write.Success ∷ write.Failure ObjectAccessDenied ∷ [])
+    ∷ (false ∷ true ∷ true ∷ [], write.Failure ObjectAccessDenied ∷ write.Failure ObjectNonExistent ∷ write.Success ∷ write.Failure ObjectAccessDenied ∷ [])
+    ∷ (true ∷ false ∷ false ∷ true ∷ [], write.Success ∷ write.Failure ObjectNonExistent ∷ write.Success ∷ write.Failure TypeInconsistent ∷ [])
+    ∷ [])
+guarded_results = refl
+
+guarded_stay : Answers (λ (owns : List Bool). (read_answer 1 (record { with_access = false; access = access.Specs (spec.Address 0 ∷ spec.Address 9 ∷ []) }) (write_after owns 1 mixed guarded_tables)).results) (
+    ([], read.Success (integer (pos 7)) ∷ read.Success (boolean false) ∷ [])
+    ∷ (true ∷ [], read.Success (integer (pos 1)) ∷ read.Success (boolean false) ∷ [])
+    ∷ [])
+guarded_stay = refl
+
+-- which guards the variables of a write have, and which of them a client owns
+named_guards : guards 1 mixed guarded_tables ∷ guards 1 mixed tables ∷ [] ≡ (Some s ∷ None ∷ None ∷ Some s ∷ []) ∷ (None ∷ None ∷ None ∷ None ∷ []) ∷ []
+named_guards = refl
+
+some_guards : is_guarded 1 mixed guarded_tables ∷ is_guarded 1 mixed tables ∷ [] ≡ true ∷ false ∷ []
+some_guards = refl
+
+owned_guards : Answers (λ (owns : List ℕ → Bool). guards_owned owns 1 mixed guarded_tables) (
+    (pointwise nat_eq s, true ∷ false ∷ false ∷ true ∷ [])
+    ∷ (pointwise nat_eq a, false ∷ false ∷ false ∷ false ∷ [])
+    ∷ [])
+owned_guards = refl
 
 -- a missing list is told before the number of data
 abbrev write_causes : Access × List Datum → Option ServiceError

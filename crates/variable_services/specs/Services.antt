@@ -24,7 +24,8 @@ use Rattle.mms_types.specs.declared.variable.Spec.{Spec}
 use Rattle.mms_types.specs.declared.variable.VariableAttributes.{VariableAttributes}
 use Rattle.mms_types.specs.declared.variable.Write.{Write}
 use Rattle.object_names.specs.Deletion.{selects}
-use Rattle.variables.specs.Access.{reads, writes}
+use Rattle.variables.specs.Access.{flagged, flags_of, reads, writes}
+use Rattle.variables.specs.Access as cells
 use Rattle.variables.specs.Definitions as variables
 use Rattle.variables.specs.Rows as rows
 use Rattle.variables.specs.Start.{start}
@@ -65,11 +66,23 @@ write_cause client asked t =
 abbrev pub pairs : ℕ → Write → VariableTables → List (Spec × Datum)
 pairs client asked t = zip (accessed_all client asked.access t) asked.values
 
-abbrev pub write_answer : ℕ → Write → VariableTables → List WriteResult
-write_answer client asked t = (writes client (pairs client asked t) t.vars).1
+-- the guard of each variable that it names, in order, and whether one has a guard
+abbrev pub guards : ℕ → Write → VariableTables → List (Option (List ℕ))
+guards client asked t = cells.guards client (accessed_all client asked.access t) t.vars
 
-abbrev pub write_after : ℕ → Write → VariableTables → VariableTables
-write_after client asked t = record t { vars = (writes client (pairs client asked t) t.vars).0 }
+abbrev pub is_guarded : ℕ → Write → VariableTables → Bool
+is_guarded client asked t = cells.are_guarded client (accessed_all client asked.access t) t.vars
+
+-- of each variable, whether the client owns its guard, from which guards it owns
+abbrev pub guards_owned : (List ℕ → Bool) → ℕ → Write → VariableTables → List Bool
+guards_owned owns client asked t = flags_of owns (guards client asked t)
+
+-- with whether the client owns the guard of each
+abbrev pub write_answer : List Bool → ℕ → Write → VariableTables → List WriteResult
+write_answer owns client asked t = (writes client (flagged owns (pairs client asked t)) t.vars).1
+
+abbrev pub write_after : List Bool → ℕ → Write → VariableTables → VariableTables
+write_after owns client asked t = record t { vars = (writes client (flagged owns (pairs client asked t)) t.vars).0 }
 
 -- ---- GetVariableAccessAttributes, GetNamedVariableListAttributes
 

@@ -1,14 +1,15 @@
 //! Read, Write, GetVariableAccessAttributes and DefineNamedVariable.
 
-ghost use Rattle.std.specs.Prelude.{◌≡◌, Bool, None, OnErr, OnOk, Some};
+ghost use Rattle.std.specs.Prelude.{◌≡◌, Bool, IfOk, None, OnErr, OnOk, Some, map};
 ghost use Rattle.mms_types.specs.Serves.{Serves};
-ghost use Rattle.variable_services.specs.Services.{attributes_answer, attributes_cause, define_after, define_cause, read_answer, read_cause, write_after, write_answer, write_cause};
+ghost use Rattle.std.specs.Option.{option_copied};
+ghost use Rattle.variable_services.specs.Services.{attributes_answer, attributes_cause, define_after, define_cause, guards, is_guarded, read_answer, read_cause, write_after, write_answer, write_cause};
 
 use crate::VariableTables;
 use crate::tables::accessed;
 use mms_types::{
-    DataList, DefineNamedVariable, Memory, Read, ReadAnswer, Refuse, ServiceError, Spec,
-    VariableAttributes, Write, WriteAnswer,
+    DataList, DefineNamedVariable, Identifier, Memory, Read, ReadAnswer, Refuse, ServiceError,
+    Spec, VariableAttributes, Write, WriteAnswer,
 };
 use std::alloc::Global;
 
@@ -31,16 +32,46 @@ impl VariableTables {
         })
     }
 
-    /// What becomes of the variables that a client writes (ISO 9506-2, Write); nothing is written yet.
-    /// Object-non-existent where the list that it names is missing, and then type-inconsistent where there are more
-    /// or fewer data than variables.
-    pub fn write_results(
+    /// Whether a variable that a client's write names has a guard: none has where the list that it names is missing.
+    pub fn is_guarded(&self, client: u32, asked: &Write) -> bool
+        ensures { result ≡ is_guarded client asked.now self.now }
+    {
+        match accessed(&self.lists, client, &asked.access) {
+            None => false,
+            Some(variables) => self.vars.are_guarded(client, variables),
+        }
+    }
+
+    /// The guard of each variable that a client's write names, in order: there are none where the list that it names
+    /// is missing. The one refusal is want of memory.
+    pub fn guards(
         &self,
         alloc: Global,
         client: u32,
         asked: &Write,
+    ) -> Result<Vec<Option<&Identifier>>, Memory>
+        ensures { IfOk result (λ found. map option_copied found.items
+            ≡ guards client asked.now self.now) }
+    {
+        match accessed(&self.lists, client, &asked.access) {
+            None => Ok(Vec::new(alloc)),
+            Some(variables) => self.vars.guards(alloc, client, variables),
+        }
+    }
+
+    /// What becomes of the variables that a client writes (ISO 9506-2, Write); nothing is written yet. `owns` tells of
+    /// them in order whether the client owns a token of the guard; where it ends before them, of the others it owns
+    /// none. Object-non-existent where the list that it names is missing, and then type-inconsistent where there are
+    /// more or fewer data than variables.
+    pub fn write_results(
+        &self,
+        alloc: Global,
+        client: u32,
+        owns: &[bool],
+        asked: &Write,
     ) -> Result<WriteAnswer, Refuse>
-        ensures { Serves result (write_cause client asked.now self.now) (Some (write_answer client asked.now self.now)) }
+        ensures { Serves result (write_cause client asked.now self.now)
+            (Some (write_answer owns.now client asked.now self.now)) }
     {
         let Some(variables) = accessed(&self.lists, client, &asked.access) else {
             return Err(Refuse::Service(ServiceError::OBJECT_NON_EXISTENT));
@@ -49,19 +80,20 @@ impl VariableTables {
         if values.len() != variables.len() {
             return Err(Refuse::Service(ServiceError::TYPE_INCONSISTENT));
         }
-        Ok(self.vars.results(alloc, client, variables, values)?)
+        Ok(self.vars.results(alloc, client, owns, variables, values)?)
     }
 
-    /// Writes variables, whose data, copied, are given. It takes no memory.
-    pub fn write(&mut self, client: u32, asked: &Write, values: DataList)
+    /// Writes variables, whose data, copied, are given. `owns` tells of them in order whether the client owns a token
+    /// of the guard; where it ends before them, of the others it owns none. It takes no memory.
+    pub fn write(&mut self, client: u32, owns: &[bool], asked: &Write, values: DataList)
         requires cause { write_cause client asked.now self.old ≡ None }
         requires copied { values ≡ asked.now.values }
-        ensures { self.new ≡ write_after client asked.now self.old }
+        ensures { self.new ≡ write_after owns.now client asked.now self.old }
     {
         let Some(variables) = accessed(&self.lists, client, &asked.access) else {
             unreachable!()
         };
-        self.vars.write(client, variables, values);
+        self.vars.write(client, owns, variables, values);
     }
 
     /// What a variable is (ISO 9506-2, GetVariableAccessAttributes). Object-non-existent where its name or its cell is

@@ -1,4 +1,7 @@
 pub mod Apart
 pub mod Cells
+pub mod Flags
+pub mod Guarded
+pub mod Owners
 pub mod Unopposed
 pub mod Writing

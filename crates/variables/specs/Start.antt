@@ -10,9 +10,9 @@ use Rattle.variables.specs.declared.rows.Cell.{Cell}
 use Rattle.variables.specs.declared.rows.Variable.{Variable}
 use Rattle.variables.specs.Rows.{Rows}
 
--- a cell has its type and its first value
+-- a cell has its type, its first value, and its guard, where it has one
 abbrev pub cell_row : CellRow → ℕ × Cell
-cell_row row = (row.number, record { of = row.of; value = row.value })
+cell_row row = (row.number, record { of = row.of; value = row.value; guard = row.guard })
 
 -- a configured variable is a name of the VMD
 abbrev pub variable_row : NamedCell → Key × Variable

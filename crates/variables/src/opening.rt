@@ -1,15 +1,15 @@
 //! The variables of a device at its start, and copies of them.
 
-ghost use Rattle.std.specs.Prelude.{◌≡◌, ◌<◌, ◌++◌, ◌∷◌, [], IfOk, None, OnOk, map, nat_eq};
+ghost use Rattle.std.specs.Prelude.{◌≡◌, ◌<◌, ◌++◌, ◌∷◌, [], IfOk, None, OnOk, is_some, map, nat_eq};
 ghost use Rattle.std.specs.Cmp.Lexicographic.{pointwise};
-ghost use Rattle.std.specs.List.{IsDistinct};
+ghost use Rattle.std.specs.List.{IsDistinct, list_any};
 ghost use Rattle.std.specs.Map.{lookup};
 ghost use Rattle.variables.specs.Bounds.{AreSmall};
 ghost use Rattle.variables.specs.Start.{AreApart, cell_row, start, variable_row};
 
 use crate::{Cell, Variable, Vars};
 use indexmap::IndexMap;
-use mms_types::{CellRow, Cells, Key, Memory, NamedCell, NamedCells, Scope};
+use mms_types::{CellRow, Cells, Key, Memory, NamedCell, NamedCells, Scope, copied_name};
 use object_names::{Copied, Named};
 use std::alloc::Global;
 
@@ -38,6 +38,7 @@ fn numbered(alloc: Global, rows: Vec<CellRow>) -> Result<IndexMap<u16, Cell>, Me
         let cell = Cell {
             of: row.of,
             value: row.value,
+            guard: row.guard,
         };
         add(&mut cells, row.number, cell)?;
     }
@@ -64,6 +65,13 @@ fn named(alloc: Global, rows: Vec<NamedCell>) -> Result<Named<Variable>, Memory>
     Ok(variables)
 }
 
+/// Whether some cell of a configuration has a guard.
+fn has_guard(rows: &[CellRow]) -> bool
+    ensures { result ≡ list_any (λ row. is_some row.guard) rows.now }
+{
+    rows.iter().any(|row| row.guard.is_some())
+}
+
 impl Vars {
     /// No cells and no variables. Nothing is allocated.
     pub fn empty(alloc: Global) -> Vars
@@ -72,17 +80,21 @@ impl Vars {
         Vars {
             cells: IndexMap::new(alloc),
             variables: Named::new(alloc),
+            guarded: false,
         }
     }
 
+    #[tactic(auto, using(crate::proofs::Guarded::guard_of_rows))]
     /// The cells and the variables of a configuration, in its order. The one refusal is want of memory.
     pub fn new(alloc: Global, cells: Cells, variables: NamedCells) -> Result<Vars, Memory>
         requires { AreApart cells variables }
         ensures { IfOk result (λ vars. vars ≡ start cells variables) }
     {
+        let guarded = has_guard(cells.as_slice());
         Ok(Vars {
             cells: numbered(alloc, cells.into_vec())?,
             variables: named(alloc, variables.into_vec())?,
+            guarded,
         })
     }
 }
@@ -97,6 +109,7 @@ fn copied(alloc: Global, cells: &IndexMap<u16, Cell>) -> Result<IndexMap<u16, Ce
         let copy = Cell {
             of: cell.of.copy(alloc)?,
             value: cell.value.copy(alloc)?,
+            guard: copied_name(alloc, &cell.guard)?,
         };
         add(&mut copies, *number, copy)?;
     }
@@ -117,6 +130,7 @@ impl Vars {
         Ok(Vars {
             cells: copied(alloc, &self.cells)?,
             variables: self.variables.copy(alloc)?,
+            guarded: self.guarded,
         })
     }
 }

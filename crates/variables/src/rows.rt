@@ -1,4 +1,4 @@
-use mms_types::{Data, TypeSpec};
+use mms_types::{Data, Identifier, TypeSpec};
 
 /// A cell: a variable that has an address (ISO 9506-1, unnamed variable).
 #[derive(Debug, Drop)]
@@ -7,6 +7,8 @@ pub struct Cell {
     pub of: TypeSpec,
     /// Its value, which is of the type.
     pub value: Data,
+    /// The semaphore of the VMD that guards it, where one does: only a client that owns a token of it may write.
+    pub guard: Option<Identifier>,
 }
 
 /// A name of a cell (ISO 9506-1, named variable).
