@@ -13,12 +13,13 @@ use Rattle.mms_types.specs.Shape.{Shape}
 use Rattle.mms_types.specs.Matches.{matches}
 use Rattle.mms_types.specs.declared.cells.CellRow.{CellRow}
 use Rattle.mms_types.specs.declared.cells.NamedCell.{NamedCell}
+use Rattle.mms_types.specs.declared.cells.PoolRow.{PoolRow}
 use Rattle.mms_types.specs.declared.identifier.Edition.{Edition}
 use Rattle.cell_config.specs.declared.config.Config.{Config}
-use Rattle.cell_config.specs.Rows.{CellTold, VariableTold, cells_told, variables_told}
-use Rattle.cell_config.specs.Cells.{is_between, number_of, are_distinct, same_name, is_number, numbers_of, are_numbered, type_told, value_told, fits, are_typed, is_among, are_variables, are_few, cell_row, named_cell}
-use Rattle.cell_config.specs.Rules.{document_of, clients_of, day_of, ms_of, vendor_of, model_of, revision_of, is_short_text, breaks_keys, breaks_ranges, breaks_texts, breaks_names, breaks_numbers, breaks_types, breaks_variables, breaks_count, least_of_keys, least_of_rows, least_broken_of, least_broken}
-use Rattle.cell_config.specs.Said.{config_of, AreCells, AreVariables, IsConfig}
+use Rattle.cell_config.specs.Rows.{CellTold, VariableTold, PoolTold, cells_told, variables_told, pools_told}
+use Rattle.cell_config.specs.Cells.{is_between, number_of, are_distinct, same_name, is_number, numbers_of, are_numbered, type_told, value_told, fits, are_typed, is_among, are_variables, is_pool, are_pools, cell_row, named_cell, pool_row}
+use Rattle.cell_config.specs.Rules.{document_of, clients_of, day_of, ms_of, vendor_of, model_of, revision_of, is_short_text, breaks_keys, breaks_ranges, breaks_texts, breaks_names, breaks_numbers, breaks_types, breaks_variables, breaks_pools, breaks_count, least_of_keys, least_of_rows, least_broken_of, least_broken}
+use Rattle.cell_config.specs.Said.{config_of, AreCells, AreVariables, ArePools, IsConfig}
 
 both : (a b : Bool) → (a && b) ≡ true → (a ≡ true) × (b ≡ true)
 both true b e = (refl, e)
@@ -28,13 +29,13 @@ holds : (a : Bool) → not a ≡ false → a ≡ true
 holds true e = refl
 holds false e = cc
 
--- the least of three rules that is broken, and of five
+-- the least of three rules that is broken, and of six
 abbrev first_three : Bool → Bool → Bool → Option ℕ
 first_three keys ranges texts = if keys then Some 1 else if ranges then Some 2 else if texts then Some 3 else None
 
-abbrev last_five : Bool → Bool → Bool → Bool → Bool → Option ℕ
-last_five names numbers types variables count =
-    if names then Some 4 else if numbers then Some 5 else if types then Some 6 else if variables then Some 7 else if count then Some 9 else None
+abbrev last_six : Bool → Bool → Bool → Bool → Bool → Bool → Option ℕ
+last_six names numbers types variables pools count =
+    if names then Some 4 else if numbers then Some 5 else if types then Some 6 else if variables then Some 7 else if pools then Some 8 else if count then Some 9 else None
 
 none_of_three : (keys ranges texts : Bool) → first_three keys ranges texts ≡ None → (ranges ≡ false) × (texts ≡ false)
 none_of_three true ranges texts e = cc
@@ -42,14 +43,15 @@ none_of_three false true texts e = cc
 none_of_three false false true e = cc
 none_of_three false false false e = (refl, refl)
 
-none_of_five : (names numbers types variables count : Bool) → last_five names numbers types variables count ≡ None
-    → (numbers ≡ false) × (types ≡ false) × (variables ≡ false) × (count ≡ false)
-none_of_five true numbers types variables count e = cc
-none_of_five false true types variables count e = cc
-none_of_five false false true variables count e = cc
-none_of_five false false false true count e = cc
-none_of_five false false false false true e = cc
-none_of_five false false false false false e = (refl, refl, refl, refl)
+none_of_six : (names numbers types variables pools count : Bool) → last_six names numbers types variables pools count ≡ None
+    → (numbers ≡ false) × (types ≡ false) × (variables ≡ false) × (pools ≡ false) × (count ≡ false)
+none_of_six true numbers types variables pools count e = cc
+none_of_six false true types variables pools count e = cc
+none_of_six false false true variables pools count e = cc
+none_of_six false false false true pools count e = cc
+none_of_six false false false false true count e = cc
+none_of_six false false false false false true e = cc
+none_of_six false false false false false false e = (refl, refl, refl, refl, refl)
 
 none_of_both : (a b : Option ℕ) → option_or a b ≡ None → (a ≡ None) × (b ≡ None)
 none_of_both None b e = (refl, e)
@@ -121,7 +123,7 @@ all_there numbers (v ∷ told) e =
 few : (n : ℕ) → nat_le n 4096 ≡ true → n ≤ 4096
 few n e = grind (arith, nat_tests, e)
 
-variables_hold : (edition : Edition) (cells : List CellTold) (told : List VariableTold) → are_variables (numbers_of cells) told ≡ true → are_few told ≡ true
+variables_hold : (edition : Edition) (cells : List CellTold) (told : List VariableTold) → are_variables (numbers_of cells) told ≡ true → nat_le (length told) 4096 ≡ true
     → AreVariables (map (cell_row edition) cells) (map named_cell told)
 variables_hold edition cells told kept count =
     let t = both (list_all (λ (v : VariableTold). is_among (numbers_of cells) v.cell) told) _ kept in
@@ -132,11 +134,38 @@ variables_hold edition cells told kept count =
       few = subst (λ (n : ℕ). n ≤ 4096) (sym (as_many told)) (few (length told) count);
     }
 
+-- ---- pools
+
+pool_names_stay : (told : List PoolTold) → map (λ (p : PoolRow). p.name) (map pool_row told) ≡ map (λ (p : PoolTold). p.name) told
+pool_names_stay [] = refl
+pool_names_stay (p ∷ told) = ap (λ (ns : List (List ℕ)). p.name ∷ ns) (pool_names_stay told)
+
+tokens_stay : (told : List PoolTold) → list_all (λ (p : PoolRow). is_pool p.tokens) (map pool_row told) ≡ list_all (λ (p : PoolTold). is_pool p.tokens) told
+tokens_stay [] = refl
+tokens_stay (p ∷ told) = ap (λ (b : Bool). is_pool p.tokens && b) (tokens_stay told)
+
+as_many_pools : (told : List PoolTold) → length (map pool_row told) ≡ length told
+as_many_pools [] = refl
+as_many_pools (p ∷ told) = ap suc (as_many_pools told)
+
+few_pools : (n : ℕ) → nat_le n 256 ≡ true → n ≤ 256
+few_pools n e = grind (arith, nat_tests, e)
+
+pools_hold : (told : List PoolTold) → are_pools told ≡ true → nat_le (length told) 256 ≡ true → ArePools (map pool_row told)
+pools_hold told kept count =
+    let t = both (list_all (λ (p : PoolTold). is_pool p.tokens) told) _ kept in
+    record {
+      distinct = ap (are_distinct same_name) (pool_names_stay told) ∙ t.1;
+      tokens = tokens_stay told ∙ t.0;
+      few = subst (λ (n : ℕ). n ≤ 256) (sym (as_many_pools told)) (few_pools (length told) count);
+    }
+
 document_holds : (edition : Edition) (document : Members) → least_broken_of edition document ≡ None → IsConfig (config_of edition document)
 document_holds edition document e =
     let all = none_of_both (least_of_keys document) (least_of_rows edition document) e in
     let none = none_of_three (breaks_keys document) (breaks_ranges document) (breaks_texts document) all.0 in
-    let rows = none_of_five (breaks_names edition document) (breaks_numbers document) (breaks_types edition document) (breaks_variables document) (breaks_count document) all.1 in
+    let rows = none_of_six (breaks_names edition document) (breaks_numbers document) (breaks_types edition document) (breaks_variables document) (breaks_pools document) (breaks_count document) all.1 in
+    let counts = both (nat_le (length (variables_told document)) 4096) (nat_le (length (pools_told document)) 256) (holds _ rows.4) in
     let ranges = both _ (is_between 0 86399999 (ms_of document)) (holds _ none.0) in
     let numbers = both (is_between 1 64 (clients_of document)) (is_between 0 65535 (day_of document)) ranges.0 in
     let texts = both _ (is_short_text (revision_of document)) (holds _ none.1) in
@@ -152,7 +181,8 @@ document_holds edition document e =
       model = names.1;
       revision = texts.1;
       cells = cells_hold edition (cells_told document) (holds _ rows.0) (holds _ rows.1);
-      variables = variables_hold edition (cells_told document) (variables_told document) (holds _ rows.2) (holds _ rows.3);
+      variables = variables_hold edition (cells_told document) (variables_told document) (holds _ rows.2) counts.0;
+      pools = pools_hold (pools_told document) (holds _ rows.3) counts.1;
     }
 
 -- what a document tells that breaks no rule

@@ -169,6 +169,42 @@ name_step variables numbers i d keys next b h passed added new keys_are so_far =
           ∙ so_far.2,
     )
 
+-- ---- any names
+
+-- what stands behind those that are done is the next one, and then the others
+next_text : (texts : List (Bor (List ℕ))) (i : ℕ) (d : Bor (List ℕ)) (done : List (List ℕ)) → i < length texts → done ++ names_in (drop i texts) ≡ names_in texts
+    → done ++ (get_or texts i d).now ∷ names_in (drop (i + 1) texts) ≡ names_in texts
+next_text texts i d done h so_far = sym (at_drop_more (λ (ys : List (Bor (List ℕ))). done ++ names_in ys) texts i d h) ∙ so_far
+
+-- the names so far differ, and with those that are left they are all
+abbrev pub TextsSoFar : List (Bor (List ℕ)) → ℕ → List (Bor (List ℕ)) → Type 0
+TextsSoFar texts i keys = (are_distinct same_name (names_in keys) ≡ true) × (names_in keys ++ names_in (drop i texts) ≡ names_in texts)
+
+-- a name that stood before
+pub text_twice : (texts : List (Bor (List ℕ))) (i : ℕ) (d : Bor (List ℕ)) (keys : List (Bor (List ℕ))) (b : Bool) → i < length texts
+    → b ≡ not (list_any (λ (k : Bor (List ℕ)). same_name (get_or texts i d).now k.now) keys) → b ≡ false
+    → TextsSoFar texts i keys → false ≡ are_distinct same_name (names_in texts)
+text_twice texts i d keys b h added there so_far =
+    sym (sym (ap (are_distinct same_name) (next_text texts i d (names_in keys) h so_far.1))
+    ∙ repeated same_name nat_list_eq_equiv.symm (names_in keys) _ (get_or texts i d).now
+    (any_mapped (λ (k : Bor (List ℕ)). k.now) (same_name (get_or texts i d).now) keys ∙ was_there b _ added there))
+
+-- a new name
+pub text_step : (texts : List (Bor (List ℕ))) (i : ℕ) (d : Bor (List ℕ)) (keys next : List (Bor (List ℕ))) (b : Bool) → i < length texts
+    → b ≡ not (list_any (λ (k : Bor (List ℕ)). same_name (get_or texts i d).now k.now) keys) → b ≡ true
+    → next ≡ insert_key (λ (j k : Bor (List ℕ)). same_name j.now k.now) keys (get_or texts i d)
+    → TextsSoFar texts i keys → TextsSoFar texts (i + 1) next
+text_step texts i d keys next b h added new keys_are so_far =
+    let n = get_or texts i d in
+    let none = is_new b (list_any (λ (k : Bor (List ℕ)). same_name n.now k.now) keys) added new in
+    let last : next ≡ keys ++ n ∷ [] = keys_are ∙ ap (λ (c : Bool). if c then keys else keys ++ n ∷ []) none in
+    let names : names_in next ≡ names_in keys ++ n.now ∷ [] = ap names_in last ∙ map_more (λ (k : Bor (List ℕ)). k.now) keys n in (
+      ap (are_distinct same_name) names
+          ∙ new_one same_name nat_list_eq_equiv.symm (names_in keys) n.now (any_mapped (λ (k : Bor (List ℕ)). k.now) (same_name n.now) keys ∙ none) so_far.0,
+      ap (λ (done : List (List ℕ)). done ++ names_in (drop (i + 1) texts)) names
+          ∙ append_more (names_in keys) (names_in (drop (i + 1) texts)) n.now ∙ next_text texts i d (names_in keys) h so_far.1,
+    )
+
 -- variables whose cells are there have numbers of cells
 pub in_range : (numbers : List ℕ) (told : List VariableTold) → are_variables numbers told ≡ true → list_all (λ (v : VariableTold). is_number v.cell) told ≡ true
 in_range numbers told h = each told (left (list_all (λ (v : VariableTold). is_among numbers v.cell) told) _ h)

@@ -1,4 +1,4 @@
--- The rules of cells and variables, and what they are (this profile's choice).
+-- The rules of cells, variables and pools, and what they are (this profile's choice).
 use Rattle.std.specs.Prelude.{ℕ, nat_eq, nat_le, ℤ, pos, negsuc, Bool, true, false, not, ◌&&◌, List, [], ◌∷◌, map, length, Option, None, Some, unwrap_or, option_and_then}
 use Rattle.std.specs.List.{list_all, list_any}
 use Rattle.std.specs.Option.{option_map}
@@ -15,11 +15,12 @@ use Rattle.mms_types.specs.Spelling.{is_identifier}
 use Rattle.mms_types.specs.declared.identifier.Edition.{Edition}
 use Rattle.mms_types.specs.declared.cells.CellRow.{CellRow}
 use Rattle.mms_types.specs.declared.cells.NamedCell.{NamedCell}
+use Rattle.mms_types.specs.declared.cells.PoolRow.{PoolRow}
 use Rattle.pdu_names.specs.Editions.{lengths_of}
 use Rattle.pdu_names.specs.Kinds.{Kind, choice}
 use Rattle.pdu_data.specs.Data.{data_choice}
 use Rattle.pdu_data.specs.Types.{type_choice}
-use Rattle.cell_config.specs.Rows.{CellTold, VariableTold}
+use Rattle.cell_config.specs.Rows.{CellTold, VariableTold, PoolTold}
 
 -- at least this one and at most that one
 abbrev pub is_between : ℕ → ℕ → ℤ → Bool
@@ -45,6 +46,21 @@ same_name = pointwise nat_eq
 -- each variable's name is an identifier of the edition
 abbrev pub are_named : Edition → List VariableTold → Bool
 are_named edition variables = list_all (λ variable. is_identifier edition variable.name) variables
+
+-- the name of a guard is one, where there is one
+abbrev pub is_guard : Edition → Option (List ℕ) → Bool
+is_guard edition None = true
+is_guard edition (Some name) = is_identifier edition name
+
+abbrev pub are_guarded : Edition → List CellTold → Bool
+are_guarded edition cells = list_all (λ cell. is_guard edition cell.guard) cells
+
+-- and so are the names of pools and of their tokens
+abbrev pub is_named_pool : Edition → PoolTold → Bool
+is_named_pool edition pool = is_identifier edition pool.name && list_all (is_identifier edition) pool.tokens
+
+abbrev pub are_named_pools : Edition → List PoolTold → Bool
+are_named_pools edition pools = list_all (is_named_pool edition) pools
 
 -- the numbers that a cell may have
 abbrev pub is_number : ℤ → Bool
@@ -91,19 +107,33 @@ is_among numbers number = is_number number && list_any (nat_eq (number_of number
 abbrev pub are_variables : List ℕ → List VariableTold → Bool
 are_variables numbers variables = list_all (λ variable. is_among numbers variable.cell) variables && are_distinct same_name (map (λ variable. variable.name) variables)
 
--- at most 4,096 variables
-abbrev pub are_few : List VariableTold → Bool
-are_few variables = nat_le (length variables) 4096
+-- ---- pools
+
+-- 1 to 256 tokens, no two of the same name
+abbrev pub is_pool : List (List ℕ) → Bool
+is_pool tokens = nat_le 1 (length tokens) && nat_le (length tokens) 256 && are_distinct same_name tokens
+
+-- such pools, and no two share a name
+abbrev pub are_pools : List PoolTold → Bool
+are_pools pools = list_all (λ pool. is_pool pool.tokens) pools && are_distinct same_name (map (λ pool. pool.name) pools)
+
+-- at most 4,096 variables and 256 pools
+abbrev pub are_few : List VariableTold → List PoolTold → Bool
+are_few variables pools = nat_le (length variables) 4096 && nat_le (length pools) 256
 
 -- ---- what they are
 
--- a cell with its type and its value; where no rule is broken neither is missing
+-- a cell with its type, its value and its guard; where no rule is broken neither type nor value is missing
 abbrev pub cell_row : Edition → CellTold → CellRow
 cell_row edition cell = record {
   number = number_of cell.number;
   of = unwrap_or (type_told edition cell.of) shape.boolean;
   value = unwrap_or (value_told edition cell.value) (datum.boolean false);
+  guard = cell.guard;
 }
 
 abbrev pub named_cell : VariableTold → NamedCell
 named_cell variable = record { name = variable.name; cell = number_of variable.cell }
+
+abbrev pub pool_row : PoolTold → PoolRow
+pool_row pool = record { name = pool.name; tokens = pool.tokens }

@@ -6,8 +6,8 @@ use Rattle.std.specs.Str.{is_utf8}
 use Rattle.toml.specs.Data.{Data, Members, no_members, member, as_integer, as_str, same_key}
 use Rattle.toml.specs.Parse.{parse_document}
 use Rattle.mms_types.specs.declared.identifier.Edition.{Edition}
-use Rattle.cell_config.specs.Rows.{integer_at, text_at, are_rows, is_cell_row, is_variable_row, cells_told, variables_told}
-use Rattle.cell_config.specs.Cells.{is_between, numbers_of, are_named, are_numbered, are_typed, are_variables, are_few}
+use Rattle.cell_config.specs.Rows.{integer_at, text_at, are_rows, is_cell_row, is_variable_row, is_pool_row, cells_told, variables_told, pools_told}
+use Rattle.cell_config.specs.Cells.{is_between, numbers_of, are_named, are_guarded, are_named_pools, are_numbered, are_typed, are_variables, are_pools, are_few}
 
 -- the document that a text is, where it is one: TOML is written in UTF-8
 abbrev pub document_of : List ℕ → Option Members
@@ -26,6 +26,7 @@ abbrev pub is_fit : List ℕ → Data → Bool
 is_fit key value =
     (takes_integer key && is_some (as_integer value)) || (takes_text key && is_some (as_str value))
     || (same_key (codes "cell") key && are_rows is_cell_row value) || (same_key (codes "variable") key && are_rows is_variable_row value)
+    || (same_key (codes "pool") key && are_rows is_pool_row value)
 
 -- rule 1: a key isn't listed, or a value is of another type than its key takes, in the document or in a row, or a row lacks a key
 abbrev pub breaks_keys : Members → Bool
@@ -69,9 +70,10 @@ is_short_text text = nat_le 1 (length text) && nat_le (length text) 32 && list_a
 abbrev pub breaks_texts : Members → Bool
 breaks_texts document = not (is_short_text (vendor_of document) && is_short_text (model_of document) && is_short_text (revision_of document))
 
--- rule 4: a variable's name is no identifier
+-- rule 4: the name of a variable, a guard, a pool or a token is no identifier
 abbrev pub breaks_names : Edition → Members → Bool
-breaks_names edition document = not (are_named edition (variables_told document))
+breaks_names edition document =
+    not (are_named edition (variables_told document) && are_guarded edition (cells_told document) && are_named_pools edition (pools_told document))
 
 -- rule 5: a cell's number isn't 0 to 4,095, or two cells share one
 abbrev pub breaks_numbers : Members → Bool
@@ -85,9 +87,13 @@ breaks_types edition document = not (are_typed edition (cells_told document))
 abbrev pub breaks_variables : Members → Bool
 breaks_variables document = not (are_variables (numbers_of (cells_told document)) (variables_told document))
 
--- rule 9: there are more than 4,096 variables
+-- rule 8: a pool has no token, more than 256, or the same twice, or two pools share a name
+abbrev pub breaks_pools : Members → Bool
+breaks_pools document = not (are_pools (pools_told document))
+
+-- rule 9: there are more than 4,096 variables or 256 pools
 abbrev pub breaks_count : Members → Bool
-breaks_count document = not (are_few (variables_told document))
+breaks_count document = not (are_few (variables_told document) (pools_told document))
 
 -- the least rule that the document's own keys and texts break
 abbrev pub least_of_keys : Members → Option ℕ
@@ -96,13 +102,14 @@ least_of_keys document =
     else if breaks_ranges document then Some 2
     else if breaks_texts document then Some 3 else None
 
--- the least rule that its cells and variables break
+-- the least rule that its cells, variables and pools break
 abbrev pub least_of_rows : Edition → Members → Option ℕ
 least_of_rows edition document =
     if breaks_names edition document then Some 4
     else if breaks_numbers document then Some 5
     else if breaks_types edition document then Some 6
     else if breaks_variables document then Some 7
+    else if breaks_pools document then Some 8
     else if breaks_count document then Some 9 else None
 
 -- the least rule that a document breaks

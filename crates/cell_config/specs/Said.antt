@@ -5,13 +5,14 @@ use Rattle.toml.specs.Data.{Members}
 use Rattle.mms_types.specs.Matches.{matches}
 use Rattle.mms_types.specs.declared.cells.CellRow.{CellRow}
 use Rattle.mms_types.specs.declared.cells.NamedCell.{NamedCell}
+use Rattle.mms_types.specs.declared.cells.PoolRow.{PoolRow}
 use Rattle.mms_types.specs.Moments.{milliseconds, IsDated}
 use Rattle.mms_types.specs.declared.identifier.Edition.{Edition}
 use Rattle.cell_config.specs.declared.config.Config.{Config}
 use Rattle.cell_config.specs.declared.config.BadConfig.{BadConfig}
 use Rattle.cell_config.specs.declared.config.BadConfig.TheVariants.{Rule, Memory}
-use Rattle.cell_config.specs.Rows.{cells_told, variables_told}
-use Rattle.cell_config.specs.Cells.{number_of, are_distinct, same_name, cell_row, named_cell}
+use Rattle.cell_config.specs.Rows.{cells_told, variables_told, pools_told}
+use Rattle.cell_config.specs.Cells.{number_of, are_distinct, same_name, is_pool, cell_row, named_cell, pool_row}
 use Rattle.cell_config.specs.Rules.{clients_of, day_of, ms_of, vendor_of, model_of, revision_of, is_short_text}
 
 -- what the document says in an edition, each part by its key
@@ -25,6 +26,7 @@ config_of edition document = record {
   revision = revision_of document;
   cells = map (cell_row edition) (cells_told document);
   variables = map named_cell (variables_told document);
+  pools = map pool_row (pools_told document);
 }
 
 -- each cell has a number of its own below 4,096, and a value of its type
@@ -39,7 +41,13 @@ pub record AreVariables (cells : List CellRow) (variables : List NamedCell) : Ty
   pub present : IsTrue (list_all (λ variable. list_any (nat_eq variable.cell) (map (λ cell. cell.number) cells)) variables)
   pub few : length variables ≤ 4096
 
--- a configuration: 1 to 64 clients, a start that six octets name, three texts of 1 to 32 octets from 20 to 7E hex, cells and variables
+-- at most 256 pools, each with a name of its own and 1 to 256 tokens, no two of the same name
+pub record ArePools (pools : List PoolRow) : Type 0 where
+  pub distinct : IsTrue (are_distinct same_name (map (λ pool. pool.name) pools))
+  pub tokens : IsTrue (list_all (λ pool. is_pool pool.tokens) pools)
+  pub few : length pools ≤ 256
+
+-- a configuration: 1 to 64 clients, a start that six octets name, three texts of 1 to 32 octets from 20 to 7E hex, cells, variables and pools
 pub record IsConfig (config : Config) : Type 0 where
   pub some_client : 1 ≤ config.clients
   pub few_clients : config.clients ≤ 64
@@ -49,6 +57,7 @@ pub record IsConfig (config : Config) : Type 0 where
   pub revision : IsTrue (is_short_text config.revision)
   pub cells : AreCells config.cells
   pub variables : AreVariables config.cells config.variables
+  pub pools : ArePools config.pools
 
 -- it tells the least broken rule; want of memory tells nothing
 abbrev pub TellsBad : BadConfig → Option ℕ → Type 0

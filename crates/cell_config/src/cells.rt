@@ -2,17 +2,19 @@
 
 ghost use Rattle.std.specs.Prelude.{◌≡◌, ◌≤◌, is_some, IsTrue, IfOk, IfSome, map, option_map};
 ghost use Rattle.std.specs.List.{list_all};
+ghost use Rattle.std.specs.Option.{option_copied};
 ghost use Rattle.std.specs.Result.{result_ok};
 ghost use Rattle.hex.specs.Hex.{decode_of};
-ghost use Rattle.cell_config.specs.Cells.{is_number, number_of, numbers_of, are_numbered, hex_says, type_told, value_told, fits, are_typed, cell_row};
+ghost use Rattle.cell_config.specs.Cells.{is_guard, is_number, number_of, numbers_of, are_guarded, are_numbered, hex_says, type_told, value_told, fits, are_typed, cell_row};
 ghost use Rattle.cell_config.specs.Seen.{cell_seen};
 
+use crate::names::identifier;
 use crate::numbers::between;
 use crate::rows::CellText;
 use ber_forms::Unread;
 use hex::FromHexError;
 use indexmap::IndexSet;
-use mms_types::{CellRow, Cells, Edition, Memory};
+use mms_types::{CellRow, Cells, Edition, Identifier, Memory};
 use pdu_data::{DataValue, TypeSpecification};
 use pdu_names::{Formed, read_form};
 use std::alloc::Global;
@@ -56,6 +58,39 @@ pub(crate) fn numbers(
     Ok(Some(numbers))
 }
 
+/// Whether the name of a guard is an identifier of the edition, where there is one.
+fn is_guard(guard: Option<&str>, edition: Edition) -> bool
+    ensures { result ≡ is_guard edition (option_copied guard.entry) }
+{
+    match guard {
+        None => true,
+        Some(name) => Identifier::check(name.as_bytes(), edition).is_ok(),
+    }
+}
+
+/// Whether the guards of the cells have names that are identifiers of the edition.
+pub(crate) fn are_guarded(cells: &[CellText<'_>], edition: Edition) -> bool
+    ensures { result ≡ are_guarded edition (map cell_seen cells.now) }
+{
+    for cell in cells {
+        if !is_guard(cell.guard, edition) {
+            return false;
+        }
+    }
+    true
+}
+
+/// The name of a guard, copied.
+fn guard(alloc: Global, guard: Option<&str>, edition: Edition) -> Result<Option<Identifier>, Memory>
+    requires { IsTrue (is_guard edition (option_copied guard)) }
+    ensures { IfOk result (λ found. found ≡ option_copied guard.entry) }
+{
+    match guard {
+        None => Ok(None),
+        Some(name) => Ok(Some(identifier(alloc, name, edition)?)),
+    }
+}
+
 /// The octets that pairs of digits tell. None where they are no pairs of digits.
 fn octets(alloc: Global, hex: &str) -> Result<Option<Vec<u8>>, Memory>
     ensures { IfOk result (λ found. option_map (λ octets. octets.items) found
@@ -94,7 +129,8 @@ fn read_cell(
     cell: &CellText<'_>,
     edition: Edition,
 ) -> Result<Option<CellRow>, Memory>
-    requires { IsTrue (is_number cell.now.number) }
+    requires number { IsTrue (is_number cell.now.number) }
+    requires guard { IsTrue (is_guard edition (option_copied cell.now.guard)) }
     ensures fits { IfOk result (λ found. is_some found
         ≡ fits (type_told edition cell.now.of.now) (value_told edition cell.now.value.now)) }
     ensures row { IfOk result (λ found. IfSome found
@@ -110,7 +146,13 @@ fn read_cell(
         return Ok(None);
     }
     let number = cell.number as u16;
-    Ok(Some(CellRow { number, of, value }))
+    let guard = guard(alloc, cell.guard, edition)?;
+    Ok(Some(CellRow {
+        number,
+        of,
+        value,
+        guard,
+    }))
 }
 
 /// The cells. None where the type or the value of one is missing, or a value is not of its type.
@@ -120,6 +162,7 @@ pub(crate) fn read_cells(
     edition: Edition,
 ) -> Result<Option<Cells>, Memory>
     requires numbers { IsTrue (list_all (λ cell. is_number cell.number) (map cell_seen cells.now)) }
+    requires guards { IsTrue (are_guarded edition (map cell_seen cells.now)) }
     ensures typed { IfOk result (λ found. is_some found
         ≡ are_typed edition (map cell_seen cells.now)) }
     ensures rows { IfOk result (λ found. IfSome found

@@ -1,7 +1,7 @@
 ghost use Rattle.std.specs.Prelude.{◌≡◌};
 ghost use Rattle.cell_config.specs.declared.config.BadConfig.TheVariants.{Memory as OutOfMemory};
 
-use mms_types::{Cells, Edition, Memory, Moment, NamedCells, Octets};
+use mms_types::{Cells, Edition, Memory, Moment, NamedCells, Octets, Pools};
 use thiserror::Error;
 
 /// What a configuration says of a cell.
@@ -25,6 +25,9 @@ pub struct Config {
     /// The variables of the VMD, in the order of the text: at most 4,096, each with a name of its
     /// own and one of the cells (ISO 9506-1, named variable).
     pub variables: NamedCells,
+    /// The pools of the VMD, in the order of the text: at most 256, each with a name of its own and
+    /// 1 to 256 tokens, no two of the same name (ISO 9506-1, pool semaphore).
+    pub pools: Pools,
 }
 
 /// Why a text is no configuration.
@@ -36,12 +39,13 @@ pub enum BadConfig {
     ///   lacks a key;
     /// - 2: `clients`, `day` or `ms` is out of range;
     /// - 3: `vendor`, `model` or `revision` is not 1 to 32 octets from 20 to 7E hex;
-    /// - 4: a variable's name is no Identifier;
+    /// - 4: the name of a variable, a guard, a pool or a token is no Identifier;
     /// - 5: a cell's number is not 0 to 4,095, or two cells share one;
     /// - 6: a type or a value is not hex of one element of its form, or nests deeper than 10, or
     ///   the value is not of the type;
     /// - 7: two variables share a name, or the cell of one is missing;
-    /// - 9: there are more than 4,096 variables.
+    /// - 8: a pool has no token, more than 256, or the same twice, or two pools share a name;
+    /// - 9: there are more than 4,096 variables or 256 pools.
     #[error("rule {0} of the configuration is broken")]
     Rule(u8),
     /// There was not enough memory.

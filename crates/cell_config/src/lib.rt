@@ -4,7 +4,9 @@
 mod cells;
 mod config;
 mod keys;
+mod names;
 mod numbers;
+mod pools;
 mod read;
 mod rows;
 mod table;

@@ -1,19 +1,20 @@
 ghost use Rattle.std.specs.Prelude.{◌≡◌, Some, Err, IfOk, IfErr, map, option_map};
 ghost use Rattle.toml.specs.View.{table_view};
-ghost use Rattle.cell_config.specs.Rows.{cells_told, variables_told};
+ghost use Rattle.cell_config.specs.Rows.{cells_told, variables_told, pools_told};
 ghost use Rattle.mms_types.specs.Moments.{milliseconds};
-ghost use Rattle.cell_config.specs.Cells.{number_of, cell_row, named_cell};
+ghost use Rattle.cell_config.specs.Cells.{number_of, cell_row, named_cell, pool_row};
 ghost use Rattle.cell_config.specs.Rules.{document_of, clients_of, day_of, ms_of, vendor_of, model_of, revision_of, least_of_keys, least_of_rows, least_broken_of, least_broken};
 ghost use Rattle.cell_config.specs.Said.{config_of, IsConfig, TellsBad, TellsRule};
 
-use crate::cells::{numbers, read_cells};
+use crate::cells::{are_guarded, numbers, read_cells};
 use crate::keys::breaks_keys;
 use crate::numbers::{Numbers, read_numbers};
-use crate::rows::{cell_rows, variable_rows};
+use crate::pools::{are_few, are_named_pools, are_pools, read_pools};
+use crate::rows::{cell_rows, pool_rows, variable_rows};
 use crate::texts::{Texts, read_texts};
-use crate::variables::{are_few, are_named, are_variables, named_cells};
+use crate::variables::{are_named, are_variables, named_cells};
 use crate::{BadConfig, Config};
-use mms_types::{Cells, Edition, NamedCells, Octets};
+use mms_types::{Cells, Edition, NamedCells, Octets, Pools};
 use std::alloc::Global;
 use toml::Table;
 
@@ -35,25 +36,30 @@ fn document(alloc: Global, text: &[u8], edition: Edition) -> Result<Table, BadCo
     }
 }
 
-/// The cells and the variables of a document.
+/// The cells, the variables and the pools of a document.
 #[derive(Drop)]
 struct Rows {
     cells: Cells,
     variables: NamedCells,
+    pools: Pools,
 }
 
-/// The cells and the variables that a document tells, or the least rule of theirs that it breaks.
+/// The cells, the variables and the pools that a document tells, or the least rule of theirs that it breaks.
 fn read_rows(alloc: Global, document: &Table, edition: Edition) -> Result<Rows, BadConfig>
     ensures cells { IfOk result (λ rows. rows.cells
         ≡ map (cell_row edition) (cells_told (table_view document.now))) }
     ensures variables { IfOk result (λ rows. rows.variables
         ≡ map named_cell (variables_told (table_view document.now))) }
+    ensures pools { IfOk result (λ rows. rows.pools
+        ≡ map pool_row (pools_told (table_view document.now))) }
     ensures rule { TellsRule result (least_of_rows edition (table_view document.now)) }
 {
     let cells = cell_rows(alloc, document)?;
     let variables = variable_rows(alloc, document)?;
     let variables = variables.as_slice();
-    if !are_named(variables, edition) {
+    let pools = pool_rows(alloc, document)?;
+    let named = are_named(variables, edition);
+    if !(named && are_guarded(&cells, edition) && are_named_pools(&pools, edition)) {
         return Err(BadConfig::Rule(4));
     }
     let Some(numbers) = numbers(alloc, &cells)? else {
@@ -65,11 +71,19 @@ fn read_rows(alloc: Global, document: &Table, edition: Edition) -> Result<Rows, 
     if !are_variables(alloc, &numbers, variables)? {
         return Err(BadConfig::Rule(7));
     }
-    if !are_few(variables) {
+    if !are_pools(alloc, &pools)? {
+        return Err(BadConfig::Rule(8));
+    }
+    if !are_few(variables, &pools) {
         return Err(BadConfig::Rule(9));
     }
     let variables = named_cells(alloc, variables, edition)?;
-    Ok(Rows { cells, variables })
+    let pools = read_pools(alloc, &pools, edition)?;
+    Ok(Rows {
+        cells,
+        variables,
+        pools,
+    })
 }
 
 /// The numbers and the texts of a document.
@@ -112,7 +126,11 @@ fn config(alloc: Global, document: &Table, edition: Edition) -> Result<Config, B
     ensures rule { TellsRule result (least_broken_of edition (table_view document.now)) }
 {
     let Own { numbers, texts } = read_own(document)?;
-    let Rows { cells, variables } = read_rows(alloc, document, edition)?;
+    let Rows {
+        cells,
+        variables,
+        pools,
+    } = read_rows(alloc, document, edition)?;
     Ok(Config {
         edition,
         clients: numbers.clients,
@@ -122,14 +140,15 @@ fn config(alloc: Global, document: &Table, edition: Edition) -> Result<Config, B
         revision: Octets::from_slice(alloc, texts.revision.as_bytes())?,
         cells,
         variables,
+        pools,
     })
 }
 
 /// The configuration that a text tells in an edition. A text that breaks a rule gives `Rule` with
 /// the least one that it breaks; what breaks none gives the configuration, or want of memory. Every
-/// key of the document may be left out, and a row has all of its keys. Names, types and values are
-/// those of the edition. Types and values are hex of one element each (ISO 9506-2,
-/// TypeSpecification and Data).
+/// key of the document may be left out, and a row has all of its keys but `guard`, which may be left
+/// out. Names, types and values are those of the edition. Types and values are hex of one element
+/// each (ISO 9506-2, TypeSpecification and Data).
 #[tactic(auto, using(crate::proofs::Holding::told_holds))]
 pub fn read_config(alloc: Global, text: &[u8], edition: Edition) -> Result<Config, BadConfig>
     ensures config { IfOk result (λ config. option_map (config_of edition) (document_of text.now)

@@ -2,7 +2,7 @@ ghost use Rattle.std.specs.Prelude.{◌≡◌, option_map, option_and_then, is_s
 ghost use Rattle.std.specs.Option.{option_copied};
 ghost use Rattle.toml.specs.Data.{get_member, as_integer, as_str, as_array};
 ghost use Rattle.toml.specs.View.{table_view, view, items_view};
-ghost use Rattle.cell_config.specs.Rows.{has_integer, has_text, tables_in, rows_at};
+ghost use Rattle.cell_config.specs.Rows.{has_integer, has_text, may_have_text, tables_in, rows_at, texts_in, texts_at};
 
 use toml::{Table, Value};
 
@@ -47,9 +47,20 @@ pub(crate) fn has_text(table: &Table, key: &str) -> bool
     text_at(table, key).is_some()
 }
 
+/// Whether there is a text at the key, or nothing.
+pub(crate) fn may_have_text(table: &Table, key: &str) -> bool
+    ensures { result ≡ may_have_text key.now (table_view table.now) }
+{
+    match value_at(table, key) {
+        Some(value) => value.is_str(),
+        None => true,
+    }
+}
+
 /// The items of the array at a key, or none where there is no array.
 pub(crate) fn items_at<'a>(table: &'a Table, key: &str) -> &'a [Value]
-    ensures { tables_in (items_view result.now) ≡ rows_at key.now (table_view table.now) }
+    ensures tables { tables_in (items_view result.now) ≡ rows_at key.now (table_view table.now) }
+    ensures texts { texts_in (items_view result.now) ≡ texts_at key.now (table_view table.now) }
 {
     match value_at(table, key) {
         Some(value) => match value.as_array() {

@@ -3,13 +3,14 @@
 ghost use Rattle.std.specs.Prelude.{◌≡◌, IsTrue, IfOk, map};
 ghost use Rattle.std.specs.List.{list_all};
 ghost use Rattle.mms_types.specs.Spelling.{is_identifier};
-ghost use Rattle.cell_config.specs.Cells.{is_number, is_among, are_named, are_variables, are_few, named_cell};
+ghost use Rattle.cell_config.specs.Cells.{is_number, is_among, are_named, are_variables, named_cell};
 ghost use Rattle.cell_config.specs.Seen.{variable_seen};
 
 use crate::cells::cell_number;
+use crate::names::identifier;
 use crate::rows::VariableText;
 use indexmap::IndexSet;
-use mms_types::{Edition, Identifier, Memory, NamedCell, NamedCells, Unnamed};
+use mms_types::{Edition, Identifier, Memory, NamedCell, NamedCells};
 use std::alloc::Global;
 
 /// Whether each name is an identifier of the edition.
@@ -55,13 +56,6 @@ pub(crate) fn are_variables(
     Ok(true)
 }
 
-/// Whether there are at most 4,096 variables.
-pub(crate) fn are_few(variables: &[VariableText<'_>]) -> bool
-    ensures { result ≡ are_few (map variable_seen variables.now) }
-{
-    variables.len() <= 4096
-}
-
 /// A variable with its name, copied.
 fn named_cell(
     alloc: Global,
@@ -72,14 +66,10 @@ fn named_cell(
     requires cell { IsTrue (is_number variable.now.cell) }
     ensures { IfOk result (λ named. named ≡ named_cell (variable_seen variable.now)) }
 {
-    match Identifier::read(alloc, variable.name.as_bytes(), edition) {
-        Ok(name) => Ok(NamedCell {
-            name,
-            cell: variable.cell as u16,
-        }),
-        Err(Unnamed::Memory) => Err(Memory),
-        Err(Unnamed::Bad(_)) => unreachable!(),
-    }
+    Ok(NamedCell {
+        name: identifier(alloc, variable.name, edition)?,
+        cell: variable.cell as u16,
+    })
 }
 
 /// The variables, their names copied.
