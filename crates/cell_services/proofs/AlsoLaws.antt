@@ -10,10 +10,11 @@ use Rattle.mms_types.specs.declared.pdu.Answer.TheVariants as answer
 use Rattle.mms_types.specs.declared.semaphore.RelinquishControl.{RelinquishControl}
 use Rattle.mms_types.specs.declared.semaphore.TakeControl.{TakeControl}
 use Rattle.mms_types.specs.declared.service_error.ServiceError.{ServiceError}
-use Rattle.token_sem.specs.declared.entry.Grant.{Grant}
-use Rattle.mms_time.specs.Loss.{lost_grants}
+use Rattle.sem_ticks.specs.declared.granted.Granted.{Granted}
+use Rattle.sem_ticks.specs.Granted.{lost_granted}
 use Rattle.mms_time.specs.Semaphores.{Rows}
-use Rattle.mms_time.specs.Services.{relinquish_cause, relinquish_grant, take_told}
+use Rattle.mms_time.specs.Services.{relinquish_cause, take_told}
+use Rattle.sem_ticks.specs.Granted.{relinquish_granted}
 use Rattle.mms_time.specs.declared.taking.TakeDone.{TakeDone}
 use Rattle.mms_time.specs.declared.taking.TakeDone.TheVariants.{Answered, Waits as Waiting}
 use Rattle.sem_ticks.specs.declared.ticks.Happening.{Happening}
@@ -40,7 +41,7 @@ twice : (b r s : Bool) → r ≡ s → (b || (b || r)) ≡ (b || s)
 twice true r s same = refl
 twice false r s same = same
 
-pub grants_reach : (grants : List Grant) (k : ℕ) → is_told (grants_told grants) k ≡ list_any (λ c. c == k) (grant_clients grants)
+pub grants_reach : (grants : List Granted) (k : ℕ) → is_told (grants_told grants) k ≡ list_any (λ c. c == k) (grant_clients grants)
 grants_reach [] k = refl
 grants_reach (g ∷ grants) k = twice (g.client == k) _ _ (grants_reach grants k)
 
@@ -57,11 +58,11 @@ happened_clients happened clients is k = happening_reaches happened k ∙ ap (li
 
 -- ---- a client is lost
 
-pub loss_reaches : (rows : Rows) (now : Moment) (client : ℕ) (clients : List ℕ) → clients ≡ grant_clients (lost_grants client now rows)
+pub loss_reaches : (rows : Rows) (now : Moment) (client : ℕ) (clients : List ℕ) → clients ≡ grant_clients (lost_granted client now rows)
     → (t : Tables) → t.semaphores ≡ rows → t.now ≡ now.0 → (k : ℕ) → is_told (loss_also client t) k ≡ list_any (λ c. c == k) clients
 loss_reaches rows now client clients is t same at k =
-    ap₂ (λ (m : Moment) (r : Rows). is_told (grants_told (lost_grants client m r)) k) (sym (moment_given t now (sym at))) same
-    ∙ grants_reach (lost_grants client now rows) k
+    ap₂ (λ (m : Moment) (r : Rows). is_told (grants_told (lost_granted client m r)) k) (sym (moment_given t now (sym at))) same
+    ∙ grants_reach (lost_granted client now rows) k
     ∙ ap (list_any (λ (c : ℕ). c == k)) (sym is)
 
 -- ---- a request is served
@@ -74,28 +75,28 @@ chosen_none true = refl
 chosen_none false = refl
 
 -- by its cause, and who is granted the token
-abbrev also_of : Tables → ClientRow → ℕ → RelinquishControl → Option ServiceError → Option (Option Grant) → List (ℕ × Effect)
+abbrev also_of : Tables → ClientRow → ℕ → RelinquishControl → Option ServiceError → Option (Option Granted) → List (ℕ × Effect)
 also_of t row invoke x c g =
     if is_done (size_of row.association) invoke c (relinquish_outcome t row.client x g).answer then (relinquish_outcome t row.client x g).also else []
 
-also_is : (t : Tables) (rows : Rows) (row : ClientRow) (invoke : ℕ) (x : RelinquishControl) (c : Option ServiceError) (g : Option (Option Grant))
-    → t.semaphores ≡ rows → relinquish_cause row.client x rows ≡ c → relinquish_grant row.client x rows ≡ g
+also_is : (t : Tables) (rows : Rows) (row : ClientRow) (invoke : ℕ) (x : RelinquishControl) (c : Option ServiceError) (g : Option (Option Granted))
+    → t.semaphores ≡ rows → relinquish_cause row.client x rows ≡ c → relinquish_granted row.client x rows ≡ g
     → also_told t row (Takes invoke (request.RelinquishControl x)) ≡ also_of t row invoke x c g
 also_is t rows row invoke x c g same cause grant =
-    ap₂ (λ (d : Option ServiceError) (h : Option (Option Grant)). also_of t row invoke x d h)
-    (ap (λ (r : Rows). relinquish_cause row.client x r) same ∙ cause) (ap (λ (r : Rows). relinquish_grant row.client x r) same ∙ grant)
+    ap₂ (λ (d : Option ServiceError) (h : Option (Option Granted)). also_of t row invoke x d h)
+    (ap (λ (r : Rows). relinquish_cause row.client x r) same ∙ cause) (ap (λ (r : Rows). relinquish_granted row.client x r) same ∙ grant)
 
 -- refused: nobody else is told anything
 pub none_if_refused : (rows : Rows) (row : ClientRow) (invoke : ℕ) (x : RelinquishControl) (e : ServiceError) (clients : List ℕ)
     → relinquish_cause row.client x rows ≡ Some e → clients ≡ []
     → (t : Tables) → t.semaphores ≡ rows → AlsoTells t row (Takes invoke (request.RelinquishControl x)) clients
 none_if_refused rows row invoke x e clients cause none t same k other =
-    ap (λ (l : List (ℕ × Effect)). is_told l k) (also_is t rows row invoke x (Some e) (relinquish_grant row.client x rows) same cause refl)
+    ap (λ (l : List (ℕ × Effect)). is_told l k) (also_is t rows row invoke x (Some e) (relinquish_granted row.client x rows) same cause refl)
     ∙ ap (list_any (λ (c : ℕ). c == k)) (sym none)
 
 -- the token is granted to nobody
 pub none_if_free : (rows : Rows) (row : ClientRow) (invoke : ℕ) (x : RelinquishControl) (clients : List ℕ)
-    → relinquish_cause row.client x rows ≡ None → relinquish_grant row.client x rows ≡ Some None → clients ≡ []
+    → relinquish_cause row.client x rows ≡ None → relinquish_granted row.client x rows ≡ Some None → clients ≡ []
     → (t : Tables) → t.semaphores ≡ rows → AlsoTells t row (Takes invoke (request.RelinquishControl x)) clients
 none_if_free rows row invoke x clients cause grant none t same k other =
     ap (λ (l : List (ℕ × Effect)). is_told l k)
@@ -103,8 +104,8 @@ none_if_free rows row invoke x clients cause grant none t same k other =
     ∙ ap (list_any (λ (c : ℕ). c == k)) (sym none)
 
 -- it is granted, and the answer fits
-pub one_if_granted : (rows : Rows) (row : ClientRow) (invoke : ℕ) (x : RelinquishControl) (g : Grant) (clients : List ℕ)
-    → relinquish_cause row.client x rows ≡ None → relinquish_grant row.client x rows ≡ Some (Some g)
+pub one_if_granted : (rows : Rows) (row : ClientRow) (invoke : ℕ) (x : RelinquishControl) (g : Granted) (clients : List ℕ)
+    → relinquish_cause row.client x rows ≡ None → relinquish_granted row.client x rows ≡ Some (Some g)
     → fits (size_of row.association) invoke (Some answer.RelinquishControl) ≡ true → clients ≡ g.client ∷ []
     → (t : Tables) → t.semaphores ≡ rows → AlsoTells t row (Takes invoke (request.RelinquishControl x)) clients
 one_if_granted rows row invoke x g clients cause grant fit one t same k other =
@@ -115,8 +116,8 @@ one_if_granted rows row invoke x g clients cause grant fit one t same k other =
     ∙ ap (list_any (λ (c : ℕ). c == k)) (sym one)
 
 -- it would be granted, and the answer is too long
-pub none_if_too_long : (rows : Rows) (row : ClientRow) (invoke : ℕ) (x : RelinquishControl) (g : Grant) (clients : List ℕ)
-    → relinquish_cause row.client x rows ≡ None → relinquish_grant row.client x rows ≡ Some (Some g)
+pub none_if_too_long : (rows : Rows) (row : ClientRow) (invoke : ℕ) (x : RelinquishControl) (g : Granted) (clients : List ℕ)
+    → relinquish_cause row.client x rows ≡ None → relinquish_granted row.client x rows ≡ Some (Some g)
     → fits (size_of row.association) invoke (Some answer.RelinquishControl) ≡ false → clients ≡ []
     → (t : Tables) → t.semaphores ≡ rows → AlsoTells t row (Takes invoke (request.RelinquishControl x)) clients
 none_if_too_long rows row invoke x g clients cause grant fit none t same k other =

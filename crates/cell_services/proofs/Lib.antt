@@ -1,3 +1,4 @@
 pub mod AlsoLaws
+pub mod GuardLaws
 pub mod PlanLaws
 pub mod TimeLaws

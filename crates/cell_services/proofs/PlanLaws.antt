@@ -1,6 +1,7 @@
 -- Requests that the row of their client alone answers, and what is left to be done on the tables.
-use Rattle.std.specs.Prelude.{◌≡◌, ℕ, Bool, true, false, Option, None, Some, List, [], ◌∷◌, ◌++◌, if◌then◌else◌, refl}
+use Rattle.std.specs.Prelude.{◌≡◌, ℕ, Bool, true, false, Option, None, Some, List, [], ◌∷◌, ◌++◌, Result, Ok, Err, IfOk, OnOk, if◌then◌else◌, refl}
 use Rattle.std.proofs.Common.{ap, ap₂, sym, ◌∙◌, subst}
+use Rattle.mms_types.specs.declared.memory.Memory.{Memory}
 use Rattle.mms_types.specs.declared.pdu.Request.{Request}
 use Rattle.mms_types.specs.declared.pdu.Request.TheVariants as request
 use Rattle.mms_types.specs.declared.pdu.Answer.{Answer}
@@ -12,7 +13,8 @@ use Rattle.cell_services.specs.declared.acts.Act.TheVariants as act
 use Rattle.cell_services.specs.Tables.{Tables}
 use Rattle.cell_services.specs.Effects.{Effect, felt_all, settled, tell}
 use Rattle.cell_services.specs.Association.{Verdict, Tells, Takes, Concludes, Cancels, Aborts}
-use Rattle.cell_services.specs.Services.{Outcome, answers, cause, effect, plain_answer, fits, is_done, request_told}
+use Rattle.cell_services.specs.Services.{Outcome, answers, cause, effect, owned_guards, plain_answer, fits, is_done, request_told, variables_written, write_told}
+use Rattle.mms_time.specs.Semaphores.{Rows}
 use Rattle.cell_services.specs.Serving.{hears, own_told, size_of}
 use Rattle.cell_services.specs.Meant.{no_tables, row_after, IsPlainlyHeard}
 use Rattle.mms_types.specs.declared.pdu.Answer.TheVariants as answer
@@ -94,36 +96,36 @@ read_heard t row client invoke x =
 
 write_heard : (t : Tables) (row : ClientRow) (client invoke : ℕ) (x : Write) → hears t row client (Takes invoke (request.Write x))
     ≡ record {
-      tables = record t {
-        variables = if is_done (size_of row.association) invoke (write_cause row.client x t.variables) (Some (answer.Write (write_answer row.client x t.variables)))
-            then write_after row.client x t.variables else t.variables;
-      };
-      told = tell client (request_told (size_of row.association) invoke (write_cause row.client x t.variables) (Some (answer.Write (write_answer row.client x t.variables))));
+      tables = record t { variables = variables_written (size_of row.association) invoke row.client x t.variables t.semaphores };
+      told = tell client (write_told (size_of row.association) invoke row.client x t.variables t.semaphores);
     }
 write_heard t row client invoke x =
-    by_test (is_done (size_of row.association) invoke (write_cause row.client x t.variables) (Some (answer.Write (write_answer row.client x t.variables))))
-    ∙ ap (λ (l : List (ℕ × Effect)). at (written (is_done (size_of row.association) invoke (write_cause row.client x t.variables) (Some (answer.Write (write_answer row.client x t.variables))))) l) (append_none told)
+    by_test (is_done (size_of row.association) invoke (write_cause row.client x t.variables) (Some (answer.Write (write_answer owned row.client x t.variables))))
+    ∙ ap (λ (l : List (ℕ × Effect)). at (record t { variables = variables_written (size_of row.association) invoke row.client x t.variables t.semaphores }) l) (append_none told)
   where
+    owned : List Bool
+    owned = owned_guards row.client x t.variables t.semaphores
+
     at : Tables → List (ℕ × Effect) → Done Tables Effect
     at u l = record { tables = u; told = l }
 
     written : Bool → Tables
-    written b = record t { variables = if b then write_after row.client x t.variables else t.variables }
+    written b = record t { variables = if b then write_after owned row.client x t.variables else t.variables }
 
     told : List (ℕ × Effect)
-    told = tell client (request_told (size_of row.association) invoke (write_cause row.client x t.variables) (Some (answer.Write (write_answer row.client x t.variables))))
+    told = tell client (write_told (size_of row.association) invoke row.client x t.variables t.semaphores)
 
-    by_test : (b : Bool) → at (if b then record t { variables = write_after row.client x t.variables } else t) (told ++ (if b then [] else [])) ≡ at (written b) (told ++ [])
+    by_test : (b : Bool) → at (if b then record t { variables = write_after owned row.client x t.variables } else t) (told ++ (if b then [] else [])) ≡ at (written b) (told ++ [])
     by_test true = refl
     by_test false = refl
 
-pub read_done : (row : ClientRow) (variables : VariableTables) (new : RoomyRow) (invoke : ℕ) (x : Read)
+pub read_done : (row : ClientRow) (semaphores : Rows) (variables : VariableTables) (new : RoomyRow) (invoke : ℕ) (x : Read)
     → new ≡ settled (felt_all (request_told (size_of row.association) invoke (read_cause row.client x variables) (Some (answer.Read (read_answer row.client x variables)))) row)
-    → IsDoneOn row variables variables new (Takes invoke (request.Read x))
-read_done row variables new invoke x is = record {
+    → IsDoneOn row semaphores variables variables new (Takes invoke (request.Read x))
+read_done row semaphores variables new invoke x is = record {
   effects = request_told (size_of row.association) invoke (read_cause row.client x variables) (Some (answer.Read (read_answer row.client x variables)));
   is = is;
-  done = λ t client same. read_heard t row client invoke x
+  done = λ t client same beside. read_heard t row client invoke x
       ∙ ap (λ (v : VariableTables). at t client v) same;
 }
   where
@@ -133,31 +135,37 @@ read_done row variables new invoke x is = record {
       told = tell client (request_told (size_of row.association) invoke (read_cause row.client x v) (Some (answer.Read (read_answer row.client x v))));
     }
 
-pub write_done : (row : ClientRow) (was now : VariableTables) (new : RoomyRow) (invoke : ℕ) (x : Write)
-    → new ≡ settled (felt_all (request_told (size_of row.association) invoke (write_cause row.client x was) (Some (answer.Write (write_answer row.client x was)))) row)
-    → now ≡ (if is_done (size_of row.association) invoke (write_cause row.client x was) (Some (answer.Write (write_answer row.client x was))) then write_after row.client x was else was)
-    → IsDoneOn row was now new (Takes invoke (request.Write x))
-write_done row was now new invoke x is becomes = record {
-  effects = request_told (size_of row.association) invoke (write_cause row.client x was) (Some (answer.Write (write_answer row.client x was)));
+pub write_done : (row : ClientRow) (semaphores : Rows) (was now : VariableTables) (new : RoomyRow) (invoke : ℕ) (x : Write)
+    → new ≡ settled (felt_all (write_told (size_of row.association) invoke row.client x was semaphores) row)
+    → now ≡ variables_written (size_of row.association) invoke row.client x was semaphores
+    → IsDoneOn row semaphores was now new (Takes invoke (request.Write x))
+write_done row semaphores was now new invoke x is becomes = record {
+  effects = write_told (size_of row.association) invoke row.client x was semaphores;
   is = is;
-  done = λ t client same. write_heard t row client invoke x
-      ∙ ap (λ (v : VariableTables). at t client v) same
+  done = λ t client same beside. write_heard t row client invoke x
+      ∙ ap₂ (λ (v : VariableTables) (rows : Rows). at t client v rows) same beside
       ∙ ap (λ (v : VariableTables). with_told t client v) (sym becomes);
 }
   where
     with_told : Tables → ℕ → VariableTables → Done Tables Effect
     with_told t client v = record {
       tables = record t { variables = v };
-      told = tell client (request_told (size_of row.association) invoke (write_cause row.client x was) (Some (answer.Write (write_answer row.client x was))));
+      told = tell client (write_told (size_of row.association) invoke row.client x was semaphores);
     }
 
-    at : Tables → ℕ → VariableTables → Done Tables Effect
-    at t client v = record {
-      tables = record t {
-        variables = if is_done (size_of row.association) invoke (write_cause row.client x v) (Some (answer.Write (write_answer row.client x v))) then write_after row.client x v else v;
-      };
-      told = tell client (request_told (size_of row.association) invoke (write_cause row.client x v) (Some (answer.Write (write_answer row.client x v))));
+    at : Tables → ℕ → VariableTables → Rows → Done Tables Effect
+    at t client v rows = record {
+      tables = record t { variables = variables_written (size_of row.association) invoke row.client x v rows };
+      told = tell client (write_told (size_of row.association) invoke row.client x v rows);
     }
+
+pub write_served : (result : Result Bool Memory) (row : ClientRow) (semaphores : Rows) (was now : VariableTables) (new : RoomyRow) (invoke : ℕ) (x : Write) (asked : Request)
+    → request.Write x ≡ asked → OnOk result (new ≡ settled (felt_all (write_told (size_of row.association) invoke row.client x was semaphores) row))
+    → OnOk result (now ≡ variables_written (size_of row.association) invoke row.client x was semaphores)
+    → IfOk result (λ done. done ≡ true → IsDoneOn row semaphores was now new (Takes invoke asked))
+write_served (Ok done) row semaphores was now new invoke x asked same told written =
+    λ is. subst (λ (r : Request). IsDoneOn row semaphores was now new (Takes invoke r)) same (write_done row semaphores was now new invoke x told written)
+write_served (Err memory) row semaphores was now new invoke x asked same told written = tt
 
 pub plainly_told : (row : ClientRow) (new : RoomyRow) (effects : List Effect) → new ≡ settled (felt_all effects row) → IsPlainlyHeard row new (Tells effects)
 plainly_told row new effects told = record { is = told; alone = λ t client. ap (λ (l : List (ℕ × Effect)). at t l) (append_none (tell client effects)) }

@@ -7,6 +7,7 @@ use Rattle.mms_types.specs.declared.service_error.ServiceError.{ServiceError}
 use Rattle.mms_pdu.specs.declared.refusal.Refusal.{Refusal}
 use Rattle.mms_pdu.specs.declared.reading.Read.{Read}
 use Rattle.association.specs.Client.{ClientRow, Client as RoomyRow}
+use Rattle.mms_time.specs.Semaphores.{Rows}
 use Rattle.variable_services.specs.declared.tables.VariableTables.{VariableTables}
 use Rattle.parted_state.specs.Served.{Done}
 use Rattle.cell_services.specs.declared.tables.Change.{Change}
@@ -63,9 +64,10 @@ IsActOf row v a = (t : Tables) (client : ℕ) → act_done t row client a ≡ he
 abbrev pub verdict_read : ClientRow → Result Read Refusal → Verdict
 verdict_read row read = verdict_by row.association row (pdu_read read)
 
--- A verdict on what the client of a row sends is done on the row and the variables alone: the client is told something, nobody else is, and of the tables
--- the variables alone become others.
-pub record IsDoneOn (row : ClientRow) (was now : VariableTables) (new : RoomyRow) (v : Verdict) : Type 0 where
+-- A verdict on what the client of a row sends is done on the row and the variables alone, beside these semaphores: the client is told something, nobody else
+-- is, and of the tables the variables alone become others.
+pub record IsDoneOn (row : ClientRow) (semaphores : Rows) (was now : VariableTables) (new : RoomyRow) (v : Verdict) : Type 0 where
   pub effects : List Effect
   pub is : new ≡ settled (felt_all effects row)
-  pub done : (t : Tables) (client : ℕ) → t.variables ≡ was → hears t row client v ≡ record { tables = record t { variables = now }; told = tell client effects }
+  pub done : (t : Tables) (client : ℕ) → t.variables ≡ was → t.semaphores ≡ semaphores
+      → hears t row client v ≡ record { tables = record t { variables = now }; told = tell client effects }

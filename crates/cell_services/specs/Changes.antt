@@ -23,13 +23,13 @@ abbrev pub changed : Change → Tables → Tables
 changed Nothing t = t
 changed (Passes ms) t = record t { now = t.now + ms }
 changed (Ticks ms rows clients) t = record { now = t.now + ms; variables = without_clients clients.items t.variables; semaphores = rows }
-changed (Writes client asked values) t = with_variables t (write_after client asked.now t.variables)
+changed (Writes client owned asked values) t = with_variables t (write_after owned.items client asked.now t.variables)
 changed (Defines client asked) t = with_variables t (define_after client asked.now t.variables)
 changed (DefinesList client asked) t = with_variables t (define_list_after client asked.now t.variables)
 changed (Deletes selection) t = with_variables t (record t.variables { vars = variables.without (selected selection) t.variables.vars })
 changed (DeletesLists selection) t = with_variables t (record t.variables { lists = lists.without (selected selection) t.variables.lists })
 changed (Takes client invoke asked) t = with_semaphores t (take_after client invoke (moment_of t) asked.now t.semaphores)
-changed (Relinquishes client key) t = with_semaphores t (relinquished key client (moment_of t) t.semaphores)
+changed (Relinquishes client key asked) t = with_semaphores t (relinquished key client asked.now.token (moment_of t) t.semaphores)
 changed (Cancels key entry) t = with_semaphores t (cancelled key entry t.semaphores)
 changed (DefinesSemaphore client asked) t = with_semaphores t (semaphores.define_after client asked.now t.semaphores)
 changed (DeletesSemaphore key) t = with_semaphores t (deleted key t.semaphores)
@@ -40,13 +40,13 @@ abbrev pub MayChange : Change → Tables → Type 0
 MayChange Nothing t = Unit {0}
 MayChange (Passes ms) t = t.now + ms ≤ last_moment
 MayChange (Ticks ms rows clients) t = t.now + ms ≤ last_moment
-MayChange (Writes client asked values) t = (write_cause client asked.now t.variables ≡ None) × (values ≡ asked.now.values)
+MayChange (Writes client owned asked values) t = (write_cause client asked.now t.variables ≡ None) × (values ≡ asked.now.values)
 MayChange (Defines client asked) t = (live : Bool) × (define_cause live client asked.now t.variables ≡ None)
 MayChange (DefinesList client asked) t = (live : Bool) × (define_list_cause live client asked.now t.variables ≡ None)
 MayChange (Deletes selection) t = Unit {0}
 MayChange (DeletesLists selection) t = Unit {0}
 MayChange (Takes client invoke asked) t = Unit {0}
-MayChange (Relinquishes client key) t = Unit {0}
+MayChange (Relinquishes client key asked) t = Unit {0}
 MayChange (Cancels key entry) t = Unit {0}
 MayChange (DefinesSemaphore client asked) t = (live : Bool) × (semaphores.define_cause live client asked.now t.semaphores ≡ None)
 MayChange (DeletesSemaphore key) t = Unit {0}

@@ -3,7 +3,7 @@ use Rattle.std.specs.Prelude.{◌≡◌, ◌≢◌, ◌==◌, ℕ, Bool, true, f
 use Rattle.std.specs.List.{list_any}
 use Rattle.association.specs.Client.{ClientRow}
 use Rattle.parted_state.specs.Served.{is_told}
-use Rattle.token_sem.specs.declared.entry.Grant.{Grant}
+use Rattle.sem_ticks.specs.declared.granted.Granted.{Granted}
 use Rattle.sem_ticks.specs.declared.ticks.Happening.{Happening}
 use Rattle.sem_ticks.specs.declared.ticks.Happening.TheVariants.{WaitEnds, Grants, Aborts}
 use Rattle.cell_services.specs.Association.{Verdict}
@@ -14,7 +14,7 @@ use Rattle.cell_services.specs.Tables.{Tables}
 abbrev pub AlsoTells : Tables → ClientRow → Verdict → List ℕ → Type 0
 AlsoTells t row v clients = (k : ℕ) → row.client ≢ k → is_told (also_told t row v) k ≡ list_any (λ c. c == k) clients
 
-abbrev pub grant_clients : List Grant → List ℕ
+abbrev pub grant_clients : List Granted → List ℕ
 grant_clients grants = map (λ g. g.client) grants
 
 abbrev pub client_of : Happening → ℕ

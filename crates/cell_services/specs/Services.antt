@@ -1,6 +1,6 @@
 -- The confirmed services: why a request is refused, and what it does otherwise (ISO 9506-1, VMD support, variable access and semaphore
 -- management).
-use Rattle.std.specs.Prelude.{ℕ, Bool, true, false, ◌||◌, List, [], ◌∷◌, Option, None, Some, is_some, option_to_list, nat_le, nat_lt, take, length, if◌then◌else◌}
+use Rattle.std.specs.Prelude.{◌≡◌, ℕ, Bool, true, false, ◌||◌, List, [], ◌∷◌, Option, None, Some, is_some, option_to_list, nat_le, nat_lt, take, length, if◌then◌else◌}
 use Rattle.std.specs.List.{flat_map, list_any}
 use Rattle.std.specs.Option.{option_map}
 use Rattle.mms_types.specs.declared.object_name.ObjectName.{ObjectName}
@@ -14,9 +14,11 @@ use Rattle.variable_services.specs.declared.tables.VariableTables.{VariableTable
 use Rattle.variable_services.specs.Services as variable
 use Rattle.mms_types.specs.declared.semaphore.RelinquishControl.{RelinquishControl}
 use Rattle.mms_types.specs.declared.semaphore.TakeControl.{TakeControl}
-use Rattle.mms_types.specs.declared.semaphore.TakeControlAnswer.TheVariants.{NoResult}
-use Rattle.token_sem.specs.declared.entry.Grant.{Grant}
+use Rattle.mms_types.specs.declared.variable.Write.{Write}
+use Rattle.mms_time.specs.Guards.{owns_guard}
+use Rattle.sem_ticks.specs.declared.granted.Granted.{Granted}
 use Rattle.mms_time.specs.Semaphores.{Rows}
+use Rattle.sem_ticks.specs.Granted.{relinquish_granted}
 use Rattle.mms_time.specs.Services as semaphore
 use Rattle.mms_time.specs.Statuses as semaphore_status
 use Rattle.mms_time.specs.declared.taking.TakeDone.{TakeDone}
@@ -99,11 +101,11 @@ becomes t variables told = record { tables = record t { variables = variables };
 abbrev pub becomes_semaphores : Tables → Rows → Answer → List (ℕ × Effect) → Outcome
 becomes_semaphores t rows told also = record { tables = record t { semaphores = rows }; answer = Some told; also = also }
 
--- a client that waited for a token of a semaphore has one: its request waits no more, and is answered; equal tokens have no names
-abbrev pub grant_told : Grant → List (ℕ × Effect)
-grant_told g = (g.client, Answers g.invoke) ∷ (g.client, sends (pdu.ConfirmedResponse g.invoke (answer.TakeControl NoResult))) ∷ []
+-- a client that waited for a token of a semaphore has one: its request waits no more, and is answered
+abbrev pub grant_told : Granted → List (ℕ × Effect)
+grant_told g = (g.client, Answers g.invoke) ∷ (g.client, sends (pdu.ConfirmedResponse g.invoke (answer.TakeControl g.answer))) ∷ []
 
-abbrev pub grants_told : List Grant → List (ℕ × Effect)
+abbrev pub grants_told : List Granted → List (ℕ × Effect)
 grants_told grants = flat_map grant_told grants
 
 -- a request for a token is answered, or it waits
@@ -118,10 +120,14 @@ take_outcome t client invoke x (Some (Waiting entry)) = record {
 }
 
 -- a token is given back, and who is granted it is told
-abbrev pub relinquish_outcome : Tables → ℕ → RelinquishControl → Option (Option Grant) → Outcome
+abbrev pub relinquish_outcome : Tables → ℕ → RelinquishControl → Option (Option Granted) → Outcome
 relinquish_outcome t client x None = answers t None
 relinquish_outcome t client x (Some grant) =
     becomes_semaphores t (semaphore.relinquish_after client (moment_of t) x t.semaphores) answer.RelinquishControl (grants_told (option_to_list grant))
+
+-- for each variable of a write, in order, whether the client owns a token of the semaphore that guards it, where one does
+abbrev pub owned_guards : ℕ → Write → VariableTables → Rows → List Bool
+owned_guards client x variables rows = variable.guards_owned (λ guard. owns_guard client guard rows) client x variables
 
 -- the device's texts
 abbrev pub identity : ClientRow → Answer
@@ -169,7 +175,9 @@ effect t row invoke (request.GetNameList x) = answers t (Some (answer.GetNameLis
 effect t row invoke (request.Status asked) = answers t (plain_answer row (request.Status asked))
 effect t row invoke request.Identify = answers t (plain_answer row request.Identify)
 effect t row invoke (request.Read x) = answers t (Some (answer.Read (variable.read_answer row.client x t.variables)))
-effect t row invoke (request.Write x) = becomes t (variable.write_after row.client x t.variables) (answer.Write (variable.write_answer row.client x t.variables))
+effect t row invoke (request.Write x) =
+    becomes t (variable.write_after (owned_guards row.client x t.variables t.semaphores) row.client x t.variables)
+    (answer.Write (variable.write_answer (owned_guards row.client x t.variables t.semaphores) row.client x t.variables))
 effect t row invoke (request.GetVariableAccessAttributes x) =
     answers t (option_map answer.GetVariableAccessAttributes (variable.attributes_answer row.client x t.variables))
 effect t row invoke (request.DefineNamedVariable x) = becomes t (variable.define_after row.client x t.variables) answer.DefineNamedVariable
@@ -181,12 +189,13 @@ effect t row invoke (request.GetNamedVariableListAttributes x) =
 effect t row invoke (request.DeleteNamedVariableList x) =
     becomes t (variable.delete_lists_after row.client x t.variables) (answer.DeleteNamedVariableList (variable.delete_lists_answer row.client x t.variables))
 effect t row invoke (request.TakeControl x) = take_outcome t row.client invoke x (semaphore.take_told row.client x t.semaphores)
-effect t row invoke (request.RelinquishControl x) = relinquish_outcome t row.client x (semaphore.relinquish_grant row.client x t.semaphores)
+effect t row invoke (request.RelinquishControl x) = relinquish_outcome t row.client x (relinquish_granted row.client x t.semaphores)
 effect t row invoke (request.DefineSemaphore x) = becomes_semaphores t (semaphore.define_after row.client x t.semaphores) answer.DefineSemaphore []
 effect t row invoke (request.DeleteSemaphore x) = becomes_semaphores t (semaphore.delete_after row.client x t.semaphores) answer.DeleteSemaphore []
 effect t row invoke (request.ReportSemaphoreStatus x) =
     answers t (option_map answer.ReportSemaphoreStatus (semaphore_status.status row.client x t.semaphores))
-effect t row invoke (request.ReportPoolSemaphoreStatus x) = answers t None
+effect t row invoke (request.ReportPoolSemaphoreStatus x) =
+    answers t (option_map answer.ReportPoolSemaphoreStatus (semaphore_status.pool_status_answer row.client x t.semaphores))
 effect t row invoke (request.ReportSemaphoreEntryStatus x) =
     answers t (option_map answer.ReportSemaphoreEntryStatus (semaphore_status.entry_status_answer row.client (moment_of t) x t.semaphores))
 
@@ -262,13 +271,17 @@ request_asks (request.ReportSemaphoreStatus x) = semaphore_asks (is_of_domain x)
 request_asks (request.ReportPoolSemaphoreStatus x) = semaphore_asks (is_of_domain x.name)
 request_asks (request.ReportSemaphoreEntryStatus x) = semaphore_asks (is_of_domain x.name)
 
--- by what these tables show
+-- the table of the semaphores, where a guard is looked up
+abbrev pub guard_tables : Bool → List ℕ
+guard_tables guarded = if guarded then semaphores_table ∷ [] else []
+
+-- by what these tables show: who writes a guarded cell has to own a token of its guard, which is looked up among the semaphores
 abbrev pub request_more : Tables → ClientRow → Request → List ℕ
 request_more t row (request.GetNameList x) = []
 request_more t row (request.Status asked) = []
 request_more t row request.Identify = []
 request_more t row (request.Read x) = []
-request_more t row (request.Write x) = []
+request_more t row (request.Write x) = guard_tables (variable.is_guarded row.client x t.variables)
 request_more t row (request.GetVariableAccessAttributes x) = []
 request_more t row (request.DefineNamedVariable x) = []
 request_more t row (request.DeleteVariableAccess x) = []
@@ -308,3 +321,23 @@ answer_told invoke (Some told) = sends (pdu.ConfirmedResponse invoke told) ∷ [
 abbrev pub request_told : ℕ → ℕ → Option ServiceError → Option Answer → List Effect
 request_told size invoke (Some refusal) told = refuses invoke refusal ∷ []
 request_told size invoke None told = if fits size invoke told then answer_told invoke told else refuses invoke other_error ∷ []
+
+-- ---- writes
+
+-- what the client is told of a write
+abbrev pub write_told : ℕ → ℕ → ℕ → Write → VariableTables → Rows → List Effect
+write_told size invoke client x variables rows =
+    request_told size invoke (variable.write_cause client x variables)
+    (Some (answer.Write (variable.write_answer (owned_guards client x variables rows) client x variables)))
+
+-- the variables after it
+abbrev pub variables_written : ℕ → ℕ → ℕ → Write → VariableTables → Rows → VariableTables
+variables_written size invoke client x variables rows =
+    if is_done size invoke (variable.write_cause client x variables)
+    (Some (answer.Write (variable.write_answer (owned_guards client x variables rows) client x variables)))
+    then variable.write_after (owned_guards client x variables rows) client x variables else variables
+
+-- flags by which a write does what it does by the guards that its client owns
+pub record AreFlags (client : ℕ) (x : Write) (variables : VariableTables) (rows : Rows) (flags : List Bool) : Type 0 where
+  pub answer : variable.write_answer flags client x variables ≡ variable.write_answer (owned_guards client x variables rows) client x variables
+  pub after : variable.write_after flags client x variables ≡ variable.write_after (owned_guards client x variables rows) client x variables

@@ -12,6 +12,7 @@ use Rattle.association.specs.declared.waiting.Waiting.{Waiting}
 use Rattle.mms_types.specs.declared.event.What.TheVariants.{Abort}
 use Rattle.mms_time.specs.Loss as semaphores
 use Rattle.mms_time.specs.Services.{cancelled}
+use Rattle.sem_ticks.specs.Granted.{lost_granted}
 use Rattle.sem_ticks.specs.Ticks.{Ticking, ticked}
 use Rattle.sem_ticks.specs.declared.ticks.Happening.{Happening}
 use Rattle.sem_ticks.specs.declared.ticks.Happening.TheVariants as happens
@@ -35,7 +36,7 @@ without_client client t = record t { variables = lost client t.variables; semaph
 
 -- and tokens that it had are granted to others
 abbrev pub loss_also : ℕ → Tables → List (ℕ × Effect)
-loss_also client t = grants_told (semaphores.lost_grants client (moment_of t) t.semaphores)
+loss_also client t = grants_told (lost_granted client (moment_of t) t.semaphores)
 
 -- where there is an association
 abbrev pub tables_lost : Association → ℕ → Tables → Tables

@@ -10,18 +10,21 @@ ghost use Rattle.cell_services.specs.Association.{further_error, negotiated, sen
 ghost use Rattle.cell_services.specs.Effects.{felt, felt_all, settled, Sends};
 ghost use Rattle.cell_services.specs.Meant.{effects_of, meant, row_after, IsPlainlyHeard};
 ghost use Rattle.cell_services.specs.Reads.{pdu_read, IsDeep};
-ghost use Rattle.cell_services.specs.Services.{fits, is_done, refuses, request_told};
+ghost use Rattle.cell_services.specs.Services.{fits, is_done, refuses, request_told, variables_written, write_told};
 ghost use Rattle.cell_services.specs.Serving.{size_of};
 ghost use Rattle.cell_services.specs.Telling.{effect_of, output_count, told_row, wait_count};
 
+use crate::guards::owned_guards;
 use crate::service::{STATUS, plain_answer};
 use crate::{Act, Found, Said, Told, verdict_of};
 use association::{ClientPart, Constants, outcome_of};
 use mms_pdu::{Read, Refusal, Writer, put_answer, put_pdu};
+use mms_time::SemaphoreRow;
 use mms_types::{
     Answer, CancelError, ConfirmedError, Initiate, InitiateAnswer, Memory, Octets, Pdu,
     Read as VariableRead, Refuse, Reject, Request, ServiceError, What, Write,
 };
+use object_names::Named;
 use std::alloc::Global;
 use std::marker::Model;
 use variable_services::VariableTables;
@@ -327,30 +330,35 @@ impl Client {
         }
     }
 
-    /// Answers a write of those variables and writes them, or refuses it, where nothing is written.
-    fn write(
+    /// Answers a write of those variables and writes them, or refuses it, where nothing is written. The client owns the
+    /// guards of those that have a flag.
+    fn write_owned(
         &mut self,
         alloc: Global,
         variables: &mut VariableTables,
+        owned: &[bool],
         invoke: u32,
         asked: &Write,
     ) -> Result<bool, Memory>
         ensures told { OnOk result (self.new ≡ settled (felt_all
             (request_told (size_of self.old.row.association) invoke
             (write_cause self.old.row.client asked.now variables.old)
-            (Some (Answer.Write (write_answer self.old.row.client asked.now variables.old))))
+            (Some (Answer.Write
+            (write_answer owned.now self.old.row.client asked.now variables.old))))
             self.old.row)) }
         ensures written { OnOk result (variables.new
             ≡ (if is_done (size_of self.old.row.association) invoke
             (write_cause self.old.row.client asked.now variables.old)
-            (Some (Answer.Write (write_answer self.old.row.client asked.now variables.old)))
-            then write_after self.old.row.client asked.now variables.old else variables.old)) }
+            (Some (Answer.Write
+            (write_answer owned.now self.old.row.client asked.now variables.old)))
+            then write_after owned.now self.old.row.client asked.now variables.old
+            else variables.old)) }
         ensures done { IfOk result (λ done. done ≡ true) }
         ensures kept { OnErr result (self.new ≡ self.old) }
         ensures same { OnErr result (variables.new ≡ variables.old) }
     {
         let client = self.part.client();
-        match variables.write_results(alloc, client, asked) {
+        match variables.write_results(alloc, client, owned, asked) {
             Err(Refuse::Memory) => Err(Memory),
             Err(Refuse::Service(error)) => {
                 self.refuse(alloc, invoke, error)?;
@@ -360,22 +368,49 @@ impl Client {
                 let values = asked.values.copy(alloc)?;
                 let size = size_of(&self.part);
                 if self.answer(alloc, size, invoke, &Answer::Write(results))? {
-                    variables.write(client, asked, values);
+                    variables.write(client, owned, asked, values);
                 }
                 Ok(true)
             }
         }
     }
 
-    /// Serves a request that reads or writes variables. False for any other, where all stays as it was.
+    /// Answers a write of those variables and writes them, or refuses it, where nothing is written. Guards are looked
+    /// up among those semaphores.
+    fn write(
+        &mut self,
+        alloc: Global,
+        variables: &mut VariableTables,
+        semaphores: &Named<SemaphoreRow>,
+        invoke: u32,
+        asked: &Write,
+    ) -> Result<bool, Memory>
+        ensures told { OnOk result (self.new ≡ settled (felt_all (write_told
+            (size_of self.old.row.association) invoke self.old.row.client asked.now
+            variables.old semaphores.now) self.old.row)) }
+        ensures written { OnOk result (variables.new ≡ variables_written
+            (size_of self.old.row.association) invoke self.old.row.client asked.now
+            variables.old semaphores.now) }
+        ensures done { IfOk result (λ done. done ≡ true) }
+        ensures kept { OnErr result (self.new ≡ self.old) }
+        ensures same { OnErr result (variables.new ≡ variables.old) }
+    {
+        let client = self.part.client();
+        let owned = owned_guards(alloc, variables, semaphores, client, asked)?;
+        self.write_owned(alloc, variables, &owned, invoke, asked)
+    }
+
+    /// Serves a request that reads or writes variables, whose guards are looked up among those semaphores. False for
+    /// any other, where all stays as it was.
     pub fn serve_on(
         &mut self,
         alloc: Global,
         variables: &mut VariableTables,
+        semaphores: &Named<SemaphoreRow>,
         invoke: u32,
         asked: &Request,
     ) -> Result<bool, Memory>
-        ensures served { IfOk result (λ done. done ≡ true → IsDoneOn self.old.row
+        ensures served { IfOk result (λ done. done ≡ true → IsDoneOn self.old.row semaphores.now
             variables.old variables.new self.new (Takes invoke asked.now)) }
         ensures same { IfOk result (λ done. done ≡ false
             → (self.new ≡ self.old) × (variables.new ≡ variables.old)) }
@@ -384,7 +419,7 @@ impl Client {
     {
         match asked {
             Request::Read(asked) => self.read(alloc, variables, invoke, asked),
-            Request::Write(asked) => self.write(alloc, variables, invoke, asked),
+            Request::Write(asked) => self.write(alloc, variables, semaphores, invoke, asked),
             _ => Ok(false),
         }
     }

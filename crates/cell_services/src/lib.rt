@@ -6,6 +6,7 @@
 mod acts;
 mod client;
 mod clock;
+mod guards;
 mod others;
 mod planning;
 mod reading;

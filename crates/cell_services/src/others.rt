@@ -15,15 +15,14 @@ use crate::client::size_of;
 use crate::planning::answer_within;
 use crate::verdict::Found;
 use association::ClientPart;
-use mms_time::{SemaphoreRow, lose_told, relinquish_control_told};
+use mms_time::SemaphoreRow;
 use mms_types::{Answer, Memory, Moment, Refuse, RelinquishControl, Request};
 use object_names::Named;
-use sem_ticks::Happening;
+use sem_ticks::{Granted, Happening, lose_told};
 use std::alloc::Global;
-use token_sem::Grant;
 
 /// The clients of grants.
-fn grant_clients(alloc: Global, grants: &[Grant]) -> Result<Vec<u32>, Memory>
+fn grant_clients(alloc: Global, grants: &[Granted]) -> Result<Vec<u32>, Memory>
     ensures { IfOk result (λ clients. clients.items ≡ grant_clients grants.now) }
 {
     Ok(grants.iter().map(|grant| grant.client).collect(alloc)?)
@@ -50,7 +49,7 @@ fn relinquish_told(
         → AlsoTells t part.now.row (Takes invoke (Request.RelinquishControl asked.now))
         clients.items) }
 {
-    match relinquish_control_told(semaphores, part.client(), asked) {
+    match sem_ticks::relinquish_told(alloc, semaphores, part.client(), asked) {
         Err(Refuse::Memory) => Err(Memory),
         Err(Refuse::Service(_)) | Ok(None) => Ok(Vec::new(alloc)),
         Ok(Some(grant)) => {
@@ -139,10 +138,10 @@ pub fn loss_told(
 fn client_of(happening: &Happening) -> u32
     ensures { result ≡ client_of happening.now }
 {
-    match *happening {
-        Happening::WaitEnds { client, .. } => client,
+    match happening {
+        Happening::WaitEnds { client, .. } => *client,
         Happening::Grants(grant) => grant.client,
-        Happening::Aborts(client) => client,
+        Happening::Aborts(client) => *client,
     }
 }
 

@@ -19,11 +19,11 @@ use crate::service::{Outcome, served};
 use crate::{Act, Change, Tables, Told};
 use association::{ClientPart, Waiting};
 use mms_pdu::{Writer, put_pdu};
-use mms_time::{lose_told, next_due};
+use mms_time::next_due;
 use mms_types::{
     Answer, ConfirmedError, Memory, Moment, Octets, Pdu, Refuse, Request, ServiceError, What,
 };
-use sem_ticks::{Happening, Ticked, tick};
+use sem_ticks::{Happening, Ticked, lose_told, tick};
 use std::alloc::Global;
 
 /// What is to be done, of which nothing is done yet.
@@ -223,7 +223,7 @@ fn lost_plan<'a>(
     let client = part.client();
     let grants = lose_told(alloc, &tables.semaphores, client, tables.moment())?;
     let mut told = told;
-    tell_grants(alloc, &mut told, &grants)?;
+    tell_grants(alloc, &mut told, grants)?;
     Ok(Plan {
         change: Change::Loses(client),
         told,
@@ -328,17 +328,17 @@ fn loss_plan<'a>(
 fn tell_happening(
     alloc: Global,
     told: &mut Vec<(u32, Told)>,
-    happening: &Happening,
+    happening: Happening,
 ) -> Result<(), Memory>
     ensures { OnOk result (effects_told told.new.items
-        ≡ effects_told told.old.items ++ happening_told happening.now) }
+        ≡ effects_told told.old.items ++ happening_told happening) }
 {
-    match *happening {
+    match happening {
         Happening::WaitEnds { client, invoke } => {
             told.push((client, Told::Answers(invoke)))?;
             told.push((client, refusal(alloc, invoke, ServiceError::TIMEOUT)?))?;
         }
-        Happening::Grants(grant) => tell_grant(alloc, told, &grant)?,
+        Happening::Grants(grant) => tell_grant(alloc, told, grant)?,
         Happening::Aborts(client) => {
             told.push((client, Told::Sends(What::Abort)))?;
             told.push((client, Told::Closes))?;
@@ -348,8 +348,8 @@ fn tell_happening(
 }
 
 /// All that happened is told, in order.
-fn all_told(alloc: Global, happened: &[Happening]) -> Result<Vec<(u32, Told)>, Memory>
-    ensures { IfOk result (λ told. effects_told told.items ≡ all_told happened.now) }
+fn all_told(alloc: Global, happened: Vec<Happening>) -> Result<Vec<(u32, Told)>, Memory>
+    ensures { IfOk result (λ told. effects_told told.items ≡ all_told happened.items) }
 {
     let mut told = Vec::new(alloc);
     for happening in happened {
@@ -386,8 +386,8 @@ fn ticked_plan<'a>(alloc: Global, ms: u32, ticked: Ticked) -> Result<Plan<'a>, M
         semaphores,
         happened,
     } = ticked;
-    let told = all_told(alloc, &happened)?;
     let clients = aborted(alloc, &happened)?;
+    let told = all_told(alloc, happened)?;
     Ok(Plan {
         change: Change::Ticks {
             ms,

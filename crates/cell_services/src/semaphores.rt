@@ -2,8 +2,9 @@
 //! a token.
 
 ghost use Rattle.std.specs.Prelude.{◌≡◌, ◌++◌, false, IfOk, OnOk, []};
-ghost use Rattle.mms_time.specs.Services.{define_cause, delete_cause, relinquish_cause, relinquish_grant, take_cause, take_told, define_after, delete_after};
-ghost use Rattle.mms_time.specs.Statuses.{entry_status_answer, entry_status_cause, pool_status_cause, status, status_cause};
+ghost use Rattle.mms_time.specs.Services.{define_cause, delete_cause, relinquish_cause, take_cause, take_told, define_after, delete_after};
+ghost use Rattle.sem_ticks.specs.Granted.{relinquish_granted};
+ghost use Rattle.mms_time.specs.Statuses.{entry_status_answer, entry_status_cause, pool_status_answer, pool_status_cause, status, status_cause};
 ghost use Rattle.std.specs.Option.{option_map};
 ghost use Rattle.cell_services.specs.Acts.{outcome_of, Settles};
 ghost use Rattle.cell_services.specs.Association.{sends};
@@ -17,23 +18,22 @@ use crate::service::{Outcome, answers, becomes};
 use crate::{Change, Tables, Told};
 use association::Waiting;
 use mms_time::{
-    TakeDone, define_semaphore_cause, delete_semaphore_cause, relinquish_control_told,
-    report_pool_semaphore_status, report_semaphore_entry_status, report_semaphore_status,
-    take_control_told,
+    TakeDone, define_semaphore_cause, delete_semaphore_cause, report_pool_semaphore_status,
+    report_semaphore_entry_status, report_semaphore_status, take_control_told,
 };
 use mms_types::{
     Answer, DefineSemaphore, Memory, ObjectName, Pdu, Refuse, RelinquishControl,
     ReportPoolSemaphoreStatus, ReportSemaphoreEntryStatus, TakeControl, TakeControlAnswer,
 };
+use sem_ticks::{Granted, relinquish_told};
 use std::alloc::Global;
-use token_sem::Grant;
 
 /// A client is sent the answer to a request for a token that waited.
-fn granted(alloc: Global, invoke: u32) -> Result<Told, Memory>
-    ensures { IfOk result (λ told. effect_of told ≡ sends (Pdu.ConfirmedResponse invoke
-        (Answer.TakeControl TakeControlAnswer.NoResult))) }
+fn granted(alloc: Global, invoke: u32, answer: TakeControlAnswer) -> Result<Told, Memory>
+    ensures { IfOk result (λ told. effect_of told
+        ≡ sends (Pdu.ConfirmedResponse invoke (Answer.TakeControl answer))) }
 {
-    let answer = Answer::TakeControl(TakeControlAnswer::NoResult);
+    let answer = Answer::TakeControl(answer);
     sent(alloc, &Pdu::ConfirmedResponse { invoke, answer })
 }
 
@@ -41,14 +41,19 @@ fn granted(alloc: Global, invoke: u32) -> Result<Told, Memory>
 pub(crate) fn tell_grant(
     alloc: Global,
     told: &mut Vec<(u32, Told)>,
-    grant: &Grant,
+    grant: Granted,
 ) -> Result<(), Memory>
     ensures { OnOk result (effects_told told.new.items
-        ≡ effects_told told.old.items ++ grant_told grant.now) }
+        ≡ effects_told told.old.items ++ grant_told grant) }
 {
-    told.push((grant.client, Told::Answers(grant.invoke)))?;
-    let answer = granted(alloc, grant.invoke)?;
-    told.push((grant.client, answer))?;
+    let Granted {
+        client,
+        invoke,
+        answer,
+    } = grant;
+    told.push((client, Told::Answers(invoke)))?;
+    let answer = granted(alloc, invoke, answer)?;
+    told.push((client, answer))?;
     Ok(())
 }
 
@@ -56,10 +61,10 @@ pub(crate) fn tell_grant(
 pub(crate) fn tell_grants(
     alloc: Global,
     told: &mut Vec<(u32, Told)>,
-    grants: &[Grant],
+    grants: Vec<Granted>,
 ) -> Result<(), Memory>
     ensures { OnOk result (effects_told told.new.items
-        ≡ effects_told told.old.items ++ grants_told grants.now) }
+        ≡ effects_told told.old.items ++ grants_told grants.items) }
 {
     for grant in grants {
         tell_grant(alloc, told, grant)?;
@@ -81,7 +86,7 @@ pub(crate) fn take<'a>(
         ≡ outcome_of tables.now o.change o.answer o.also.items) }
     ensures may { IfOk result (λ o. MayChange o.change tables.now) }
 {
-    let done = take_control_told(&tables.semaphores, client, asked)?;
+    let done = take_control_told(alloc, &tables.semaphores, client, asked)?;
     let change = Change::Takes {
         client,
         invoke,
@@ -110,18 +115,18 @@ pub(crate) fn relinquish<'a>(
 ) -> Result<Outcome<'a>, Refuse>
     ensures outcome { Settles result (relinquish_cause client asked.now tables.now.semaphores)
         (λ o. relinquish_outcome tables.now client asked.now
-        (relinquish_grant client asked.now tables.now.semaphores)
+        (relinquish_granted client asked.now tables.now.semaphores)
         ≡ outcome_of tables.now o.change o.answer o.also.items) }
     ensures may { IfOk result (λ o. MayChange o.change tables.now) }
 {
-    let grant = relinquish_control_told(&tables.semaphores, client, asked)?;
+    let grant = relinquish_told(alloc, &tables.semaphores, client, asked)?;
     let key = asked.name.key(alloc, client)?;
     let mut also = Vec::new(alloc);
     if let Some(grant) = grant {
-        tell_grant(alloc, &mut also, &grant)?;
+        tell_grant(alloc, &mut also, grant)?;
     }
     Ok(Outcome {
-        change: Change::Relinquishes { client, key },
+        change: Change::Relinquishes { client, key, asked },
         answer: Some(Answer::RelinquishControl),
         also,
     })
@@ -197,10 +202,12 @@ pub(crate) fn pool_status<'a>(
 ) -> Result<Outcome<'a>, Refuse>
     ensures outcome { Settles result
         (pool_status_cause client asked.now.name tables.now.semaphores)
-        (λ o. answers tables.now None ≡ outcome_of tables.now o.change o.answer o.also.items) }
+        (λ o. answers tables.now (option_map Answer.ReportPoolSemaphoreStatus
+        (pool_status_answer client asked.now tables.now.semaphores))
+        ≡ outcome_of tables.now o.change o.answer o.also.items) }
     ensures may { IfOk result (λ o. MayChange o.change tables.now) }
 {
-    let told = report_pool_semaphore_status(&tables.semaphores, client, asked)?;
+    let told = report_pool_semaphore_status(alloc, &tables.semaphores, client, asked)?;
     Ok(answers(alloc, Answer::ReportPoolSemaphoreStatus(told)))
 }
 

@@ -5,8 +5,9 @@ ghost use Rattle.std.specs.Prelude.{◌≡◌, false, [], IfOk, Some};
 ghost use Rattle.variable_services.specs.Services.{define_after, define_cause, define_list_after, define_list_cause, delete_after, delete_answer, delete_cause, delete_lists_after, delete_lists_answer, write_after, write_answer, write_cause};
 ghost use Rattle.cell_services.specs.Acts.{outcome_of, Settles};
 ghost use Rattle.cell_services.specs.Changes.{MayChange};
-ghost use Rattle.cell_services.specs.Services.{becomes, cause, effect, identity, listed, names_in, plain_answer, scope_cause, scope_of};
+ghost use Rattle.cell_services.specs.Services.{becomes, cause, effect, identity, listed, names_in, owned_guards, plain_answer, scope_cause, scope_of};
 
+use crate::guards::owned_guards;
 use crate::semaphores::{
     define_semaphore, delete_semaphore, entry_status, pool_status, relinquish, semaphore_status,
     take,
@@ -162,15 +163,20 @@ fn write<'a>(
     asked: &'a Write,
 ) -> Result<Outcome<'a>, Refuse>
     ensures outcome { Settles result (write_cause client asked.now tables.now.variables)
-        (λ o. becomes tables.now (write_after client asked.now tables.now.variables)
-        (Answer.Write (write_answer client asked.now tables.now.variables))
+        (λ o. becomes tables.now (write_after (owned_guards client asked.now
+        tables.now.variables tables.now.semaphores) client asked.now tables.now.variables)
+        (Answer.Write (write_answer (owned_guards client asked.now
+        tables.now.variables tables.now.semaphores) client asked.now tables.now.variables))
         ≡ outcome_of tables.now o.change o.answer o.also.items) }
     ensures may { IfOk result (λ o. MayChange o.change tables.now) }
 {
-    let results = tables.variables.write_results(alloc, client, asked)?;
+    let variables = &tables.variables;
+    let owned = owned_guards(alloc, variables, &tables.semaphores, client, asked)?;
+    let results = variables.write_results(alloc, client, &owned, asked)?;
     let values = asked.values.copy(alloc)?;
     let change = Change::Writes {
         client,
+        owned,
         asked,
         values,
     };

@@ -14,7 +14,7 @@ use mms_time::{
 };
 use mms_types::{
     DataList, DefineNamedVariable, DefineNamedVariableList, DefineSemaphore, Key, Memory, Moment,
-    TakeControl, Write,
+    RelinquishControl, TakeControl, Write,
 };
 use object_names::{Named, Selection};
 use std::alloc::Global;
@@ -62,9 +62,10 @@ pub enum Change<'a> {
         semaphores: Named<SemaphoreRow>,
         clients: Vec<u32>,
     },
-    /// A client writes variables, whose data were copied.
+    /// A client writes variables, whose data were copied, and of which it owns these guards.
     Writes {
         client: u32,
+        owned: Vec<bool>,
         asked: &'a Write,
         values: DataList,
     },
@@ -92,6 +93,7 @@ pub enum Change<'a> {
     Relinquishes {
         client: u32,
         key: Key,
+        asked: &'a RelinquishControl,
     },
     /// An entry of the semaphore of that name waits no more.
     Cancels {
@@ -187,9 +189,10 @@ impl Tables {
             }
             Change::Writes {
                 client,
+                owned,
                 asked,
                 values,
-            } => self.variables.write(client, asked, values),
+            } => self.variables.write(client, &owned, asked, values),
             Change::Defines { client, asked } => self.variables.define(alloc, client, asked)?,
             Change::DefinesList { client, asked } => {
                 self.variables.define_list(alloc, client, asked)?
@@ -201,9 +204,10 @@ impl Tables {
                 invoke,
                 asked,
             } => self.take(alloc, client, invoke, asked)?,
-            Change::Relinquishes { client, key } => {
+            Change::Relinquishes { client, key, asked } => {
                 let now = self.moment();
-                relinquish_control(&mut self.semaphores, &key, client, now)
+                let token = asked.token.as_ref();
+                relinquish_control(&mut self.semaphores, &key, client, token, now)
             }
             Change::Cancels { key, entry } => cancel_take(&mut self.semaphores, &key, entry),
             Change::DefinesSemaphore { client, asked } => {

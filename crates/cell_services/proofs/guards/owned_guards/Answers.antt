@@ -1,0 +1,12 @@
+use Rattle.std.proofs.Common.{◌∙◌, sym}
+use Rattle.std.proofs.lemmas.Result.{IfOk-weaker}
+use Rattle.cell_services.proofs.GuardLaws.{all_flags, no_flags}
+use Rattle.cell_services.proofs.guards.owned_guards.Goals as goal
+
+pub returns-then-is_guarded : goal.returns-then-is_guarded
+returns-then-is_guarded c =
+    IfOk-weaker c.flags.result _ _ (λ owned is. all_flags c.args.client c.args.asked.now c.args.variables.now c.args.semaphores.now owned.items is) c.flags.ensures
+
+pub returns-else-is_guarded : goal.returns-else-is_guarded
+returns-else-is_guarded c =
+    no_flags c.args.client c.args.asked.now c.args.variables.now c.args.semaphores.now _ (sym c.is_guarded.ensures ∙ c.if-is_guarded.false) c.new.ensures.items
