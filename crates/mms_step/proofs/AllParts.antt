@@ -23,7 +23,8 @@ use Rattle.mms_step.specs.declared.part.Part.{Part}
 use Rattle.mms_step.specs.State.{State}
 use Rattle.cell_services.specs.Tables.{Tables}
 use Rattle.cell_services.specs.Association.{Verdict, Takes, verdict}
-use Rattle.cell_services.specs.Services.{class_tables, listing, variable_asks, is_of_domain, specifies_domain, accesses_domain, deletes_domain, semaphore_asks}
+use Rattle.variable_services.specs.Services.{is_guarded}
+use Rattle.cell_services.specs.Services.{class_tables, listing, variable_asks, is_of_domain, specifies_domain, accesses_domain, deletes_domain, guard_tables, semaphore_asks}
 use Rattle.cell_services.specs.Serving.{heard_asks, heard_more, loss_asks, services, abort_asks, aborted, meanwhile, time_asks, words}
 use Rattle.mms_step.specs.Step.{step}
 use Rattle.mms_step.specs.Partition.{cell, parts_of, state_in}
@@ -97,8 +98,13 @@ asks_below (Takes invoke (request.ReportSemaphoreEntryStatus x)) = semaphores_be
 asks_below (Takes invoke asked) = refl
 asks_below v = refl
 
+guards_below : (guarded : Bool) → are_tables (guard_tables guarded) ≡ true
+guards_below true = refl
+guards_below false = refl
+
 more_below : (t : Tables) (row : ClientRow) (v : Verdict) → are_tables (heard_more t row v) ≡ true
 more_below t row (Takes invoke (request.GetNameList x)) = refl
+more_below t row (Takes invoke (request.Write x)) = guards_below (is_guarded row.client x t.variables)
 more_below t row (Takes invoke asked) = refl
 more_below t row v = refl
 

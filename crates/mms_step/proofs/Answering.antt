@@ -24,12 +24,16 @@ use Rattle.mms_types.specs.declared.service_error.ServiceError.{ServiceError}
 use Rattle.association.specs.Client.{ClientRow}
 use Rattle.association.specs.declared.waiting.Waiting.{Waiting}
 use Rattle.token_sem.specs.Semaphore.{Sem, has_token}
+use Rattle.sem_ticks.specs.declared.granted.Granted.{Granted}
+use Rattle.mms_time.specs.Semaphores.{Rows, entries_of, names_in, semaphore}
+use Rattle.mms_time.specs.Services.{name_at, named_answer, place_asked, relinquish_conditions, relinquish_grant_of, take_conditions, take_told_in, take_told_of}
+use Rattle.mms_time.specs.Statuses.{entry_statuses, pool_status_conditions, pool_status_conditions_in, pool_status_in, pool_status_of, status_in}
+use Rattle.mms_types.specs.Order.{key_of}
 use Rattle.token_sem.specs.declared.entry.Grant.{Grant}
-use Rattle.mms_time.specs.Semaphores.{Rows, entries_of, semaphore}
-use Rattle.mms_time.specs.Services.{relinquish_conditions, relinquish_grant_of, take_conditions, take_told_in, take_told_of}
-use Rattle.mms_time.specs.Statuses.{entry_statuses, pool_status_conditions, pool_status_conditions_in, status_in}
+use Rattle.sem_ticks.specs.Granted.{granted}
 use Rattle.mms_time.specs.declared.row.Semaphore.{Semaphore}
-use Rattle.mms_time.specs.declared.row.Semaphore.TheVariants.{Token}
+use Rattle.mms_time.specs.declared.row.Semaphore.TheVariants.{Token, Pool}
+use Rattle.pool_sem.specs.Pools as pool
 use Rattle.mms_time.specs.declared.row.SemaphoreRow.{SemaphoreRow}
 use Rattle.mms_time.specs.declared.taking.TakeDone.{TakeDone}
 use Rattle.mms_time.specs.declared.taking.TakeDone.TheVariants as taken
@@ -60,12 +64,15 @@ module _ (t : Tables) (row : ClientRow) (invoke : ℕ) where
   found_row wrap f None e = absurd (cc e)
   found_row wrap f (Some x) e = inl (_, refl, refl)
 
-  no_pool : (o : Option SemaphoreRow) → first_of (pool_status_conditions o) ≡ None → Settled row.client invoke (answers t None)
-  no_pool None e = absurd (cc e)
-  no_pool (Some r) e = by_semaphore r.semaphore e
+  told_pool : (after : Option (List ℕ)) (o : Option SemaphoreRow) → first_of (pool_status_conditions o) ≡ None
+      → Settled row.client invoke (answers t (option_map answer.ReportPoolSemaphoreStatus (pool_status_of after o)))
+  told_pool after None e = absurd (cc e)
+  told_pool after (Some r) e = by_semaphore r.semaphore e
     where
-      by_semaphore : (s : Semaphore) → first_of (pool_status_conditions_in s) ≡ None → Settled row.client invoke (answers t None)
+      by_semaphore : (s : Semaphore) → first_of (pool_status_conditions_in s) ≡ None
+          → Settled row.client invoke (answers t (option_map answer.ReportPoolSemaphoreStatus (pool_status_in after s)))
       by_semaphore (Token s) h = absurd (cc h)
+      by_semaphore (Pool p) h = inl (_, refl, refl)
 
   took : (x : TakeControl) (o : Option SemaphoreRow) → first_of (take_conditions row.client x o) ≡ None
       → Settled row.client invoke (take_outcome t row.client invoke x (take_told_of x o))
@@ -76,15 +83,23 @@ module _ (t : Tables) (row : ClientRow) (invoke : ℕ) where
       by_test s true = inl (_, refl, refl)
       by_test s false = inr (_, refl, refl, refl)
 
+      by_pool : (p : pool.Pool) (b : Bool)
+          → Settled row.client invoke (take_outcome t row.client invoke x
+          (Some (if b then taken.Answered (named_answer (name_at (pool.token_told (place_asked x.token p.tokens) (pool.token_got x.preempt (place_asked x.token p.tokens) p)) p.tokens))
+          else taken.Waits (p.made + 1))))
+      by_pool p true = inl (_, refl, refl)
+      by_pool p false = inr (_, refl, refl, refl)
+
       by_semaphore : (s : Semaphore) → Settled row.client invoke (take_outcome t row.client invoke x (Some (take_told_in x s)))
       by_semaphore (Token s) = by_test s (has_token x.preempt s)
+      by_semaphore (Pool p) = by_pool p (pool.has_token x.preempt (place_asked x.token p.tokens) p)
 
   gave : (x : RelinquishControl) (o : Option SemaphoreRow) → first_of (relinquish_conditions row.client x o) ≡ None
-      → Settled row.client invoke (relinquish_outcome t row.client x (relinquish_grant_of row.client o))
+      → Settled row.client invoke (relinquish_outcome t row.client x (option_map (option_map (λ grant. granted t.semaphores (key_of row.client x.name, grant))) (relinquish_grant_of row.client x o)))
   gave x None e = absurd (cc e)
   gave x (Some r) e = by_grant _
     where
-      by_grant : (o : Option Grant) → Settled row.client invoke (relinquish_outcome t row.client x (Some o))
+      by_grant : (o : Option Grant) → Settled row.client invoke (relinquish_outcome t row.client x (Some (option_map (λ grant. granted t.semaphores (key_of row.client x.name, grant)) o)))
       by_grant None = inl (_, refl, refl)
       by_grant (Some g) = inl (_, refl, refl)
 
@@ -106,9 +121,9 @@ module _ (t : Tables) (row : ClientRow) (invoke : ℕ) where
   settled (request.DeleteSemaphore x) none = inl (_, refl, refl)
   settled (request.ReportSemaphoreStatus x) none =
       found_row answer.ReportSemaphoreStatus (λ r. status_in r.configured r.semaphore) (semaphore row.client x t.semaphores) none
-  settled (request.ReportPoolSemaphoreStatus x) none = no_pool (semaphore row.client x.name t.semaphores) none
+  settled (request.ReportPoolSemaphoreStatus x) none = told_pool x.after (semaphore row.client x.name t.semaphores) none
   settled (request.ReportSemaphoreEntryStatus x) none =
-      found_row answer.ReportSemaphoreEntryStatus (λ r. entry_statuses (moment_of t) x.state x.after (entries_of r)) (semaphore row.client x.name t.semaphores) none
+      found_row answer.ReportSemaphoreEntryStatus (λ r. entry_statuses (names_in r.semaphore) (moment_of t) x.state x.after (entries_of r)) (semaphore row.client x.name t.semaphores) none
 
   -- ---- what is told of it
 

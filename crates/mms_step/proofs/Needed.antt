@@ -4,7 +4,6 @@ use Rattle.std.proofs.Common.{ap, ap₂, sym, ◌∙◌, subst, arith}
 use Rattle.std.proofs.lemmas.Bool.Decides.{nat_tests}
 use Rattle.mms_types.specs.declared.event.CellEvent.{CellEvent}
 use Rattle.mms_types.specs.declared.event.CellEvent.TheVariants.{Heard, Lost, Tick, Ends, Drain}
-use Rattle.mms_types.specs.declared.pdu.Request.TheVariants as request
 use Rattle.association.specs.Client.{ClientRow, Client as RoomyRow}
 use Rattle.part_table.specs.Held.{held_at}
 use Rattle.parted_state.specs.Cut.{are_held, missing}
@@ -18,9 +17,8 @@ use Rattle.mms_step.specs.declared.part.Part.{Part}
 use Rattle.mms_step.specs.declared.part.Part.TheVariants.{Client}
 use Rattle.cell_services.specs.Tables.{Tables}
 use Rattle.cell_services.specs.Effects.{Effect, Drains, tell}
-use Rattle.cell_services.specs.Association.{Verdict, Takes, verdict, loss_told}
+use Rattle.cell_services.specs.Association.{Verdict, verdict, loss_told}
 use Rattle.cell_services.specs.Serving.{also_lost, also_told, hears, heard_asks, heard_more, loses, loss_asks, own_told, passes, services, time_asks}
-use Rattle.cell_services.specs.Meant.{no_tables}
 use Rattle.mms_step.specs.Partition.{cell, parts_of, client_place, clients_among, row_in, state_in, no_client}
 use Rattle.mms_step.specs.Needs.{is_held, footprint, placed, two_stages, heard_need, lost_need, need, time_need}
 use Rattle.mms_step.specs.AfterLaws.{is_device}
@@ -113,11 +111,6 @@ row_held hand zero part some there held = absurd (omega (arith, some))
 row_held hand (suc i) part some there held =
     ap (λ (o : Option ClientRow). unwrap_or o no_client) (device.shown_row cell is_device hand i (omega (arith, there))) ∙ ap row_in held
 
-more_same : (t : Tables) (row : ClientRow) (v : Verdict) → heard_more t row v ≡ heard_more no_tables row v
-more_same t row (Takes invoke (request.GetNameList x)) = refl
-more_same t row (Takes invoke asked) = refl
-more_same t row v = refl
-
 -- what is shown behind the words
 abbrev later : CellEvent → List (Option Part) → List ℕ
 later event hand = cut.shown_of parts_of state_in (parted.table_stages cell services event (services.asks event)) hand
@@ -154,13 +147,11 @@ heard_stages : (hand : List (Option Part)) (n client : ℕ) (t : Tables) (row : 
     then placed n (heard_more t row v) ++ (if are_held hand (placed n (heard_more t row v))
     then parted.told_places cell (hears t row client v).told n ++ (if are_held hand (parted.told_places cell (hears t row client v).told n) then [] else []) else []) else []))
     ≡ two_stages hand (placed n (heard_asks v))
-    (placed n (heard_more no_tables row v) ++ (if are_held hand (placed n (heard_more no_tables row v)) then parted.told_places cell (also_told t row v) n else []))
+    (placed n (heard_more t row v) ++ (if are_held hand (placed n (heard_more t row v)) then parted.told_places cell (also_told t row v) n else []))
 heard_stages hand n client t row v held =
     missing_rest hand (placed n (heard_asks v)) _ _
     (missing_rest hand (placed n (heard_more t row v)) _ _
     (missing_end hand (parted.told_places cell (hears t row client v).told n) ∙ own_skipped hand client (own_told t row v) (also_told t row v) n held))
-    ∙ ap (λ (l : List ℕ). two_stages hand (placed n (heard_asks v)) (placed n l ++ (if are_held hand (placed n l) then parted.told_places cell (also_told t row v) n else [])))
-    (more_same t row v)
 
 pub need_heard : (hand : List (Option Part)) (client : ℕ) (octets : List ℕ) (n : ℕ) (part : RoomyRow) → n ≡ clients_among (length hand)
     → missing hand (footprint n (Heard client octets)) ≡ [] → 1 ≤ client → client ≤ n → held_at hand (client_place client) ≡ Some (Client part)

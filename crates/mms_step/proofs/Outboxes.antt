@@ -17,9 +17,9 @@ use Rattle.association.specs.declared.negotiation.Association.{Association}
 use Rattle.association.specs.declared.negotiation.Association.TheVariants.{Idle, Open}
 use Rattle.association.specs.declared.negotiation.Negotiated.{Negotiated}
 use Rattle.association.specs.declared.waiting.Waiting.{Waiting}
-use Rattle.token_sem.specs.declared.entry.Grant.{Grant}
-use Rattle.mms_time.specs.Loss.{lost_grants}
-use Rattle.mms_time.specs.Services.{relinquish_grant}
+use Rattle.sem_ticks.specs.declared.granted.Granted.{Granted}
+use Rattle.sem_ticks.specs.Granted.{lost_granted}
+use Rattle.sem_ticks.specs.Granted.{relinquish_granted}
 use Rattle.sem_ticks.specs.declared.ticks.Happening.{Happening}
 use Rattle.sem_ticks.specs.declared.ticks.Happening.TheVariants as happens
 use Rattle.parted_state.specs.Lists.{get_changed, get_change, length-change}
@@ -111,7 +111,7 @@ told_there (t ∷ told) rows k output stay within (suc j, low, e) =
 
 -- ---- grants are told
 
-grants_stay : (grants : List Grant) → AllStay (grants_told grants)
+grants_stay : (grants : List Granted) → AllStay (grants_told grants)
 grants_stay [] = tt
 grants_stay (g ∷ grants) = both_stay (grant_told g) (grants_told grants) (tt, (tt, tt)) (grants_stay grants)
 
@@ -121,18 +121,18 @@ happened_stay (happens.WaitEnds client invoke ∷ rest) = both_stay (happening_t
 happened_stay (happens.Grants grant ∷ rest) = both_stay (grant_told grant) (all_told rest) (tt, (tt, tt)) (happened_stay rest)
 happened_stay (happens.Aborts client ∷ rest) = both_stay (happening_told (happens.Aborts client)) (all_told rest) (tt, (tt, tt)) (happened_stay rest)
 
-grant_there : (g : Grant) → Contains (grant_told g) (g.client, Sends (grant_answer g))
+grant_there : (g : Granted) → Contains (grant_told g) (g.client, Sends (grant_answer g))
 grant_there g = (1, omega arith, refl)
 
-grants_there : (grants : List Grant) (g : Grant) → Contains grants g → Contains (grants_told grants) (g.client, Sends (grant_answer g))
+grants_there : (grants : List Granted) (g : Granted) → Contains grants g → Contains (grants_told grants) (g.client, Sends (grant_answer g))
 grants_there [] g is = absurd (omega (arith, is.1))
 grants_there (h ∷ grants) g (zero, low, e) =
     Contains-append_left (grant_told h) (grants_told grants) (g.client, Sends (grant_answer g))
-    (subst (λ (x : Grant). Contains (grant_told x) (g.client, Sends (grant_answer g))) (sym e) (grant_there g))
+    (subst (λ (x : Granted). Contains (grant_told x) (g.client, Sends (grant_answer g))) (sym e) (grant_there g))
 grants_there (h ∷ grants) g (suc j, low, e) =
     Contains-append_right (grant_told h) (grants_told grants) (g.client, Sends (grant_answer g)) (grants_there grants g (j, omega (arith, low), e))
 
-happened_there : (happened : List Happening) (g : Grant) → Contains happened (happens.Grants g) → Contains (all_told happened) (g.client, Sends (grant_answer g))
+happened_there : (happened : List Happening) (g : Granted) → Contains happened (happens.Grants g) → Contains (all_told happened) (g.client, Sends (grant_answer g))
 happened_there [] g is = absurd (omega (arith, is.1))
 happened_there (x ∷ rest) g (zero, low, e) =
     Contains-append_left (happening_told x) (all_told rest) (g.client, Sends (grant_answer g))
@@ -143,7 +143,7 @@ happened_there (x ∷ rest) g (suc j, low, e) =
 -- ---- each event
 
 -- what is told besides is in the outbox
-besides : (own also : List (ℕ × Effect)) (s : State) (g : Grant) → AllStay also → Contains also (g.client, Sends (grant_answer g)) → 1 ≤ g.client → g.client ≤ length (delivered cell own s.clients)
+besides : (own also : List (ℕ × Effect)) (s : State) (g : Granted) → AllStay also → Contains also (g.client, Sends (grant_answer g)) → 1 ≤ g.client → g.client ≤ length (delivered cell own s.clients)
     → Contains (outbox_in (slice_get (delivered cell (own ++ also) s.clients) (g.client - 1))) (grant_answer g)
 besides own also s g stay is some there =
     subst (λ (rows : List ClientRow). Contains (outbox_in (slice_get rows (g.client - 1))) (grant_answer g)) (sym (delivered_both own also s.clients))
@@ -157,7 +157,7 @@ length-delivered : (told : List (ℕ × Effect)) (rows : List ClientRow) → len
 length-delivered [] rows = refl
 length-delivered (t ∷ told) rows = length-delivered told (reached cell t.0 t.1 rows) ∙ length-reached t.0 t.1 rows
 
-module _ (s : State) (client : ℕ) (octets : List ℕ) (g : Grant) where
+module _ (s : State) (client : ℕ) (octets : List ℕ) (g : Granted) where
   abbrev pub row : ClientRow
   row = row_at cell client s.clients
 
@@ -171,7 +171,7 @@ module _ (s : State) (client : ℕ) (octets : List ℕ) (g : Grant) where
 
   pub given_back : (invoke : ℕ) (asked : RelinquishControl) → verdict row octets ≡ Takes invoke (request.RelinquishControl asked)
       → is_served (cell.tables_of s) row invoke (request.RelinquishControl asked) ≡ true
-      → relinquish_grant row.client asked s.semaphores ≡ Some (Some g) → IsAnswered (step s (Heard client octets)) g
+      → relinquish_granted row.client asked s.semaphores ≡ Some (Some g) → IsAnswered (step s (Heard client octets)) g
   given_back invoke asked takes served grant =
       heard_besides (subst AllStay (sym told) (grants_stay (g ∷ [])))
       (subst (λ (l : List (ℕ × Effect)). Contains l (g.client, Sends (grant_answer g))) (sym told) (grants_there (g ∷ []) g (0, omega arith, refl)))
@@ -180,14 +180,14 @@ module _ (s : State) (client : ℕ) (octets : List ℕ) (g : Grant) where
       told =
           ap (λ (v : Verdict). also_told (cell.tables_of s) row v) takes
           ∙ ap (λ (b : Bool). if b then (effect (cell.tables_of s) row invoke (request.RelinquishControl asked)).also else []) served
-          ∙ ap (λ (o : Option (Option Grant)). (relinquish_outcome (cell.tables_of s) row.client asked o).also) grant
+          ∙ ap (λ (o : Option (Option Granted)). (relinquish_outcome (cell.tables_of s) row.client asked o).also) grant
 
-  pub left_to : (v : Verdict) → verdict row octets ≡ v → (v ≡ Concludes) ⊎ (v ≡ Aborts) → Contains (lost_grants row.client (record { 0 = s.now }) s.semaphores) g
+  pub left_to : (v : Verdict) → verdict row octets ≡ v → (v ≡ Concludes) ⊎ (v ≡ Aborts) → Contains (lost_granted row.client (record { 0 = s.now }) s.semaphores) g
       → IsAnswered (step s (Heard client octets)) g
   left_to v is ends grant =
-      heard_besides (subst AllStay (sym told) (grants_stay (lost_grants row.client (record { 0 = s.now }) s.semaphores)))
+      heard_besides (subst AllStay (sym told) (grants_stay (lost_granted row.client (record { 0 = s.now }) s.semaphores)))
       (subst (λ (l : List (ℕ × Effect)). Contains l (g.client, Sends (grant_answer g))) (sym told)
-      (grants_there (lost_grants row.client (record { 0 = s.now }) s.semaphores) g grant))
+      (grants_there (lost_granted row.client (record { 0 = s.now }) s.semaphores) g grant))
     where
       by_end : (v ≡ Concludes) ⊎ (v ≡ Aborts) → also_told (cell.tables_of s) row v ≡ loss_also row.client (cell.tables_of s)
       by_end (inl e) = ap (λ (x : Verdict). also_told (cell.tables_of s) row x) e
@@ -196,22 +196,22 @@ module _ (s : State) (client : ℕ) (octets : List ℕ) (g : Grant) where
       told : also_told (cell.tables_of s) row (verdict row octets) ≡ loss_also row.client (cell.tables_of s)
       told = ap (λ (x : Verdict). also_told (cell.tables_of s) row x) is ∙ by_end ends
 
-pub lost_to : (s : State) (client : ℕ) (g : Grant) (values : Negotiated) → (row_at cell client s.clients).association ≡ Open values
-    → Contains (lost_grants (row_at cell client s.clients).client (record { 0 = s.now }) s.semaphores) g → IsAnswered (step s (Lost client)) g
+pub lost_to : (s : State) (client : ℕ) (g : Granted) (values : Negotiated) → (row_at cell client s.clients).association ≡ Open values
+    → Contains (lost_granted (row_at cell client s.clients).client (record { 0 = s.now }) s.semaphores) g → IsAnswered (step s (Lost client)) g
 lost_to s client g values is grant some there =
     let many = length-delivered (tell client (loss_told (row_at cell client s.clients).association)) s.clients in
     let sized = step_sized s (Lost client) in
     besides (tell client (loss_told (row_at cell client s.clients).association))
     (also_lost (row_at cell client s.clients).association (row_at cell client s.clients).client (cell.tables_of s)) s g
-    (subst AllStay (sym told) (grants_stay (lost_grants (row_at cell client s.clients).client (record { 0 = s.now }) s.semaphores)))
+    (subst AllStay (sym told) (grants_stay (lost_granted (row_at cell client s.clients).client (record { 0 = s.now }) s.semaphores)))
     (subst (λ (l : List (ℕ × Effect)). Contains l (g.client, Sends (grant_answer g))) (sym told)
-    (grants_there (lost_grants (row_at cell client s.clients).client (record { 0 = s.now }) s.semaphores) g grant))
+    (grants_there (lost_granted (row_at cell client s.clients).client (record { 0 = s.now }) s.semaphores) g grant))
     some (omega (arith, many, sized, there))
   where
     told : also_lost (row_at cell client s.clients).association (row_at cell client s.clients).client (cell.tables_of s) ≡ loss_also (row_at cell client s.clients).client (cell.tables_of s)
     told = ap (λ (a : Association). also_lost a (row_at cell client s.clients).client (cell.tables_of s)) is
 
-pub ticked_to : (s : State) (ms : ℕ) (g : Grant) → Contains (meanwhile ms (cell.tables_of s)).happened (happens.Grants g) → IsAnswered (step s (Tick ms)) g
+pub ticked_to : (s : State) (ms : ℕ) (g : Granted) → Contains (meanwhile ms (cell.tables_of s)).happened (happens.Grants g) → IsAnswered (step s (Tick ms)) g
 ticked_to s ms g grant some there =
     let sized = step_sized s (Tick ms) in
     besides [] (all_told (meanwhile ms (cell.tables_of s)).happened) s g (happened_stay (meanwhile ms (cell.tables_of s)).happened)

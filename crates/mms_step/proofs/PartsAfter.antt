@@ -25,8 +25,9 @@ use Rattle.cell_services.specs.Services.{effect, relinquish_outcome, take_outcom
 use Rattle.association.specs.declared.negotiation.Association.{Association}
 use Rattle.association.specs.declared.negotiation.Association.TheVariants.{Idle, Open}
 use Rattle.association.specs.declared.waiting.Waiting.{Waiting}
-use Rattle.token_sem.specs.declared.entry.Grant.{Grant}
-use Rattle.mms_time.specs.Services.{relinquish_grant, take_told}
+use Rattle.sem_ticks.specs.declared.granted.Granted.{Granted}
+use Rattle.mms_time.specs.Services.{take_told}
+use Rattle.sem_ticks.specs.Granted.{relinquish_granted}
 use Rattle.mms_time.specs.declared.taking.TakeDone.{TakeDone}
 use Rattle.mms_time.specs.declared.taking.TakeDone.TheVariants.{Answered, Waits}
 use Rattle.cell_services.specs.Serving.{is_served, tables_cancelled, tables_lost, tables_heard, serves, services, waiting_of}
@@ -103,9 +104,9 @@ now_kept t row invoke (request.TakeControl x) = by_done (take_told row.client x 
     by_done None = refl
     by_done (Some (Answered told)) = refl
     by_done (Some (Waits entry)) = refl
-now_kept t row invoke (request.RelinquishControl x) = by_grant (relinquish_grant row.client x t.semaphores)
+now_kept t row invoke (request.RelinquishControl x) = by_grant (relinquish_granted row.client x t.semaphores)
   where
-    by_grant : (o : Option (Option Grant)) → (relinquish_outcome t row.client x o).tables.now ≡ t.now
+    by_grant : (o : Option (Option Granted)) → (relinquish_outcome t row.client x o).tables.now ≡ t.now
     by_grant None = refl
     by_grant (Some grant) = refl
 now_kept t row invoke asked = refl

@@ -610,21 +610,30 @@ module _ (s : State) (hand : List (Option Part)) (of : IsHandOf hand (parts_of s
   pub served_in_place : (client : ℕ) (v : Verdict) (out gone there new : List (Option Part)) (part table after now : Part)
       → 1 ≤ client → client ≤ clients_among (length hand) → IsClient (held_at hand (client_place client))
       → Some part ≡ held_at hand (client_place client) → out ≡ set hand (client_place client) None → Some table ≡ held_at out 1 → gone ≡ set out 1 None
-      → AreDone v part table after now → there ≡ set gone 1 (Some now) → new ≡ set there (client_place client) (Some after)
+      → (rows : Rows) → rows ≡ semaphores_in (held_at gone (semaphores_place (clients_among (length hand)))) → AreDone rows v part table after now → there ≡ set gone 1 (Some now) → new ≡ set there (client_place client) (Some after)
       → new ≡ put_in_place cell (hears (tables_shown cell hand) (row_held hand client) client v) hand
-  served_in_place client v out gone there new part table after now some few held own taken second left is put back =
+  served_in_place client v out gone there new part table after now some few held own taken second left rows beside is put back =
       both_changed (felt_all is.done.effects) is.become hand out gone there new (client_place client) part part table table is.own is.after is.was (λ same. omega (arith, same))
       own taken second left refl is.is_own is.done.is refl is.is_table (put ∙ ap (λ (p : Part). set gone 1 (Some p)) is.is_now)
       (back ∙ ap (λ (p : Part). set there (client_place client) (Some p)) is.is_after)
       ∙ done_in_place client is.done.effects is.become some few held
       ∙ ap (λ (d : Done Tables Effect). put_in_place cell d hand)
-      (sym (is.done.done (tables_shown cell hand) client (shown ∙ ap variables_in (sym second ∙ ap Some is.is_table)))
+      (sym (is.done.done (tables_shown cell hand) client (shown ∙ ap variables_in (sym second ∙ ap Some is.is_table)) (stand_by ∙ sym beside))
       ∙ ap (λ (r : ClientRow). hears (tables_shown cell hand) r client v) (ap (λ (p : Part). row_in (Some p)) (sym is.is_own) ∙ ap row_in own))
     where
       shown : (tables_shown cell hand).variables ≡ variables_in (held_at out 1)
       shown =
           ap (λ (t : Tables). t.variables) (sym (shown_own hand))
           ∙ ap variables_in (sym (ap (λ (l : List (Option Part)). held_at l 1) taken ∙ held_after_set hand (client_place client) 1 None (λ same. omega (arith, same))))
+
+      stand_by : (tables_shown cell hand).semaphores ≡ semaphores_in (held_at gone (behind_clients hand))
+      stand_by =
+          ap (λ (t : Tables). t.semaphores) (sym (shown_own hand))
+          ∙ ap semaphores_in
+          (sym (held_after_set hand (client_place client) (behind_clients hand) None (λ same. omega (arith, same, few)))
+          ∙ ap (λ (l : List (Option Part)). held_at l (behind_clients hand)) (sym taken)
+          ∙ sym (held_after_set out 1 (behind_clients hand) None (λ same. omega (arith, same)))
+          ∙ ap (λ (l : List (Option Part)). held_at l (behind_clients hand)) (sym left))
 
 -- both parts are put back as they were
 pub both_back : (hand out gone there new : List (Option Part)) (place : ℕ) (part table : Part) → Some part ≡ held_at hand place → out ≡ set hand place None

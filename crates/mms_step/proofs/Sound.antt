@@ -33,9 +33,10 @@ use Rattle.cell_config.specs.declared.config.Config.{Config}
 use Rattle.cell_config.specs.Said.{IsConfig}
 use Rattle.parted_state.specs.Lists.{get_front, get_behind, get_changed, get_change}
 use Rattle.parted_state.specs.Served.{change, row_at, reached, delivered}
-use Rattle.token_sem.specs.declared.entry.Grant.{Grant}
-use Rattle.mms_time.specs.Loss.{lost_grants}
-use Rattle.mms_time.specs.Services.{relinquish_grant, take_told}
+use Rattle.sem_ticks.specs.declared.granted.Granted.{Granted}
+use Rattle.sem_ticks.specs.Granted.{lost_granted}
+use Rattle.mms_time.specs.Services.{take_told}
+use Rattle.sem_ticks.specs.Granted.{relinquish_granted}
 use Rattle.mms_time.specs.declared.taking.TakeDone.{TakeDone}
 use Rattle.mms_time.specs.declared.taking.TakeDone.TheVariants.{Answered}
 use Rattle.mms_time.specs.declared.taking.TakeDone.TheVariants as taken
@@ -45,15 +46,23 @@ use Rattle.mms_types.specs.declared.key.Key.{Key}
 use Rattle.token_sem.specs.Semaphore.{IsSem, Sem}
 use Rattle.mms_time.specs.Semaphores.{IsSound as IsOneSound}
 use Rattle.mms_time.specs.declared.row.Semaphore.{Semaphore}
-use Rattle.mms_time.specs.declared.row.Semaphore.TheVariants.{Token}
+use Rattle.mms_time.specs.declared.row.Semaphore.TheVariants.{Token, Pool}
+use Rattle.pool_sem.specs.Pools.{Pool as NamedTokens, IsPool}
 use Rattle.mms_time.specs.declared.row.SemaphoreRow.{SemaphoreRow}
 use Rattle.sem_ticks.proofs.Kept.{row_found}
 use Rattle.sem_ticks.proofs.Later.{none_ahead}
-use Rattle.sem_ticks.proofs.Requests.{none_sound}
+use Rattle.mms_types.specs.declared.cells.PoolRow.{PoolRow}
+use Rattle.mms_time.specs.Opening.{configured as configured_pools}
+use Rattle.mms_time.proofs.TokenNames.{each_sound, pools_apart}
+use Rattle.mms_step.proofs.Configured.{pools_apart as pools_apart_in}
+use Rattle.mms_types.specs.declared.moment.Moment.{Moment}
+use Rattle.std.specs.List.{All}
+use Rattle.mms_time.specs.Deadlines.{NamedDeadline, all_deadlines}
+use Rattle.sem_ticks.specs.Sound.{LieAhead}
 use Rattle.sem_ticks.specs.declared.ticks.Happening.{Happening}
 use Rattle.sem_ticks.specs.declared.ticks.Happening.TheVariants as happens
 use Rattle.mms_types.specs.declared.pdu.Request.TheVariants as request
-use Rattle.mms_step.specs.State.{State, start, device_of, HaveMadeFewer, IsSound, IsSoundRow, AreNumbered}
+use Rattle.mms_step.specs.State.{State, start, device_of, HaveMadeAtMost, IsSound, IsSoundRow, AreNumbered}
 use Rattle.cell_services.specs.Effects.{Effect, Sends, Opens, Closes, Waits, Answers, Drains, felt, felt_all, tell}
 use Rattle.cell_services.specs.Association.{Verdict, other_error, Tells, Takes, Concludes, Cancels, Aborts, verdict, verdict_by, idle_verdict, open_verdict, admitted, requested, concluded, cancelled, negotiated, refused, loss_told}
 use Rattle.cell_services.specs.Tables.{Tables, moment_after, moment_of}
@@ -78,7 +87,7 @@ numbered_without count invoke (request ∷ waiting) numbered = by_test (not (req
     by_test true rest = (numbered.0, rest)
     by_test false rest = rest
 
-numbered_with : (count : ℕ) (waiting : List Waiting) (request : Waiting) → AreNumbered count waiting → request.entry < count → AreNumbered count (waiting ++ request ∷ [])
+numbered_with : (count : ℕ) (waiting : List Waiting) (request : Waiting) → AreNumbered count waiting → request.entry ≤ count → AreNumbered count (waiting ++ request ∷ [])
 numbered_with count [] request numbered is = (is, tt)
 numbered_with count (first ∷ waiting) request numbered is = (numbered.0, numbered_with count waiting request numbered.1 is)
 
@@ -115,7 +124,7 @@ module _ (count client : ℕ) where
   }
 
   -- a request waits where it is admitted
-  waited : (request : Waiting) (row : ClientRow) → request.entry < count → IsSoundRow count client row → IsSoundRow count client (felt (Waits request) row)
+  waited : (request : Waiting) (row : ClientRow) → request.entry ≤ count → IsSoundRow count client row → IsSoundRow count client (felt (Waits request) row)
   waited request row numbered sound = by_waiting (is_waiting request.invoke row.waiting) (nat_le (called_of row.association) (length row.waiting)) refl
     where
       by_waiting : (b c : Bool) → nat_le (called_of row.association) (length row.waiting) ≡ c
@@ -256,7 +265,7 @@ abbrev Steady : ℕ → Effect → Type 0
 Steady count (Sends output) = Unit {0}
 Steady count (Opens values) = ⊥
 Steady count Closes = Unit {0}
-Steady count (Waits request) = request.entry < count
+Steady count (Waits request) = request.entry ≤ count
 Steady count (Answers invoke) = Unit {0}
 Steady count Drains = Unit {0}
 
@@ -297,7 +306,7 @@ both_sound count client told also rows sound each steady =
     subst (λ (l : List ClientRow). RowsAreSound count l) (sym (delivered_both (tell client (told (row_at cell client rows))) also rows))
     (all_sound count also (delivered cell (tell client (told (row_at cell client rows))) rows) steady (told_sound count client told rows sound each))
 
-grants_steady : (count : ℕ) (grants : List Grant) → AreSteady count (grants_told grants)
+grants_steady : (count : ℕ) (grants : List Granted) → AreSteady count (grants_told grants)
 grants_steady count [] = tt
 grants_steady count (g ∷ grants) = both_steady count (grant_told g) (grants_told grants) (tt, (tt, tt)) (grants_steady count grants)
 
@@ -309,7 +318,7 @@ happened_steady count (happens.Grants grant ∷ rest) = both_steady count (grant
 happened_steady count (happens.Aborts client ∷ rest) =
     both_steady count (happening_told (happens.Aborts client)) (all_told rest) (tt, (tt, tt)) (happened_steady count rest)
 
-module _ (count : ℕ) (t : Tables) (made : HaveMadeFewer count t.semaphores) where
+module _ (count : ℕ) (t : Tables) (made : HaveMadeAtMost count t.semaphores) where
   effect_steady : (row : ClientRow) (invoke : ℕ) (asked : Request) → AreSteady (suc count) (effect t row invoke asked).also
   effect_steady row invoke (request.TakeControl x) = by_done (take_told row.client x t.semaphores) refl
     where
@@ -317,9 +326,9 @@ module _ (count : ℕ) (t : Tables) (made : HaveMadeFewer count t.semaphores) wh
       by_done None e = tt
       by_done (Some (Answered told)) e = tt
       by_done (Some (taken.Waits entry)) e = (waits_numbered count row.client x t.semaphores entry made e, tt)
-  effect_steady row invoke (request.RelinquishControl x) = by_grant (relinquish_grant row.client x t.semaphores)
+  effect_steady row invoke (request.RelinquishControl x) = by_grant (relinquish_granted row.client x t.semaphores)
     where
-      by_grant : (o : Option (Option Grant)) → AreSteady (suc count) (relinquish_outcome t row.client x o).also
+      by_grant : (o : Option (Option Granted)) → AreSteady (suc count) (relinquish_outcome t row.client x o).also
       by_grant None = tt
       by_grant (Some grant) = grants_steady (suc count) (option_to_list grant)
   effect_steady row invoke asked = tt
@@ -331,15 +340,15 @@ module _ (count : ℕ) (t : Tables) (made : HaveMadeFewer count t.semaphores) wh
       by_test true = effect_steady row invoke asked
       by_test false = tt
   also_steady row (Tells effects) = tt
-  also_steady row Concludes = grants_steady (suc count) (lost_grants row.client (moment_of t) t.semaphores)
+  also_steady row Concludes = grants_steady (suc count) (lost_granted row.client (moment_of t) t.semaphores)
   also_steady row (Cancels invoke) = tt
-  also_steady row Aborts = grants_steady (suc count) (lost_grants row.client (moment_of t) t.semaphores)
+  also_steady row Aborts = grants_steady (suc count) (lost_granted row.client (moment_of t) t.semaphores)
 
   lost_steady : (a : Association) (client : ℕ) → AreSteady (suc count) (also_lost a client t)
   lost_steady Idle client = tt
-  lost_steady (Open values) client = grants_steady (suc count) (lost_grants client (moment_of t) t.semaphores)
+  lost_steady (Open values) client = grants_steady (suc count) (lost_granted client (moment_of t) t.semaphores)
 
-rows_after : (count : ℕ) (s : State) (event : CellEvent) → HaveMadeFewer count s.semaphores → RowsAreSound (suc count) s.clients → RowsAreSound (suc count) (step s event).clients
+rows_after : (count : ℕ) (s : State) (event : CellEvent) → HaveMadeAtMost count s.semaphores → RowsAreSound (suc count) s.clients → RowsAreSound (suc count) (step s event).clients
 rows_after count s (Heard client octets) made sound =
     both_sound (suc count) client (λ row. own_told (cell.tables_of s) row (verdict row octets))
     (also_told (cell.tables_of s) (row_at cell client s.clients) (verdict (row_at cell client s.clients) octets)) s.clients sound
@@ -384,7 +393,7 @@ step_sound count s event sound =
       rows = subst (λ (m : ℕ). RowsAreSound m (step s event).clients) next
           (rows_after count s event sound.made (λ i row there. row_later count (i + 1) row (sound.rows i row there)));
       semaphores = kept.sound;
-      made = subst (λ (m : ℕ). HaveMadeFewer m (step s event).semaphores) next kept.made;
+      made = subst (λ (m : ℕ). HaveMadeAtMost m (step s event).semaphores) next kept.made;
       ahead = kept.ahead;
     }
 
@@ -427,6 +436,19 @@ first_rows_sound config n i row there = by_value (slice_get (clients_to n) i) re
         let same : new_row c (device_of config) ≡ row = cc is in
         subst (λ (r : ClientRow). IsSoundRow 0 (i + 1) r) same (record { number = client_at n i c e; allowed = omega arith; entries = tt })
 
+-- the pools of a configuration have no entries
+none_made : (pools : List PoolRow) → HaveMadeAtMost 0 (configured_pools pools)
+none_made [] k d low = absurd (omega (arith, low))
+none_made (pool ∷ pools) zero d low = omega arith
+none_made (pool ∷ pools) (suc k) d low = none_made pools k d (omega (arith, low))
+
+no_deadlines : (pools : List PoolRow) → all_deadlines (configured_pools pools) ≡ []
+no_deadlines [] = refl
+no_deadlines (pool ∷ pools) = no_deadlines pools
+
+pools_ahead : (now : Moment) (pools : List PoolRow) → LieAhead now (configured_pools pools)
+pools_ahead now pools = subst (λ (ds : List NamedDeadline). All (λ d. now.0 < d.at.0) ds) (sym (no_deadlines pools)) (none_ahead now)
+
 pub start_sound : (config : Config) → IsConfig config → IsSound 0 (start config)
 start_sound config is =
     let counted = length-start config in
@@ -434,15 +456,21 @@ start_sound config is =
       some = omega (arith, counted, is.some_client);
       few = omega (arith, counted, is.few_clients);
       rows = first_rows_sound config config.clients;
-      semaphores = none_sound;
-      made = λ k d low. absurd (omega (arith, low));
-      ahead = none_ahead (record { 0 = config.start.0 });
+      semaphores = record { names = pools_apart config.pools (pools_apart_in config is).names; each = each_sound config.pools (pools_apart_in config is).each };
+      made = none_made config.pools;
+      ahead = pools_ahead (record { 0 = config.start.0 }) config.pools;
     }
 
 pub replay_sound : (config : Config) (history : List CellEvent) → IsConfig config → IsSound (length history) (replay config history)
 replay_sound config history is =
     let all : 0 + length history ≡ length history = omega arith in
     subst (λ (m : ℕ). IsSound m (replay config history)) all (sound_along 0 (start config) history (start_sound config is))
+
+-- what holds of a pool
+pub pool_sound : (config : Config) (history : List CellEvent) (key : Key) (row : SemaphoreRow) (pool : NamedTokens) → IsConfig config
+    → lookup (key_eq key) (replay config history).semaphores ≡ Some row → row.semaphore ≡ Pool pool → IsPool pool
+pool_sound config history key row pool is found of =
+    subst (λ (s : Semaphore). IsOneSound s) of (row_found (replay config history).semaphores key row (replay_sound config history is).semaphores.each found)
 
 -- what holds of the tokens of a semaphore
 pub tokens_sound : (config : Config) (history : List CellEvent) (key : Key) (row : SemaphoreRow) (tokens : Sem) → IsConfig config

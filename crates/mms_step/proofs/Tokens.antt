@@ -24,16 +24,20 @@ use Rattle.association.specs.declared.waiting.Waiting.{Waiting}
 use Rattle.token_sem.specs.Semaphore.{Sem, after_cancel, after_freeing, after_giving_back, effect_of, expired_entry, has_token, is_queued, numbered, outcome, owner_of, without}
 use Rattle.token_sem.specs.declared.entry.Ask.{Ask}
 use Rattle.token_sem.specs.declared.entry.Expired.{Expired}
-use Rattle.token_sem.specs.declared.entry.Grant.{Grant}
+use Rattle.sem_ticks.specs.declared.granted.Granted.{Granted}
 use Rattle.token_sem.specs.declared.entry.Outcome.{Outcome}
 use Rattle.token_sem.specs.declared.entry.Outcome.TheVariants.{Refused, Preempts, Gets, TimesOut, WaitsUntil, WaitsForEver}
 use Rattle.token_sem.specs.declared.entry.SemEntry.{SemEntry}
+use Rattle.pool_sem.specs.Pools as pool
+use Rattle.pool_sem.specs.declared.outcome.PoolOutcome.{PoolOutcome}
+use Rattle.pool_sem.specs.declared.outcome.PoolOutcome.TheVariants as pooled
 use Rattle.mms_time.specs.Deadlines.{NamedDeadline, expired, expire_after, next_due, without_due}
 use Rattle.mms_time.specs.Loss.{all_changed, lost, without_owners, without_waiters}
 use Rattle.mms_time.specs.Semaphores.{Rows, changed, changed_row, changed_to, entry_in, entry_waits, made_in, semaphore}
-use Rattle.mms_time.specs.Services.{ask_of, cancel_after, cancelled, define_after, define_cause, deleted, new_semaphore, relinquish_grant, relinquished, take_after, take_told, take_told_in, take_told_of, with_take, with_token_back, without_entry}
+use Rattle.mms_time.specs.Services.{ask_of, cancel_after, cancelled, define_after, define_cause, deleted, name_at, named_answer, new_semaphore, place_asked, relinquished, take_after, take_told, take_told_in, take_told_of, with_take, with_token_back, without_entry}
+use Rattle.sem_ticks.specs.Granted.{relinquish_granted}
 use Rattle.mms_time.specs.declared.row.Semaphore.{Semaphore}
-use Rattle.mms_time.specs.declared.row.Semaphore.TheVariants.{Token}
+use Rattle.mms_time.specs.declared.row.Semaphore.TheVariants.{Token, Pool}
 use Rattle.mms_time.specs.declared.row.SemaphoreRow.{SemaphoreRow}
 use Rattle.mms_time.specs.declared.taking.TakeDone.{TakeDone}
 use Rattle.mms_time.specs.declared.taking.TakeDone.TheVariants.{Answered, Waits}
@@ -48,7 +52,7 @@ use Rattle.cell_services.specs.Association.{Verdict, Tells, Takes, Concludes, Ca
 use Rattle.cell_services.specs.Services.{cause, effect, fits, is_done, relinquish_outcome, take_outcome}
 use Rattle.cell_services.specs.Serving.{is_served, size_of, tables_cancelled, tables_heard, tables_lost, waiting_of}
 use Rattle.cell_services.specs.Tables.{Tables, moment_of}
-use Rattle.mms_step.specs.State.{HaveMadeFewer}
+use Rattle.mms_step.specs.State.{HaveMadeAtMost}
 
 -- ---- what each of the things that are done to semaphores keeps
 
@@ -56,7 +60,7 @@ use Rattle.mms_step.specs.State.{HaveMadeFewer}
 pub record IsKept (now : Moment) (P Q : Rows → Type 0) : Type 0 where
   pub stays : (rows : Rows) → P rows → Q rows
   pub taken : (client invoke : ℕ) (asked : TakeControl) (rows : Rows) → P rows → Q (take_after client invoke now asked rows)
-  pub relinquished : (key : Key) (client : ℕ) (rows : Rows) → P rows → Q (relinquished key client now rows)
+  pub relinquished : (key : Key) (client : ℕ) (token : Option (List ℕ)) (rows : Rows) → P rows → Q (relinquished key client token now rows)
   pub cancelled : (key : Key) (number : ℕ) (rows : Rows) → P rows → Q (cancelled key number rows)
   pub defined : (client : ℕ) (asked : DefineSemaphore) (rows : Rows) → define_cause false client asked rows ≡ None → P rows → Q (define_after client asked rows)
   pub deleted : (key : Key) (rows : Rows) → P rows → Q (deleted key rows)
@@ -73,11 +77,11 @@ module _ (P Q : Rows → Type 0) (t : Tables) (kept : IsKept (moment_of t) P Q) 
 
   effect_kept : (row : ClientRow) (invoke : ℕ) (asked : Request) → cause t row asked ≡ None → Q (effect t row invoke asked).tables.semaphores
   effect_kept row invoke (request.TakeControl x) none = taken_kept row.client invoke x (take_told row.client x t.semaphores)
-  effect_kept row invoke (request.RelinquishControl x) none = by_grant (relinquish_grant row.client x t.semaphores)
+  effect_kept row invoke (request.RelinquishControl x) none = by_grant (relinquish_granted row.client x t.semaphores)
     where
-      by_grant : (o : Option (Option Grant)) → Q (relinquish_outcome t row.client x o).tables.semaphores
+      by_grant : (o : Option (Option Granted)) → Q (relinquish_outcome t row.client x o).tables.semaphores
       by_grant None = as_they_were
-      by_grant (Some grant) = kept.relinquished (key_of row.client x.name) row.client t.semaphores is
+      by_grant (Some grant) = kept.relinquished (key_of row.client x.name) row.client x.token t.semaphores is
   effect_kept row invoke (request.DefineSemaphore x) none = kept.defined row.client x t.semaphores none is
   effect_kept row invoke (request.DeleteSemaphore x) none = kept.deleted (key_of row.client x) t.semaphores is
   effect_kept row invoke asked none = as_they_were
@@ -112,7 +116,7 @@ sound_kept : (now : Moment) → IsKept now AreSound AreSound
 sound_kept now = record {
   stays = λ rows is. is;
   taken = λ client invoke asked rows is. keeps_taken client invoke now asked rows is;
-  relinquished = λ key client rows is. keeps_relinquished key client now rows is;
+  relinquished = λ key client token rows is. keeps_relinquished key client token now rows is;
   cancelled = λ key number rows is. keeps_cancelled key number rows is;
   defined = λ client asked rows none is. keeps_defined false client asked rows none is;
   deleted = λ key rows is. keeps_deleted key rows is;
@@ -123,7 +127,7 @@ ahead_kept : (now : Moment) → IsKept now (LieAhead now) (LieAhead now)
 ahead_kept now = record {
   stays = λ rows is. is;
   taken = λ client invoke asked rows is. ahead_taken now client invoke asked rows is;
-  relinquished = λ key client rows is. ahead_relinquished now key client rows is;
+  relinquished = λ key client token rows is. ahead_relinquished now key client token rows is;
   cancelled = λ key number rows is. ahead_cancelled now key number rows is;
   defined = λ client asked rows none is. ahead_defined now client asked rows is;
   deleted = λ key rows is. ahead_deleted now key rows is;
@@ -132,31 +136,31 @@ ahead_kept now = record {
 
 -- ---- each has made fewer entries than there were events
 
-abbrev HasMadeFewer : ℕ → SemaphoreRow → Type 0
-HasMadeFewer count row = made_in row.semaphore < count
+abbrev HasMadeAtMost : ℕ → SemaphoreRow → Type 0
+HasMadeAtMost count row = made_in row.semaphore ≤ count
 
-pub made_found : (count : ℕ) (key : Key) (rows : Rows) (row : SemaphoreRow) → HaveMadeFewer count rows → lookup (key_eq key) rows ≡ Some row → made_in row.semaphore < count
+pub made_found : (count : ℕ) (key : Key) (rows : Rows) (row : SemaphoreRow) → HaveMadeAtMost count rows → lookup (key_eq key) rows ≡ Some row → made_in row.semaphore ≤ count
 made_found count key rows row all found =
-    subst (λ (o : Option SemaphoreRow). IfSome o (HasMadeFewer count)) found (IfSome-lookup_from_All (HasMadeFewer count) (key_eq key) rows all)
+    subst (λ (o : Option SemaphoreRow). IfSome o (HasMadeAtMost count)) found (IfSome-lookup_from_All (HasMadeAtMost count) (key_eq key) rows all)
 
-pub made_more : (count : ℕ) (rows : Rows) → HaveMadeFewer count rows → HaveMadeFewer (suc count) rows
+pub made_more : (count : ℕ) (rows : Rows) → HaveMadeAtMost count rows → HaveMadeAtMost (suc count) rows
 made_more count [] all k d low = absurd (omega (arith, low))
 made_more count (row ∷ rows) all zero d low = let below = all zero d (omega arith) in omega (arith, below)
 made_more count (row ∷ rows) all (suc k) d low = made_more count rows (λ j e less. all (suc j) e (omega (arith, less))) k d (omega (arith, low))
 
 -- one semaphore is changed
-made_changed : (count next : ℕ) (f : Semaphore → Semaphore) (key : Key) (rows : Rows) → ((s : Semaphore) → made_in s < count → made_in (f s) < next)
-    → HaveMadeFewer next rows → HaveMadeFewer count rows → HaveMadeFewer next (changed f key rows)
+made_changed : (count next : ℕ) (f : Semaphore → Semaphore) (key : Key) (rows : Rows) → ((s : Semaphore) → made_in s ≤ count → made_in (f s) ≤ next)
+    → HaveMadeAtMost next rows → HaveMadeAtMost count rows → HaveMadeAtMost next (changed f key rows)
 made_changed count next f key rows each later all = by_row (lookup (key_eq key) rows) refl
   where
-    by_row : (o : Option SemaphoreRow) → lookup (key_eq key) rows ≡ o → HaveMadeFewer next (changed_to o f key rows)
+    by_row : (o : Option SemaphoreRow) → lookup (key_eq key) rows ≡ o → HaveMadeAtMost next (changed_to o f key rows)
     by_row None found = later
     by_row (Some row) found =
-        All-values-set_value (key_eq key) (HasMadeFewer next) rows (changed_row f row) later (each row.semaphore (made_found count key rows row all found))
+        All-values-set_value (key_eq key) (HasMadeAtMost next) rows (changed_row f row) later (each row.semaphore (made_found count key rows row all found))
 
 -- all are
-made_all : (count : ℕ) (f : Semaphore → Semaphore) → ((s : Semaphore) → made_in (f s) ≡ made_in s) → (rows : Rows) → HaveMadeFewer count rows
-    → HaveMadeFewer count (all_changed f rows)
+made_all : (count : ℕ) (f : Semaphore → Semaphore) → ((s : Semaphore) → made_in (f s) ≡ made_in s) → (rows : Rows) → HaveMadeAtMost count rows
+    → HaveMadeAtMost count (all_changed f rows)
 made_all count f same [] all k d low = absurd (omega (arith, low))
 made_all count f same (row ∷ rows) all zero d low =
     let below = all zero d (omega arith) in
@@ -165,16 +169,16 @@ made_all count f same (row ∷ rows) all zero d low =
 made_all count f same (row ∷ rows) all (suc k) d low = made_all count f same rows (λ j e less. all (suc j) e (omega (arith, less))) k d (omega (arith, low))
 
 -- some are taken away
-made_left : (count : ℕ) (p : Key × SemaphoreRow → Bool) (rows : Rows) → HaveMadeFewer count rows → HaveMadeFewer count (filter p rows)
+made_left : (count : ℕ) (p : Key × SemaphoreRow → Bool) (rows : Rows) → HaveMadeAtMost count rows → HaveMadeAtMost count (filter p rows)
 made_left count p [] all = all
 made_left count p (row ∷ rows) all = by_test (p row) (made_left count p rows (λ j e less. all (suc j) e (omega (arith, less))))
   where
-    by_test : (b : Bool) → HaveMadeFewer count (filter p rows) → HaveMadeFewer count (cond b (row ∷ filter p rows) (filter p rows))
+    by_test : (b : Bool) → HaveMadeAtMost count (filter p rows) → HaveMadeAtMost count (cond b (row ∷ filter p rows) (filter p rows))
     by_test true rest zero d low = all zero d (omega arith)
     by_test true rest (suc k) d low = rest k d (omega (arith, low))
     by_test false rest k d low = rest k d low
 
-made_lost : (count client : ℕ) (now : Moment) (rows : Rows) → HaveMadeFewer count rows → HaveMadeFewer count (lost client now rows)
+made_lost : (count client : ℕ) (now : Moment) (rows : Rows) → HaveMadeAtMost count rows → HaveMadeAtMost count (lost client now rows)
 made_lost count client now rows all =
     made_left count (λ row. not (scope_eq row.0.scope (OfClient client))) (all_changed (without_owners client now) (all_changed (without_waiters client) rows))
     (made_all count (without_owners client now) owners (all_changed (without_waiters client) rows)
@@ -182,25 +186,44 @@ made_lost count client now rows all =
   where
     owners : (s : Semaphore) → made_in (without_owners client now s) ≡ made_in s
     owners (Token s) = refl
+    owners (Pool p) = refl
 
     waiters : (s : Semaphore) → made_in (without_waiters client s) ≡ made_in s
     waiters (Token s) = refl
+    waiters (Pool p) = refl
 
-made_taken : (count : ℕ) (ask : Ask) (now : Moment) (s : Semaphore) → made_in s < count → made_in (with_take ask now s) < suc count
-made_taken count ask now (Token s) below = by_outcome (outcome s ask now)
+made_taken : (count client invoke : ℕ) (asked : TakeControl) (now : Moment) (s : Semaphore) → made_in s ≤ count → made_in (with_take client invoke asked now s) ≤ suc count
+made_taken count client invoke asked now (Token s) below = by_outcome (outcome s (ask_of client invoke None asked) now)
   where
-    by_outcome : (o : Outcome) → (effect_of o s ask now).made < suc count
+    by_outcome : (o : Outcome) → (effect_of o s (ask_of client invoke None asked) now).made ≤ suc count
     by_outcome Refused = omega (arith, below)
     by_outcome (Preempts number) = omega (arith, below)
     by_outcome Gets = omega (arith, below)
     by_outcome TimesOut = omega (arith, below)
     by_outcome (WaitsUntil deadline) = omega (arith, below)
     by_outcome WaitsForEver = omega (arith, below)
+made_taken count client invoke asked now (Pool p) below = by_outcome (pool.outcome p ask now)
+  where
+    ask : Ask
+    ask = ask_of client invoke (place_asked asked.token p.tokens) asked
 
-made_back : (client : ℕ) (now : Moment) (s : Semaphore) → made_in (with_token_back client now s) ≡ made_in s
-made_back client now (Token s) = by_owner (owner_of client s.entries)
+    by_outcome : (o : PoolOutcome) → (pool.effect_of o p ask now).made ≤ suc count
+    by_outcome pooled.Refused = omega (arith, below)
+    by_outcome (pooled.Preempts number token) = omega (arith, below)
+    by_outcome (pooled.Gets token) = omega (arith, below)
+    by_outcome pooled.TimesOut = omega (arith, below)
+    by_outcome (pooled.WaitsUntil deadline) = omega (arith, below)
+    by_outcome pooled.WaitsForEver = omega (arith, below)
+
+made_back : (client : ℕ) (token : Option (List ℕ)) (now : Moment) (s : Semaphore) → made_in (with_token_back client token now s) ≡ made_in s
+made_back client token now (Token s) = by_owner (owner_of client s.entries)
   where
     by_owner : (o : Option SemEntry) → (after_giving_back o now s).made ≡ s.made
+    by_owner None = refl
+    by_owner (Some e) = refl
+made_back client token now (Pool p) = by_owner (pool.owner_of client (place_asked token p.tokens) p.entries)
+  where
+    by_owner : (o : Option SemEntry) → (pool.after_giving_back o now p).made ≡ p.made
     by_owner None = refl
     by_owner (Some e) = refl
 
@@ -214,78 +237,88 @@ made_due number now (Token s) = by_entry (numbered number s.entries)
     by_entry : (o : Option SemEntry) → (expired_entry o now s).made ≡ s.made
     by_entry None = refl
     by_entry (Some e) = by_test e (is_queued e)
+made_due number now (Pool p) = by_entry (numbered number p.entries)
+  where
+    by_test : (e : SemEntry) (b : Bool) → (if b then pool.after_cancel p e.number else record p { entries = pool.after_leaving e now p.entries }).made ≡ p.made
+    by_test e true = refl
+    by_test e false = refl
 
-made_still : (count : ℕ) (f : Semaphore → Semaphore) (key : Key) (rows : Rows) → ((s : Semaphore) → made_in (f s) ≡ made_in s) → HaveMadeFewer count rows
-    → HaveMadeFewer count (changed f key rows)
+    by_entry : (o : Option SemEntry) → (pool.expired_entry o now p).made ≡ p.made
+    by_entry None = refl
+    by_entry (Some e) = by_test e (is_queued e)
+
+made_still : (count : ℕ) (f : Semaphore → Semaphore) (key : Key) (rows : Rows) → ((s : Semaphore) → made_in (f s) ≡ made_in s) → HaveMadeAtMost count rows
+    → HaveMadeAtMost count (changed f key rows)
 made_still count f key rows same all =
     made_changed count count f key rows (λ s below. let is = same s in omega (arith, below, is)) all all
 
-made_cancelled : (count : ℕ) (key : Key) (number : ℕ) (rows : Rows) → HaveMadeFewer count rows → HaveMadeFewer count (cancelled key number rows)
+made_cancelled : (count : ℕ) (key : Key) (number : ℕ) (rows : Rows) → HaveMadeAtMost count rows → HaveMadeAtMost count (cancelled key number rows)
 made_cancelled count key number rows all = by_test (entry_waits (entry_in key number rows))
   where
     same : (s : Semaphore) → made_in (without_entry number s) ≡ made_in s
     same (Token s) = refl
+    same (Pool p) = refl
 
-    by_test : (b : Bool) → HaveMadeFewer count (if b then cancel_after key number rows else rows)
+    by_test : (b : Bool) → HaveMadeAtMost count (if b then cancel_after key number rows else rows)
     by_test true = made_still count (without_entry number) key rows same all
     by_test false = all
 
-made_defined : (count client : ℕ) (asked : DefineSemaphore) (rows : Rows) → HaveMadeFewer count rows → HaveMadeFewer (suc count) (define_after client asked rows)
+made_defined : (count client : ℕ) (asked : DefineSemaphore) (rows : Rows) → HaveMadeAtMost count rows → HaveMadeAtMost (suc count) (define_after client asked rows)
 made_defined count client asked rows all =
-    subst (All (HasMadeFewer (suc count))) (sym (map-append (λ e. e.1) rows (one ∷ [])))
-    (All-append (HasMadeFewer (suc count)) (values_of rows) (one.1 ∷ []) (made_more count rows all) first)
+    subst (All (HasMadeAtMost (suc count))) (sym (map-append (λ e. e.1) rows (one ∷ [])))
+    (All-append (HasMadeAtMost (suc count)) (values_of rows) (one.1 ∷ []) (made_more count rows all) first)
   where
     one : Key × SemaphoreRow
     one = (key_of client asked.name, record { configured = false; semaphore = new_semaphore asked.tokens })
 
-    first : All (HasMadeFewer (suc count)) (one.1 ∷ [])
+    first : All (HasMadeAtMost (suc count)) (one.1 ∷ [])
     first zero d low = omega arith
     first (suc k) d low = absurd (omega (arith, low))
 
-made_kept : (count : ℕ) (now : Moment) → IsKept now (HaveMadeFewer count) (HaveMadeFewer (suc count))
+made_kept : (count : ℕ) (now : Moment) → IsKept now (HaveMadeAtMost count) (HaveMadeAtMost (suc count))
 made_kept count now = record {
   stays = made_more count;
   taken = λ client invoke asked rows all.
-      made_changed count (suc count) (with_take (ask_of client invoke asked) now) (key_of client asked.name) rows (made_taken count (ask_of client invoke asked) now)
+      made_changed count (suc count) (with_take client invoke asked now) (key_of client asked.name) rows (made_taken count client invoke asked now)
       (made_more count rows all) all;
-  relinquished = λ key client rows all. made_more count _ (made_still count (with_token_back client now) key rows (made_back client now) all);
+  relinquished = λ key client token rows all. made_more count _ (made_still count (with_token_back client token now) key rows (made_back client token now) all);
   cancelled = λ key number rows all. made_more count _ (made_cancelled count key number rows all);
   defined = λ client asked rows none all. made_defined count client asked rows all;
-  deleted = λ key rows all. made_more count _ (All-map-remove_entry (key_eq key) (λ e. e.1) (HasMadeFewer count) rows all);
+  deleted = λ key rows all. made_more count _ (All-map-remove_entry (key_eq key) (λ e. e.1) (HasMadeAtMost count) rows all);
   lost = λ client rows all. made_more count _ (made_lost count client now rows all);
 }
 
 -- time makes none
-made_met : (count : ℕ) (s t : Ticking) (d : NamedDeadline) → met s d ≡ Some t → HaveMadeFewer count s.rows → HaveMadeFewer count t.rows
+made_met : (count : ℕ) (s t : Ticking) (d : NamedDeadline) → met s d ≡ Some t → HaveMadeAtMost count s.rows → HaveMadeAtMost count t.rows
 made_met count s t d same all = by_expired (expired d.key d.entry s.rows) same
   where
-    aborted : (aborts : Bool) (client : ℕ) (rows : Rows) → HaveMadeFewer count rows → HaveMadeFewer count (after_abort aborts client d.at rows)
+    aborted : (aborts : Bool) (client : ℕ) (rows : Rows) → HaveMadeAtMost count rows → HaveMadeAtMost count (after_abort aborts client d.at rows)
     aborted true client rows is = made_lost count client d.at rows is
     aborted false client rows is = is
 
-    by_expired : (o : Option Expired) → option_map (met_as s d) o ≡ Some t → HaveMadeFewer count t.rows
+    by_expired : (o : Option Expired) → option_map (met_as s d) o ≡ Some t → HaveMadeAtMost count t.rows
     by_expired None h = absurd (cc h)
     by_expired (Some x) h =
         let one : met_as s d x ≡ t = cc h in
-        subst (λ (u : Ticking). HaveMadeFewer count u.rows) one
+        subst (λ (u : Ticking). HaveMadeAtMost count u.rows) one
         (aborted x.abort x.client (expire_after d.key d.entry d.at s.rows) (made_still count (without_due d.entry d.at) d.key s.rows (made_due d.entry d.at) all))
 
-made_next : (count : ℕ) (until : Moment) (s t : Ticking) → next_met until s ≡ Some t → HaveMadeFewer count s.rows → HaveMadeFewer count t.rows
+made_next : (count : ℕ) (until : Moment) (s t : Ticking) → next_met until s ≡ Some t → HaveMadeAtMost count s.rows → HaveMadeAtMost count t.rows
 made_next count until s t same all = by_due (next_due until s.rows) same
   where
-    by_due : (o : Option NamedDeadline) → option_and_then (met s) o ≡ Some t → HaveMadeFewer count t.rows
+    by_due : (o : Option NamedDeadline) → option_and_then (met s) o ≡ Some t → HaveMadeAtMost count t.rows
     by_due None h = absurd (cc h)
     by_due (Some d) h = made_met count s t d h all
 
-made_ticked : (count : ℕ) (until : Moment) (s : Ticking) → HaveMadeFewer count s.rows → HaveMadeFewer count (ticked_on until s).rows
-made_ticked count until s all = settle-keeps (next_met until) (λ t. HaveMadeFewer count t.rows) (made_next count until) (entries_left s.rows) s all
+made_ticked : (count : ℕ) (until : Moment) (s : Ticking) → HaveMadeAtMost count s.rows → HaveMadeAtMost count (ticked_on until s).rows
+made_ticked count until s all = settle-keeps (next_met until) (λ t. HaveMadeAtMost count t.rows) (made_next count until) (entries_left s.rows) s all
 
 -- ---- all three
 
 -- what holds of the semaphores at a moment, after so many events
 pub record AreKept (count : ℕ) (now : Moment) (rows : Rows) : Type 0 where
   pub sound : AreSound rows
-  pub made : HaveMadeFewer count rows
+  pub made : HaveMadeAtMost count rows
   pub ahead : LieAhead now rows
 
 pub kept_later : (count : ℕ) (now : Moment) (rows : Rows) → AreKept count now rows → AreKept (suc count) now rows
@@ -295,7 +328,7 @@ pub kept_heard : (count : ℕ) (t : Tables) (row : ClientRow) (v : Verdict) → 
     → AreKept (suc count) (moment_of t) (tables_heard t row v).semaphores
 kept_heard count t row v are = record {
   sound = heard_kept AreSound AreSound t (sound_kept (moment_of t)) are.sound row v;
-  made = heard_kept (HaveMadeFewer count) (HaveMadeFewer (suc count)) t (made_kept count (moment_of t)) are.made row v;
+  made = heard_kept (HaveMadeAtMost count) (HaveMadeAtMost (suc count)) t (made_kept count (moment_of t)) are.made row v;
   ahead = heard_kept (LieAhead (moment_of t)) (LieAhead (moment_of t)) t (ahead_kept (moment_of t)) are.ahead row v;
 }
 
@@ -303,7 +336,7 @@ pub kept_lost : (count : ℕ) (t : Tables) (a : Association) (client : ℕ) → 
     → AreKept (suc count) (moment_of t) (tables_lost a client t).semaphores
 kept_lost count t a client are = record {
   sound = lost_kept AreSound AreSound t (sound_kept (moment_of t)) are.sound a client;
-  made = lost_kept (HaveMadeFewer count) (HaveMadeFewer (suc count)) t (made_kept count (moment_of t)) are.made a client;
+  made = lost_kept (HaveMadeAtMost count) (HaveMadeAtMost (suc count)) t (made_kept count (moment_of t)) are.made a client;
   ahead = lost_kept (LieAhead (moment_of t)) (LieAhead (moment_of t)) t (ahead_kept (moment_of t)) are.ahead a client;
 }
 
@@ -318,16 +351,23 @@ kept_ticked count now until rows are = record {
 -- ---- an entry that is made has the number of an event
 
 -- a request for a token that waits has the next number of its semaphore
-pub waits_numbered : (count client : ℕ) (asked : TakeControl) (rows : Rows) (entry : ℕ) → HaveMadeFewer count rows → take_told client asked rows ≡ Some (Waits entry) → entry < suc count
+pub waits_numbered : (count client : ℕ) (asked : TakeControl) (rows : Rows) (entry : ℕ) → HaveMadeAtMost count rows → take_told client asked rows ≡ Some (Waits entry) → entry ≤ suc count
 waits_numbered count client asked rows entry all told = by_row (semaphore client asked.name rows) refl told
   where
-    by_test : (s : Sem) (b : Bool) → s.made < count → Some (if b then Answered NoResult else Waits (s.made + 1)) ≡ Some (Waits entry) → entry < suc count
+    by_test : (s : Sem) (b : Bool) → s.made ≤ count → Some (if b then Answered NoResult else Waits (s.made + 1)) ≡ Some (Waits entry) → entry ≤ suc count
     by_test s true below e = absurd (cc e)
     by_test s false below e = let same : s.made + 1 ≡ entry = cc e in omega (arith, same, below)
 
-    by_semaphore : (s : Semaphore) → made_in s < count → Some (take_told_in asked s) ≡ Some (Waits entry) → entry < suc count
-    by_semaphore (Token s) below e = by_test s (has_token asked.preempt s) below e
+    by_pool : (p : pool.Pool) (b : Bool) → p.made ≤ count
+        → Some (if b then Answered (named_answer (name_at (pool.token_told (place_asked asked.token p.tokens) (pool.token_got asked.preempt (place_asked asked.token p.tokens) p)) p.tokens)) else Waits (p.made + 1))
+        ≡ Some (Waits entry) → entry ≤ suc count
+    by_pool p true below e = absurd (cc e)
+    by_pool p false below e = let same : p.made + 1 ≡ entry = cc e in omega (arith, same, below)
 
-    by_row : (o : Option SemaphoreRow) → lookup (key_eq (key_of client asked.name)) rows ≡ o → take_told_of asked o ≡ Some (Waits entry) → entry < suc count
+    by_semaphore : (s : Semaphore) → made_in s ≤ count → Some (take_told_in asked s) ≡ Some (Waits entry) → entry ≤ suc count
+    by_semaphore (Token s) below e = by_test s (has_token asked.preempt s) below e
+    by_semaphore (Pool p) below e = by_pool p (pool.has_token asked.preempt (place_asked asked.token p.tokens) p) below e
+
+    by_row : (o : Option SemaphoreRow) → lookup (key_eq (key_of client asked.name)) rows ≡ o → take_told_of asked o ≡ Some (Waits entry) → entry ≤ suc count
     by_row None found e = absurd (cc e)
     by_row (Some row) found e = by_semaphore row.semaphore (made_found count (key_of client asked.name) rows row all found) e

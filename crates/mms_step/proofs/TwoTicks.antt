@@ -42,7 +42,7 @@ next_behind until before s = by_due (next_due until s.rows)
     by_expired d None = refl
     by_expired d (Some x) =
         ap (λ (l : List Happening). Some (of l))
-        (append_assoc before s.happened (expiry_told x ++ abort_told x.abort x.client d.at (expire_after d.key d.entry d.at s.rows)))
+        (append_assoc before s.happened (expiry_told (expire_after d.key d.entry d.at s.rows) d.key x ++ abort_told x.abort x.client d.at (expire_after d.key d.entry d.at s.rows)))
       where
         of : List Happening → Ticking
         of l = record { rows = (met_as s d x).rows; happened = l }

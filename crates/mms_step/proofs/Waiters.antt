@@ -7,7 +7,6 @@ use Rattle.mms_types.specs.declared.event.CellEvent.TheVariants.{Heard, Lost, Ti
 use Rattle.mms_types.specs.declared.event.What.{What}
 use Rattle.mms_types.specs.declared.event.What.TheVariants.{Octets}
 use Rattle.mms_types.specs.declared.pdu.Answer.TheVariants as answer
-use Rattle.mms_types.specs.declared.semaphore.TakeControlAnswer.TheVariants.{NoResult}
 use Rattle.mms_pdu.specs.Pdus.{pdu_octets}
 use Rattle.mms_types.specs.declared.initiate.InitiateAnswer.{InitiateAnswer}
 use Rattle.mms_types.specs.declared.memory.Memory.{Memory}
@@ -32,9 +31,10 @@ use Rattle.association.specs.declared.negotiation.Association.{Association}
 use Rattle.association.specs.declared.negotiation.Association.TheVariants.{Idle, Open}
 use Rattle.association.specs.declared.negotiation.Negotiated.{Negotiated}
 use Rattle.association.specs.declared.waiting.Waiting.{Waiting}
-use Rattle.token_sem.specs.declared.entry.Grant.{Grant}
-use Rattle.mms_time.specs.Loss.{lost_grants}
-use Rattle.mms_time.specs.Services.{relinquish_grant, take_told}
+use Rattle.sem_ticks.specs.declared.granted.Granted.{Granted}
+use Rattle.sem_ticks.specs.Granted.{lost_granted}
+use Rattle.mms_time.specs.Services.{take_told}
+use Rattle.sem_ticks.specs.Granted.{relinquish_granted}
 use Rattle.mms_time.specs.declared.taking.TakeDone.{TakeDone}
 use Rattle.mms_time.specs.declared.taking.TakeDone.TheVariants as taken
 use Rattle.sem_ticks.specs.declared.ticks.Happening.{Happening}
@@ -107,10 +107,10 @@ answered_behind client invoke output rest answers there plain who what (suc k, l
 abbrev refusal : ℕ → ServiceError → What
 refusal invoke error = Octets (pdu_octets (confirmed_error invoke error))
 
-grant_answered : (g : Grant) → AreAnswered (grant_told g)
-grant_answered g = answered_behind g.client g.invoke (grant_answer g) ((g.client, Sends (grant_answer g)) ∷ []) (inl (answer.TakeControl NoResult, refl)) (0, omega arith, refl) (tt, tt)
+grant_answered : (g : Granted) → AreAnswered (grant_told g)
+grant_answered g = answered_behind g.client g.invoke (grant_answer g) ((g.client, Sends (grant_answer g)) ∷ []) (inl (answer.TakeControl g.answer, refl)) (0, omega arith, refl) (tt, tt)
 
-grants_answered : (grants : List Grant) → AreAnswered (grants_told grants)
+grants_answered : (grants : List Granted) → AreAnswered (grants_told grants)
 grants_answered [] = plain_answered [] tt
 grants_answered (g ∷ grants) = both_answered (grant_told g) (grants_told grants) (grant_answered g) (grants_answered grants)
 
@@ -200,9 +200,9 @@ effect_answered t row invoke (request.TakeControl x) = by_done (take_told row.cl
     by_done None = plain_answered [] tt
     by_done (Some (taken.Answered told)) = plain_answered [] tt
     by_done (Some (taken.Waits entry)) = plain_answered (take_outcome t row.client invoke x (Some (taken.Waits entry))).also (tt, tt)
-effect_answered t row invoke (request.RelinquishControl x) = by_grant (relinquish_grant row.client x t.semaphores)
+effect_answered t row invoke (request.RelinquishControl x) = by_grant (relinquish_granted row.client x t.semaphores)
   where
-    by_grant : (o : Option (Option Grant)) → AreAnswered (relinquish_outcome t row.client x o).also
+    by_grant : (o : Option (Option Granted)) → AreAnswered (relinquish_outcome t row.client x o).also
     by_grant None = plain_answered [] tt
     by_grant (Some grant) = grants_answered (option_to_list grant)
 effect_answered t row invoke asked = plain_answered [] tt
@@ -214,9 +214,9 @@ also_answered t row (Takes invoke asked) = by_test (is_served t row invoke asked
     by_test true = effect_answered t row invoke asked
     by_test false = plain_answered [] tt
 also_answered t row (Tells effects) = plain_answered [] tt
-also_answered t row Concludes = grants_answered (lost_grants row.client (moment_of t) t.semaphores)
+also_answered t row Concludes = grants_answered (lost_granted row.client (moment_of t) t.semaphores)
 also_answered t row (Cancels invoke) = plain_answered [] tt
-also_answered t row Aborts = grants_answered (lost_grants row.client (moment_of t) t.semaphores)
+also_answered t row Aborts = grants_answered (lost_granted row.client (moment_of t) t.semaphores)
 
 loss_answered : (client : ℕ) (a : Association) → AreAnswered (tell client (loss_told a))
 loss_answered client Idle = plain_answered [] tt
@@ -224,7 +224,7 @@ loss_answered client (Open values) = plain_answered (tell client (loss_told (Ope
 
 lost_answered : (a : Association) (client : ℕ) (t : Tables) → AreAnswered (also_lost a client t)
 lost_answered Idle client t = plain_answered [] tt
-lost_answered (Open values) client t = grants_answered (lost_grants client (moment_of t) t.semaphores)
+lost_answered (Open values) client t = grants_answered (lost_granted client (moment_of t) t.semaphores)
 
 -- ---- each event
 

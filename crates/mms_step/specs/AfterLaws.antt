@@ -3,17 +3,23 @@ use Rattle.std.specs.List.{list_any}
 use Rattle.std.specs.Option.{option_map}
 use Rattle.variable_services.specs.declared.tables.VariableTables.{VariableTables}
 use Rattle.variable_services.specs.Services as variable
+use Rattle.variables.specs.Access.{are_guarded, flags_of, guard_named, guards, is_owned}
+use Rattle.variables.specs.Rows.{Rows as Cells}
 use Rattle.mms_types.specs.declared.moment.Moment.{Moment}
 use Rattle.mms_types.specs.declared.semaphore.RelinquishControl.{RelinquishControl}
 use Rattle.mms_types.specs.declared.semaphore.TakeControl.{TakeControl}
 use Rattle.association.specs.declared.waiting.Waiting.{Waiting}
-use Rattle.token_sem.specs.declared.entry.Grant.{Grant}
+use Rattle.mms_types.specs.declared.variable.Spec.{Spec}
+use Rattle.mms_types.specs.declared.variable.Write.{Write}
+use Rattle.sem_ticks.specs.Granted.{relinquish_granted}
+use Rattle.sem_ticks.specs.declared.granted.Granted.{Granted}
+use Rattle.mms_time.specs.Guards.{owns_guard}
 use Rattle.mms_time.specs.Semaphores.{Rows}
 use Rattle.mms_time.specs.Services as semaphore
 use Rattle.mms_time.specs.Statuses as semaphore_status
 use Rattle.mms_time.specs.declared.taking.TakeDone.{TakeDone}
 use Rattle.mms_time.specs.declared.taking.TakeDone.TheVariants.{Answered, Waits}
-use Rattle.std.specs.Prelude.{◌≡◌, ℕ, zero, suc, ◌+◌, Bool, true, false, ◌||◌, ◌++◌, Option, None, Some, List, [], ◌∷◌, if◌then◌else◌, slice_get, refl}
+use Rattle.std.specs.Prelude.{◌≡◌, ℕ, zero, suc, ◌+◌, Bool, true, false, ◌||◌, ◌++◌, Option, None, Some, is_some, List, [], ◌∷◌, if◌then◌else◌, slice_get, refl}
 use Rattle.std.proofs.Common.{ap, ap₂, sym, ◌∙◌, arith}
 use Rattle.mms_types.specs.declared.event.CellEvent.{CellEvent}
 use Rattle.mms_types.specs.declared.event.CellEvent.TheVariants.{Heard, Lost, Tick, Ends, Drain}
@@ -41,7 +47,7 @@ use Rattle.mms_step.specs.State.{State}
 use Rattle.cell_services.specs.Tables.{Tables, clock_table, moment_of, semaphores_table}
 use Rattle.cell_services.specs.Effects.{Effect, tell}
 use Rattle.cell_services.specs.Association.{Verdict, Tells, Takes, Cancels, verdict, cancel_told, loss_told}
-use Rattle.cell_services.specs.Services.{Outcome, answers, becomes, becomes_semaphores, take_outcome, relinquish_outcome, variable_asks, semaphore_asks, is_of_domain, specifies_domain, accesses_domain, deletes_domain, cause, effect, listed, listing, names_in, request_asks, request_more, is_done, request_told, scope_of}
+use Rattle.cell_services.specs.Services.{Outcome, answers, becomes, becomes_semaphores, guard_tables, owned_guards, take_outcome, relinquish_outcome, variable_asks, semaphore_asks, is_of_domain, specifies_domain, accesses_domain, deletes_domain, cause, effect, listed, listing, names_in, request_asks, request_more, is_done, request_told, scope_of}
 use Rattle.cell_services.specs.Serving.{size_of, is_served, tables_cancelled, tables_lost, tables_heard, waiting_of, without_clients, own_told, also_lost, also_told, all_told, hears, heard_asks, heard_more, loss_asks, meanwhile, abort_asks, aborted, passes, time_asks, serves, services, words}
 use Rattle.mms_step.specs.Partition.{cell, clock_in, semaphores_in, variables_in, parts_of}
 use Rattle.mms_step.specs.Step.{step}
@@ -86,14 +92,26 @@ as_it_was us t = served.merged_masked cell is_device us t
 abbrev request_uses : Tables → ClientRow → Request → List ℕ
 request_uses t row asked = request_asks asked ++ (request_more t row asked ++ [])
 
-more_law : (us : List ℕ) (t : Tables) (row : ClientRow) (asked : Request) → request_more (alone us t) row asked ≡ request_more t row asked
-more_law us t row (request.GetNameList x) = refl
-more_law us t row asked = refl
+more_law : (t : Tables) (row : ClientRow) (asked : Request) → request_more (alone (request_asks asked) t) row asked ≡ request_more t row asked
+more_law t row (request.Write x) = by_domain (accesses_domain x.access)
+  where
+    by_domain : (of_domain : Bool)
+        → guard_tables (variable.is_guarded row.client x (alone (variable_asks of_domain) t).variables) ≡ guard_tables (variable.is_guarded row.client x t.variables)
+    by_domain true = refl
+    by_domain false = refl
+more_law t row asked = refl
 
 -- the variables are used, whether or not a domain is written
 variables_same : (of_domain : Bool) (t : Tables) → (alone (variable_asks of_domain ++ ([] ++ [])) t).variables ≡ t.variables
 variables_same true t = refl
 variables_same false t = refl
+
+-- and whether or not a guard is looked up
+variables_beside : (of_domain guarded : Bool) (t : Tables) → (alone (variable_asks of_domain ++ (guard_tables guarded ++ [])) t).variables ≡ t.variables
+variables_beside true true t = refl
+variables_beside true false t = refl
+variables_beside false true t = refl
+variables_beside false false t = refl
 
 -- the semaphores are used, whether or not a domain is written, and the moment
 semaphores_same : (of_domain : Bool) (t : Tables) → (alone (semaphore_asks of_domain ++ ([] ++ [])) t).semaphores ≡ t.semaphores
@@ -102,7 +120,8 @@ semaphores_same false t = refl
 
 cause_law : (t : Tables) (row : ClientRow) (asked : Request) → cause (alone (request_uses t row asked) t) row asked ≡ cause t row asked
 cause_law t row (request.Read x) = ap (variable.read_cause row.client x) (variables_same (accesses_domain x.access) t)
-cause_law t row (request.Write x) = ap (variable.write_cause row.client x) (variables_same (accesses_domain x.access) t)
+cause_law t row (request.Write x) =
+    ap (variable.write_cause row.client x) (variables_beside (accesses_domain x.access) (variable.is_guarded row.client x t.variables) t)
 cause_law t row (request.GetVariableAccessAttributes x) = ap (variable.attributes_cause row.client x) (variables_same (specifies_domain x) t)
 cause_law t row (request.DefineNamedVariable x) = ap (variable.define_cause false row.client x) (variables_same (is_of_domain x.name) t)
 cause_law t row (request.DefineNamedVariableList x) =
@@ -145,6 +164,40 @@ become_law : (of_domain : Bool) (t : Tables) (after : VariableTables → Variabl
 become_law true t after told = refl
 become_law false t after told = refl
 
+-- where no variable is guarded, semaphores tell nothing
+none_owned : (client : ℕ) (rows other : Rows) (cells : Cells) (variables : List Spec) → are_guarded client variables cells ≡ false
+    → flags_of (λ guard. owns_guard client guard rows) (guards client variables cells) ≡ flags_of (λ guard. owns_guard client guard other) (guards client variables cells)
+none_owned client rows other cells [] none = refl
+none_owned client rows other cells (s ∷ variables) none = by_guard (guard_named client cells s) none (none_owned client rows other cells variables)
+  where
+    by_guard : (g : Option (List ℕ)) → (is_some g || are_guarded client variables cells) ≡ false
+        → (are_guarded client variables cells ≡ false
+        → flags_of (λ guard. owns_guard client guard rows) (guards client variables cells) ≡ flags_of (λ guard. owns_guard client guard other) (guards client variables cells))
+        → is_owned (λ guard. owns_guard client guard rows) g ∷ flags_of (λ guard. owns_guard client guard rows) (guards client variables cells)
+        ≡ is_owned (λ guard. owns_guard client guard other) g ∷ flags_of (λ guard. owns_guard client guard other) (guards client variables cells)
+    by_guard None h rest = ap (λ (owned : List Bool). false ∷ owned) (rest h)
+    by_guard (Some guard) h rest = absurd (cc h)
+
+-- variables are written by flags, and where the semaphores tell whose guards they are
+abbrev written_by : List Bool → ℕ → Write → Tables → Outcome
+written_by owned client x t = becomes t (variable.write_after owned client x t.variables) (answer.Write (variable.write_answer owned client x t.variables))
+
+abbrev written : ℕ → Write → Tables → Outcome
+written client x t = written_by (owned_guards client x t.variables t.semaphores) client x t
+
+write_law : (of_domain guarded : Bool) (t : Tables) (client : ℕ) (x : Write) → variable.is_guarded client x t.variables ≡ guarded
+    → written client x t
+    ≡ outcome_within (variable_asks of_domain ++ (guard_tables guarded ++ [])) t (written client x (alone (variable_asks of_domain ++ (guard_tables guarded ++ [])) t))
+write_law true true t client x is = refl
+write_law false true t client x is = refl
+write_law of_domain false t client x none =
+    ap (λ (owned : List Bool). written_by owned client x t) (none_owned client t.semaphores [] t.variables.vars (variable.accessed_all client x.access t.variables) none) ∙ by_domain of_domain
+  where
+    by_domain : (of_domain : Bool)
+        → written_by (owned_guards client x t.variables []) client x t ≡ outcome_within (variable_asks of_domain ++ ([] ++ [])) t (written client x (alone (variable_asks of_domain ++ ([] ++ [])) t))
+    by_domain true = refl
+    by_domain false = refl
+
 -- what is told of the semaphores at that moment, and what becomes of them
 semaphores_told : (of_domain : Bool) (t : Tables) (told : Moment → Rows → Option Answer)
     → answers t (told (moment_of t) t.semaphores)
@@ -181,19 +234,19 @@ take_law false t client invoke x told = by_done (told t.semaphores)
     by_done (Some (Answered a)) = refl
     by_done (Some (Waits n)) = refl
 
-relinquish_law : (of_domain : Bool) (t : Tables) (client : ℕ) (x : RelinquishControl) (told : Rows → Option (Option Grant))
+relinquish_law : (of_domain : Bool) (t : Tables) (client : ℕ) (x : RelinquishControl) (told : Rows → Option (Option Granted))
     → relinquish_outcome t client x (told t.semaphores)
     ≡ outcome_within (semaphore_asks of_domain ++ ([] ++ [])) t
     (relinquish_outcome (alone (semaphore_asks of_domain ++ ([] ++ [])) t) client x (told (alone (semaphore_asks of_domain ++ ([] ++ [])) t).semaphores))
 relinquish_law true t client x told = by_grant (told t.semaphores)
   where
-    by_grant : (o : Option (Option Grant)) → relinquish_outcome t client x o
+    by_grant : (o : Option (Option Granted)) → relinquish_outcome t client x o
         ≡ outcome_within (semaphore_asks true ++ ([] ++ [])) t (relinquish_outcome (alone (semaphore_asks true ++ ([] ++ [])) t) client x o)
     by_grant None = refl
     by_grant (Some grant) = refl
 relinquish_law false t client x told = by_grant (told t.semaphores)
   where
-    by_grant : (o : Option (Option Grant)) → relinquish_outcome t client x o
+    by_grant : (o : Option (Option Granted)) → relinquish_outcome t client x o
         ≡ outcome_within (semaphore_asks false ++ ([] ++ [])) t (relinquish_outcome (alone (semaphore_asks false ++ ([] ++ [])) t) client x o)
     by_grant None = refl
     by_grant (Some grant) = refl
@@ -219,8 +272,7 @@ effect_law t row invoke (request.GetNameList x) =
     told names = outcome_within (request_uses t row (request.GetNameList x)) t
         (answers (alone (request_uses t row (request.GetNameList x)) t) (Some (answer.GetNameList (listed names))))
 effect_law t row invoke (request.Read x) = told_law (accesses_domain x.access) t (λ v. Some (answer.Read (variable.read_answer row.client x v)))
-effect_law t row invoke (request.Write x) =
-    become_law (accesses_domain x.access) t (variable.write_after row.client x) (λ v. answer.Write (variable.write_answer row.client x v))
+effect_law t row invoke (request.Write x) = write_law (accesses_domain x.access) (variable.is_guarded row.client x t.variables) t row.client x refl
 effect_law t row invoke (request.GetVariableAccessAttributes x) =
     told_law (specifies_domain x) t (λ v. option_map answer.GetVariableAccessAttributes (variable.attributes_answer row.client x v))
 effect_law t row invoke (request.DefineNamedVariable x) =
@@ -234,12 +286,13 @@ effect_law t row invoke (request.GetNamedVariableListAttributes x) =
 effect_law t row invoke (request.DeleteNamedVariableList x) =
     become_law (deletes_domain x) t (variable.delete_lists_after row.client x) (λ v. answer.DeleteNamedVariableList (variable.delete_lists_answer row.client x v))
 effect_law t row invoke (request.TakeControl x) = take_law (is_of_domain x.name) t row.client invoke x (semaphore.take_told row.client x)
-effect_law t row invoke (request.RelinquishControl x) = relinquish_law (is_of_domain x.name) t row.client x (semaphore.relinquish_grant row.client x)
+effect_law t row invoke (request.RelinquishControl x) = relinquish_law (is_of_domain x.name) t row.client x (relinquish_granted row.client x)
 effect_law t row invoke (request.DefineSemaphore x) = semaphores_become (is_of_domain x.name) t (semaphore.define_after row.client x) answer.DefineSemaphore
 effect_law t row invoke (request.DeleteSemaphore x) = semaphores_become (is_of_domain x) t (semaphore.delete_after row.client x) answer.DeleteSemaphore
 effect_law t row invoke (request.ReportSemaphoreStatus x) =
     semaphores_told (is_of_domain x) t (λ now rows. option_map answer.ReportSemaphoreStatus (semaphore_status.status row.client x rows))
-effect_law t row invoke (request.ReportPoolSemaphoreStatus x) = semaphores_told (is_of_domain x.name) t (λ now rows. None)
+effect_law t row invoke (request.ReportPoolSemaphoreStatus x) =
+    semaphores_told (is_of_domain x.name) t (λ now rows. option_map answer.ReportPoolSemaphoreStatus (semaphore_status.pool_status_answer row.client x rows))
 effect_law t row invoke (request.ReportSemaphoreEntryStatus x) =
     semaphores_told (is_of_domain x.name) t (λ now rows. option_map answer.ReportSemaphoreEntryStatus (semaphore_status.entry_status_answer row.client now x rows))
 effect_law t row invoke asked = refl
@@ -279,7 +332,7 @@ takes_law t row client invoke asked = ap₂ (λ (x : Tables) (l : List (ℕ × E
 -- ---- each event
 
 heard_more_law : (t : Tables) (row : ClientRow) (v : Verdict) → heard_more (alone (heard_asks v) t) row v ≡ heard_more t row v
-heard_more_law t row (Takes invoke asked) = more_law (request_asks asked) t row asked
+heard_more_law t row (Takes invoke asked) = more_law t row asked
 heard_more_law t row other = refl
 
 hears_law : (t : Tables) (row : ClientRow) (client : ℕ) (v : Verdict)

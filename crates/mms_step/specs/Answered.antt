@@ -5,11 +5,10 @@ use Rattle.mms_types.specs.declared.event.What.TheVariants.{Octets}
 use Rattle.mms_types.specs.declared.pdu.Answer.{Answer}
 use Rattle.mms_types.specs.declared.pdu.Answer.TheVariants as answer
 use Rattle.mms_types.specs.declared.pdu.Pdu.TheVariants as pdu
-use Rattle.mms_types.specs.declared.semaphore.TakeControlAnswer.TheVariants.{NoResult}
 use Rattle.mms_types.specs.declared.service_error.ServiceError.{ServiceError}
 use Rattle.mms_pdu.specs.Pdus.{pdu_octets}
 use Rattle.association.specs.declared.waiting.Waiting.{Waiting}
-use Rattle.token_sem.specs.declared.entry.Grant.{Grant}
+use Rattle.sem_ticks.specs.declared.granted.Granted.{Granted}
 use Rattle.cell_services.specs.Association.{confirmed_error}
 use Rattle.cell_services.specs.Effects.{Effect, Sends, Opens, Closes, Waits, Answers, Drains}
 use Rattle.mms_step.specs.State.{State}
@@ -18,11 +17,11 @@ use Rattle.mms_step.specs.Step.{outbox_of}
 -- ---- a token that is granted
 
 -- the answer to the request that waited: it has a token
-abbrev pub grant_answer : Grant → What
-grant_answer g = Octets (pdu_octets (pdu.ConfirmedResponse g.invoke (answer.TakeControl NoResult)))
+abbrev pub grant_answer : Granted → What
+grant_answer g = Octets (pdu_octets (pdu.ConfirmedResponse g.invoke (answer.TakeControl g.answer)))
 
 -- it is to be sent to the client that is granted the token
-abbrev pub IsAnswered : State → Grant → Type 0
+abbrev pub IsAnswered : State → Granted → Type 0
 IsAnswered s g = 1 ≤ g.client → g.client ≤ length s.clients → Contains (outbox_of s g.client) (grant_answer g)
 
 -- ---- any request

@@ -1,6 +1,7 @@
 pub mod After
 pub mod AfterLaws
 pub mod Answered
+pub mod Guarded
 pub mod Lifting
 pub mod Needs
 pub mod Partition

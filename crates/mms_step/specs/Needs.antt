@@ -8,7 +8,6 @@ use Rattle.mms_step.specs.declared.part.Part.{Part}
 use Rattle.mms_step.specs.State.{State}
 use Rattle.association.specs.Client.{ClientRow}
 use Rattle.cell_services.specs.Association.{Verdict, verdict}
-use Rattle.cell_services.specs.Meant.{no_tables}
 use Rattle.cell_services.specs.Serving.{services, abort_asks, aborted, all_told, also_lost, also_told, heard_asks, heard_more, loss_asks, meanwhile}
 use Rattle.sem_ticks.specs.declared.ticks.Happening.{Happening}
 use Rattle.mms_step.specs.Partition.{cell, client_place, parts_of, state_in}
@@ -53,7 +52,7 @@ also_parts n hand row v = parted.told_places cell (also_told (tables_shown cell 
 abbrev pub verdict_need : ℕ → List (Option Part) → ClientRow → Verdict → List ℕ
 verdict_need n hand row v =
     two_stages hand (placed n (heard_asks v))
-    (placed n (heard_more no_tables row v) ++ (if cut.are_held hand (placed n (heard_more no_tables row v)) then also_parts n hand row v else []))
+    (placed n (heard_more (tables_shown cell hand) row v) ++ (if cut.are_held hand (placed n (heard_more (tables_shown cell hand) row v)) then also_parts n hand row v else []))
 
 abbrev pub heard_need : ℕ → List (Option Part) → ClientRow → List ℕ → List ℕ
 heard_need n hand row octets = verdict_need n hand row (verdict row octets)

@@ -1,5 +1,5 @@
 -- The state of the device: plain lists of rows and the moment (ISO 9506-1, the virtual manufacturing device).
-use Rattle.std.specs.Prelude.{◌≡◌, ℕ, ◌+◌, ◌<◌, ◌≤◌, List, [], ◌∷◌, Some, map, length, slice_get}
+use Rattle.std.specs.Prelude.{◌≡◌, ℕ, ◌+◌, ◌≤◌, List, [], ◌∷◌, Some, map, length, slice_get}
 use Rattle.std.specs.List.{All}
 use Rattle.std.specs.Map.{values_of}
 use Rattle.mms_types.specs.Actors.{clients_to}
@@ -10,6 +10,7 @@ use Rattle.association.specs.declared.waiting.Waiting.{Waiting}
 use Rattle.cell_config.specs.declared.config.Config.{Config}
 use Rattle.variable_services.specs.declared.tables.VariableTables.{VariableTables}
 use Rattle.variable_services.specs.Services.{configured}
+use Rattle.mms_time.specs.Opening as pools
 use Rattle.mms_time.specs.Semaphores.{Rows, made_in}
 use Rattle.sem_ticks.specs.Sound.{AreSound, LieAhead}
 use Rattle.cell_services.specs.Tables.{last_moment}
@@ -32,14 +33,19 @@ device_of config = record { edition = config.edition; vendor = config.vendor; mo
 abbrev pub first_rows : Config → ℕ → List ClientRow
 first_rows config n = map (λ c. new_row c (device_of config)) (clients_to n)
 
--- the start: it is the configured moment, there are the configured cells and variables, no semaphores, and as many clients as are configured
+-- the start: it is the configured moment, there are the configured cells, variables and pools, and as many clients as are configured
 abbrev pub start : Config → State
-start config = record { now = config.start.0; variables = configured config.cells config.variables; semaphores = []; clients = first_rows config config.clients }
+start config = record {
+  now = config.start.0;
+  variables = configured config.cells config.variables;
+  semaphores = pools.configured config.pools;
+  clients = first_rows config config.clients;
+}
 
--- each of the requests that wait has the number of one of so many events
+-- each of the requests that wait has a number that is no greater than that of so many events
 abbrev pub AreNumbered : ℕ → List Waiting → Type 0
 AreNumbered count [] = Unit {0}
-AreNumbered count (request ∷ waiting) = (request.entry < count) × AreNumbered count waiting
+AreNumbered count (request ∷ waiting) = (request.entry ≤ count) × AreNumbered count waiting
 
 -- What holds of the row of a client after so many events: it has the client's number; no more requests wait than the association allows, and so none without
 -- one; and each of them has the number of one of the events.
@@ -48,18 +54,18 @@ pub record IsSoundRow (count client : ℕ) (row : ClientRow) : Type 0 where
   pub allowed : length row.waiting ≤ called_of row.association
   pub entries : AreNumbered count row.waiting
 
--- each semaphore has made fewer entries than so many: one of the events defined it, and each later one makes one entry at most
-abbrev pub HaveMadeFewer : ℕ → Rows → Type 0
-HaveMadeFewer count semaphores = All (λ row. made_in row.semaphore < count) (values_of semaphores)
+-- each semaphore has made so many entries at most: an event makes one entry at most
+abbrev pub HaveMadeAtMost : ℕ → Rows → Type 0
+HaveMadeAtMost count semaphores = All (λ row. made_in row.semaphore ≤ count) (values_of semaphores)
 
 -- What holds of each state of the device after so many events: it has 1 to 64 clients, in the order of their numbers, and their rows are sound; no token of its
--- semaphores is owned twice, and no free one is waited for; each semaphore has made fewer entries than there were events; and each deadline lies ahead.
+-- semaphores is owned twice, and no free one is waited for; each semaphore has made no more entries than there were events; and each deadline lies ahead.
 pub record IsSound (count : ℕ) (s : State) : Type 0 where
   pub some : 1 ≤ length s.clients
   pub few : length s.clients ≤ 64
   pub rows : (i : ℕ) (row : ClientRow) → slice_get s.clients i ≡ Some row → IsSoundRow count (i + 1) row
   pub semaphores : AreSound s.semaphores
-  pub made : HaveMadeFewer count s.semaphores
+  pub made : HaveMadeAtMost count s.semaphores
   pub ahead : LieAhead (record { 0 = s.now }) s.semaphores
 
 -- six octets name its moment, which the ticks of all callers together keep and no caller alone can tell

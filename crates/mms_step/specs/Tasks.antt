@@ -3,6 +3,7 @@ use Rattle.std.specs.Prelude.{◌≡◌, ℕ, ◌+◌, ◌≤◌, List, Option, 
 use Rattle.std.specs.Option.{option_map}
 use Rattle.part_table.specs.Held.{held_at}
 use Rattle.association.specs.Client.{ClientRow, Client as RoomyRow}
+use Rattle.mms_time.specs.Semaphores.{Rows}
 use Rattle.variable_services.specs.declared.tables.VariableTables.{VariableTables}
 use Rattle.parted_state.specs.Served.{Done, change}
 use Rattle.cell_services.specs.Acts.{act_done, IsDoneOn}
@@ -43,8 +44,8 @@ IsTimely (task.Time ms) t = t.now + ms ≤ last_moment
 
 -- ---- what is done in place
 
--- the part of the client and that of the variables, before and after it
-pub record AreDone (v : Verdict) (part table new now : Part) : Type 0 where
+-- the part of the client and that of the variables, before and after it, beside these semaphores
+pub record AreDone (semaphores : Rows) (v : Verdict) (part table new now : Part) : Type 0 where
   pub own : RoomyRow
   pub after : RoomyRow
   pub was : VariableTables
@@ -53,7 +54,7 @@ pub record AreDone (v : Verdict) (part table new now : Part) : Type 0 where
   pub is_table : table ≡ Variables was
   pub is_after : new ≡ Client after
   pub is_now : now ≡ Variables become
-  pub done : IsDoneOn own.row was become after v
+  pub done : IsDoneOn own.row semaphores was become after v
 
 -- the client is told all that comes of a verdict, which uses no table and tells nobody else anything
 pub record IsHeardInPlace (client : ℕ) (v : Verdict) (hand new : List (Option Part)) : Type 0 where

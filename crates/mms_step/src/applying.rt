@@ -23,13 +23,15 @@ ghost use Rattle.mms_step.specs.Tasks.{row_held, AreDone, HoldsOwn, IsHeardInPla
 ghost use Rattle.cell_services.specs.Serving.{hears};
 ghost use Rattle.mms_step.specs.After.{after};
 
-use crate::needs::client_held;
+use crate::needs::{client_held, semaphores_held};
 use crate::serving::{Task, serve};
 use crate::tables::{BEFORE_CLIENTS, VARIABLES, clients_of};
 use crate::{Cell, Part};
 use cell_services::{Act, Reading, wants_memory};
 use mms_pdu::{Read, Refusal, read_pdu_to};
+use mms_time::SemaphoreRow;
 use mms_types::{CellEvent, Edition, Memory, Request, What};
+use object_names::Named;
 use part_table::Hand;
 use std::alloc::Global;
 
@@ -101,17 +103,18 @@ fn hear_own<'a>(
     heard
 }
 
-/// Serves a request that reads or writes variables on the part of its client and theirs. False for any other request,
-/// and where they are other parts; then all is as before.
+/// Serves a request that reads or writes variables on the part of its client and theirs, beside those semaphores. False
+/// for any other request, and where they are other parts; then all is as before.
 fn serve_parts(
     alloc: Global,
     part: &mut Part,
     table: &mut Part,
+    semaphores: &Named<SemaphoreRow>,
     invoke: u32,
     asked: &Request,
 ) -> Result<bool, Memory>
     ensures served { IfOk result (λ done. done ≡ true
-        → AreDone (Takes invoke asked.now) part.old table.old part.new table.new) }
+        → AreDone semaphores.now (Takes invoke asked.now) part.old table.old part.new table.new) }
     ensures same { IfOk result (λ done. done ≡ false
         → (part.new ≡ part.old) × (table.new ≡ table.old)) }
     ensures kept { OnErr result (part.new ≡ part.old) }
@@ -119,25 +122,27 @@ fn serve_parts(
 {
     match (part, table) {
         (Part::Client(own), Part::Variables(variables)) => {
-            own.serve_on(alloc, variables, invoke, asked)
+            own.serve_on(alloc, variables, semaphores, invoke, asked)
         }
         _ => Ok(false),
     }
 }
 
 /// Serves a client's request that reads or writes variables, which are asked most, on its part and theirs as they are
-/// held, without lifting tables. False for any other request, and where the variables aren't held; then all is as
-/// before.
+/// held, without lifting tables; guards are looked up among the semaphores where these are held. False for any other
+/// request, and where the variables aren't held; then all is as before.
 fn serve_on_variables(
     alloc: Global,
     held: &mut Hand<Cell>,
+    clients: u32,
     client: u32,
     invoke: u32,
     asked: &Request,
 ) -> Result<bool, Memory>
     requires of { (s : State) × IsHandOf held.old (parts_of s) }
-    requires few { client ≤ 64 }
-    requires among { (1 ≤ client) × (client ≤ clients_among (length held.old)) }
+    requires many { clients ≡ clients_among (length held.old) }
+    requires few { clients ≤ 64 }
+    requires among { (1 ≤ client) × (client ≤ clients) }
     requires held { IsClient (held_at held.old (client_place client)) }
     ensures served { IfOk result (λ done. done ≡ true → held.new ≡ put_in_place cell
         (hears (tables_shown cell held.old) (row_held held.old client) client
@@ -150,7 +155,9 @@ fn serve_on_variables(
         put_client(held, client, part);
         return Ok(false);
     };
-    let done = serve_parts(alloc, &mut part, &mut table, invoke, asked);
+    let none = Named::new(alloc);
+    let semaphores = semaphores_held(held, clients, &none);
+    let done = serve_parts(alloc, &mut part, &mut table, semaphores, invoke, asked);
     put_variables(held, table);
     put_client(held, client, part);
     done
@@ -175,7 +182,7 @@ fn finish_request(
         (Takes invoke asked.now)) held.old) }
     ensures kept { OnErr result (held.new ≡ held.old) }
 {
-    match serve_on_variables(alloc, held, client, invoke, asked) {
+    match serve_on_variables(alloc, held, clients, client, invoke, asked) {
         Err(error) => Err(error),
         Ok(true) => Ok(()),
         Ok(false) => {

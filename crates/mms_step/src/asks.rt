@@ -3,16 +3,24 @@
 ghost use Rattle.std.specs.Prelude.{◌≡◌, ◌≤◌, [], ◌∷◌, MatchOption};
 ghost use Rattle.std.specs.List.{list_any};
 ghost use Rattle.parted_state.specs.Sets.{IsSetOf};
-ghost use Rattle.cell_services.specs.Meant.{no_tables};
+ghost use Rattle.association.specs.Client.{ClientRow};
+ghost use Rattle.part_table.specs.Held.{held_at};
+ghost use Rattle.parted_state.specs.Lifted.{tables_shown};
+ghost use Rattle.variable_services.specs.Services.{is_guarded};
 ghost use Rattle.mms_step.specs.Needs.{placed};
-ghost use Rattle.cell_services.specs.Services.{accesses_domain, class_tables, deletes_domain, is_of_domain, listing, lists_domain, request_asks, request_more, semaphore_asks, specifies_domain, variable_asks};
+ghost use Rattle.mms_step.specs.Partition.{cell, variables_in};
+ghost use Rattle.cell_services.specs.Services.{accesses_domain, class_tables, deletes_domain, guard_tables, is_of_domain, listing, lists_domain, request_asks, request_more, semaphore_asks, specifies_domain, variable_asks};
 
+use crate::Cell;
+use crate::needs::variables_held;
 use crate::tables::{CLOCK, CONDITIONS, DOMAINS, JOURNALS, PROGRAMS, VARIABLES, semaphores};
-use association::ClientPart;
 use mms_types::{
-    Access, DeleteNames, ObjectClass, ObjectName, ObjectNames, ObjectScope, Request, Spec,
+    Access, DeleteNames, ObjectClass, ObjectName, ObjectNames, ObjectScope, Request, Spec, Write,
 };
+use part_table::Hand;
 use parted_state::Parts;
+use std::alloc::Global;
+use variable_services::VariableTables;
 
 /// The part with the names of a class, where it has one.
 fn class_part(clients: u32, class: ObjectClass) -> Option<u8>
@@ -172,20 +180,38 @@ pub(crate) fn request_asks(asked: &Request, clients: u32) -> Parts
     }
 }
 
-/// The parts of the tables that a request uses beside those, by what they show.
-pub(crate) fn request_more(part: &ClientPart, asked: &Request, clients: u32) -> Parts
+/// The part of the semaphores, where a write names a guarded cell.
+fn write_more(alloc: Global, held: &Hand<Cell>, client: u32, asked: &Write, clients: u32) -> Parts
     requires few { clients ≤ 64 }
-    ensures { IsSetOf result
-        (placed clients (request_more no_tables part.now.row asked.now)) }
+    ensures { IsSetOf result (placed clients (guard_tables
+        (is_guarded client asked.now (variables_in (held_at held.now 1))))) }
 {
-    let _asks = part;
-    let _clients = clients;
+    let none = VariableTables::empty(alloc);
+    if variables_held(held, &none).is_guarded(client, asked) {
+        Parts::of(&[semaphores(clients)])
+    } else {
+        Parts::new()
+    }
+}
+
+/// The parts of the tables that a request of a client uses beside those, by what they show.
+pub(crate) fn request_more(
+    alloc: Global,
+    held: &Hand<Cell>,
+    client: u32,
+    asked: &Request,
+    clients: u32,
+) -> Parts
+    requires few { clients ≤ 64 }
+    ensures { (row : ClientRow) → row.client ≡ client → IsSetOf result
+        (placed clients (request_more (tables_shown cell held.now) row asked.now)) }
+{
     match asked {
+        Request::Write(asked) => write_more(alloc, held, client, asked, clients),
         Request::GetNameList(_)
         | Request::Status(_)
         | Request::Identify
         | Request::Read(_)
-        | Request::Write(_)
         | Request::GetVariableAccessAttributes(_)
         | Request::DefineNamedVariable(_)
         | Request::DeleteVariableAccess(_)

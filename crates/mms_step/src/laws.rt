@@ -1,6 +1,6 @@
 //! What holds of every state and every history.
 
-ghost use Rattle.std.specs.Prelude.{◌≡◌, ◌⊎◌, ℕ, ◌+◌, ◌<◌, ◌≤◌, true, [], List, All, Option, None, Some, filter, map, length, slice_get, Contains};
+ghost use Rattle.std.specs.Prelude.{◌≡◌, ◌⊎◌, ℕ, ◌+◌, ◌<◌, ◌≤◌, true, [], List, All, Option, None, Some, count_by, filter, map, length, slice_get, Contains};
 ghost use Rattle.std.specs.Map.{lookup};
 ghost use Rattle.mms_types.specs.Order.{key_eq};
 ghost use Rattle.mms_types.specs.declared.key.Key.{Key};
@@ -11,11 +11,15 @@ ghost use Rattle.mms_types.specs.declared.event.CellEvent.TheVariants.{Heard, Lo
 ghost use Rattle.association.specs.declared.negotiation.Association.TheVariants.{Open};
 ghost use Rattle.association.specs.declared.negotiation.Negotiated.{Negotiated};
 ghost use Rattle.token_sem.specs.Semaphore.{Rises, Sem, is_queued, tokens_held};
-ghost use Rattle.token_sem.specs.declared.entry.Grant.{Grant};
+ghost use Rattle.pool_sem.specs.Pools.{Pool as NamedTokens, has, is_free, wants};
+ghost use Rattle.variables.specs.Rows.{cell_at};
+ghost use Rattle.variables.specs.declared.rows.Cell.{Cell};
+ghost use Rattle.mms_step.specs.Guarded.{IsWrittenByOwner};
+ghost use Rattle.sem_ticks.specs.declared.granted.Granted.{Granted};
 ghost use Rattle.mms_time.specs.Deadlines.{all_deadlines};
-ghost use Rattle.mms_time.specs.Loss.{lost_grants};
-ghost use Rattle.mms_time.specs.Services.{relinquish_grant};
-ghost use Rattle.mms_time.specs.declared.row.Semaphore.TheVariants.{Token};
+ghost use Rattle.sem_ticks.specs.Granted.{lost_granted};
+ghost use Rattle.sem_ticks.specs.Granted.{relinquish_granted};
+ghost use Rattle.mms_time.specs.declared.row.Semaphore.TheVariants.{Token, Pool};
 ghost use Rattle.mms_time.specs.declared.row.SemaphoreRow.{SemaphoreRow};
 ghost use Rattle.sem_ticks.specs.declared.ticks.Happening.TheVariants.{Grants};
 ghost use Rattle.parted_state.specs.Served.{done_of, row_at};
@@ -67,8 +71,9 @@ pub fn each_state_is_sound()
         → MayFollow (start config) history → HasDate (replay config history) }
 {}
 
-/// No token of a semaphore is owned twice, after any history: no more are owned or hung than there are, and each by an
-/// entry with a number of its own.
+/// No token of a semaphore is owned twice, after any history: of equal tokens no more are owned or hung than there are,
+/// and each by an entry with a number of its own; and each token that has a name is owned by one entry at most, or one is
+/// hung with it.
 pub fn no_token_is_owned_twice()
     ensures held { (config : Config) (history : List CellEvent) (key : Key) (row : SemaphoreRow)
         (tokens : Sem) → IsConfig config
@@ -78,15 +83,34 @@ pub fn no_token_is_owned_twice()
         (tokens : Sem) → IsConfig config
         → lookup (key_eq key) (replay config history).semaphores ≡ Some row
         → row.semaphore ≡ Token tokens → Rises 0 tokens.entries tokens.made }
+    ensures named { (config : Config) (history : List CellEvent) (key : Key) (row : SemaphoreRow)
+        (pool : NamedTokens) (token : ℕ) → IsConfig config
+        → lookup (key_eq key) (replay config history).semaphores ≡ Some row
+        → row.semaphore ≡ Pool pool → count_by (has token) pool.entries ≤ 1 }
 {}
 
-/// No free token is waited for, after any history.
+/// No free token is waited for, after any history: where one of equal tokens is free, no entry waits; and where a token
+/// that has a name is free, no entry waits that wants it, or any.
 pub fn no_free_token_is_waited_for()
-    ensures { (config : Config) (history : List CellEvent) (key : Key) (row : SemaphoreRow)
+    ensures equal { (config : Config) (history : List CellEvent) (key : Key) (row : SemaphoreRow)
         (tokens : Sem) → IsConfig config
         → lookup (key_eq key) (replay config history).semaphores ≡ Some row
         → row.semaphore ≡ Token tokens → tokens_held tokens.entries < tokens.tokens
         → filter is_queued tokens.entries ≡ [] }
+    ensures named { (config : Config) (history : List CellEvent) (key : Key) (row : SemaphoreRow)
+        (pool : NamedTokens) (token : ℕ) → IsConfig config
+        → lookup (key_eq key) (replay config history).semaphores ≡ Some row
+        → row.semaphore ≡ Pool pool → token < length pool.tokens → is_free token pool.entries ≡ true
+        → filter (wants token) pool.entries ≡ [] }
+{}
+
+/// The value of a cell that has a guard is changed by a write alone that is served, of a client that has an owner entry
+/// of the guard's semaphore in the state on which it is served.
+pub fn a_guarded_cell_is_written_by_an_owner()
+    ensures { (s : State) (event : CellEvent) (number : ℕ) (was : Cell) (guard : List ℕ)
+        → cell_at number s.variables.vars ≡ Some was → was.guard ≡ Some guard
+        → (cell_at number (step s event).variables.vars ≡ Some was)
+        ⊎ IsWrittenByOwner guard s event }
 {}
 
 /// Every deadline of a semaphore lies ahead, after any history.
@@ -106,26 +130,26 @@ pub fn two_ticks_are_one()
 /// is among what is to be sent to it. A token is freed where a client gives it back, where a client ends its
 /// association or loses it, and where time goes by.
 pub fn a_grant_is_answered_at_once()
-    ensures given_back { (s : State) (client : ℕ) (octets : List ℕ) (g : Grant) (invoke : ℕ)
+    ensures given_back { (s : State) (client : ℕ) (octets : List ℕ) (g : Granted) (invoke : ℕ)
         (asked : RelinquishControl)
         → verdict (row_at cell client s.clients) octets
         ≡ Takes invoke (request.RelinquishControl asked)
         → is_served (cell.tables_of s) (row_at cell client s.clients) invoke
         (request.RelinquishControl asked) ≡ true
-        → relinquish_grant (row_at cell client s.clients).client asked s.semaphores
+        → relinquish_granted (row_at cell client s.clients).client asked s.semaphores
         ≡ Some (Some g)
         → IsAnswered (step s (Heard client octets)) g }
-    ensures left { (s : State) (client : ℕ) (octets : List ℕ) (g : Grant) (v : Verdict)
+    ensures left { (s : State) (client : ℕ) (octets : List ℕ) (g : Granted) (v : Verdict)
         → verdict (row_at cell client s.clients) octets ≡ v → (v ≡ Concludes) ⊎ (v ≡ Aborts)
         → Contains
-        (lost_grants (row_at cell client s.clients).client (record { 0 = s.now }) s.semaphores) g
+        (lost_granted (row_at cell client s.clients).client (record { 0 = s.now }) s.semaphores) g
         → IsAnswered (step s (Heard client octets)) g }
-    ensures lost { (s : State) (client : ℕ) (g : Grant) (values : Negotiated)
+    ensures lost { (s : State) (client : ℕ) (g : Granted) (values : Negotiated)
         → (row_at cell client s.clients).association ≡ Open values
         → Contains
-        (lost_grants (row_at cell client s.clients).client (record { 0 = s.now }) s.semaphores) g
+        (lost_granted (row_at cell client s.clients).client (record { 0 = s.now }) s.semaphores) g
         → IsAnswered (step s (Lost client)) g }
-    ensures ticked { (s : State) (ms : ℕ) (g : Grant)
+    ensures ticked { (s : State) (ms : ℕ) (g : Granted)
         → Contains (meanwhile ms (cell.tables_of s)).happened (Grants g)
         → IsAnswered (step s (Tick ms)) g }
 {}

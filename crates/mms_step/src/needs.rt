@@ -3,7 +3,9 @@
 ghost use Rattle.std.specs.Prelude.{◌≡◌, ℕ, ◌+◌, ◌<◌, ◌≤◌, [], true, Some, length, IfOk};
 ghost use Rattle.mms_types.specs.Actors.{IsAmong};
 ghost use Rattle.part_table.specs.Held.{held_at, IsHandOf};
-ghost use Rattle.cell_services.specs.Meant.{meant, no_tables};
+ghost use Rattle.cell_services.specs.Meant.{meant};
+ghost use Rattle.variable_services.specs.Services.{no_variables};
+ghost use Rattle.parted_state.specs.Lifted.{tables_shown};
 ghost use Rattle.mms_step.specs.State.{State, IsSound};
 ghost use Rattle.cell_services.specs.Serving.{abort_asks, aborted, heard_asks, heard_more, loss_asks};
 ghost use Rattle.cell_services.specs.Tables.{last_moment, loss_tables};
@@ -11,7 +13,7 @@ ghost use Rattle.mms_types.specs.Moments.{IsDated};
 ghost use Rattle.sem_ticks.specs.Ticks.{ticked};
 ghost use Rattle.parted_state.specs.Cut.{missing};
 ghost use Rattle.parted_state.specs.Sets.{IsSetOf};
-ghost use Rattle.mms_step.specs.Partition.{parts_of, client_place, clients_among, clock_in, semaphores_in, semaphores_place, IsClient};
+ghost use Rattle.mms_step.specs.Partition.{cell, parts_of, client_place, clients_among, clock_in, semaphores_in, semaphores_place, variables_in, IsClient};
 ghost use Rattle.cell_services.specs.Association.{verdict_by};
 ghost use Rattle.mms_step.specs.Needs.{also_parts, client_parts, footprint, happened_need, heard_need, is_held, lost_need, need, placed, time_need, verdict_need};
 ghost use Rattle.mms_step.specs.Step.{IsInTime};
@@ -35,6 +37,7 @@ use part_table::Hand;
 use parted_state::Parts;
 use sem_ticks::{Happening, tick};
 use std::alloc::Global;
+use variable_services::VariableTables;
 
 /// The parts that an event's words alone tell, with so many clients.
 pub fn footprint(event: &CellEvent, clients: u32) -> Parts
@@ -82,13 +85,19 @@ fn heard_asks(found: &Found<'_>, clients: u32) -> Parts
 }
 
 /// The parts of the tables that are used beside those, by what they show.
-fn heard_more(part: &ClientPart, found: &Found<'_>, clients: u32) -> Parts
+fn heard_more(
+    alloc: Global,
+    held: &Hand<Cell>,
+    part: &ClientPart,
+    found: &Found<'_>,
+    clients: u32,
+) -> Parts
     requires few { clients ≤ 64 }
-    ensures { IsSetOf result
-        (placed clients (heard_more no_tables part.now.row (meant found.now))) }
+    ensures { IsSetOf result (placed clients
+        (heard_more (tables_shown cell held.now) part.now.row (meant found.now))) }
 {
     match *found {
-        Found::Takes(_, asked) => request_more(part, asked, clients),
+        Found::Takes(_, asked) => request_more(alloc, held, part.client(), asked, clients),
         Found::Concludes => Parts::of(&[
             CLOCK,
             VARIABLES,
@@ -142,8 +151,22 @@ fn now_held(held: &Hand<Cell>) -> Moment
     }
 }
 
+/// The variables, where they are held, and else none.
+pub(crate) fn variables_held<'a>(
+    held: &'a Hand<Cell>,
+    none: &'a VariableTables,
+) -> &'a VariableTables
+    requires none { none.now ≡ no_variables }
+    ensures { result.now ≡ variables_in (held_at held.now 1) }
+{
+    match held.get(u32::from(VARIABLES)) {
+        Some(Part::Variables(variables)) => variables,
+        _ => none,
+    }
+}
+
 /// The semaphores, where they are held, and else none.
-fn semaphores_held<'a>(
+pub(crate) fn semaphores_held<'a>(
     held: &'a Hand<Cell>,
     clients: u32,
     none: &'a Named<SemaphoreRow>,
@@ -218,7 +241,7 @@ fn found_need(
     if !missing.is_empty() {
         return Ok(missing);
     }
-    let missing = unheld(&heard_more(part, found, clients), held);
+    let missing = unheld(&heard_more(alloc, held, part, found, clients), held);
     if !missing.is_empty() {
         return Ok(missing);
     }

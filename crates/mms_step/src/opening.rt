@@ -3,6 +3,7 @@
 ghost use Rattle.std.specs.Prelude.{◌≡◌, IfOk, OnOk, map, [], ◌∷◌, ◌++◌};
 ghost use Rattle.std.specs.Box.{box_value};
 ghost use Rattle.cell_config.specs.Said.{IsConfig};
+ghost use Rattle.mms_time.specs.Opening as pools;
 ghost use Rattle.variable_services.specs.Services.{configured};
 ghost use Rattle.mms_step.specs.State.{start, device_of};
 ghost use Rattle.mms_step.specs.Partition.{parts_of};
@@ -11,6 +12,7 @@ use crate::Part;
 use association::Constants;
 use cell_config::Config;
 use cell_services::{Client, Clock};
+use mms_time::SemaphoreRow;
 use mms_types::Memory;
 use object_names::Named;
 use std::alloc::Global;
@@ -38,6 +40,14 @@ fn variables(alloc: Global, config: &Config) -> Result<VariableTables, Memory>
     VariableTables::new(alloc, cells, config.variables.copy(alloc)?)
 }
 
+/// The pools that are configured.
+fn semaphores(alloc: Global, config: &Config) -> Result<Named<SemaphoreRow>, Memory>
+    requires config { IsConfig config.now }
+    ensures { IfOk result (λ semaphores. semaphores ≡ pools.configured config.now.pools) }
+{
+    mms_time::configured(alloc, config.pools.copy(alloc)?)
+}
+
 /// Appends a part.
 fn put(alloc: Global, parts: &mut Vec<Box<Part>>, part: Part) -> Result<(), Memory>
     ensures { OnOk result (map box_value parts.new.items
@@ -47,8 +57,9 @@ fn put(alloc: Global, parts: &mut Vec<Box<Part>>, part: Part) -> Result<(), Memo
     Ok(())
 }
 
-/// The parts of a configured device at the start: it is the configured moment, there are the configured cells and
-/// variables, and as many clients as are configured, no association is open, nothing waits and nothing is to be sent.
+/// The parts of a configured device at the start: it is the configured moment, there are the configured cells,
+/// variables and pools, and as many clients as are configured, no association is open, nothing waits and nothing is to be
+/// sent.
 #[tactic(auto, using(crate::proofs::PartsAfter::start_more))]
 pub fn start_parts(alloc: Global, config: &Config) -> Result<Vec<Box<Part>>, Memory>
     requires config { IsConfig config.now }
@@ -73,6 +84,7 @@ pub fn start_parts(alloc: Global, config: &Config) -> Result<Vec<Box<Part>>, Mem
             Part::Client(Client::new(alloc, client + 1, device)),
         )?;
     }
-    put(alloc, &mut parts, Part::Semaphores(Named::new(alloc)))?;
+    let semaphores = semaphores(alloc, config)?;
+    put(alloc, &mut parts, Part::Semaphores(semaphores))?;
     Ok(parts)
 }

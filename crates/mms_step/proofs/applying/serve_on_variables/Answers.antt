@@ -1,4 +1,6 @@
-use Rattle.std.proofs.Common.{◌≡◌, ◌+◌, None, Some, List, Option, ap, ◌∙◌, subst, set}
+use Rattle.std.proofs.Common.{◌≡◌, ℕ, ◌+◌, ◌≤◌, None, Some, List, Option, ap, ◌∙◌, subst, set}
+use Rattle.part_table.specs.Held.{held_at}
+use Rattle.mms_step.specs.Partition.{semaphores_in, semaphores_place}
 use Rattle.mms_step.specs.declared.part.Part.{Part}
 use Rattle.mms_step.specs.Tasks.{AreDone}
 use Rattle.cell_services.specs.Association.{Takes}
@@ -29,9 +31,10 @@ returns-clause-served c =
     (λ done is on.
     served_in_place c.requires.of.0 c.args.held.now c.requires.of.1 c.args.client (Takes c.args.invoke c.args.asked.now) c.take_client-part.new.held c.take_variables.new.held c.put_variables.new.held
     c.put_client-2.new.held c.take_client-part.result.value c.in-Some.table.value c.serve_parts-done.new.part c.serve_parts-done.new.table
-    c.requires.among.0 c.requires.among.1 c.requires.held c.take_client-part.ensures.part c.take_client-part.ensures.left c.in-Some.ensures.part c.in-Some.ensures.left
-    (subst (λ (p : Part). AreDone (Takes c.args.invoke c.args.asked.now) p c.in-Some.table.value c.serve_parts-done.new.part c.serve_parts-done.new.table) c.deref_mut.ensures.value
-    (subst (λ (p : Part). AreDone (Takes c.args.invoke c.args.asked.now) c.deref_mut.result.now p c.serve_parts-done.new.part c.serve_parts-done.new.table) c.deref_mut-2.ensures.value
+    c.requires.among.0 (subst (λ (m : ℕ). c.args.client ≤ m) c.requires.many c.requires.among.1) c.requires.held c.take_client-part.ensures.part c.take_client-part.ensures.left c.in-Some.ensures.part c.in-Some.ensures.left
+    c.semaphores_held-semaphores.result.now (c.semaphores_held-semaphores.ensures ∙ ap (λ (m : ℕ). semaphores_in (held_at c.take_variables.new.held (semaphores_place m))) c.requires.many)
+    (subst (λ (p : Part). AreDone c.semaphores_held-semaphores.result.now (Takes c.args.invoke c.args.asked.now) p c.in-Some.table.value c.serve_parts-done.new.part c.serve_parts-done.new.table) c.deref_mut.ensures.value
+    (subst (λ (p : Part). AreDone c.semaphores_held-semaphores.result.now (Takes c.args.invoke c.args.asked.now) c.deref_mut.result.now p c.serve_parts-done.new.part c.serve_parts-done.new.table) c.deref_mut-2.ensures.value
     (is on)))
     c.put_variables.ensures c.put_client-2.ensures)
     c.serve_parts-done.ensures.served

@@ -3,7 +3,9 @@ use Rattle.std.proofs.lemmas.Result.{IfOk-weaker}
 use Rattle.parted_state.specs.SetLaws.{missing_set}
 use Rattle.parted_state.specs.Sets.{IsSetOf}
 use Rattle.parted_state.specs.Cut.{missing}
-use Rattle.cell_services.specs.Meant.{meant, no_tables}
+use Rattle.cell_services.specs.Meant.{meant}
+use Rattle.parted_state.specs.Lifted.{tables_shown}
+use Rattle.mms_step.specs.Partition.{cell}
 use Rattle.cell_services.specs.Serving.{heard_asks, heard_more}
 use Rattle.mms_step.specs.Needs.{also_parts, placed, verdict_need}
 use Rattle.mms_step.proofs.Asked.{second_by_test, third_by_test}
@@ -19,10 +21,10 @@ returns-then-not-is_empty c =
 pub returns-then-not-is_empty-2 : goal.returns-then-not-is_empty-2
 returns-then-not-is_empty-2 c =
     second_by_test c.args.held.now (placed c.args.clients (heard_asks (meant c.args.found.now)))
-    (placed c.args.clients (heard_more no_tables c.args.part.now.row (meant c.args.found.now))) _ c.unheld-missing.result c.unheld-missing-2.result
+    (placed c.args.clients (heard_more (tables_shown cell c.args.held.now) c.args.part.now.row (meant c.args.found.now))) _ c.unheld-missing.result c.unheld-missing-2.result
     (missing_set c.args.held.now c.heard_asks.result (placed c.args.clients (heard_asks (meant c.args.found.now))) c.unheld-missing.result c.heard_asks.ensures c.unheld-missing.ensures)
     (sym c.is_empty.ensures ∙ c.if-not-is_empty.false)
-    (missing_set c.args.held.now c.heard_more.result (placed c.args.clients (heard_more no_tables c.args.part.now.row (meant c.args.found.now))) c.unheld-missing-2.result
+    (missing_set c.args.held.now c.heard_more.result (placed c.args.clients (heard_more (tables_shown cell c.args.held.now) c.args.part.now.row (meant c.args.found.now))) c.unheld-missing-2.result
     c.heard_more.ensures c.unheld-missing-2.ensures)
     (sym c.is_empty-2.ensures ∙ c.if-not-is_empty-2.true)
 
@@ -33,11 +35,11 @@ returns c =
     (λ parts. IsSetOf parts (verdict_need c.args.clients c.args.held.now c.args.part.now.row (meant c.args.found.now)))
     (λ parts is.
     third_by_test c.args.held.now (placed c.args.clients (heard_asks (meant c.args.found.now)))
-    (placed c.args.clients (heard_more no_tables c.args.part.now.row (meant c.args.found.now)))
+    (placed c.args.clients (heard_more (tables_shown cell c.args.held.now) c.args.part.now.row (meant c.args.found.now)))
     (also_parts c.args.clients c.args.held.now c.args.part.now.row (meant c.args.found.now)) c.unheld-missing.result c.unheld-missing-2.result parts
     (missing_set c.args.held.now c.heard_asks.result (placed c.args.clients (heard_asks (meant c.args.found.now))) c.unheld-missing.result c.heard_asks.ensures c.unheld-missing.ensures)
     (sym c.is_empty.ensures ∙ c.if-not-is_empty.false)
-    (missing_set c.args.held.now c.heard_more.result (placed c.args.clients (heard_more no_tables c.args.part.now.row (meant c.args.found.now))) c.unheld-missing-2.result
+    (missing_set c.args.held.now c.heard_more.result (placed c.args.clients (heard_more (tables_shown cell c.args.held.now) c.args.part.now.row (meant c.args.found.now))) c.unheld-missing-2.result
     c.heard_more.ensures c.unheld-missing-2.ensures)
     (sym c.is_empty-2.ensures ∙ c.if-not-is_empty-2.false)
     is)

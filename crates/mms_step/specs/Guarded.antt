@@ -1,0 +1,23 @@
+-- Writes of guarded variables (this profile's choice).
+use Rattle.std.specs.Prelude.{◌≡◌, ℕ, true, List}
+use Rattle.mms_types.specs.declared.event.CellEvent.{CellEvent}
+use Rattle.mms_types.specs.declared.event.CellEvent.TheVariants.{Heard}
+use Rattle.mms_types.specs.declared.pdu.Request.TheVariants as request
+use Rattle.mms_types.specs.declared.variable.Write.{Write}
+use Rattle.mms_time.specs.Guards.{owns_guard}
+use Rattle.parted_state.specs.Served.{row_at}
+use Rattle.cell_services.specs.Association.{Takes, verdict}
+use Rattle.cell_services.specs.Serving.{is_served}
+use Rattle.mms_step.specs.Partition.{cell}
+use Rattle.mms_step.specs.State.{State}
+
+-- By the event a client writes that has an owner entry of the semaphore of the VMD of that name: its request is taken, and isn't refused.
+pub record IsWrittenByOwner (guard : List ℕ) (s : State) (event : CellEvent) : Type 0 where
+  pub client : ℕ
+  pub octets : List ℕ
+  pub heard : event ≡ Heard client octets
+  pub invoke : ℕ
+  pub asked : Write
+  pub taken : verdict (row_at cell client s.clients) octets ≡ Takes invoke (request.Write asked)
+  pub served : is_served (cell.tables_of s) (row_at cell client s.clients) invoke (request.Write asked) ≡ true
+  pub owner : owns_guard (row_at cell client s.clients).client guard s.semaphores ≡ true
