@@ -4,6 +4,7 @@ use Rattle.std.specs.Map.{lookup}
 use Rattle.mms_types.specs.Errors.{first_of}
 use Rattle.mms_types.specs.Order.{key_eq, key_of}
 use Rattle.mms_types.specs.declared.event.What.TheVariants.{Octets}
+use Rattle.mms_types.specs.declared.key.Key.{Key}
 use Rattle.mms_types.specs.declared.pdu.Answer.{Answer}
 use Rattle.mms_types.specs.declared.pdu.Answer.TheVariants as answer
 use Rattle.mms_types.specs.declared.pdu.Pdu.{Pdu}
@@ -20,17 +21,18 @@ use Rattle.association.specs.declared.waiting.Waiting.{Waiting}
 use Rattle.association.specs.Client.{ClientRow}
 use Rattle.token_sem.specs.declared.entry.Grant.{Grant}
 use Rattle.token_sem.proofs.Least.{Stands}
-use Rattle.mms_time.specs.Loss.{lost_grants}
 use Rattle.mms_time.specs.Semaphores.{Rows}
-use Rattle.mms_time.specs.Services.{relinquish_cause, relinquish_conditions, relinquish_grant, relinquish_grant_in, relinquish_grant_of, take_cause, take_conditions, take_told, take_told_of}
-use Rattle.mms_time.specs.Statuses.{pool_status_conditions, pool_status_conditions_in}
+use Rattle.mms_time.specs.Services.{relinquish_cause, relinquish_conditions, relinquish_grant_in, relinquish_grant_of, take_cause, take_conditions, take_told, take_told_of}
+use Rattle.mms_time.specs.Statuses.{pool_status_conditions, pool_status_conditions_in, pool_status_in, pool_status_of}
 use Rattle.mms_time.specs.declared.row.Semaphore.{Semaphore}
-use Rattle.mms_time.specs.declared.row.Semaphore.TheVariants.{Token}
+use Rattle.mms_time.specs.declared.row.Semaphore.TheVariants.{Token, Pool}
 use Rattle.mms_time.specs.declared.row.SemaphoreRow.{SemaphoreRow}
 use Rattle.mms_time.specs.declared.taking.TakeDone.{TakeDone}
 use Rattle.mms_time.specs.declared.taking.TakeDone.TheVariants as taken
 use Rattle.parted_state.specs.Served.{row_at, reached}
+use Rattle.sem_ticks.specs.Granted.{lost_granted, relinquish_granted}
 use Rattle.sem_ticks.specs.Sound.{AreSound}
+use Rattle.sem_ticks.specs.declared.granted.Granted.{Granted}
 use Rattle.sem_ticks.proofs.Kept.{row_found}
 use Rattle.cell_services.specs.Association.{Takes, Cancels, sends, confirmed_error, cancel_error, loss_told, other_error}
 use Rattle.cell_services.specs.Effects.{Effect, Closes, Waits, Answers, tell}
@@ -42,7 +44,7 @@ use Rattle.mms_step.specs.State.{State, IsSound}
 use Rattle.cell_laws.specs.Linked.{asker}
 use Rattle.cell_laws.specs.Tally.{AreSpelled, is_answer, is_opening}
 use Rattle.cell_laws.proofs.Bound.{Bound, nat-same}
-use Rattle.cell_laws.proofs.Bounds.{given-back}
+use Rattle.cell_laws.proofs.Bounds.{given-back, told_of}
 use Rattle.cell_laws.proofs.Counting.{many}
 use Rattle.cell_laws.proofs.Events.{fair-grants, unopening-grants}
 use Rattle.cell_laws.proofs.Fair.{Fair, IsAnswerTo, Outcome, bit, waits, Unopening, join, none_taken, one_of, piece-closes, piece-own, piece-waits}
@@ -61,32 +63,49 @@ some-mapped : {A B : Type 0} (f : A → B) (o : Option A) (e : ServiceError) →
 some-mapped f None e h = absurd (cc h)
 some-mapped f (Some x) e h = refl
 
-no-pool : (o : Option SemaphoreRow) → first_of (pool_status_conditions o) ≡ None → ⊥
-no-pool None h = cc h
-no-pool (Some row) h = in_semaphore row.semaphore h
+some-pool : (after : Option (List ℕ)) (o : Option SemaphoreRow) → first_of (pool_status_conditions o) ≡ None → is_some (option_map answer.ReportPoolSemaphoreStatus (pool_status_of after o)) ≡ true
+some-pool after None h = absurd (cc h)
+some-pool after (Some row) h = in_semaphore row.semaphore h
   where
-    in_semaphore : (s : Semaphore) → first_of (pool_status_conditions_in s) ≡ None → ⊥
-    in_semaphore (Token s) g = cc g
+    in_semaphore : (s : Semaphore) → first_of (pool_status_conditions_in s) ≡ None → is_some (option_map answer.ReportPoolSemaphoreStatus (pool_status_in after s)) ≡ true
+    in_semaphore (Token s) g = absurd (cc g)
+    in_semaphore (Pool p) g = refl
 
 take-there : (client : ℕ) (x : TakeControl) (o : Option SemaphoreRow) → first_of (take_conditions client x o) ≡ None → take_told_of x o ≡ None → ⊥
 take-there client x None h g = cc h
 take-there client x (Some row) h g = cc g
 
-relinquish-there : (client : ℕ) (x : RelinquishControl) (o : Option SemaphoreRow) → first_of (relinquish_conditions client x o) ≡ None → relinquish_grant_of client o ≡ None → ⊥
-relinquish-there client x None h g = cc h
-relinquish-there client x (Some row) h g = cc g
+abbrev relinquish_given : Rows → ℕ → RelinquishControl → Option SemaphoreRow → Option (Option Granted)
+relinquish_given rows client x o = option_map (told_of rows (key_of client x.name)) (relinquish_grant_of client x o)
+
+relinquish-there : (rows : Rows) (client : ℕ) (x : RelinquishControl) (o : Option SemaphoreRow) → first_of (relinquish_conditions client x o) ≡ None → relinquish_given rows client x o ≡ None → ⊥
+relinquish-there rows client x None h g = cc h
+relinquish-there rows client x (Some row) h g = cc g
 
 -- who is granted a token that is given back is queued
-given-asks : (rows : Rows) → AreSound rows → (client : ℕ) (x : RelinquishControl) (o : Option Grant) → relinquish_grant client x rows ≡ Some o
-    → (g : Grant) → Stands (option_to_list o) g → asker rows (key_of client x.name) g.entry ≡ Some (g.client, g.invoke)
-given-asks rows sound client x o is g s = by_row (lookup (key_eq (key_of client x.name)) rows) refl is
+given-asks : (rows : Rows) → AreSound rows → (client : ℕ) (x : RelinquishControl) (o : Option Granted) → relinquish_granted client x rows ≡ Some o
+    → (g : Granted) → Stands (option_to_list o) g → (entry : ℕ) × (asker rows (key_of client x.name) entry ≡ Some (g.client, g.invoke))
+given-asks rows sound client x o is g s = by_row (lookup (key_eq key) rows) refl is
   where
-    by_row : (p : Option SemaphoreRow) → lookup (key_eq (key_of client x.name)) rows ≡ p → relinquish_grant_of client p ≡ Some o → asker rows (key_of client x.name) g.entry ≡ Some (g.client, g.invoke)
+    key : Key
+    key = key_of client x.name
+
+    by_grant : (row : SemaphoreRow) → lookup (key_eq key) rows ≡ Some row → (p : Option Grant) → relinquish_grant_in client x row.semaphore ≡ p
+        → Stands (option_to_list (told_of rows key p)) g → (entry : ℕ) × (asker rows key entry ≡ Some (g.client, g.invoke))
+    by_grant row e None f t = absurd t
+    by_grant row e (Some gr) f (inl same) = (
+      gr.entry,
+      ap (asker_in gr.entry) e
+          ∙ (given-back client x (record { 0 = 0 }) row.semaphore (row_found rows key row sound.each e)).each gr (subst (λ (q : Option Grant). Stands (option_to_list q) gr) (sym f) (inl refl))
+          ∙ ap (λ (y : Granted). Some (y.client, y.invoke)) same,
+    )
+    by_grant row e (Some gr) f (inr t) = absurd t
+
+    by_row : (p : Option SemaphoreRow) → lookup (key_eq key) rows ≡ p → relinquish_given rows client x p ≡ Some o → (entry : ℕ) × (asker rows key entry ≡ Some (g.client, g.invoke))
     by_row None e h = absurd (cc h)
     by_row (Some row) e h =
-        let same : relinquish_grant_in client row.semaphore ≡ o = cc h in
-        ap (asker_in g.entry) e ∙ (given-back client (record { 0 = 0 }) row.semaphore (row_found rows (key_of client x.name) row sound.each e)).each g
-        (subst (λ (p : Option Grant). Stands (option_to_list p) g) (sym same) s)
+        let same : told_of rows key (relinquish_grant_in client x row.semaphore) ≡ o = cc h in
+        by_grant row e (relinquish_grant_in client x row.semaphore) refl (subst (λ (p : Option Granted). Stands (option_to_list p) g) (sym same) s)
 
 -- ---- what is heard
 
@@ -121,33 +140,31 @@ module _ (count : ℕ) (s : State) (sound : IsSound count s) (bound : Bound (ask
         (refl, tt),
       )
 
-  giving : (invoke : ℕ) (x : RelinquishControl) (o : Option (Option Grant)) → relinquish_grant its.client x s.semaphores ≡ o → relinquish_cause its.client x s.semaphores ≡ None
+  giving : (invoke : ℕ) (x : RelinquishControl) (o : Option (Option Granted)) → relinquish_granted its.client x s.semaphores ≡ o → relinquish_cause its.client x s.semaphores ≡ None
       → Answered (tell client (answer_told invoke (relinquish_outcome old its.client x o).answer) ++ (relinquish_outcome old its.client x o).also) (one_of client invoke c)
-  giving invoke x None told none = absurd (relinquish-there its.client x (lookup (key_eq (key_of its.client x.name)) s.semaphores) none told)
+  giving invoke x None told none = absurd (relinquish-there s.semaphores its.client x (lookup (key_eq (key_of its.client x.name)) s.semaphores) none told)
   giving invoke x (Some grant) told none = (
     retake c (tell client (sends own ∷ []) ++ grants_told (option_to_list grant)) s.clients (λ i. one_of client invoke c i + none_taken i) (one_of client invoke c) (λ i. omega arith)
         (join c (tell client (sends own ∷ [])) (grants_told (option_to_list grant)) s.clients (one_of client invoke c) none_taken (unopening-grants (option_to_list grant))
         (inl (piece-own c client invoke own s.clients (λ i. refl)))
         (fair-grants c (option_to_list grant) (reached cell client (sends own) s.clients) (apart grant)
-        (λ g t. (
-          _,
-          reached-still (sends own) tt client s.clients g.client g.invoke
-              ∙ bound.waiting (key_of its.client x.name) g.entry g.client g.invoke (given-asks s.semaphores sound.semaphores its.client x grant told g t),
-        )))),
+        (λ g t.
+        let asks = given-asks s.semaphores sound.semaphores its.client x grant told g t in
+        (_, reached-still (sends own) tt client s.clients g.client g.invoke ∙ bound.waiting (key_of its.client x.name) asks.0 g.client g.invoke asks.1)))),
     (refl, unopening-grants (option_to_list grant)),
   )
     where
       own : Pdu
       own = pdu.ConfirmedResponse invoke answer.RelinquishControl
 
-      apart : (o : Option Grant) → AnswerApart (option_to_list o)
+      apart : (o : Option Granted) → AnswerApart (option_to_list o)
       apart None = tt
       apart (Some g) = (refl, tt)
 
   doing : (invoke : ℕ) (asked : Request) → IsAdmitted invoke its → its.client ≡ client → cause old its asked ≡ None
       → Answered (tell client (answer_told invoke (effect old its invoke asked).answer) ++ (effect old its invoke asked).also) (one_of client invoke c)
   doing invoke (request.TakeControl x) may is none = taking invoke x may is (take_told its.client x s.semaphores) refl none
-  doing invoke (request.RelinquishControl x) may is none = giving invoke x (relinquish_grant its.client x s.semaphores) refl none
+  doing invoke (request.RelinquishControl x) may is none = giving invoke x (relinquish_granted its.client x s.semaphores) refl none
   doing invoke (request.GetVariableAccessAttributes x) may is none = plain invoke _ [] (some-mapped answer.GetVariableAccessAttributes _ _ none) refl
   doing invoke (request.GetNamedVariableListAttributes x) may is none = plain invoke _ [] (some-mapped answer.GetNamedVariableListAttributes _ _ none) refl
   doing invoke (request.ReportSemaphoreStatus x) may is none = plain invoke _ [] (some-twice answer.ReportSemaphoreStatus _ _ _ none) refl
@@ -155,7 +172,8 @@ module _ (count : ℕ) (s : State) (sound : IsSound count s) (bound : Bound (ask
       some-twice : {A B C : Type 0} (f : B → C) (g : A → B) (o : Option A) (e : ServiceError) → first_of ((is_none o, e) ∷ []) ≡ None → is_some (option_map f (option_map g o)) ≡ true
       some-twice f g None e h = absurd (cc h)
       some-twice f g (Some x) e h = refl
-  doing invoke (request.ReportPoolSemaphoreStatus x) may is none = absurd (no-pool (lookup (key_eq (key_of its.client x.name)) s.semaphores) none)
+  doing invoke (request.ReportPoolSemaphoreStatus x) may is none =
+      plain invoke _ [] (some-pool x.after (lookup (key_eq (key_of its.client x.name)) s.semaphores) none) refl
   doing invoke (request.ReportSemaphoreEntryStatus x) may is none = plain invoke _ [] (some-twice answer.ReportSemaphoreEntryStatus _ _ _ none) refl
     where
       some-twice : {A B C : Type 0} (f : B → C) (g : A → B) (o : Option A) (e : ServiceError) → first_of ((is_none o, e) ∷ []) ≡ None → is_some (option_map f (option_map g o)) ≡ true
@@ -229,7 +247,7 @@ module _ (count : ℕ) (s : State) (sound : IsSound count s) (bound : Bound (ask
 
   -- the association ends, and tokens are granted to others
   closes-fair : its.client ≡ client → (rows : List ClientRow) → ((d i : ℕ) → waits_in rows d i ≡ waits_in s.clients d i)
-      → Outcome c (tell client (Closes ∷ []) ++ grants_told (lost_grants its.client (moment_of old) s.semaphores)) rows none_taken
+      → Outcome c (tell client (Closes ∷ []) ++ grants_told (lost_granted its.client (moment_of old) s.semaphores)) rows none_taken
   closes-fair is rows same =
       retake c (tell client (Closes ∷ []) ++ grants_told grants) rows (λ i. none_taken i + none_taken i) none_taken (λ i. omega arith)
       (join c (tell client (Closes ∷ [])) (grants_told grants) rows none_taken none_taken (unopening-grants grants) (piece-closes c client rows)
@@ -237,10 +255,10 @@ module _ (count : ℕ) (s : State) (sound : IsSound count s) (bound : Bound (ask
       (lost-apart its.client (moment_of old) s.semaphores (rise s.semaphores sound.semaphores) (waits_in s.clients) bound sound.semaphores.names)
       (λ g t. still g (lost-waits its.client (moment_of old) s.semaphores (rise s.semaphores sound.semaphores) (waits_in s.clients) bound g t))))
     where
-      grants : List Grant
-      grants = lost_grants its.client (moment_of old) s.semaphores
+      grants : List Granted
+      grants = lost_granted its.client (moment_of old) s.semaphores
 
-      still : (g : Grant) → (w : Waiting) × (cond (g.client == its.client) None (waits_in s.clients g.client g.invoke) ≡ Some w)
+      still : (g : Granted) → (w : Waiting) × (cond (g.client == its.client) None (waits_in s.clients g.client g.invoke) ≡ Some w)
           → (w : Waiting) × (waits_in (reached cell client Closes rows) g.client g.invoke ≡ Some w)
       still g w = (
         w.0,
@@ -250,7 +268,7 @@ module _ (count : ℕ) (s : State) (sound : IsSound count s) (bound : Bound (ask
 
   pub ends-fair : (e : Effect) → is_opening e ≡ false → ((rows : List ClientRow) → Fair c ((client, e) ∷ []) rows none_taken)
       → ((d i : ℕ) → waits_in (reached cell client e s.clients) d i ≡ waits_in s.clients d i)
-      → its.client ≡ client → Answered (tell client (e ∷ Closes ∷ []) ++ grants_told (lost_grants its.client (moment_of old) s.semaphores)) none_taken
+      → its.client ≡ client → Answered (tell client (e ∷ Closes ∷ []) ++ grants_told (lost_granted its.client (moment_of old) s.semaphores)) none_taken
   ends-fair e un fair still is = (
     retake c (tell client (e ∷ Closes ∷ []) ++ grants_told grants) s.clients (λ i. none_taken i + none_taken i) none_taken (λ i. omega arith)
         (join c ((client, e) ∷ []) (tell client (Closes ∷ []) ++ grants_told grants) s.clients none_taken none_taken (refl, unopening-grants grants) (inl (fair s.clients))
@@ -258,10 +276,10 @@ module _ (count : ℕ) (s : State) (sound : IsSound count s) (bound : Bound (ask
     (un, (refl, unopening-grants grants)),
   )
     where
-      grants : List Grant
-      grants = lost_grants its.client (moment_of old) s.semaphores
+      grants : List Granted
+      grants = lost_granted its.client (moment_of old) s.semaphores
 
   pub loses-fair : (a : Association) → its.association ≡ a → Answered (tell client (loss_told a) ++ also_lost a its.client old) none_taken
   loses-fair Idle is = (inl (record { pdus = []; spelled = refl; balance = λ i. refl }), tt)
   loses-fair (Open values) is =
-      (closes-fair (numbered-client count s client sound (λ idle. cc (sym is ∙ idle))) s.clients (λ d i. refl), (refl, unopening-grants (lost_grants its.client (moment_of old) s.semaphores)))
+      (closes-fair (numbered-client count s client sound (λ idle. cc (sym is ∙ idle))) s.clients (λ d i. refl), (refl, unopening-grants (lost_granted its.client (moment_of old) s.semaphores)))

@@ -17,20 +17,23 @@ use Rattle.mms_types.specs.declared.semaphore.TakeControlAnswer.{TakeControlAnsw
 use Rattle.association.specs.declared.waiting.Waiting.{Waiting}
 use Rattle.token_sem.specs.declared.entry.Grant.{Grant}
 use Rattle.token_sem.specs.declared.entry.SemEntry.{SemEntry}
-use Rattle.token_sem.specs.Semaphore.{Rises, after_freeing, after_giving_back, grant_of, heir_of, is_queued, next, owned_by, owner_of, without}
-use Rattle.token_sem.proofs.Keeping.{among-find, rises-without}
+use Rattle.token_sem.specs.Semaphore.{Rises, after_giving_back, heir_of, is_queued, owned_by, owner_of}
+use Rattle.token_sem.proofs.Keeping.{among-find}
 use Rattle.token_sem.proofs.Losing.{owner-not_queued}
+use Rattle.pool_sem.specs.Pools as pool
 use Rattle.mms_time.specs.Semaphores.{IsSound, Rows, changed, entries_in, entries_of, entry_in, entry_waits, made_in}
-use Rattle.mms_time.specs.Services.{ask_of, cancel_after, cancelled, define_after, delete_cause, delete_conditions, deleted, new_semaphore, relinquish_after, relinquish_grant, relinquish_grant_in, relinquish_grant_of, take_after, take_cause, take_conditions, take_conditions_in, take_told, take_told_in, take_told_of, with_take, with_token_back, without_entry}
+use Rattle.mms_time.specs.Services.{cancel_after, cancelled, define_after, delete_cause, delete_conditions, deleted, new_semaphore, place_asked, relinquish_after, relinquish_grant_in, relinquish_grant_of, take_after, take_cause, take_conditions, take_told, take_told_in, take_told_of, with_take, with_token_back, without_entry}
 use Rattle.mms_time.specs.declared.row.Semaphore.{Semaphore}
-use Rattle.mms_time.specs.declared.row.Semaphore.TheVariants.{Token}
+use Rattle.mms_time.specs.declared.row.Semaphore.TheVariants.{Token, Pool}
 use Rattle.mms_time.specs.declared.row.SemaphoreRow.{SemaphoreRow}
 use Rattle.mms_time.specs.declared.taking.TakeDone.TheVariants.{Answered, Waits}
+use Rattle.sem_ticks.specs.Granted.{granted, relinquish_granted}
 use Rattle.sem_ticks.specs.Sound.{AreSound}
+use Rattle.sem_ticks.specs.declared.granted.Granted.{Granted}
 use Rattle.sem_ticks.proofs.Kept.{row_found}
 use Rattle.cell_laws.specs.Linked.{asker, asker_of}
-use Rattle.cell_laws.proofs.Bound.{Bound, bound-drop, bound-more, bound-same, key-same, nat-same, request_of}
-use Rattle.cell_laws.proofs.Entries.{Frees, asker_at, at-tail, drops-without, frees-one, not_queued, owned_owner, same-frees, drops-nothing}
+use Rattle.cell_laws.proofs.Bound.{Bound, bound-drop, bound-more, bound-same, key-same, nat-same, of-both, request_of}
+use Rattle.cell_laws.proofs.Entries.{Frees, asker_at, at-tail, drops-without, freeing, none-granted, not_queued, owned_owner, rises-in}
 use Rattle.cell_laws.proofs.Queues.{asker_in, changed-at, changed-less, changed-more, is_answered}
 use Rattle.cell_laws.proofs.Requests.{Takes, own-name, takes}
 
@@ -45,38 +48,49 @@ beyond-none low high n (e ∷ es) above rises =
     low-high l h [] r = r
     low-high l h (y ∷ xs) r = let a = low-high y.number h xs r.1 in let b = r.0 in omega (arith, a, b)
 
-takes-in : (client invoke : ℕ) (now : Moment) (x : TakeControl) (s : Semaphore) → IsSound s → first_of (take_conditions_in client x s) ≡ None
-    → Takes client invoke now x s (take_told_in x s)
-takes-in client invoke now x (Token s) is none = takes client invoke now x s is.rises none
-
 next-none : (s : Semaphore) → IsSound s → asker_at (made_in s + 1) (entries_in s) ≡ None
-next-none (Token s) is = beyond-none 0 s.made (s.made + 1) s.entries (omega arith) is.rises
+next-none s is = beyond-none 0 (made_in s) (made_in s + 1) (entries_in s) (omega arith) (rises-in s is)
 
-pub given-back : (client : ℕ) (now : Moment) (s : Semaphore) → IsSound s → Frees (entries_in s) (option_to_list (relinquish_grant_in client s)) (entries_in (with_token_back client now s))
-given-back client now (Token s) is = by_owner (owner_of client s.entries) refl
+pub given-back : (client : ℕ) (x : RelinquishControl) (now : Moment) (s : Semaphore) → IsSound s
+    → Frees (entries_in s) (option_to_list (relinquish_grant_in client x s)) (entries_in (with_token_back client x.token now s))
+given-back client x now (Token s) is = by_owner (owner_of client s.entries) refl
   where
     by_owner : (o : Option SemEntry) → owner_of client s.entries ≡ o → Frees s.entries (option_to_list (heir_of o s.entries)) (after_giving_back o now s).entries
-    by_owner None e = record { left = λ n. refl; each = λ g t. absurd t }
+    by_owner None e = none-granted s.entries
     by_owner (Some owner) e =
         let found = among-find (owned_by client) s.entries owner e in
-        let none = not_queued s.made s.entries owner is.rises found.0 (owner-not_queued owner (owned_owner client owner found.1)) in
-        same-frees s.entries (without owner.number s.entries) (after_freeing now (without owner.number s.entries)) (option_to_list (option_map grant_of (next (without owner.number s.entries))))
-        (drops-nothing owner.number s.entries (without owner.number s.entries) none (drops-without owner.number s.entries))
-        (frees-one s.made now (without owner.number s.entries) (rises-without 0 s.made owner.number s.entries is.rises))
+        (freeing (Token s)).frees s.made now s.entries owner is.rises
+        (not_queued s.made s.entries owner is.rises found.0 (owner-not_queued owner (owned_owner client owner found.1)))
+given-back client x now (Pool p) is = by_owner (pool.owner_of client place p.entries) refl
+  where
+    place : Option ℕ
+    place = place_asked x.token p.tokens
+
+    by_owner : (o : Option SemEntry) → pool.owner_of client place p.entries ≡ o → Frees p.entries (option_to_list (pool.heir_of o p.entries)) (pool.after_giving_back o now p).entries
+    by_owner None e = none-granted p.entries
+    by_owner (Some owner) e =
+        let found = among-find (λ y. owned_by client y && pool.names place y.token) p.entries owner e in
+        (freeing (Pool p)).frees p.made now p.entries owner is.rises
+        (not_queued p.made p.entries owner is.rises found.0
+        (owner-not_queued owner (owned_owner client owner (of-both (owned_by client owner) (pool.names place owner.token) found.1).0)))
+
+-- who is granted a token in the semaphore of a name is told
+abbrev pub told_of : Rows → Key → Option Grant → Option Granted
+told_of rows key o = option_map (λ grant. granted rows (key, grant)) o
 
 module _ (rows : Rows) (f : ℕ → ℕ → Option Waiting) (bound : Bound (asker rows) f) where
   -- one semaphore is changed, in which a token is granted, or none
-  pub bound-freed : (F : Semaphore → Semaphore) (key : Key) (row : SemaphoreRow) (o : Option Grant) (g : ℕ → ℕ → Option Waiting) → lookup (key_eq key) rows ≡ Some row
-      → Frees (entries_of row) (option_to_list o) (entries_in (F row.semaphore)) → ((c i : ℕ) → g c i ≡ cond (is_answered (option_to_list o) c i) None (f c i))
-      → Bound (asker (changed F key rows)) g
-  bound-freed F key row None g found frees left =
+  pub bound-freed : (F : Semaphore → Semaphore) (key : Key) (row : SemaphoreRow) (o : Option Grant) (named : Rows) (g : ℕ → ℕ → Option Waiting)
+      → lookup (key_eq key) rows ≡ Some row → Frees (entries_of row) (option_to_list o) (entries_in (F row.semaphore))
+      → ((c i : ℕ) → g c i ≡ cond (is_answered (option_to_list (told_of named key o)) c i) None (f c i)) → Bound (asker (changed F key rows)) g
+  bound-freed F key row None named g found frees left =
       bound-same (asker rows) (asker (changed F key rows)) f g bound
       (λ k n. changed-at F key rows row (λ m o. o) found frees.left k n ∙ by_test (key_eq k key) (asker rows k n)) left
     where
       by_test : (b : Bool) (o : Option (ℕ × ℕ)) → cond b o o ≡ o
       by_test true o = refl
       by_test false o = refl
-  bound-freed F key row (Some gr) g found frees left =
+  bound-freed F key row (Some gr) named g found frees left =
       bound-drop (asker rows) f bound (asker (changed F key rows)) g key gr.entry gr.client gr.invoke (ap (asker_in gr.entry) found ∙ frees.each gr (inl refl))
       (changed-less F key rows row gr.entry found (λ n. frees.left n ∙ one (n == gr.entry) (asker_at n (entries_of row))))
       (λ c i. left c i ∙ one (c == gr.client && i == gr.invoke) (f c i))
@@ -85,19 +99,22 @@ module _ (rows : Rows) (f : ℕ → ℕ → Option Waiting) (bound : Bound (aske
       one true o = refl
       one false o = refl
 
-  pub bound-given : (sound : AreSound rows) (client : ℕ) (now : Moment) (x : RelinquishControl) (o : Option Grant) (g : ℕ → ℕ → Option Waiting)
-      → relinquish_grant client x rows ≡ Some o → ((c i : ℕ) → g c i ≡ cond (is_answered (option_to_list o) c i) None (f c i))
+  pub bound-given : (sound : AreSound rows) (client : ℕ) (now : Moment) (x : RelinquishControl) (o : Option Granted) (g : ℕ → ℕ → Option Waiting)
+      → relinquish_granted client x rows ≡ Some o → ((c i : ℕ) → g c i ≡ cond (is_answered (option_to_list o) c i) None (f c i))
       → Bound (asker (relinquish_after client now x rows)) g
-  bound-given sound client now x o g is left = by_row (lookup (key_eq (key_of client x.name)) rows) refl is
+  bound-given sound client now x o g is left = by_row (lookup (key_eq key) rows) refl is
     where
-      by_row : (p : Option SemaphoreRow) → lookup (key_eq (key_of client x.name)) rows ≡ p → relinquish_grant_of client p ≡ Some o
+      key : Key
+      key = key_of client x.name
+
+      by_row : (p : Option SemaphoreRow) → lookup (key_eq key) rows ≡ p → option_map (told_of rows key) (relinquish_grant_of client x p) ≡ Some o
           → Bound (asker (relinquish_after client now x rows)) g
       by_row None e h = absurd (cc h)
       by_row (Some row) e h =
-          let same : relinquish_grant_in client row.semaphore ≡ o = cc h in
-          bound-freed (with_token_back client now) (key_of client x.name) row o g e
-          (subst (λ (p : Option Grant). Frees (entries_of row) (option_to_list p) (entries_in (with_token_back client now row.semaphore))) same
-          (given-back client now row.semaphore (row_found rows (key_of client x.name) row sound.each e))) left
+          let same : told_of rows key (relinquish_grant_in client x row.semaphore) ≡ o = cc h in
+          bound-freed (with_token_back client x.token now) key row (relinquish_grant_in client x row.semaphore) rows g e
+          (given-back client x now row.semaphore (row_found rows key row sound.each e))
+          (λ c i. left c i ∙ ap (λ (p : Option Granted). cond (is_answered (option_to_list p) c i) None (f c i)) (sym same))
 
   -- a token is had at once
   pub bound-answered : (sound : AreSound rows) (client invoke : ℕ) (now : Moment) (x : TakeControl) (told : TakeControlAnswer) → take_cause client x rows ≡ None
@@ -114,9 +131,9 @@ module _ (rows : Rows) (f : ℕ → ℕ → Option Waiting) (bound : Bound (aske
       by_row (Some row) e h j =
           let same : take_told_in x row.semaphore ≡ Answered told = cc j in
           let still : Takes client invoke now x row.semaphore (Answered told) =
-          subst (Takes client invoke now x row.semaphore) same (takes-in client invoke now x row.semaphore (row_found rows (key_of client x.name) row sound.each e) h) in
+          subst (Takes client invoke now x row.semaphore) same (takes client invoke now x row.semaphore (row_found rows (key_of client x.name) row sound.each e) h) in
           bound-same (asker rows) (asker (take_after client invoke now x rows)) f f bound
-          (λ k n. changed-at (with_take (ask_of client invoke x) now) (key_of client x.name) rows row (λ m o. o) e still k n ∙ by_test (key_eq k (key_of client x.name)) (asker rows k n))
+          (λ k n. changed-at (with_take client invoke x now) (key_of client x.name) rows row (λ m o. o) e still k n ∙ by_test (key_eq k (key_of client x.name)) (asker rows k n))
           (λ c i. refl)
 
   -- a client waits
@@ -133,11 +150,11 @@ module _ (rows : Rows) (f : ℕ → ℕ → Option Waiting) (bound : Bound (aske
           let same : take_told_in x row.semaphore ≡ Waits entry = cc j in
           let is_sound = row_found rows (key_of client x.name) row sound.each e in
           let waits : Takes client invoke now x row.semaphore (Waits entry) =
-          subst (Takes client invoke now x row.semaphore) same (takes-in client invoke now x row.semaphore is_sound h) in
+          subst (Takes client invoke now x row.semaphore) same (takes client invoke now x row.semaphore is_sound h) in
           bound-more (asker rows) f bound (asker (take_after client invoke now x rows)) g (key_of client x.name) entry client invoke
           (ap (asker_in entry) e ∙ ap (λ m. asker_at m (entries_of row)) waits.0 ∙ next-none row.semaphore is_sound) new
           (λ d h. own-name client d x.name h)
-          (changed-more (with_take (ask_of client invoke x) now) (key_of client x.name) rows row entry (client, invoke) e waits.1) more
+          (changed-more (with_take client invoke x now) (key_of client x.name) rows row entry (client, invoke) e waits.1) more
 
   -- a request is cancelled
   pub bound-cancelled : (key : Key) (number client invoke : ℕ) (g : ℕ → ℕ → Option Waiting) → asker rows key number ≡ Some (client, invoke)
@@ -155,6 +172,7 @@ module _ (rows : Rows) (f : ℕ → ℕ → Option Waiting) (bound : Bound (aske
 
       in_semaphore : (s : Semaphore) (n : ℕ) → asker_at n (entries_in (without_entry number s)) ≡ cond (n == number) None (asker_at n (entries_in s))
       in_semaphore (Token s) n = drops-without number s.entries n
+      in_semaphore (Pool p) n = drops-without number p.entries n
 
       by_row : (p : Option SemaphoreRow) → lookup (key_eq key) rows ≡ p → Bound (asker (cancel_after key number rows)) g
       by_row None e = let none : asker rows key number ≡ None = ap (asker_in number) e in absurd (cc (sym is ∙ none))

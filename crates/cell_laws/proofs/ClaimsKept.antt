@@ -1,4 +1,4 @@
--- After any history, and at each point while time goes by, a client has one claim at most on each semaphore.
+-- After any history, and at each point while time goes by, a client has one claim at most on each semaphore of equal tokens.
 use Rattle.std.proofs.Common.{◌≡◌, ℕ, ◌+◌, ◌⊎◌, inl, inr, Bool, true, false, not, cond, ◌==◌, List, [], ◌∷◌, ◌++◌, filter, fold, Option, None, Some, is_some, option_and_then, option_map, if◌then◌else◌, refl, sym, ◌∙◌, ap, subst}
 use Rattle.std.specs.Map.{lookup, remove_entry}
 use Rattle.std.proofs.lemmas.Map.{lookup-remove_entry, lookup-set_value}
@@ -6,6 +6,7 @@ use Rattle.std.proofs.lemmas.Map.Entries.{lookup-filter-keys}
 use Rattle.std.proofs.lemmas.Map.Made.{lookup-map_values}
 use Rattle.mms_types.specs.KeyLaws.{keys_equal}
 use Rattle.mms_types.specs.Order.{key_eq, key_of, scope_eq}
+use Rattle.mms_types.specs.declared.cells.PoolRow.{PoolRow}
 use Rattle.mms_types.specs.declared.event.CellEvent.{CellEvent}
 use Rattle.mms_types.specs.declared.event.CellEvent.TheVariants.{Heard, Lost, Tick, Ends, Drain}
 use Rattle.mms_types.specs.declared.key.Key.{Key}
@@ -23,20 +24,22 @@ use Rattle.association.specs.Client.{ClientRow}
 use Rattle.cell_config.specs.declared.config.Config.{Config}
 use Rattle.cell_config.specs.Said.{IsConfig}
 use Rattle.token_sem.specs.declared.entry.Expired.{Expired}
-use Rattle.token_sem.specs.declared.entry.Grant.{Grant}
 use Rattle.token_sem.specs.Semaphore.{numbered, owner_of}
 use Rattle.mms_time.specs.Deadlines.{NamedDeadline, expire_after, expired, next_due, without_due}
 use Rattle.mms_time.specs.Loss.{all_changed, lost, without_client}
-use Rattle.mms_time.specs.Semaphores.{IsSound, Rows, changed, changed_row, changed_to, entries_in, entries_of, entry_in, entry_waits}
-use Rattle.mms_time.specs.Services.{ask_of, cancel_after, cancelled, define_after, new_semaphore, relinquish_grant, relinquished, take_after, take_told, with_take, with_token_back, without_entry}
+use Rattle.mms_time.specs.Opening.{configured, pool_row}
+use Rattle.mms_time.specs.Semaphores.{IsSound, Rows, changed, changed_row, changed_to, entry_in, entry_waits}
+use Rattle.mms_time.specs.Services.{ask_of, cancel_after, cancelled, define_after, new_semaphore, relinquished, take_after, take_told, with_take, with_token_back, without_entry}
 use Rattle.mms_time.specs.declared.row.Semaphore.{Semaphore}
-use Rattle.mms_time.specs.declared.row.Semaphore.TheVariants.{Token}
+use Rattle.mms_time.specs.declared.row.Semaphore.TheVariants.{Token, Pool}
 use Rattle.mms_time.specs.declared.row.SemaphoreRow.{SemaphoreRow}
 use Rattle.mms_time.specs.declared.taking.TakeDone.{TakeDone}
 use Rattle.mms_time.specs.declared.taking.TakeDone.TheVariants as taken
 use Rattle.mms_time.proofs.TwoSteps.{each_semaphore}
 use Rattle.parted_state.specs.Served.{delivered, row_at}
+use Rattle.sem_ticks.specs.Granted.{relinquish_granted}
 use Rattle.sem_ticks.specs.Sound.{AreSound}
+use Rattle.sem_ticks.specs.declared.granted.Granted.{Granted}
 use Rattle.sem_ticks.specs.Ticks.{Ticking, after_abort, entries_left, met, met_as, next_met}
 use Rattle.sem_ticks.proofs.Kept.{row_found}
 use Rattle.sem_ticks.proofs.Settling.{settle-keeps}
@@ -55,13 +58,18 @@ use Rattle.cell_laws.proofs.Linking.{Linked, Meanwhile, linked_step, next-keeps}
 use Rattle.cell_laws.proofs.Meetings.{sound-met}
 use Rattle.cell_laws.proofs.Replayed.{linked-start}
 
+-- of a pool a client may own several tokens
+abbrev pub SingleIn : Semaphore → Type 0
+SingleIn (Token s) = Single s.entries
+SingleIn (Pool p) = Unit {0}
+
 abbrev pub AreSingle : Rows → Type 0
-AreSingle rows = (k : Key) (row : SemaphoreRow) → lookup (key_eq k) rows ≡ Some row → Single (entries_of row)
+AreSingle rows = (k : Key) (row : SemaphoreRow) → lookup (key_eq k) rows ≡ Some row → SingleIn row.semaphore
 
 -- ---- semaphores change
 
 single-changed : (f : Semaphore → Semaphore) (key : Key) (rows : Rows)
-    → ((row : SemaphoreRow) → lookup (key_eq key) rows ≡ Some row → Single (entries_of row) → Single (entries_in (f row.semaphore)))
+    → ((row : SemaphoreRow) → lookup (key_eq key) rows ≡ Some row → SingleIn row.semaphore → SingleIn (f row.semaphore))
     → AreSingle rows → AreSingle (changed f key rows)
 single-changed f key rows each single = by_row (lookup (key_eq key) rows) refl
   where
@@ -71,18 +79,18 @@ single-changed f key rows each single = by_row (lookup (key_eq key) rows) refl
         by_test (key_eq key k)
         (sym (lookup-set_value keys_equal (key_eq key) (λ x y h. keys_equal.congr key x y h) k (changed_row f was) rows (ap is_some found)) ∙ there)
       where
-        by_test : (b : Bool) → cond b (Some (changed_row f was)) (lookup (key_eq k) rows) ≡ Some row → Single (entries_of row)
-        by_test true h = let same : changed_row f was ≡ row = cc h in subst (λ (r : SemaphoreRow). Single (entries_of r)) same (each was found (single key was found))
+        by_test : (b : Bool) → cond b (Some (changed_row f was)) (lookup (key_eq k) rows) ≡ Some row → SingleIn row.semaphore
+        by_test true h = let same : changed_row f was ≡ row = cc h in subst (λ (r : SemaphoreRow). SingleIn r.semaphore) same (each was found (single key was found))
         by_test false h = single k row h
 
 single-all : (f : Semaphore → Semaphore) (rows : Rows)
-    → ((k : Key) (row : SemaphoreRow) → lookup (key_eq k) rows ≡ Some row → Single (entries_of row) → Single (entries_in (f row.semaphore)))
+    → ((k : Key) (row : SemaphoreRow) → lookup (key_eq k) rows ≡ Some row → SingleIn row.semaphore → SingleIn (f row.semaphore))
     → AreSingle rows → AreSingle (all_changed f rows)
 single-all f rows each single k row there = by_row (lookup (key_eq k) rows) refl (sym (lookup-map_values (changed_row f) (key_eq k) rows) ∙ there)
   where
-    by_row : (o : Option SemaphoreRow) → lookup (key_eq k) rows ≡ o → option_map (changed_row f) o ≡ Some row → Single (entries_of row)
+    by_row : (o : Option SemaphoreRow) → lookup (key_eq k) rows ≡ o → option_map (changed_row f) o ≡ Some row → SingleIn row.semaphore
     by_row None e h = absurd (cc h)
-    by_row (Some was) e h = let same : changed_row f was ≡ row = cc h in subst (λ (r : SemaphoreRow). Single (entries_of r)) same (each k was e (single k was e))
+    by_row (Some was) e h = let same : changed_row f was ≡ row = cc h in subst (λ (r : SemaphoreRow). SingleIn r.semaphore) same (each k was e (single k was e))
 
 single-left : (client : ℕ) (rows : Rows) → AreSingle rows → AreSingle (filter (λ row. not (scope_eq row.0.scope (Association client))) rows)
 single-left client rows single k row there =
@@ -90,7 +98,7 @@ single-left client rows single k row there =
     (sym (lookup-filter-keys (key_eq k) (λ x. not (scope_eq x.scope (Association client))) (not (scope_eq k.scope (Association client)))
     (λ x h. ap (λ (y : Key). not (scope_eq y.scope (Association client))) (sym (key-same k x h))) rows) ∙ there)
   where
-    by_test : (b : Bool) → cond b (lookup (key_eq k) rows) None ≡ Some row → Single (entries_of row)
+    by_test : (b : Bool) → cond b (lookup (key_eq k) rows) None ≡ Some row → SingleIn row.semaphore
     by_test true h = single k row h
     by_test false h = absurd (cc h)
 
@@ -111,7 +119,7 @@ single-appended k (first ∷ rows) e row there = by_test (key_eq k first.0) ther
 
 -- ---- each thing that is done
 
-single-one : (f : Semaphore → Semaphore) → ((s : Semaphore) → IsSound s → Single (entries_in s) → Single (entries_in (f s))) → (key : Key) (rows : Rows) → AreSound rows
+single-one : (f : Semaphore → Semaphore) → ((s : Semaphore) → IsSound s → SingleIn s → SingleIn (f s)) → (key : Key) (rows : Rows) → AreSound rows
     → AreSingle rows → AreSingle (changed f key rows)
 single-one f keeps key rows sound single = single-changed f key rows (λ row found one. keeps row.semaphore (row_found rows key row sound.each found) one) single
 
@@ -121,42 +129,47 @@ lost-single client now rows sound single =
     (single-left client (all_changed (without_client client now) rows)
     (single-all (without_client client now) rows (λ k row found one. in_semaphore row.semaphore (row_found rows k row sound.each found) one) single))
   where
-    in_semaphore : (s : Semaphore) → IsSound s → Single (entries_in s) → Single (entries_in (without_client client now s))
+    in_semaphore : (s : Semaphore) → IsSound s → SingleIn s → SingleIn (without_client client now s)
     in_semaphore (Token s) is one = single-lost s client now is one
+    in_semaphore (Pool p) is one = tt
 
 pub expired-single : (key : Key) (number : ℕ) (now : Moment) (rows : Rows) → AreSound rows → AreSingle rows → AreSingle (expire_after key number now rows)
 expired-single key number now rows sound single = single-one (without_due number now) in_semaphore key rows sound single
   where
-    in_semaphore : (s : Semaphore) → IsSound s → Single (entries_in s) → Single (entries_in (without_due number now s))
+    in_semaphore : (s : Semaphore) → IsSound s → SingleIn s → SingleIn (without_due number now s)
     in_semaphore (Token s) is one = single-expired s (numbered number s.entries) now is one
+    in_semaphore (Pool p) is one = tt
 
 cancelled-single : (key : Key) (number : ℕ) (rows : Rows) → AreSound rows → AreSingle rows → AreSingle (cancelled key number rows)
 cancelled-single key number rows sound single = by_test (entry_waits (entry_in key number rows))
   where
-    in_semaphore : (s : Semaphore) → IsSound s → Single (entries_in s) → Single (entries_in (without_entry number s))
+    in_semaphore : (s : Semaphore) → IsSound s → SingleIn s → SingleIn (without_entry number s)
     in_semaphore (Token s) is one = single-filter (λ e. not (e.number == number)) s.entries one
+    in_semaphore (Pool p) is one = tt
 
     by_test : (b : Bool) → AreSingle (if b then cancel_after key number rows else rows)
     by_test true = single-one (without_entry number) in_semaphore key rows sound single
     by_test false = single
 
 taken-single : (client invoke : ℕ) (now : Moment) (x : TakeControl) (rows : Rows) → AreSound rows → AreSingle rows → AreSingle (take_after client invoke now x rows)
-taken-single client invoke now x rows sound single = single-one (with_take (ask_of client invoke x) now) in_semaphore (key_of client x.name) rows sound single
+taken-single client invoke now x rows sound single = single-one (with_take client invoke x now) in_semaphore (key_of client x.name) rows sound single
   where
-    in_semaphore : (s : Semaphore) → IsSound s → Single (entries_in s) → Single (entries_in (with_take (ask_of client invoke x) now s))
-    in_semaphore (Token s) is one = single-taken s (ask_of client invoke x) now one
+    in_semaphore : (s : Semaphore) → IsSound s → SingleIn s → SingleIn (with_take client invoke x now s)
+    in_semaphore (Token s) is one = single-taken s (ask_of client invoke None x) now one
+    in_semaphore (Pool p) is one = tt
 
-given-single : (key : Key) (client : ℕ) (now : Moment) (rows : Rows) → AreSound rows → AreSingle rows → AreSingle (relinquished key client now rows)
-given-single key client now rows sound single = single-one (with_token_back client now) in_semaphore key rows sound single
+given-single : (key : Key) (client : ℕ) (token : Option (List ℕ)) (now : Moment) (rows : Rows) → AreSound rows → AreSingle rows → AreSingle (relinquished key client token now rows)
+given-single key client token now rows sound single = single-one (with_token_back client token now) in_semaphore key rows sound single
   where
-    in_semaphore : (s : Semaphore) → IsSound s → Single (entries_in s) → Single (entries_in (with_token_back client now s))
+    in_semaphore : (s : Semaphore) → IsSound s → SingleIn s → SingleIn (with_token_back client token now s)
     in_semaphore (Token s) is one = single-given s (owner_of client s.entries) now is one
+    in_semaphore (Pool p) is one = tt
 
 deleted-single : (key : Key) (rows : Rows) → AreSound rows → AreSingle rows → AreSingle (remove_entry (key_eq key) rows)
 deleted-single key rows sound single k row there =
     by_test (key_eq key k) (sym (lookup-remove_entry keys_equal (key_eq key) (λ y z h. keys_equal.congr key y z h) k rows sound.names) ∙ there)
   where
-    by_test : (b : Bool) → cond b None (lookup (key_eq k) rows) ≡ Some row → Single (entries_of row)
+    by_test : (b : Bool) → cond b None (lookup (key_eq k) rows) ≡ Some row → SingleIn row.semaphore
     by_test true h = absurd (cc h)
     by_test false h = single k row h
 
@@ -164,9 +177,9 @@ defined-single : (client : ℕ) (x : DefineSemaphore) (rows : Rows) → AreSingl
 defined-single client x rows single k row there =
     by_part (single-appended k rows (key_of client x.name, record { configured = false; semaphore = new_semaphore x.tokens }) row there)
   where
-    by_part : (lookup (key_eq k) rows ≡ Some row) ⊎ (record { configured = false; semaphore = new_semaphore x.tokens } ≡ row) → Single (entries_of row)
+    by_part : (lookup (key_eq k) rows ≡ Some row) ⊎ (record { configured = false; semaphore = new_semaphore x.tokens } ≡ row) → SingleIn row.semaphore
     by_part (inl found) = single k row found
-    by_part (inr same) = subst (λ (r : SemaphoreRow). Single (entries_of r)) same tt
+    by_part (inr same) = subst (λ (r : SemaphoreRow). SingleIn r.semaphore) same tt
 
 -- ---- what is heard
 
@@ -176,13 +189,13 @@ module _ (t : Tables) (row : ClientRow) (sound : AreSound t.semaphores) (single 
   took invoke x (Some (taken.Answered told)) = taken-single row.client invoke (moment_of t) x t.semaphores sound single
   took invoke x (Some (taken.Waits entry)) = taken-single row.client invoke (moment_of t) x t.semaphores sound single
 
-  gave : (x : RelinquishControl) (o : Option (Option Grant)) → AreSingle (relinquish_outcome t row.client x o).tables.semaphores
+  gave : (x : RelinquishControl) (o : Option (Option Granted)) → AreSingle (relinquish_outcome t row.client x o).tables.semaphores
   gave x None = single
-  gave x (Some grant) = given-single (key_of row.client x.name) row.client (moment_of t) t.semaphores sound single
+  gave x (Some grant) = given-single (key_of row.client x.name) row.client x.token (moment_of t) t.semaphores sound single
 
   effect-single : (invoke : ℕ) (asked : Request) → AreSingle (effect t row invoke asked).tables.semaphores
   effect-single invoke (request.TakeControl x) = took invoke x (take_told row.client x t.semaphores)
-  effect-single invoke (request.RelinquishControl x) = gave x (relinquish_grant row.client x t.semaphores)
+  effect-single invoke (request.RelinquishControl x) = gave x (relinquish_granted row.client x t.semaphores)
   effect-single invoke (request.DefineSemaphore x) = defined-single row.client x t.semaphores single
   effect-single invoke (request.DeleteSemaphore x) = deleted-single (key_of row.client x) t.semaphores sound single
   effect-single invoke asked = single
@@ -248,5 +261,15 @@ single-along count s [] sound linked single = single
 single-along count s (event ∷ rest) sound linked single =
     single-along (count + 1) (step s event) rest (step_sound count s event sound) (linked_step count s event sound linked) (single-step count s event sound linked single)
 
+-- the semaphores that there are at the start are pools
+single-start : (pools : List PoolRow) → AreSingle (configured pools)
+single-start [] k row there = absurd (cc there)
+single-start (pool ∷ pools) k row there = by_test (key_eq k (pool_row pool).0) there (single-start pools k row)
+  where
+    by_test : (b : Bool) → cond b (Some (pool_row pool).1) (lookup (key_eq k) (configured pools)) ≡ Some row → (lookup (key_eq k) (configured pools) ≡ Some row → SingleIn row.semaphore)
+        → SingleIn row.semaphore
+    by_test true h rest = let same : (pool_row pool).1 ≡ row = cc h in subst (λ (r : SemaphoreRow). SingleIn r.semaphore) same tt
+    by_test false h rest = rest h
+
 pub replay_single : (config : Config) (history : List CellEvent) → IsConfig config → AreSingle (replay config history).semaphores
-replay_single config history is = single-along 0 (start config) history (start_sound config is) (linked-start config) (λ k row there. absurd (cc there))
+replay_single config history is = single-along 0 (start config) history (start_sound config is) (linked-start config) (single-start config.pools)

@@ -6,12 +6,16 @@ use Rattle.mms_types.specs.declared.moment.Moment.{Moment}
 use Rattle.token_sem.specs.declared.entry.Grant.{Grant}
 use Rattle.token_sem.specs.declared.entry.SemEntry.{SemEntry}
 use Rattle.token_sem.specs.declared.entry.SemState.TheVariants.{Hung}
-use Rattle.token_sem.specs.Semaphore.{Loss, Rises, after_freeing, granted_entry, granted_to, grant_of, hung_entry, is_queued, is_owner, loss_of_one, next, numbered, owned_by, owner_from, without}
-use Rattle.token_sem.proofs.Keeping.{Among, among-next, rises-granted, rises-without}
+use Rattle.token_sem.specs.Semaphore.{Loss, Rises, after_freeing, before, granted_entry, granted_to, grant_of, hung_entry, is_queued, is_owner, next, numbered, owned_by, owner_from, without}
+use Rattle.token_sem.proofs.Keeping.{Among, among-least, among-next, rises-granted, rises-without}
 use Rattle.token_sem.proofs.Least.{Stands}
 use Rattle.token_sem.proofs.Losing.{owner-not_queued}
 use Rattle.token_sem.proofs.Serving.{numbered-at}
-use Rattle.mms_time.specs.Loss.{owners_lost}
+use Rattle.pool_sem.specs.Pools as pool
+use Rattle.pool_sem.proofs.Freeing as pool-free
+use Rattle.mms_time.specs.Semaphores.{IsSound, entries_in, made_in}
+use Rattle.mms_time.specs.declared.row.Semaphore.{Semaphore}
+use Rattle.mms_time.specs.declared.row.Semaphore.TheVariants.{Token, Pool}
 use Rattle.cell_laws.specs.Linked.{asker_of}
 
 -- whose request the entry of that number is, where it is queued
@@ -112,6 +116,24 @@ drops-granted m now es = drops-map m (granted_entry m now) number one es
         by_test true = refl
         by_test false = refl
 
+-- and of a pool
+drops-named : (m t : ℕ) (now : Moment) (es : List SemEntry) → Drops m es (map (pool.granted_entry m t now) es)
+drops-named m t now es = drops-map m (pool.granted_entry m t now) number one es
+  where
+    number : (e : SemEntry) → (pool.granted_entry m t now e).number ≡ e.number
+    number e = by_test (e.number == m)
+      where
+        by_test : (b : Bool) → (cond b (pool.owner_from t now e) e).number ≡ e.number
+        by_test true = refl
+        by_test false = refl
+
+    one : (e : SemEntry) → asker_of (Some (pool.granted_entry m t now e)) ≡ cond (e.number == m) None (asker_of (Some e))
+    one e = by_test (e.number == m)
+      where
+        by_test : (b : Bool) → asker_of (Some (cond b (pool.owner_from t now e) e)) ≡ cond b None (asker_of (Some e))
+        by_test true = refl
+        by_test false = refl
+
 -- what isn't queued may go
 pub drops-nothing : (m : ℕ) (es new : List SemEntry) → asker_at m es ≡ None → Drops m es new → (n : ℕ) → asker_at n new ≡ asker_at n es
 drops-nothing m es new none drops n = drops n ∙ by_test (n == m) refl
@@ -129,30 +151,47 @@ pub record Frees (es : List SemEntry) (grants : List Grant) (new : List SemEntry
   pub left : (n : ℕ) → asker_at n new ≡ cond (is_granted n grants) None (asker_at n es)
   pub each : (g : Grant) → Stands grants g → asker_at g.entry es ≡ Some (g.client, g.invoke)
 
--- the entry that is served next is queued
-next-asks : (made : ℕ) (es : List SemEntry) (e : SemEntry) → Rises 0 es made → next es ≡ Some e → asker_at e.number es ≡ Some (e.client, e.invoke)
-next-asks made es e rises is =
-    let among = among-next es e is in
-    ap asker_of (numbered-at 0 made es e rises among.0) ∙ ap (λ t. cond t (Some (e.client, e.invoke)) None) among.1
+-- an entry that is queued is a request
+pub queued-asks : (made : ℕ) (es : List SemEntry) (e : SemEntry) → Rises 0 es made → Among es e → is_queued e ≡ true → asker_at e.number es ≡ Some (e.client, e.invoke)
+queued-asks made es e rises among queued = ap asker_of (numbered-at 0 made es e rises among) ∙ ap (λ t. cond t (Some (e.client, e.invoke)) None) queued
+
+-- the one whose entry of that number is queued is granted a token
+granted-one : (es new : List SemEntry) (g : Grant) → Drops g.entry es new → asker_at g.entry es ≡ Some (g.client, g.invoke) → Frees es (g ∷ []) new
+granted-one es new g drops asks = record { left = λ n. drops n ∙ by_test n (n == g.entry); each = each }
+  where
+    by_test : (n : ℕ) (b : Bool) → cond b None (asker_at n es) ≡ cond (list_any (λ (t : Bool). t) (b ∷ [])) None (asker_at n es)
+    by_test n true = refl
+    by_test n false = refl
+
+    each : (h : Grant) → Stands (g ∷ []) h → asker_at h.entry es ≡ Some (h.client, h.invoke)
+    each h (inl same) = subst (λ (x : Grant). asker_at x.entry es ≡ Some (x.client, x.invoke)) same asks
+    each h (inr s) = absurd s
+
+pub none-granted : (es : List SemEntry) → Frees es [] es
+none-granted es = record { left = λ n. refl; each = λ g s. absurd s }
 
 -- a token is freed
-pub frees-one : (made : ℕ) (now : Moment) (es : List SemEntry) → Rises 0 es made → Frees es (option_to_list (option_map grant_of (next es))) (after_freeing now es)
+frees-one : (made : ℕ) (now : Moment) (es : List SemEntry) → Rises 0 es made → Frees es (option_to_list (option_map grant_of (next es))) (after_freeing now es)
 frees-one made now es rises = by_next (next es) refl
   where
     by_next : (o : Option SemEntry) → next es ≡ o → Frees es (option_to_list (option_map grant_of o)) (granted_to o now es)
-    by_next None is = record { left = λ n. refl; each = λ g s. absurd s }
-    by_next (Some e) is = record { left = left; each = each }
-      where
-        left : (n : ℕ) → asker_at n (map (granted_entry e.number now) es) ≡ cond (is_granted n (grant_of e ∷ [])) None (asker_at n es)
-        left n = drops-granted e.number now es n ∙ by_test (n == e.number)
-          where
-            by_test : (b : Bool) → cond b None (asker_at n es) ≡ cond (list_any (λ (t : Bool). t) (b ∷ [])) None (asker_at n es)
-            by_test true = refl
-            by_test false = refl
+    by_next None is = none-granted es
+    by_next (Some e) is =
+        let among = among-next es e is in
+        granted-one es (map (granted_entry e.number now) es) (grant_of e) (drops-granted e.number now es) (queued-asks made es e rises among.0 among.1)
 
-        each : (g : Grant) → Stands (grant_of e ∷ []) g → asker_at g.entry es ≡ Some (g.client, g.invoke)
-        each g (inl same) = subst (λ (h : Grant). asker_at h.entry es ≡ Some (h.client, h.invoke)) same (next-asks made es e rises is)
-        each g (inr s) = absurd s
+-- a token of a pool is freed, if it is one
+frees-named : (made : ℕ) (token : Option ℕ) (now : Moment) (es : List SemEntry) → Rises 0 es made
+    → Frees es (option_to_list (pool.grant_freeing token es)) (pool.after_freeing_of token now es)
+frees-named made None now es rises = none-granted es
+frees-named made (Some t) now es rises = by_next (pool.next t es) refl
+  where
+    by_next : (o : Option SemEntry) → pool.next t es ≡ o → Frees es (option_to_list (option_map (pool.grant_of t) o)) (pool.granted_to o t now es)
+    by_next None is = none-granted es
+    by_next (Some e) is =
+        let among = among-least before (pool.wants t) es e is in
+        granted-one es (map (pool.granted_entry e.number t now) es) (pool.grant_of t e) (drops-named e.number t now es)
+        (queued-asks made es e rises among.0 (pool-free.wants-queued t e among.1))
 
 -- ---- none of that number
 
@@ -229,46 +268,7 @@ same-frees es mid new grants same frees = record {
   each = λ g s. sym (same g.entry) ∙ frees.each g s;
 }
 
--- one owner is lost: its token is kept, or freed
-abbrev pub kept_by : SemEntry → Loss → Loss
-kept_by o l = record l { entries = map (hung_entry o.number) l.entries }
-
-abbrev pub freed_by : Moment → SemEntry → Loss → Loss
-freed_by now o l = record {
-  entries = after_freeing now (without o.number l.entries);
-  grants = l.grants ++ option_to_list (option_map grant_of (next (without o.number l.entries)));
-}
-
-pub frees-owner : (made : ℕ) (now : Moment) (es : List SemEntry) (l : Loss) (o : SemEntry) → Rises 0 l.entries made → Frees es l.grants l.entries → asker_at o.number es ≡ None
-    → Frees es (loss_of_one now l o).grants (loss_of_one now l o).entries × Rises 0 (loss_of_one now l o).entries made
-frees-owner made now es l o rises frees none = by_keep o.keep
-  where
-    gone : asker_at o.number l.entries ≡ None
-    gone = frees.left o.number ∙ ap (cond (is_granted o.number l.grants) None) none ∙ cond-both (is_granted o.number l.grants) None
-
-    rises_without : Rises 0 (without o.number l.entries) made
-    rises_without = rises-without 0 made o.number l.entries rises
-
-    by_keep : (b : Bool) → Frees es (if b then kept_by o l else freed_by now o l).grants (if b then kept_by o l else freed_by now o l).entries
-        × Rises 0 (if b then kept_by o l else freed_by now o l).entries made
-    by_keep true = (
-      record { left = λ n. drops-nothing o.number l.entries (map (hung_entry o.number) l.entries) gone (drops-hung o.number l.entries) n ∙ frees.left n; each = frees.each },
-      rises-hung 0 made o.number l.entries rises,
-    )
-    by_keep false = (
-      frees-more es l.entries (after_freeing now (without o.number l.entries)) l.grants (option_to_list (option_map grant_of (next (without o.number l.entries)))) frees
-          (same-frees l.entries (without o.number l.entries) (after_freeing now (without o.number l.entries)) (option_to_list (option_map grant_of (next (without o.number l.entries))))
-          (drops-nothing o.number l.entries (without o.number l.entries) gone (drops-without o.number l.entries))
-          (frees-one made now (without o.number l.entries) rises_without)),
-      rises-freed made now (without o.number l.entries) rises_without,
-    )
-
-frees-owners : (made : ℕ) (now : Moment) (es : List SemEntry) (os : List SemEntry) (l : Loss) → Rises 0 l.entries made → Frees es l.grants l.entries
-    → ((o : SemEntry) → Stands os o → asker_at o.number es ≡ None) → Frees es (fold (loss_of_one now) l os).grants (fold (loss_of_one now) l os).entries
-frees-owners made now es [] l rises frees none = frees
-frees-owners made now es (o ∷ os) l rises frees none =
-    let one = frees-owner made now es l o rises frees (none o (inl refl)) in
-    frees-owners made now es os (loss_of_one now l o) one.1 one.0 (λ p s. none p (inr s))
+-- ---- an owner entry isn't queued
 
 pub stands-among : (p : SemEntry → Bool) (es : List SemEntry) (o : SemEntry) → Stands (filter p es) o → Among es o × (p o ≡ true)
 stands-among p [] o s = absurd s
@@ -290,10 +290,105 @@ owned_owner client o h = by_tests (o.client == client) (is_owner o) refl h
     by_tests true false is h = absurd (cc h)
     by_tests false b is h = absurd (cc h)
 
+-- ---- an entry goes, and the token that it has is freed
+
+-- the entries then, and who is granted the token
+pub record Leaving : Type 0 where
+  pub entries : Moment → SemEntry → List SemEntry → List SemEntry
+  pub heir : SemEntry → List SemEntry → Option Grant
+
+abbrev pub of_equal : Leaving
+of_equal = record { entries = λ now o es. after_freeing now (without o.number es); heir = λ o es. option_map grant_of (next (without o.number es)) }
+
+abbrev pub of_named : Leaving
+of_named = record { entries = λ now o es. pool.after_leaving o now es; heir = λ o es. pool.grant_leaving o es }
+
+-- in a semaphore
+abbrev pub leaving : Semaphore → Leaving
+leaving (Token s) = of_equal
+leaving (Pool p) = of_named
+
+-- what holds of each
+pub record IsFreeing (v : Leaving) : Type 0 where
+  pub frees : (made : ℕ) (now : Moment) (es : List SemEntry) (o : SemEntry) → Rises 0 es made → asker_at o.number es ≡ None
+      → Frees es (option_to_list (v.heir o es)) (v.entries now o es)
+  pub rises : (made : ℕ) (now : Moment) (es : List SemEntry) (o : SemEntry) → Rises 0 es made → Rises 0 (v.entries now o es) made
+
+equal-freeing : IsFreeing of_equal
+equal-freeing = record {
+  frees = λ made now es o rises none.
+      same-frees es (without o.number es) (after_freeing now (without o.number es)) (option_to_list (option_map grant_of (next (without o.number es))))
+      (drops-nothing o.number es (without o.number es) none (drops-without o.number es))
+      (frees-one made now (without o.number es) (rises-without 0 made o.number es rises));
+  rises = λ made now es o rises. rises-freed made now (without o.number es) (rises-without 0 made o.number es rises);
+}
+
+named-rises : (made : ℕ) (token : Option ℕ) (now : Moment) (es : List SemEntry) → Rises 0 es made → Rises 0 (pool.after_freeing_of token now es) made
+named-rises made None now es rises = rises
+named-rises made (Some t) now es rises = pool-free.rises-freed made t now es rises
+
+named-freeing : IsFreeing of_named
+named-freeing = record {
+  frees = λ made now es o rises none.
+      same-frees es (without o.number es) (pool.after_leaving o now es) (option_to_list (pool.grant_leaving o es))
+      (drops-nothing o.number es (without o.number es) none (drops-without o.number es))
+      (frees-named made o.token now (without o.number es) (rises-without 0 made o.number es rises));
+  rises = λ made now es o rises. named-rises made o.token now (without o.number es) (rises-without 0 made o.number es rises);
+}
+
+pub freeing : (s : Semaphore) → IsFreeing (leaving s)
+freeing (Token s) = equal-freeing
+freeing (Pool p) = named-freeing
+
+-- the entries of a semaphore rise in number
+pub rises-in : (s : Semaphore) → IsSound s → Rises 0 (entries_in s) (made_in s)
+rises-in (Token s) is = is.rises
+rises-in (Pool p) is = is.rises
+
+-- ---- one owner is lost: its token is kept, or freed
+
+abbrev pub kept_by : SemEntry → Loss → Loss
+kept_by o l = record l { entries = map (hung_entry o.number) l.entries }
+
+abbrev pub freed_by : Leaving → Moment → SemEntry → Loss → Loss
+freed_by v now o l = record { entries = v.entries now o l.entries; grants = l.grants ++ option_to_list (v.heir o l.entries) }
+
+abbrev pub one_gone : Leaving → Moment → Loss → SemEntry → Loss
+one_gone v now l o = if o.keep then kept_by o l else freed_by v now o l
+
 -- all owners of a client are lost
-pub frees-lost : (made client : ℕ) (now : Moment) (es : List SemEntry) → Rises 0 es made → Frees es (owners_lost client now es).grants (owners_lost client now es).entries
-frees-lost made client now es rises =
-    frees-owners made now es (filter (owned_by client) es) (record { entries = es; grants = [] }) rises (record { left = λ n. refl; each = λ g s. absurd s })
-    (λ o s.
-    let found = stands-among (owned_by client) es o s in
-    not_queued made es o rises found.0 (owner-not_queued o (owned_owner client o found.1)))
+abbrev pub owners_gone : Leaving → ℕ → Moment → List SemEntry → Loss
+owners_gone v client now es = fold (one_gone v now) (record { entries = es; grants = [] }) (filter (owned_by client) es)
+
+module _ (v : Leaving) (is : IsFreeing v) where
+  pub frees-owner : (made : ℕ) (now : Moment) (es : List SemEntry) (l : Loss) (o : SemEntry) → Rises 0 l.entries made → Frees es l.grants l.entries → asker_at o.number es ≡ None
+      → Frees es (one_gone v now l o).grants (one_gone v now l o).entries × Rises 0 (one_gone v now l o).entries made
+  frees-owner made now es l o rises frees none = by_keep o.keep
+    where
+      gone : asker_at o.number l.entries ≡ None
+      gone = frees.left o.number ∙ ap (cond (is_granted o.number l.grants) None) none ∙ cond-both (is_granted o.number l.grants) None
+
+      by_keep : (b : Bool) → Frees es (if b then kept_by o l else freed_by v now o l).grants (if b then kept_by o l else freed_by v now o l).entries
+          × Rises 0 (if b then kept_by o l else freed_by v now o l).entries made
+      by_keep true = (
+        record { left = λ n. drops-nothing o.number l.entries (map (hung_entry o.number) l.entries) gone (drops-hung o.number l.entries) n ∙ frees.left n; each = frees.each },
+        rises-hung 0 made o.number l.entries rises,
+      )
+      by_keep false = (
+        frees-more es l.entries (v.entries now o l.entries) l.grants (option_to_list (v.heir o l.entries)) frees (is.frees made now l.entries o rises gone),
+        is.rises made now l.entries o rises,
+      )
+
+  frees-owners : (made : ℕ) (now : Moment) (es : List SemEntry) (os : List SemEntry) (l : Loss) → Rises 0 l.entries made → Frees es l.grants l.entries
+      → ((o : SemEntry) → Stands os o → asker_at o.number es ≡ None) → Frees es (fold (one_gone v now) l os).grants (fold (one_gone v now) l os).entries
+  frees-owners made now es [] l rises frees none = frees
+  frees-owners made now es (o ∷ os) l rises frees none =
+      let one = frees-owner made now es l o rises frees (none o (inl refl)) in
+      frees-owners made now es os (one_gone v now l o) one.1 one.0 (λ p s. none p (inr s))
+
+  pub frees-lost : (made client : ℕ) (now : Moment) (es : List SemEntry) → Rises 0 es made → Frees es (owners_gone v client now es).grants (owners_gone v client now es).entries
+  frees-lost made client now es rises =
+      frees-owners made now es (filter (owned_by client) es) (record { entries = es; grants = [] }) rises (none-granted es)
+      (λ o s.
+      let found = stands-among (owned_by client) es o s in
+      not_queued made es o rises found.0 (owner-not_queued o (owned_owner client o found.1)))

@@ -9,7 +9,6 @@ use Rattle.mms_types.specs.declared.pdu.Reject.{Reject}
 use Rattle.mms_types.specs.declared.pdu.RejectReason.{RejectReason}
 use Rattle.mms_types.specs.declared.pdu.RejectReason.TheVariants.{InvalidPdu, InvalidInvokeId, MaxServOutstandingExceeded, MaxRecursionExceeded}
 use Rattle.mms_types.specs.declared.pdu.Answer.TheVariants as answer
-use Rattle.mms_types.specs.declared.semaphore.TakeControlAnswer.TheVariants.{NoResult}
 use Rattle.mms_types.specs.declared.pdu.Request.{Request}
 use Rattle.mms_types.specs.declared.service_error.ServiceError.{ServiceError}
 use Rattle.mms_pdu.specs.declared.refusal.Refusal.{Refusal}
@@ -26,8 +25,8 @@ use Rattle.association.specs.Admission.{admission}
 use Rattle.association.specs.Client.{ClientRow}
 use Rattle.association.specs.Negotiation.{negotiation, values_of}
 use Rattle.association.specs.Waiting.{is_waiting}
-use Rattle.token_sem.specs.declared.entry.Grant.{Grant}
 use Rattle.token_sem.proofs.Least.{Stands}
+use Rattle.sem_ticks.specs.declared.granted.Granted.{Granted}
 use Rattle.parted_state.specs.Served.{reached, delivered}
 use Rattle.cell_services.specs.Association.{Verdict, Tells, Takes, Concludes, Cancels, Aborts, sends, verdict, verdict_by, idle_verdict, open_verdict, admitted, requested, concluded, cancelled, negotiated, refused, rejects, rejects_invalid, further_error, unknown_error}
 use Rattle.cell_services.specs.Effects.{Effect, Sends, Opens, Answers, tell}
@@ -41,19 +40,19 @@ use Rattle.cell_laws.proofs.Queues.{stands-any}
 
 -- ---- tokens are granted
 
-pub unopening-grants : (grants : List Grant) → Unopening (grants_told grants)
+pub unopening-grants : (grants : List Granted) → Unopening (grants_told grants)
 unopening-grants [] = tt
 unopening-grants (g ∷ grants) = (refl, (refl, unopening-grants grants))
 
-pub fair-grants : (c : ℕ) (grants : List Grant) (rows : List ClientRow) → AnswerApart grants
-    → ((g : Grant) → Stands grants g → (w : Waiting) × (waits_in rows g.client g.invoke ≡ Some w)) → Outcome c (grants_told grants) rows none_taken
+pub fair-grants : (c : ℕ) (grants : List Granted) (rows : List ClientRow) → AnswerApart grants
+    → ((g : Granted) → Stands grants g → (w : Waiting) × (waits_in rows g.client g.invoke ≡ Some w)) → Outcome c (grants_told grants) rows none_taken
 fair-grants c [] rows apart there = inl (record { pdus = []; spelled = refl; balance = λ i. refl })
 fair-grants c (g ∷ grants) rows apart there =
     join c (grant_told g) (grants_told grants) rows none_taken none_taken (unopening-grants grants)
-    (inl (piece-answered c g.client g.invoke (pdu.ConfirmedResponse g.invoke (answer.TakeControl NoResult)) rows (there g (inl refl)).0 (there g (inl refl)).1 (λ i. refl)))
+    (inl (piece-answered c g.client g.invoke (pdu.ConfirmedResponse g.invoke (answer.TakeControl g.answer)) rows (there g (inl refl)).0 (there g (inl refl)).1 (λ i. refl)))
     (fair-grants c grants (delivered cell (grant_told g) rows) apart.1 (λ h s. still h s (there h (inr s))))
   where
-    other : (h : Grant) → Stands grants h → (b : Bool) → (h.client == g.client && h.invoke == g.invoke) ≡ b → b ≡ false
+    other : (h : Granted) → Stands grants h → (b : Bool) → (h.client == g.client && h.invoke == g.invoke) ≡ b → b ≡ false
     other h s false e = refl
     other h s true e =
         let tests = of-both (h.client == g.client) (h.invoke == g.invoke) e in
@@ -61,10 +60,10 @@ fair-grants c (g ∷ grants) rows apart there =
         both-true (g.client == h.client) (g.invoke == h.invoke) (nat-test g.client h.client (sym (nat-same h.client g.client tests.0))) (nat-test g.invoke h.invoke (sym (nat-same h.invoke g.invoke tests.1))) in
         absurd (cc (sym (stands-any (λ x. g.client == x.client && g.invoke == x.invoke) grants h s same) ∙ apart.0))
 
-    still : (h : Grant) → Stands grants h → (w : Waiting) × (waits_in rows h.client h.invoke ≡ Some w) → (w : Waiting) × (waits_in (delivered cell (grant_told g) rows) h.client h.invoke ≡ Some w)
+    still : (h : Granted) → Stands grants h → (w : Waiting) × (waits_in rows h.client h.invoke ≡ Some w) → (w : Waiting) × (waits_in (delivered cell (grant_told g) rows) h.client h.invoke ≡ Some w)
     still h s w = (
       w.0,
-      reached-still (sends (pdu.ConfirmedResponse g.invoke (answer.TakeControl NoResult))) tt g.client (reached cell g.client (Answers g.invoke) rows) h.client h.invoke ∙ reached-answered g.invoke g.client rows h.client h.invoke
+      reached-still (sends (pdu.ConfirmedResponse g.invoke (answer.TakeControl g.answer))) tt g.client (reached cell g.client (Answers g.invoke) rows) h.client h.invoke ∙ reached-answered g.invoke g.client rows h.client h.invoke
           ∙ ap (λ t. cond t None (waits_in rows h.client h.invoke)) (other h s (h.client == g.client && h.invoke == g.invoke) refl) ∙ w.1,
     )
 

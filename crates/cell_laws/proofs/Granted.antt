@@ -4,14 +4,15 @@ use Rattle.std.specs.List.{Contains}
 use Rattle.mms_types.specs.declared.key.Key.{Key}
 use Rattle.association.specs.declared.waiting.Waiting.{Waiting}
 use Rattle.association.specs.Client.{ClientRow}
-use Rattle.token_sem.specs.declared.entry.Grant.{Grant}
 use Rattle.token_sem.specs.declared.entry.SemEntry.{SemEntry}
-use Rattle.token_sem.specs.Semaphore.{Sem, IsSem, grant_of, next}
-use Rattle.token_sem.proofs.Keeping.{among-next}
+use Rattle.token_sem.specs.Semaphore.{before}
+use Rattle.token_sem.proofs.Keeping.{among-least}
 use Rattle.token_sem.proofs.Least.{Stands}
-use Rattle.token_sem.proofs.Serving.{numbered-at}
-use Rattle.mms_time.specs.Semaphores.{Rows}
+use Rattle.mms_time.specs.Semaphores.{IsSound, Rows, entries_in, made_in}
+use Rattle.mms_time.specs.declared.row.Semaphore.{Semaphore}
 use Rattle.parted_state.specs.Served.{delivered, row_at}
+use Rattle.sem_ticks.specs.Granted.{granted}
+use Rattle.sem_ticks.specs.declared.granted.Granted.{Granted}
 use Rattle.sem_ticks.specs.declared.ticks.Happening.{Happening}
 use Rattle.sem_ticks.specs.declared.ticks.Happening.TheVariants as happens
 use Rattle.cell_services.specs.Effects.{Effect}
@@ -21,10 +22,12 @@ use Rattle.mms_step.specs.Answered.{IsAnswered}
 use Rattle.mms_step.specs.Partition.{cell, no_client}
 use Rattle.mms_step.specs.State.{State}
 use Rattle.mms_step.proofs.Sound.{delivered_both}
+use Rattle.cell_laws.specs.Freed.{grant_of, wants}
 use Rattle.cell_laws.specs.Linked.{asker, asker_of}
 use Rattle.cell_laws.proofs.Accounts.{waits-is}
 use Rattle.cell_laws.proofs.Bound.{Bound, both-true, nat-test}
-use Rattle.cell_laws.proofs.Freeing.{Found, IsTold, numbered-found}
+use Rattle.cell_laws.proofs.Entries.{queued-asks, rises-in}
+use Rattle.cell_laws.proofs.Freeing.{Found, IsTold, next_of, numbered-found, wants-queued}
 use Rattle.cell_laws.proofs.Hears.{granted-left, reached-answered, reached-closed, reached-still, waits_in}
 use Rattle.cell_laws.proofs.Queues.{stands-any}
 
@@ -40,19 +43,18 @@ in-range clients (suc k) i w h = (omega arith, few clients k h)
     few (row ∷ rows) (suc j) g = let rest = few rows j g in omega (arith, rest)
 
 -- who is served next is such a client
-pub next-range : (key : Key) (rows : Rows) (s : Sem) (clients : List ClientRow) → Found key rows s → IsSem s → Bound (asker rows) (waits_in clients)
-    → (e : SemEntry) → next s.entries ≡ Some e → (1 ≤ e.client) × (e.client ≤ length clients)
-next-range key rows s clients found is bound e first = in-range clients e.client e.invoke _ (bound.waiting key e.number e.client e.invoke asks)
+pub next-range : (key : Key) (rows : Rows) (t : Semaphore) (clients : List ClientRow) → Found key rows t → IsSound t → Bound (asker rows) (waits_in clients)
+    → (token : Option ℕ) (e : SemEntry) → next_of token (entries_in t) ≡ Some e → (1 ≤ e.client) × (e.client ≤ length clients)
+next-range key rows t clients found is bound token e first = in-range clients e.client e.invoke _ (bound.waiting key e.number e.client e.invoke asks)
   where
     asks : asker rows key e.number ≡ Some (e.client, e.invoke)
     asks =
-        let among = among-next s.entries e first in
-        ap asker_of (numbered-found key rows s found e.number ∙ numbered-at 0 s.made s.entries e is.rises among.0)
-        ∙ ap (λ t. cond t (Some (e.client, e.invoke)) None) among.1
+        let among = among-least before (wants token) (entries_in t) e first in
+        ap asker_of (numbered-found key rows t found e.number) ∙ queued-asks (made_in t) (entries_in t) e (rises-in t is) among.0 (wants-queued token e among.1)
 
 -- ---- it waits no more
 
-pub answered-none : (own : List (ℕ × Effect)) (grants : List Grant) (clients : List ClientRow) (g : Grant) → Stands grants g
+pub answered-none : (own : List (ℕ × Effect)) (grants : List Granted) (clients : List ClientRow) (g : Granted) → Stands grants g
     → waits_in (delivered cell (own ++ grants_told grants) clients) g.client g.invoke ≡ None
 answered-none own grants clients g s =
     ap (λ (rows : List ClientRow). waits_in rows g.client g.invoke) (delivered_both own (grants_told grants) clients)
@@ -78,7 +80,7 @@ stays-none (happens.Aborts client ∷ rest) clients c i none =
     stays-none rest (delivered cell (happening_told (happens.Aborts client)) clients) c i
     (reached-closed client _ c i ∙ both-none (c == client) _ (reached-still _ tt client clients c i ∙ none))
 
-pub happened-none : (happened : List Happening) (clients : List ClientRow) (g : Grant) → Contains happened (happens.Grants g)
+pub happened-none : (happened : List Happening) (clients : List ClientRow) (g : Granted) → Contains happened (happens.Grants g)
     → waits_in (delivered cell (all_told happened) clients) g.client g.invoke ≡ None
 happened-none [] clients g is = let low = is.1 in absurd (omega (arith, low))
 happened-none (x ∷ rest) clients g (zero, low, same) =
@@ -91,8 +93,9 @@ happened-none (x ∷ rest) clients g (suc k, low, same) =
 
 -- ---- what it is told
 
-pub told-of : (t : State) (e : SemEntry) → 1 ≤ e.client → e.client ≤ length t.clients → waits_in t.clients e.client e.invoke ≡ None → IsAnswered t (grant_of e) → IsTold t e
-told-of t e some few none answered = record {
+pub told-of : (t : State) (key : Key) (rows : Rows) (token : Option ℕ) (e : SemEntry) → 1 ≤ e.client → e.client ≤ length t.clients
+    → waits_in t.clients e.client e.invoke ≡ None → IsAnswered t (granted rows (key, grant_of token e)) → IsTold t e (granted rows (key, grant_of token e))
+told-of t key rows token e some few none answered = record {
   waits = sym (waits-is e.invoke (row_at cell e.client t.clients).waiting) ∙ ap is_some none;
   answered = answered some few;
 }

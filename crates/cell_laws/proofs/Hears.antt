@@ -10,7 +10,7 @@ use Rattle.association.specs.declared.waiting.Waiting.{Waiting}
 use Rattle.association.specs.Admission.{admission, called_of, waiting_if}
 use Rattle.association.specs.Client.{ClientRow}
 use Rattle.association.specs.Waiting.{AreDistinct, is_waiting, without}
-use Rattle.token_sem.specs.declared.entry.Grant.{Grant}
+use Rattle.sem_ticks.specs.declared.granted.Granted.{Granted}
 use Rattle.parted_state.specs.Lists.{get_changed, get_change}
 use Rattle.parted_state.specs.Served.{row_at, reached, delivered}
 use Rattle.cell_services.specs.Effects.{Effect, Sends, Opens, Closes, Waits, Answers, Drains, felt, tell}
@@ -203,7 +203,7 @@ pub told-still : (k : ℕ) (effects : List Effect) (rows : List ClientRow) → A
 told-still k [] rows still c i = refl
 told-still k (effect ∷ effects) rows still c i = told-still k effects (reached cell k effect rows) still.1 c i ∙ reached-still effect still.0 k rows c i
 
-pub granted-left : (grants : List Grant) (rows : List ClientRow) (c i : ℕ) → waits_in (delivered cell (grants_told grants) rows) c i ≡ cond (is_answered grants c i) None (waits_in rows c i)
+pub granted-left : (grants : List Granted) (rows : List ClientRow) (c i : ℕ) → waits_in (delivered cell (grants_told grants) rows) c i ≡ cond (is_answered grants c i) None (waits_in rows c i)
 granted-left [] rows c i = refl
 granted-left (g ∷ grants) rows c i =
     granted-left grants (delivered cell (grant_told g) rows) c i

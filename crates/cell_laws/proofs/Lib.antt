@@ -23,3 +23,5 @@ pub mod TimedOut
 pub mod Claims
 pub mod ClaimsKept
 pub mod Left
+pub mod LeftNamed
+pub mod Worked

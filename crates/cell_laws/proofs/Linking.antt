@@ -6,6 +6,7 @@ use Rattle.mms_types.specs.declared.event.CellEvent.TheVariants.{Heard, Lost, Ti
 use Rattle.mms_types.specs.declared.event.What.{What}
 use Rattle.mms_types.specs.declared.event.What.TheVariants.{Abort}
 use Rattle.mms_types.specs.declared.initiate.InitiateAnswer.{InitiateAnswer}
+use Rattle.mms_types.specs.declared.key.Key.{Key}
 use Rattle.mms_types.specs.declared.memory.Memory.{Memory}
 use Rattle.mms_types.specs.declared.moment.Moment.{Moment}
 use Rattle.mms_types.specs.declared.pdu.Answer.{Answer}
@@ -33,15 +34,18 @@ use Rattle.association.specs.Waiting.{is_waiting}
 use Rattle.token_sem.specs.declared.entry.Expired.{Expired}
 use Rattle.token_sem.specs.declared.entry.Grant.{Grant}
 use Rattle.mms_time.specs.Deadlines.{NamedDeadline, expired, expire_after, next_due}
-use Rattle.mms_time.specs.Loss.{lost, lost_grants}
+use Rattle.mms_time.specs.Loss.{lost}
 use Rattle.mms_time.specs.Semaphores.{Rows}
-use Rattle.mms_time.specs.Services.{relinquish_grant, take_told}
+use Rattle.mms_time.specs.Services.{take_told}
 use Rattle.mms_time.specs.declared.taking.TakeDone.{TakeDone}
 use Rattle.mms_time.specs.declared.taking.TakeDone.TheVariants as taken
 use Rattle.parted_state.specs.Lists.{get_changed}
 use Rattle.parted_state.specs.Served.{done_of, row_at, reached, delivered}
+use Rattle.sem_ticks.specs.Granted.{granted, lost_granted, relinquish_granted}
 use Rattle.sem_ticks.specs.Sound.{AreSound}
-use Rattle.sem_ticks.specs.Ticks.{Ticking, abort_told, after_abort, entries_left, expiry_told, granted, met, met_as, next_met, ticked_on}
+use Rattle.sem_ticks.specs.Ticks.{Ticking, abort_told, after_abort, entries_left, expiry_told, met, met_as, next_met, ticked_on}
+use Rattle.sem_ticks.specs.Ticks as ticks
+use Rattle.sem_ticks.specs.declared.granted.Granted.{Granted}
 use Rattle.sem_ticks.specs.declared.ticks.Happening.{Happening}
 use Rattle.sem_ticks.specs.declared.ticks.Happening.TheVariants as happens
 use Rattle.sem_ticks.proofs.Kept.{keeps_lost}
@@ -57,7 +61,7 @@ use Rattle.mms_step.specs.Step.{step}
 use Rattle.mms_step.proofs.Sound.{delivered_both}
 use Rattle.cell_laws.specs.Linked.{asker}
 use Rattle.cell_laws.proofs.Bound.{Bound, bound-same, nat-same, of-both}
-use Rattle.cell_laws.proofs.Bounds.{bound-answered, bound-cancelled, bound-defined, bound-deleted, bound-given, bound-waits}
+use Rattle.cell_laws.proofs.Bounds.{bound-answered, bound-cancelled, bound-defined, bound-deleted, bound-given, bound-waits, told_of}
 use Rattle.cell_laws.proofs.Hears.{AreStill, IsAdmitted, RowsDistinct, admitted-none, admitted-open, distinct-told, granted-left, reached-answered, reached-closed, reached-still, reached-waits, told-still, waits_in}
 use Rattle.cell_laws.proofs.Losing.{bound-lost}
 use Rattle.cell_laws.proofs.Meetings.{bound-met, is_met, sound-met}
@@ -164,14 +168,14 @@ module _ (count : ℕ) (s : State) (sound : IsSound count s) (bound : Bound (ask
 
   -- the association ends
   ends : (effects : List Effect) → AreStill effects → (its.association ≡ Idle → ⊥)
-      → After (lost its.client (moment_of old) s.semaphores) (tell client (effects ++ Closes ∷ []) ++ grants_told (lost_grants its.client (moment_of old) s.semaphores))
+      → After (lost its.client (moment_of old) s.semaphores) (tell client (effects ++ Closes ∷ []) ++ grants_told (lost_granted its.client (moment_of old) s.semaphores))
   ends effects are is =
       bound-lost its.client (moment_of old) s.semaphores (rise s.semaphores sound.semaphores) (waits_in s.clients)
-      (waits_in (delivered cell (tell client (effects ++ Closes ∷ []) ++ grants_told (lost_grants its.client (moment_of old) s.semaphores)) s.clients)) bound
+      (waits_in (delivered cell (tell client (effects ++ Closes ∷ []) ++ grants_told (lost_granted its.client (moment_of old) s.semaphores)) s.clients)) bound
       (λ c i.
-      in-parts (tell client (effects ++ Closes ∷ [])) (grants_told (lost_grants its.client (moment_of old) s.semaphores)) c i
-      ∙ granted-left (lost_grants its.client (moment_of old) s.semaphores) (delivered cell (tell client (effects ++ Closes ∷ [])) s.clients) c i
-      ∙ ap (cond (is_answered (lost_grants its.client (moment_of old) s.semaphores) c i) None)
+      in-parts (tell client (effects ++ Closes ∷ [])) (grants_told (lost_granted its.client (moment_of old) s.semaphores)) c i
+      ∙ granted-left (lost_granted its.client (moment_of old) s.semaphores) (delivered cell (tell client (effects ++ Closes ∷ [])) s.clients) c i
+      ∙ ap (cond (is_answered (lost_granted its.client (moment_of old) s.semaphores) c i) None)
       (closing effects are s.clients c i ∙ ap (λ (d : ℕ). cond (c == d) None (waits_in s.clients c i)) (sym (numbered-client count s client sound is))))
     where
       closing : (es : List Effect) → AreStill es → (rows : List ClientRow) (c i : ℕ)
@@ -199,9 +203,9 @@ module _ (count : ℕ) (s : State) (sound : IsSound count s) (bound : Bound (ask
 
     done : (asked : Request) → cause old its asked ≡ None → Then (effect old its invoke asked).tables.semaphores (effect old its invoke asked).also
     done (request.TakeControl x) none = taking x (take_told its.client x s.semaphores) refl none
-    done (request.RelinquishControl x) none = by_grant (relinquish_grant its.client x s.semaphores) refl
+    done (request.RelinquishControl x) none = by_grant (relinquish_granted its.client x s.semaphores) refl
       where
-        by_grant : (o : Option (Option Grant)) → relinquish_grant its.client x s.semaphores ≡ o
+        by_grant : (o : Option (Option Granted)) → relinquish_granted its.client x s.semaphores ≡ o
             → Then (relinquish_outcome old its.client x o).tables.semaphores (relinquish_outcome old its.client x o).also
         by_grant None told = now_bound
         by_grant (Some grant) told =
@@ -291,31 +295,32 @@ told-both (x ∷ xs) ys rows =
     delivered_both (happening_told x) (all_told (xs ++ ys)) rows ∙ told-both xs ys (delivered cell (happening_told x) rows)
     ∙ ap (delivered cell (all_told ys)) (sym (delivered_both (happening_told x) (all_told xs) rows))
 
-pub told-grants : (grants : List Grant) → all_told (map happens.Grants grants) ≡ grants_told grants
+pub told-grants : (grants : List Granted) → all_told (map happens.Grants grants) ≡ grants_told grants
 told-grants [] = refl
 told-grants (g ∷ grants) = ap (λ (l : List (ℕ × Effect)). happening_told (happens.Grants g) ++ l) (told-grants grants)
 
 -- an entry's deadline is met
-pub expiry-left : (x : Expired) (rows : List ClientRow) (c i : ℕ) → waits_in (delivered cell (all_told (expiry_told x)) rows) c i ≡ cond (is_met x c i) None (waits_in rows c i)
-expiry-left x rows c i = by_waited x.waited
+pub expiry-left : (named : Rows) (key : Key) (x : Expired) (rows : List ClientRow) (c i : ℕ)
+    → waits_in (delivered cell (all_told (expiry_told named key x)) rows) c i ≡ cond (is_met named key x c i) None (waits_in rows c i)
+expiry-left named key x rows c i = by_waited x.waited
   where
-    by_grant : (o : Option Grant) → waits_in (delivered cell (all_told (granted o)) rows) c i ≡ cond (is_answered (option_to_list o) c i) None (waits_in rows c i)
+    by_grant : (o : Option Grant) → waits_in (delivered cell (all_told (ticks.grant_told named key o)) rows) c i ≡ cond (is_answered (option_to_list (told_of named key o)) c i) None (waits_in rows c i)
     by_grant None = refl
-    by_grant (Some g) = granted-left (g ∷ []) rows c i
+    by_grant (Some g) = granted-left (granted named (key, g) ∷ []) rows c i
 
-    by_waited : (b : Bool) → waits_in (delivered cell (all_told (if b then happens.WaitEnds x.client x.invoke ∷ [] else granted x.grant)) rows) c i
-        ≡ cond (if b then c == x.client && i == x.invoke else is_answered (option_to_list x.grant) c i) None (waits_in rows c i)
+    by_waited : (b : Bool) → waits_in (delivered cell (all_told (if b then happens.WaitEnds x.client x.invoke ∷ [] else ticks.grant_told named key x.grant)) rows) c i
+        ≡ cond (if b then c == x.client && i == x.invoke else is_answered (option_to_list (told_of named key x.grant)) c i) None (waits_in rows c i)
     by_waited true = reached-still _ tt x.client (reached cell x.client (Answers x.invoke) rows) c i ∙ reached-answered x.invoke x.client rows c i
     by_waited false = by_grant x.grant
 
 -- and an association may be aborted
 aborted-left : (client : ℕ) (now : Moment) (rows : Rows) (clients : List ClientRow) (c i : ℕ)
     → waits_in (delivered cell (all_told (abort_told true client now rows)) clients) c i
-    ≡ cond (is_answered (lost_grants client now rows) c i) None (cond (c == client) None (waits_in clients c i))
+    ≡ cond (is_answered (lost_granted client now rows) c i) None (cond (c == client) None (waits_in clients c i))
 aborted-left client now rows clients c i =
-    ap (λ (told : List (ℕ × Effect)). waits_in (delivered cell told (reached cell client Closes (reached cell client (Sends Abort) clients))) c i) (told-grants (lost_grants client now rows))
-    ∙ granted-left (lost_grants client now rows) (reached cell client Closes (reached cell client (Sends Abort) clients)) c i
-    ∙ ap (cond (is_answered (lost_grants client now rows) c i) None)
+    ap (λ (told : List (ℕ × Effect)). waits_in (delivered cell told (reached cell client Closes (reached cell client (Sends Abort) clients))) c i) (told-grants (lost_granted client now rows))
+    ∙ granted-left (lost_granted client now rows) (reached cell client Closes (reached cell client (Sends Abort) clients)) c i
+    ∙ ap (cond (is_answered (lost_granted client now rows) c i) None)
     (reached-closed client (reached cell client (Sends Abort) clients) c i ∙ ap (cond (c == client) None) (reached-still (Sends Abort) tt client clients c i))
 
 -- what holds of the semaphores meanwhile, and of clients that are told of what happened
@@ -334,27 +339,27 @@ module _ (clients : List ClientRow) where
       told = delivered cell (all_told s.happened) clients
 
       met_clients : List ClientRow
-      met_clients = delivered cell (all_told (expiry_told x)) told
+      met_clients = delivered cell (all_told (expiry_told rows d.key x)) told
 
       met_bound : Bound (asker rows) (waits_in met_clients)
-      met_bound = bound-met s.rows (waits_in told) (waits_in met_clients) are.bound are.sound d.key d.entry d.at x is (expiry-left x told)
+      met_bound = bound-met s.rows (waits_in told) (waits_in met_clients) are.bound are.sound rows d.key d.entry d.at x is (expiry-left rows d.key x told)
 
       met_sound : AreSound rows
       met_sound = sound-met s.rows (waits_in told) (waits_in met_clients) are.bound are.sound d.key d.entry d.at
 
       in_parts : (more : List Happening) (c i : ℕ)
-          → waits_in (delivered cell (all_told (s.happened ++ (expiry_told x ++ more))) clients) c i ≡ waits_in (delivered cell (all_told more) met_clients) c i
+          → waits_in (delivered cell (all_told (s.happened ++ (expiry_told rows d.key x ++ more))) clients) c i ≡ waits_in (delivered cell (all_told more) met_clients) c i
       in_parts more c i =
-          ap (λ (l : List ClientRow). waits_in l c i) (told-both s.happened (expiry_told x ++ more) clients ∙ told-both (expiry_told x) more told)
+          ap (λ (l : List ClientRow). waits_in l c i) (told-both s.happened (expiry_told rows d.key x ++ more) clients ∙ told-both (expiry_told rows d.key x) more told)
 
-      by_abort : (b : Bool) → Meanwhile clients (record { rows = after_abort b x.client d.at rows; happened = s.happened ++ (expiry_told x ++ abort_told b x.client d.at rows) })
+      by_abort : (b : Bool) → Meanwhile clients (record { rows = after_abort b x.client d.at rows; happened = s.happened ++ (expiry_told rows d.key x ++ abort_told b x.client d.at rows) })
       by_abort false = record {
-        bound = bound-same (asker rows) (asker rows) (waits_in met_clients) (waits_in (delivered cell (all_told (s.happened ++ (expiry_told x ++ []))) clients)) met_bound (λ k n. refl) (in_parts []);
+        bound = bound-same (asker rows) (asker rows) (waits_in met_clients) (waits_in (delivered cell (all_told (s.happened ++ (expiry_told rows d.key x ++ []))) clients)) met_bound (λ k n. refl) (in_parts []);
         sound = met_sound;
       }
       by_abort true = record {
         bound = bound-lost x.client d.at rows (rise rows met_sound) (waits_in met_clients)
-            (waits_in (delivered cell (all_told (s.happened ++ (expiry_told x ++ abort_told true x.client d.at rows))) clients)) met_bound
+            (waits_in (delivered cell (all_told (s.happened ++ (expiry_told rows d.key x ++ abort_told true x.client d.at rows))) clients)) met_bound
             (λ c i. in_parts (abort_told true x.client d.at rows) c i ∙ aborted-left x.client d.at rows met_clients c i);
         sound = keeps_lost x.client d.at rows met_sound;
       }

@@ -1,5 +1,5 @@
 -- Where a client is lost, each request is granted a token once at most.
-use Rattle.std.proofs.Common.{◌≡◌, ℕ, ◌⊎◌, inl, inr, Bool, true, false, cond, ◌==◌, ◌&&◌, ◌||◌, List, [], ◌∷◌, ◌++◌, filter, fold, Option, None, Some, option_map, option_to_list, if◌then◌else◌, refl, sym, ◌∙◌, ap, subst}
+use Rattle.std.proofs.Common.{◌≡◌, ℕ, ◌⊎◌, inl, inr, Bool, true, false, cond, ◌==◌, ◌&&◌, ◌||◌, List, [], ◌∷◌, ◌++◌, filter, fold, Option, None, Some, option_to_list, if◌then◌else◌, refl, sym, ◌∙◌, ap, subst}
 use Rattle.std.specs.List.{flat_map, list_any, AllByRecursion, IsDistinct}
 use Rattle.std.specs.Map.{keys_of, lookup}
 use Rattle.std.specs.Ordering.{is_lt}
@@ -9,20 +9,21 @@ use Rattle.mms_types.specs.declared.moment.Moment.{Moment}
 use Rattle.association.specs.declared.waiting.Waiting.{Waiting}
 use Rattle.token_sem.specs.declared.entry.Grant.{Grant}
 use Rattle.token_sem.specs.declared.entry.SemEntry.{SemEntry}
-use Rattle.token_sem.specs.Semaphore.{Loss, Rises, after_freeing, grant_of, loss_of_one, next, owned_by, without}
-use Rattle.token_sem.proofs.Keeping.{rises-without}
+use Rattle.token_sem.specs.Semaphore.{Loss, Rises, owned_by}
 use Rattle.token_sem.proofs.Least.{Stands}
 use Rattle.token_sem.proofs.Losing.{owner-not_queued}
-use Rattle.mms_time.specs.Loss.{insert_key, lost_grants, owner_grants, owners_lost, sorted_keys}
+use Rattle.mms_time.specs.Loss.{insert_key, owner_grants, owners_lost_in, sorted_keys}
 use Rattle.mms_time.specs.Semaphores.{Rows, entries_in}
 use Rattle.mms_time.specs.declared.row.Semaphore.{Semaphore}
-use Rattle.mms_time.specs.declared.row.Semaphore.TheVariants.{Token}
+use Rattle.mms_time.specs.declared.row.Semaphore.TheVariants.{Token, Pool}
 use Rattle.mms_time.specs.declared.row.SemaphoreRow.{SemaphoreRow}
+use Rattle.sem_ticks.specs.Granted.{granted, lost_granted}
+use Rattle.sem_ticks.specs.declared.granted.Granted.{Granted}
 use Rattle.cell_laws.specs.Linked.{asker}
 use Rattle.cell_laws.proofs.Bound.{Bound, key-test, nat-same, nat-test, of-both, one_entry}
-use Rattle.cell_laws.proofs.Entries.{Frees, any-append, asker_at, drops-nothing, drops-without, freed_by, frees-one, frees-owner, is_granted, kept_by, not_queued, owned_owner, same-frees, stands-among, stands-either}
-use Rattle.cell_laws.proofs.Losing.{bound-waited, freed-at, grants_at, waited, waited-rise}
-use Rattle.cell_laws.proofs.Queues.{Rise, any-stands, is_answered, stands-any}
+use Rattle.cell_laws.proofs.Entries.{Frees, IsFreeing, Leaving, any-append, asker_at, freed_by, freeing, frees-owner, is_granted, kept_by, leaving, none-granted, not_queued, one_gone, owned_owner, owners_gone, stands-among, stands-either}
+use Rattle.cell_laws.proofs.Losing.{any-told, bound-waited, freed-at, grants_at, lost-told, told_at, told_grants, waited, waited-rise}
+use Rattle.cell_laws.proofs.Queues.{Rise, any-stands, is_answered, stands-any, stands-map}
 
 -- no two are of one entry
 abbrev pub Apart : List Grant → Type 0
@@ -30,7 +31,7 @@ Apart [] = Unit {0}
 Apart (g ∷ grants) = (is_granted g.entry grants ≡ false) × Apart grants
 
 -- no two answer one request
-abbrev pub AnswerApart : List Grant → Type 0
+abbrev pub AnswerApart : List Granted → Type 0
 AnswerApart [] = Unit {0}
 AnswerApart (g ∷ grants) = (is_answered grants g.client g.invoke ≡ false) × AnswerApart grants
 
@@ -48,7 +49,7 @@ apart-more (x ∷ xs) ys a b each = (
   apart-more xs ys a.1 b (λ z s. each z (inr s)),
 )
 
-answer-apart-more : (xs ys : List Grant) → AnswerApart xs → AnswerApart ys → ((x : Grant) → Stands xs x → is_answered ys x.client x.invoke ≡ false) → AnswerApart (xs ++ ys)
+answer-apart-more : (xs ys : List Granted) → AnswerApart xs → AnswerApart ys → ((x : Granted) → Stands xs x → is_answered ys x.client x.invoke ≡ false) → AnswerApart (xs ++ ys)
 answer-apart-more [] ys a b each = b
 answer-apart-more (x ∷ xs) ys a b each = (
   any-append (λ g. x.client == g.client && x.invoke == g.invoke) xs ys
@@ -69,47 +70,40 @@ freed-apart es mid new xs ys first second a b = apart-more xs ys a b (λ x s. no
 
 -- ---- the owners of a client in one semaphore
 
-apart-owner : (made : ℕ) (now : Moment) (es : List SemEntry) (l : Loss) (o : SemEntry) → Rises 0 l.entries made → Frees es l.grants l.entries → asker_at o.number es ≡ None → Apart l.grants
-    → Apart (loss_of_one now l o).grants
-apart-owner made now es l o rises frees none apart = by_keep o.keep
-  where
-    more : List Grant
-    more = option_to_list (option_map grant_of (next (without o.number l.entries)))
+module _ (v : Leaving) (is : IsFreeing v) where
+  apart-owner : (made : ℕ) (now : Moment) (es : List SemEntry) (l : Loss) (o : SemEntry) → Rises 0 l.entries made → Frees es l.grants l.entries → asker_at o.number es ≡ None → Apart l.grants
+      → Apart (one_gone v now l o).grants
+  apart-owner made now es l o rises frees none apart = by_keep o.keep
+    where
+      gone : asker_at o.number l.entries ≡ None
+      gone = frees.left o.number ∙ ap (cond (is_granted o.number l.grants) None) none ∙ cond-both (is_granted o.number l.grants)
+        where
+          cond-both : (b : Bool) → cond {A = Option (ℕ × ℕ)} b None None ≡ None
+          cond-both true = refl
+          cond-both false = refl
 
-    gone : asker_at o.number l.entries ≡ None
-    gone = frees.left o.number ∙ ap (cond (is_granted o.number l.grants) None) none ∙ cond-both (is_granted o.number l.grants)
-      where
-        cond-both : (b : Bool) → cond {A = Option (ℕ × ℕ)} b None None ≡ None
-        cond-both true = refl
-        cond-both false = refl
+      single : (g : Option Grant) → Apart (option_to_list g)
+      single None = tt
+      single (Some g) = (refl, tt)
 
-    freed : Frees l.entries more (after_freeing now (without o.number l.entries))
-    freed =
-        same-frees l.entries (without o.number l.entries) (after_freeing now (without o.number l.entries)) more
-        (drops-nothing o.number l.entries (without o.number l.entries) gone (drops-without o.number l.entries))
-        (frees-one made now (without o.number l.entries) (rises-without 0 made o.number l.entries rises))
+      by_keep : (b : Bool) → Apart (if b then kept_by o l else freed_by v now o l).grants
+      by_keep true = apart
+      by_keep false =
+          freed-apart es l.entries (v.entries now o l.entries) l.grants (option_to_list (v.heir o l.entries)) frees (is.frees made now l.entries o rises gone) apart (single (v.heir o l.entries))
 
-    single : (g : Option Grant) → Apart (option_to_list g)
-    single None = tt
-    single (Some g) = (refl, tt)
+  apart-owners : (made : ℕ) (now : Moment) (es os : List SemEntry) (l : Loss) → Rises 0 l.entries made → Frees es l.grants l.entries
+      → ((o : SemEntry) → Stands os o → asker_at o.number es ≡ None) → Apart l.grants → Apart (fold (one_gone v now) l os).grants
+  apart-owners made now es [] l rises frees none apart = apart
+  apart-owners made now es (o ∷ os) l rises frees none apart =
+      let one = frees-owner v is made now es l o rises frees (none o (inl refl)) in
+      apart-owners made now es os (one_gone v now l o) one.1 one.0 (λ p s. none p (inr s)) (apart-owner made now es l o rises frees (none o (inl refl)) apart)
 
-    by_keep : (b : Bool) → Apart (if b then kept_by o l else freed_by now o l).grants
-    by_keep true = apart
-    by_keep false = freed-apart es l.entries (after_freeing now (without o.number l.entries)) l.grants more frees freed apart (single (option_map grant_of (next (without o.number l.entries))))
-
-apart-owners : (made : ℕ) (now : Moment) (es os : List SemEntry) (l : Loss) → Rises 0 l.entries made → Frees es l.grants l.entries
-    → ((o : SemEntry) → Stands os o → asker_at o.number es ≡ None) → Apart l.grants → Apart (fold (loss_of_one now) l os).grants
-apart-owners made now es [] l rises frees none apart = apart
-apart-owners made now es (o ∷ os) l rises frees none apart =
-    let one = frees-owner made now es l o rises frees (none o (inl refl)) in
-    apart-owners made now es os (loss_of_one now l o) one.1 one.0 (λ p s. none p (inr s)) (apart-owner made now es l o rises frees (none o (inl refl)) apart)
-
-apart-lost : (made client : ℕ) (now : Moment) (es : List SemEntry) → Rises 0 es made → Apart (owners_lost client now es).grants
-apart-lost made client now es rises =
-    apart-owners made now es (filter (owned_by client) es) (record { entries = es; grants = [] }) rises (record { left = λ n. refl; each = λ g s. absurd s })
-    (λ o s.
-    let found = stands-among (owned_by client) es o s in
-    not_queued made es o rises found.0 (owner-not_queued o (owned_owner client o found.1))) tt
+  apart-lost : (made client : ℕ) (now : Moment) (es : List SemEntry) → Rises 0 es made → Apart (owners_gone v client now es).grants
+  apart-lost made client now es rises =
+      apart-owners made now es (filter (owned_by client) es) (record { entries = es; grants = [] }) rises (none-granted es)
+      (λ o s.
+      let found = stands-among (owned_by client) es o s in
+      not_queued made es o rises found.0 (owner-not_queued o (owned_owner client o found.1))) tt
 
 -- ---- names in order, each once
 
@@ -168,7 +162,7 @@ sorted-apart (key ∷ keys) distinct = inserted-apart key (sorted_keys keys) (λ
 
 -- ---- all grants where a client is lost
 
-any-flat-at : (p : Grant → Bool) (f : Key → List Grant) (ks : List Key) → list_any p (flat_map f ks) ≡ true → (k : Key) × Stands ks k × (list_any p (f k) ≡ true)
+any-flat-at : (p : Granted → Bool) (f : Key → List Granted) (ks : List Key) → list_any p (flat_map f ks) ≡ true → (k : Key) × Stands ks k × (list_any p (f k) ≡ true)
 any-flat-at p f [] h = absurd (cc h)
 any-flat-at p f (k ∷ ks) h = by_test (list_any p (f k)) refl (any-flat-at p f ks) (sym (any-append p (f k) (flat_map f ks)) ∙ h)
   where
@@ -179,7 +173,7 @@ any-flat-at p f (k ∷ ks) h = by_test (list_any p (f k)) refl (any-flat-at p f 
 
 module _ (client : ℕ) (now : Moment) (rows : Rows) (rises : Rise rows) (f : ℕ → ℕ → Option Waiting) (bound : Bound (asker rows) f) where
   then_bound : Bound (asker (waited client now rows rises)) (λ c i. cond (c == client) None (f c i))
-  then_bound = bound-waited client now rows rises f (λ c i. cond (is_answered (lost_grants client now rows) c i) None (cond (c == client) None (f c i))) bound (λ c i. refl)
+  then_bound = bound-waited client now rows rises f (λ c i. cond (is_answered (lost_granted client now rows) c i) None (cond (c == client) None (f c i))) bound (λ c i. refl)
 
   one_grant : (k l : Key) (x y : Grant) → Stands (grants_at client now rows rises k) x → Stands (grants_at client now rows rises l) y → (x.client == y.client && x.invoke == y.invoke) ≡ true
       → (k ≡ l) × (x.entry ≡ y.entry)
@@ -192,17 +186,19 @@ module _ (client : ℕ) (now : Moment) (rows : Rows) (rises : Rise rows) (f : �
   grants-apart : (k : Key) → Apart (grants_at client now rows rises k)
   grants-apart k = by_row (lookup (key_eq k) (waited client now rows rises)) refl
     where
-      in_semaphore : (s : Semaphore) (made : ℕ) → Rises 0 (entries_in s) made → Apart (owners_lost client now (entries_in s)).grants
-      in_semaphore (Token s) made is = apart-lost made client now s.entries is
+      in_semaphore : (s : Semaphore) (made : ℕ) → Rises 0 (entries_in s) made → Apart (owners_lost_in client now s).grants
+      in_semaphore (Token s) made is = apart-lost (leaving (Token s)) (freeing (Token s)) made client now s.entries is
+      in_semaphore (Pool p) made is = apart-lost (leaving (Pool p)) (freeing (Pool p)) made client now p.entries is
 
       by_row : (o : Option SemaphoreRow) → lookup (key_eq k) (waited client now rows rises) ≡ o → Apart (owner_grants client now o)
       by_row None e = tt
       by_row (Some row) e = let is = waited-rise client now rows rises k row e in in_semaphore row.semaphore is.0 is.1
 
-  answers-apart : (k : Key) (grants : List Grant) → ((x : Grant) → Stands grants x → Stands (grants_at client now rows rises k) x) → Apart grants → AnswerApart grants
+  answers-apart : (k : Key) (grants : List Grant) → ((x : Grant) → Stands grants x → Stands (grants_at client now rows rises k) x) → Apart grants → AnswerApart (told_grants rows k grants)
   answers-apart k [] among apart = tt
   answers-apart k (x ∷ grants) among apart = (
-    not-true (is_answered grants x.client x.invoke) (λ h. twice (any-stands (λ g. x.client == g.client && x.invoke == g.invoke) grants h)),
+    not-true (is_answered (told_grants rows k grants) x.client x.invoke)
+        (λ h. twice (any-stands (λ g. x.client == g.client && x.invoke == g.invoke) grants (sym (any-told rows k x.client x.invoke grants) ∙ h))),
     answers-apart k grants (λ y s. among y (inr s)) apart.1,
   )
     where
@@ -211,38 +207,53 @@ module _ (client : ℕ) (now : Moment) (rows : Rows) (rises : Rise rows) (f : �
           let same = one_grant k k x y.0 (among x (inl refl)) (among y.0 (inr y.1)) y.2 in
           cc (sym (stands-any (λ g. x.entry == g.entry) grants y.0 y.1 (nat-test x.entry y.0.entry same.1)) ∙ apart.0)
 
-  all-apart : (ks : List Key) → KeysApart ks → AnswerApart (flat_map (grants_at client now rows rises) ks)
+  all-apart : (ks : List Key) → KeysApart ks → AnswerApart (flat_map (told_at client now rows rises) ks)
   all-apart [] apart = tt
   all-apart (k ∷ ks) apart =
-      answer-apart-more (grants_at client now rows rises k) (flat_map (grants_at client now rows rises) ks)
+      answer-apart-more (told_at client now rows rises k) (flat_map (told_at client now rows rises) ks)
       (answers-apart k (grants_at client now rows rises k) (λ x s. s) (grants-apart k)) (all-apart ks apart.1)
-      (λ x s. not-true (is_answered (flat_map (grants_at client now rows rises) ks) x.client x.invoke)
-      (λ h. elsewhere x s (any-flat-at (λ g. x.client == g.client && x.invoke == g.invoke) (grants_at client now rows rises) ks h)))
+      (λ y s. not-true (is_answered (flat_map (told_at client now rows rises) ks) y.client y.invoke)
+      (λ h. of-grant y (stands-map (λ g. granted rows (k, g)) (grants_at client now rows rises k) y s)
+      (any-flat-at (λ g. y.client == g.client && y.invoke == g.invoke) (told_at client now rows rises) ks h)))
     where
       at : (x : Grant) → Stands (grants_at client now rows rises k) x → (l : Key) → Stands ks l
           → (y : Grant) × Stands (grants_at client now rows rises l) y × ((x.client == y.client && x.invoke == y.invoke) ≡ true) → ⊥
       at x s l t y = apart.0 (subst (Stands ks) (sym (one_grant k l x y.0 s y.1 y.2).0) t)
 
       elsewhere : (x : Grant) → Stands (grants_at client now rows rises k) x
-          → (l : Key) × Stands ks l × (list_any (λ g. x.client == g.client && x.invoke == g.invoke) (grants_at client now rows rises l) ≡ true) → ⊥
-      elsewhere x s l = at x s l.0 l.1 (any-stands (λ g. x.client == g.client && x.invoke == g.invoke) (grants_at client now rows rises l.0) l.2)
+          → (l : Key) × Stands ks l × (is_answered (told_at client now rows rises l) x.client x.invoke ≡ true) → ⊥
+      elsewhere x s l =
+          at x s l.0 l.1
+          (any-stands (λ g. x.client == g.client && x.invoke == g.invoke) (grants_at client now rows rises l.0)
+          (sym (any-told rows l.0 x.client x.invoke (grants_at client now rows rises l.0)) ∙ l.2))
+
+      of-grant : (y : Granted) → (x : Grant) × Stands (grants_at client now rows rises k) x × (granted rows (k, x) ≡ y)
+          → (l : Key) × Stands ks l × (is_answered (told_at client now rows rises l) y.client y.invoke ≡ true) → ⊥
+      of-grant y x l =
+          elsewhere x.0 x.1 (l.0, l.1, subst (λ (z : Granted). is_answered (told_at client now rows rises l.0) z.client z.invoke ≡ true) (sym x.2) l.2)
 
   -- no two of them answer one request
-  pub lost-apart : IsDistinct key_eq (keys_of rows) → AnswerApart (lost_grants client now rows)
-  lost-apart names = all-apart (sorted_keys (keys_of rows)) (sorted-apart (keys_of rows) names)
+  pub lost-apart : IsDistinct key_eq (keys_of rows) → AnswerApart (lost_granted client now rows)
+  lost-apart names = subst AnswerApart (sym (lost-told client now rows rises)) (all-apart (sorted_keys (keys_of rows)) (sorted-apart (keys_of rows) names))
 
   -- and each answers one that waits, of another client
-  pub lost-waits : (g : Grant) → Stands (lost_grants client now rows) g → (w : Waiting) × (cond (g.client == client) None (f g.client g.invoke) ≡ Some w)
-  lost-waits g s = at (flat-stands (sorted_keys (keys_of rows)) s)
+  pub lost-waits : (g : Granted) → Stands (lost_granted client now rows) g → (w : Waiting) × (cond (g.client == client) None (f g.client g.invoke) ≡ Some w)
+  lost-waits g s = at (flat-stands (sorted_keys (keys_of rows)) (subst (λ (l : List Granted). Stands l g) (lost-told client now rows rises) s))
     where
-      at : (k : Key) × Stands (grants_at client now rows rises k) g → (w : Waiting) × (cond (g.client == client) None (f g.client g.invoke) ≡ Some w)
-      at k = (_, then_bound.waiting k.0 g.entry g.client g.invoke ((freed-at client now rows rises k.0).1 g k.1))
+      at-grant : (k : Key) → (x : Grant) × Stands (grants_at client now rows rises k) x × (granted rows (k, x) ≡ g)
+          → (w : Waiting) × (cond (g.client == client) None (f g.client g.invoke) ≡ Some w)
+      at-grant k x =
+          subst (λ (z : Granted). (w : Waiting) × (cond (z.client == client) None (f z.client z.invoke) ≡ Some w)) x.2
+          (_, then_bound.waiting k x.0.entry x.0.client x.0.invoke ((freed-at client now rows rises k).1 x.0 x.1))
 
-      flat-stands : (ks : List Key) → Stands (flat_map (grants_at client now rows rises) ks) g → (k : Key) × Stands (grants_at client now rows rises k) g
+      at : (k : Key) × Stands (told_at client now rows rises k) g → (w : Waiting) × (cond (g.client == client) None (f g.client g.invoke) ≡ Some w)
+      at k = at-grant k.0 (stands-map (λ x. granted rows (k.0, x)) (grants_at client now rows rises k.0) g k.1)
+
+      flat-stands : (ks : List Key) → Stands (flat_map (told_at client now rows rises) ks) g → (k : Key) × Stands (told_at client now rows rises k) g
       flat-stands [] t = absurd t
-      flat-stands (k ∷ ks) t = by_part (stands-either (grants_at client now rows rises k) (flat_map (grants_at client now rows rises) ks) g t) (flat-stands ks)
+      flat-stands (k ∷ ks) t = by_part (stands-either (told_at client now rows rises k) (flat_map (told_at client now rows rises) ks) g t) (flat-stands ks)
         where
-          by_part : Stands (grants_at client now rows rises k) g ⊎ Stands (flat_map (grants_at client now rows rises) ks) g
-              → (Stands (flat_map (grants_at client now rows rises) ks) g → (l : Key) × Stands (grants_at client now rows rises l) g) → (l : Key) × Stands (grants_at client now rows rises l) g
+          by_part : Stands (told_at client now rows rises k) g ⊎ Stands (flat_map (told_at client now rows rises) ks) g
+              → (Stands (flat_map (told_at client now rows rises) ks) g → (l : Key) × Stands (told_at client now rows rises l) g) → (l : Key) × Stands (told_at client now rows rises l) g
           by_part (inl a) ih = (k, a)
           by_part (inr b) ih = ih b

@@ -1,5 +1,5 @@
 -- Time that goes by answers what waited, but for what waits then.
-use Rattle.std.proofs.Common.{◌≡◌, ℕ, ◌+◌, inl, Bool, true, false, cond, ◌==◌, List, [], ◌∷◌, ◌++◌, Option, None, Some, option_and_then, option_map, option_to_list, if◌then◌else◌, refl, sym, ◌∙◌, ap, subst, arith}
+use Rattle.std.proofs.Common.{◌≡◌, ℕ, ◌+◌, inl, inr, Bool, true, false, cond, ◌==◌, List, [], ◌∷◌, ◌++◌, Option, None, Some, option_and_then, option_map, option_to_list, if◌then◌else◌, refl, sym, ◌∙◌, ap, subst, arith}
 use Rattle.std.specs.Map.{lookup}
 use Rattle.mms_types.specs.Order.{key_eq}
 use Rattle.mms_types.specs.declared.event.What.TheVariants.{Abort}
@@ -10,18 +10,18 @@ use Rattle.association.specs.Client.{ClientRow}
 use Rattle.token_sem.specs.declared.entry.Expired.{Expired}
 use Rattle.token_sem.specs.declared.entry.Grant.{Grant}
 use Rattle.token_sem.specs.declared.entry.SemEntry.{SemEntry}
-use Rattle.token_sem.specs.Semaphore.{after_freeing, expired_of, grant_of, is_queued, next, numbered, without}
-use Rattle.token_sem.proofs.Keeping.{among-find, rises-without}
+use Rattle.token_sem.specs.Semaphore.{numbered}
 use Rattle.token_sem.proofs.Least.{Stands}
-use Rattle.mms_time.specs.Deadlines.{NamedDeadline, expired, expired_entry, expired_in, expire_after, next_due}
-use Rattle.mms_time.specs.Loss.{lost_grants}
+use Rattle.mms_time.specs.Deadlines.{NamedDeadline, expired, expired_entry, expired_from, expired_in, expire_after, next_due}
 use Rattle.mms_time.specs.Semaphores.{IsSound, Rows, entries_in, entries_of}
 use Rattle.mms_time.specs.declared.row.Semaphore.{Semaphore}
-use Rattle.mms_time.specs.declared.row.Semaphore.TheVariants.{Token}
 use Rattle.mms_time.specs.declared.row.SemaphoreRow.{SemaphoreRow}
 use Rattle.parted_state.specs.Served.{reached, delivered}
+use Rattle.sem_ticks.specs.Granted.{granted, lost_granted}
 use Rattle.sem_ticks.specs.Sound.{AreSound}
-use Rattle.sem_ticks.specs.Ticks.{Ticking, abort_told, entries_left, expiry_told, granted, met, met_as, next_met, ticked_on}
+use Rattle.sem_ticks.specs.Ticks.{Ticking, abort_told, entries_left, expiry_told, met, met_as, next_met, ticked_on}
+use Rattle.sem_ticks.specs.Ticks as ticks
+use Rattle.sem_ticks.specs.declared.granted.Granted.{Granted}
 use Rattle.sem_ticks.specs.declared.ticks.Happening.{Happening}
 use Rattle.sem_ticks.specs.declared.ticks.Happening.TheVariants as happens
 use Rattle.sem_ticks.proofs.Kept.{row_found}
@@ -34,12 +34,12 @@ use Rattle.mms_step.specs.Partition.{cell}
 use Rattle.cell_laws.specs.Linked.{asker, asker_of}
 use Rattle.cell_laws.proofs.Answering.{retake}
 use Rattle.cell_laws.proofs.Bound.{Bound}
-use Rattle.cell_laws.proofs.Entries.{Frees, asker_at, drops-nothing, drops-without, frees-one, not_queued, same-frees}
+use Rattle.cell_laws.proofs.Entries.{asker_at, leaving}
 use Rattle.cell_laws.proofs.Events.{fair-grants, unopening-grants}
 use Rattle.cell_laws.proofs.Fair.{Outcome, Unopening, join, none_taken, piece-abort, piece-answered, piece-closes}
 use Rattle.cell_laws.proofs.Hears.{reached-closed, reached-still, waits_in}
 use Rattle.cell_laws.proofs.Linking.{Meanwhile, expiry-left, one-met, told-grants}
-use Rattle.cell_laws.proofs.Meetings.{bound-met, sound-met}
+use Rattle.cell_laws.proofs.Meetings.{bound-met, due-frees, expiry-is, expiry_by, sound-met}
 use Rattle.cell_laws.proofs.Once.{lost-apart, lost-waits}
 use Rattle.cell_laws.proofs.Queues.{asker_in, rise}
 
@@ -52,24 +52,19 @@ Asked rows key number x = (x.waited ≡ true → asker rows key number ≡ Some 
 met-asks : (rows : Rows) → AreSound rows → (key : Key) (number : ℕ) (x : Expired) → expired key number rows ≡ Some x → Asked rows key number x
 met-asks rows sound key number x is = by_row (lookup (key_eq key) rows) refl is
   where
-    in_semaphore : (s : Semaphore) → IsSound s → (o : Option SemEntry) → numbered number (entries_in s) ≡ o → expired_entry (entries_in s) o ≡ Some x
+    in_semaphore : (s : Semaphore) → IsSound s → (o : Option SemEntry) → numbered number (entries_in s) ≡ o → expired_entry s o ≡ Some x
         → (x.waited ≡ true → asker_at number (entries_in s) ≡ Some (x.client, x.invoke))
         × (x.waited ≡ false → (g : Grant) → Stands (option_to_list x.grant) g → asker_at g.entry (entries_in s) ≡ Some (g.client, g.invoke))
     in_semaphore s is_sound None e h = absurd (cc h)
-    in_semaphore (Token s) is_sound (Some e) at h =
-        let same : expired_of e s.entries ≡ x = cc h in
-        subst (λ (y : Expired). (y.waited ≡ true → asker_at number s.entries ≡ Some (y.client, y.invoke))
-        × (y.waited ≡ false → (g : Grant) → Stands (option_to_list y.grant) g → asker_at g.entry s.entries ≡ Some (g.client, g.invoke))) same (
+    in_semaphore s is_sound (Some e) at h =
+        let from : expired_from e s ≡ x = cc h in
+        let same : expiry_by (leaving s) e (entries_in s) ≡ x = sym (expiry-is e s) ∙ from in
+        subst (λ (y : Expired). (y.waited ≡ true → asker_at number (entries_in s) ≡ Some (y.client, y.invoke))
+        × (y.waited ≡ false → (g : Grant) → Stands (option_to_list y.grant) g → asker_at g.entry (entries_in s) ≡ Some (g.client, g.invoke))) same (
           λ q. ap asker_of at ∙ ap (λ t. cond t (Some (e.client, e.invoke)) None) q,
-          λ q g t. (frees q).each g (subst (λ (b : Bool). Stands (option_to_list (if b then None else option_map grant_of (next (without e.number s.entries)))) g) q t),
+          λ q g t. (due-frees s number (record { 0 = 0 }) e is_sound at q).each g
+              (subst (λ (b : Bool). Stands (option_to_list (if b then None else (leaving s).heir e (entries_in s))) g) q t),
         )
-      where
-        frees : is_queued e ≡ false → Frees s.entries (option_to_list (option_map grant_of (next (without e.number s.entries)))) (after_freeing (record { 0 = 0 }) (without e.number s.entries))
-        frees q =
-            same-frees s.entries (without e.number s.entries) (after_freeing (record { 0 = 0 }) (without e.number s.entries)) (option_to_list (option_map grant_of (next (without e.number s.entries))))
-            (drops-nothing e.number s.entries (without e.number s.entries)
-            (not_queued s.made s.entries e is_sound.rises (among-find (λ y. y.number == number) s.entries e at).0 q) (drops-without e.number s.entries))
-            (frees-one s.made (record { 0 = 0 }) (without e.number s.entries) (rises-without 0 s.made e.number s.entries is_sound.rises))
 
     by_row : (p : Option SemaphoreRow) → lookup (key_eq key) rows ≡ p → option_and_then (expired_in number) p ≡ Some x
         → (x.waited ≡ true → asker rows key number ≡ Some (x.client, x.invoke))
@@ -106,18 +101,23 @@ join-all c xs ys clients first second =
     (join c (all_told xs) (all_told ys) clients none_taken none_taken (unopening-all ys) first second))
 
 module _ (c : ℕ) (rows : Rows) (clients : List ClientRow) (bound : Bound (asker rows) (waits_in clients)) (sound : AreSound rows) where
-  expiry-fair : (key : Key) (number : ℕ) (x : Expired) → expired key number rows ≡ Some x → Outcome c (all_told (expiry_told x)) clients none_taken
-  expiry-fair key number x is = by_waited x.waited refl
+  expiry-fair : (named : Rows) (key : Key) (number : ℕ) (x : Expired) → expired key number rows ≡ Some x → Outcome c (all_told (expiry_told named key x)) clients none_taken
+  expiry-fair named key number x is = by_waited x.waited refl
     where
       asks : (x.waited ≡ true → asker rows key number ≡ Some (x.client, x.invoke))
           × (x.waited ≡ false → (g : Grant) → Stands (option_to_list x.grant) g → asker rows key g.entry ≡ Some (g.client, g.invoke))
       asks = met-asks rows sound key number x is
 
-      by_grant : (o : Option Grant) → ((g : Grant) → Stands (option_to_list o) g → asker rows key g.entry ≡ Some (g.client, g.invoke)) → Outcome c (all_told (granted o)) clients none_taken
+      by_grant : (o : Option Grant) → ((g : Grant) → Stands (option_to_list o) g → asker rows key g.entry ≡ Some (g.client, g.invoke)) → Outcome c (all_told (ticks.grant_told named key o)) clients none_taken
       by_grant None each = inl (record { pdus = []; spelled = refl; balance = λ i. refl })
-      by_grant (Some g) each = fair-grants c (g ∷ []) clients (refl, tt) (λ h t. (_, bound.waiting key h.entry h.client h.invoke (each h t)))
+      by_grant (Some g) each = fair-grants c (granted named (key, g) ∷ []) clients (refl, tt) there
+        where
+          there : (h : Granted) → Stands (granted named (key, g) ∷ []) h → (w : Waiting) × (waits_in clients h.client h.invoke ≡ Some w)
+          there h (inl same) =
+              subst (λ (y : Granted). (w : Waiting) × (waits_in clients y.client y.invoke ≡ Some w)) same (_, bound.waiting key g.entry g.client g.invoke (each g (inl refl)))
+          there h (inr t) = absurd t
 
-      by_waited : (b : Bool) → x.waited ≡ b → Outcome c (all_told (if b then happens.WaitEnds x.client x.invoke ∷ [] else granted x.grant)) clients none_taken
+      by_waited : (b : Bool) → x.waited ≡ b → Outcome c (all_told (if b then happens.WaitEnds x.client x.invoke ∷ [] else ticks.grant_told named key x.grant)) clients none_taken
       by_waited true q = inl (piece-answered c x.client x.invoke (confirmed_error x.invoke timeout_error) clients _ (bound.waiting key number x.client x.invoke (asks.0 q)) (λ i. refl))
       by_waited false q = by_grant x.grant (asks.1 q)
 
@@ -133,10 +133,10 @@ module _ (c : ℕ) (rows : Rows) (clients : List ClientRow) (bound : Bound (aske
       (lost-apart client now rows (rise rows sound) (waits_in clients) bound sound.names)
       (λ g t. still g (lost-waits client now rows (rise rows sound) (waits_in clients) bound g t)))))))
     where
-      grants : List Grant
-      grants = lost_grants client now rows
+      grants : List Granted
+      grants = lost_granted client now rows
 
-      still : (g : Grant) → (w : Waiting) × (cond (g.client == client) None (waits_in clients g.client g.invoke) ≡ Some w)
+      still : (g : Granted) → (w : Waiting) × (cond (g.client == client) None (waits_in clients g.client g.invoke) ≡ Some w)
           → (w : Waiting) × (waits_in (reached cell client Closes (reached cell client (Sends Abort) clients)) g.client g.invoke ≡ Some w)
       still g w = (
         w.0,
@@ -152,7 +152,7 @@ pub record FairMeanwhile (c : ℕ) (clients : List ClientRow) (s : Ticking) : Ty
 
 module _ (c : ℕ) (clients : List ClientRow) where
   fair-met : (s : Ticking) (d : NamedDeadline) (x : Expired) → expired d.key d.entry s.rows ≡ Some x → FairMeanwhile c clients s → FairMeanwhile c clients (met_as s d x)
-  fair-met s d x is are = record { link = one-met clients s d x is are.link; fair = join-all c s.happened (expiry_told x ++ abort_told x.abort x.client d.at rows) clients are.fair rest }
+  fair-met s d x is are = record { link = one-met clients s d x is are.link; fair = join-all c s.happened (expiry_told rows d.key x ++ abort_told x.abort x.client d.at rows) clients are.fair rest }
     where
       rows : Rows
       rows = expire_after d.key d.entry d.at s.rows
@@ -161,18 +161,18 @@ module _ (c : ℕ) (clients : List ClientRow) where
       told = delivered cell (all_told s.happened) clients
 
       met_clients : List ClientRow
-      met_clients = delivered cell (all_told (expiry_told x)) told
+      met_clients = delivered cell (all_told (expiry_told rows d.key x)) told
 
       met_bound : Bound (asker rows) (waits_in met_clients)
-      met_bound = bound-met s.rows (waits_in told) (waits_in met_clients) are.link.bound are.link.sound d.key d.entry d.at x is (expiry-left x told)
+      met_bound = bound-met s.rows (waits_in told) (waits_in met_clients) are.link.bound are.link.sound rows d.key d.entry d.at x is (expiry-left rows d.key x told)
 
       by_abort : (b : Bool) → Outcome c (all_told (abort_told b x.client d.at rows)) met_clients none_taken
       by_abort true = abort-fair c rows met_clients met_bound (sound-met s.rows (waits_in told) (waits_in met_clients) are.link.bound are.link.sound d.key d.entry d.at) x.client d.at
       by_abort false = inl (record { pdus = []; spelled = refl; balance = λ i. refl })
 
-      rest : Outcome c (all_told (expiry_told x ++ abort_told x.abort x.client d.at rows)) told none_taken
+      rest : Outcome c (all_told (expiry_told rows d.key x ++ abort_told x.abort x.client d.at rows)) told none_taken
       rest =
-          join-all c (expiry_told x) (abort_told x.abort x.client d.at rows) told (expiry-fair c s.rows told are.link.bound are.link.sound d.key d.entry x is) (by_abort x.abort)
+          join-all c (expiry_told rows d.key x) (abort_told x.abort x.client d.at rows) told (expiry-fair c s.rows told are.link.bound are.link.sound rows d.key d.entry x is) (by_abort x.abort)
 
   fair-next : (until : Moment) (s t : Ticking) → next_met until s ≡ Some t → FairMeanwhile c clients s → FairMeanwhile c clients t
   fair-next until s t same are = by_due (next_due until s.rows) same

@@ -1,5 +1,5 @@
 -- Which entries of all semaphores are queued, as the semaphores change.
-use Rattle.std.proofs.Common.{◌≡◌, ℕ, ◌⊎◌, inl, inr, Bool, true, false, not, cond, ◌==◌, ◌&&◌, ◌||◌, List, [], ◌∷◌, ◌++◌, filter, Option, None, Some, is_some, option_map, option_and_then, refl, sym, ◌∙◌, ap, subst, arith}
+use Rattle.std.proofs.Common.{◌≡◌, ℕ, ◌⊎◌, inl, inr, Bool, true, false, not, cond, ◌==◌, ◌&&◌, ◌||◌, List, [], ◌∷◌, ◌++◌, map, filter, Option, None, Some, is_some, option_map, option_and_then, refl, sym, ◌∙◌, ap, subst, arith}
 use Rattle.std.specs.List.{flat_map, list_any}
 use Rattle.std.specs.Map.{keys_of, lookup}
 use Rattle.std.specs.Ordering.{is_lt}
@@ -8,21 +8,20 @@ use Rattle.std.proofs.lemmas.Map.Made.{lookup-map_values}
 use Rattle.mms_types.specs.KeyLaws.{keys_equal}
 use Rattle.mms_types.specs.Order.{key_eq, key_order}
 use Rattle.mms_types.specs.declared.key.Key.{Key}
-use Rattle.token_sem.specs.declared.entry.Grant.{Grant}
 use Rattle.token_sem.specs.declared.entry.SemEntry.{SemEntry}
 use Rattle.token_sem.specs.Semaphore.{Rises, is_queued, numbered, waits_for}
 use Rattle.token_sem.proofs.Least.{Stands}
 use Rattle.token_sem.proofs.Losing.{rises-filter}
 use Rattle.mms_time.specs.Loss.{all_changed, insert_key, sorted_keys}
-use Rattle.mms_time.specs.Semaphores.{IsSound, Rows, changed, changed_row, changed_to, entries_in, entries_of}
+use Rattle.mms_time.specs.Semaphores.{Rows, changed, changed_row, changed_to, entries_in, entries_of, made_in}
 use Rattle.mms_time.specs.declared.row.Semaphore.{Semaphore}
-use Rattle.mms_time.specs.declared.row.Semaphore.TheVariants.{Token}
 use Rattle.mms_time.specs.declared.row.SemaphoreRow.{SemaphoreRow}
 use Rattle.sem_ticks.specs.Sound.{AreSound}
+use Rattle.sem_ticks.specs.declared.granted.Granted.{Granted}
 use Rattle.sem_ticks.proofs.Kept.{row_found}
 use Rattle.cell_laws.specs.Linked.{asker, asker_of}
 use Rattle.cell_laws.proofs.Bound.{key-same, less, nat-same}
-use Rattle.cell_laws.proofs.Entries.{above-none, any-append, asker_at, at-head, at-tail}
+use Rattle.cell_laws.proofs.Entries.{above-none, any-append, asker_at, at-head, at-tail, rises-in}
 
 -- the request of the entry of that number, where the semaphore is there
 abbrev pub asker_in : ℕ → Option SemaphoreRow → Option (ℕ × ℕ)
@@ -33,10 +32,7 @@ abbrev pub Rise : Rows → Type 0
 Rise rows = (k : Key) (row : SemaphoreRow) → lookup (key_eq k) rows ≡ Some row → (made : ℕ) × Rises 0 (entries_of row) made
 
 pub rise : (rows : Rows) → AreSound rows → Rise rows
-rise rows sound k row found = by_semaphore row.semaphore (row_found rows k row sound.each found)
-  where
-    by_semaphore : (s : Semaphore) → IsSound s → (made : ℕ) × Rises 0 (entries_in s) made
-    by_semaphore (Token s) is = (s.made, is.rises)
+rise rows sound k row found = (made_in row.semaphore, rises-in row.semaphore (row_found rows k row sound.each found))
 
 -- ---- one semaphore is changed
 
@@ -190,6 +186,20 @@ flat-any p f (l ∷ ks) k (inr s) h = any-append p (f l) (flat_map f ks) ∙ by_
     by_test true e = refl
     by_test false e = e
 
+pub any-map : {A B : Type 0} (p : B → Bool) (f : A → B) (xs : List A) → list_any p (map f xs) ≡ list_any (λ x. p (f x)) xs
+any-map p f [] = refl
+any-map p f (x ∷ xs) = ap (λ t. p (f x) || t) (any-map p f xs)
+
+pub map-stands : {A B : Type 0} (f : A → B) (xs : List A) (x : A) → Stands xs x → Stands (map f xs) (f x)
+map-stands f [] x s = absurd s
+map-stands f (y ∷ xs) x (inl same) = inl (ap f same)
+map-stands f (y ∷ xs) x (inr s) = inr (map-stands f xs x s)
+
+pub stands-map : {A B : Type 0} (f : A → B) (xs : List A) (y : B) → Stands (map f xs) y → (x : A) × Stands xs x × (f x ≡ y)
+stands-map f [] y s = absurd s
+stands-map f (x ∷ xs) y (inl same) = (x, inl refl, same)
+stands-map f (x ∷ xs) y (inr s) = let found = stands-map f xs y s in (found.0, inr found.1, found.2)
+
 inserted-itself : (key : Key) (keys : List Key) → Stands (insert_key key keys) key
 inserted-itself key [] = inl refl
 inserted-itself key (other ∷ keys) = by_test (is_lt (key_order other key)) (inserted-itself key keys)
@@ -218,5 +228,5 @@ sorted-stands (e ∷ rows) k row found = by_test (key_eq k e.0) refl (sorted-sta
 
 -- ---- then tokens of its owners are granted, and its semaphores go
 
-abbrev pub is_answered : List Grant → ℕ → ℕ → Bool
+abbrev pub is_answered : List Granted → ℕ → ℕ → Bool
 is_answered grants c i = list_any (λ g. c == g.client && i == g.invoke) grants

@@ -1,8 +1,12 @@
 -- After any history the requests that wait are those of the entries that are queued.
 use Rattle.std.proofs.Common.{◌≡◌, ℕ, zero, suc, ◌+◌, ◌<◌, ◌≤◌, Bool, true, false, cond, ◌==◌, List, [], ◌∷◌, map, fold, length, get_or, slice_get, unwrap_or, Option, None, Some, refl, sym, ◌∙◌, ap, subst, arith}
 use Rattle.std.specs.List.{Contains}
+use Rattle.std.specs.Map.{lookup}
 use Rattle.mms_types.specs.Actors.{clients_to}
+use Rattle.mms_types.specs.Order.{key_eq}
+use Rattle.mms_types.specs.declared.cells.PoolRow.{PoolRow}
 use Rattle.mms_types.specs.declared.event.CellEvent.{CellEvent}
+use Rattle.mms_types.specs.declared.key.Key.{Key}
 use Rattle.association.specs.declared.negotiation.Association.{Association}
 use Rattle.association.specs.declared.negotiation.Association.TheVariants.{Idle}
 use Rattle.association.specs.declared.waiting.Waiting.{Waiting}
@@ -11,15 +15,17 @@ use Rattle.association.specs.Client.{ClientRow, new_row}
 use Rattle.association.specs.Waiting.{AreDistinct}
 use Rattle.cell_config.specs.declared.config.Config.{Config}
 use Rattle.cell_config.specs.Said.{IsConfig}
+use Rattle.mms_time.specs.Opening.{configured, pool_row}
 use Rattle.parted_state.specs.Served.{row_at}
 use Rattle.cell_services.specs.Serving.{waiting_of}
 use Rattle.mms_step.specs.Partition.{cell, no_client}
 use Rattle.mms_step.specs.State.{State, IsSound, device_of, start}
 use Rattle.mms_step.specs.Step.{step, replay}
 use Rattle.mms_step.proofs.Sound.{replay_sound, start_sound, step_sound}
-use Rattle.cell_laws.specs.Linked.{AreLinked, waiting_at}
+use Rattle.cell_laws.specs.Linked.{AreLinked, asker, waiting_at}
 use Rattle.cell_laws.proofs.Bound.{nat-same, nat-test, request_of}
 use Rattle.cell_laws.proofs.Linking.{Linked, linked_step}
+use Rattle.cell_laws.proofs.Queues.{asker_in}
 
 -- ---- at the start nothing waits
 
@@ -32,12 +38,21 @@ none-at-first config (suc k) = get (clients_to config.clients) k
     get (x ∷ xs) zero = refl
     get (x ∷ xs) (suc j) = get xs j
 
+-- the pools that there are have no entries
+none-queued : (pools : List PoolRow) (k : Key) (n : ℕ) → asker (configured pools) k n ≡ None
+none-queued [] k n = refl
+none-queued (pool ∷ pools) k n = by_test (key_eq k (pool_row pool).0) (none-queued pools k n)
+  where
+    by_test : (b : Bool) → asker (configured pools) k n ≡ None → asker_in n (cond b (Some (pool_row pool).1) (lookup (key_eq k) (configured pools))) ≡ None
+    by_test true rest = refl
+    by_test false rest = rest
+
 pub linked-start : (config : Config) → Linked (start config)
 linked-start config = record {
   bound = record {
     queued = λ c i w h. absurd (cc (sym h ∙ ap (waiting_of i) (none-at-first config c)));
-    waiting = λ k n c i h. absurd (cc h);
-    own = λ k n c i d h is. absurd (cc h);
+    waiting = λ k n c i h. absurd (cc (sym h ∙ none-queued config.pools k n));
+    own = λ k n c i d h is. absurd (cc (sym h ∙ none-queued config.pools k n));
   };
   distinct = λ c. subst AreDistinct (sym (none-at-first config c)) (λ i j d less low. absurd (omega (arith, low)));
 }

@@ -1,5 +1,5 @@
 -- What requests for tokens do to the entries that are queued, and to the requests that wait.
-use Rattle.std.proofs.Common.{◌≡◌, ℕ, ◌+◌, ◌<◌, ◌≤◌, Bool, true, false, not, cond, ◌==◌, List, [], ◌∷◌, ◌++◌, None, Some, Ok, if◌then◌else◌, refl, sym, ◌∙◌, ap, arith}
+use Rattle.std.proofs.Common.{◌≡◌, ℕ, ◌+◌, ◌<◌, ◌≤◌, Bool, true, false, not, cond, ◌==◌, List, [], ◌∷◌, ◌++◌, Option, None, Some, Ok, if◌then◌else◌, refl, sym, ◌∙◌, ap, arith}
 use Rattle.std.proofs.lemmas.Bool.Decides.{nat_tests}
 use Rattle.mms_types.specs.Errors.{first_of}
 use Rattle.mms_types.specs.Order.{key_of, scope_eq}
@@ -17,11 +17,15 @@ use Rattle.token_sem.specs.declared.entry.SemState.TheVariants.{Queued, Owner}
 use Rattle.token_sem.specs.declared.entry.Taken.TheVariants as token
 use Rattle.token_sem.specs.Semaphore.{Rises, Sem, answer_of, deadline_after, effect_of, entry_of, grant_to, has_token, is_queued, numbered, outcome, without}
 use Rattle.token_sem.proofs.Taking.{outcome-preempts}
-use Rattle.mms_time.proofs.Told.{take_told}
-use Rattle.mms_time.specs.Semaphores.{entries_in, made_in}
-use Rattle.mms_time.specs.Services.{ask_of, take_conditions_in, take_told_in, with_take}
+use Rattle.pool_sem.specs.Pools as pool
+use Rattle.pool_sem.specs.declared.outcome.PoolOutcome.{PoolOutcome}
+use Rattle.pool_sem.specs.declared.outcome.PoolOutcome.TheVariants as comes_to
+use Rattle.pool_sem.proofs.Taking as pool-taking
+use Rattle.mms_time.proofs.Told.{pool_take_told, take_told}
+use Rattle.mms_time.specs.Semaphores.{IsSound, entries_in, made_in}
+use Rattle.mms_time.specs.Services.{ask_of, place_asked, pool_answer, take_conditions_in, take_told_in, with_take}
 use Rattle.mms_time.specs.declared.row.Semaphore.{Semaphore}
-use Rattle.mms_time.specs.declared.row.Semaphore.TheVariants.{Token}
+use Rattle.mms_time.specs.declared.row.Semaphore.TheVariants.{Token, Pool}
 use Rattle.mms_time.specs.declared.taking.TakeDone.{TakeDone}
 use Rattle.mms_time.specs.declared.taking.TakeDone.TheVariants.{Answered, Waits}
 use Rattle.cell_laws.specs.Linked.{asker_of}
@@ -66,6 +70,14 @@ push-waiter low high n (x ∷ es) e rises above queued = by_test (x.number == n)
         at-head n x (es ++ e ∷ []) en ∙ sym (at-head n x es en) ∙ sym (ap (λ t. cond t (Some (e.client, e.invoke)) (asker_at n (x ∷ es))) other)
     by_test false en ih = at-tail n x (es ++ e ∷ []) en ∙ ih ∙ ap (cond (n == e.number) (Some (e.client, e.invoke))) (sym (at-tail n x es en))
 
+-- who has a token doesn't wait
+holder : (e : SemEntry) → not (is_queued e) ≡ true → is_queued e ≡ false
+holder e h = by_test (is_queued e) refl h
+  where
+    by_test : (b : Bool) → is_queued e ≡ b → not b ≡ true → is_queued e ≡ false
+    by_test true k g = absurd (cc g)
+    by_test false k g = k
+
 -- ---- TakeControl
 
 module _ (s : Sem) (ask : Ask) (now : Moment) (rises : Rises 0 s.entries s.made) where
@@ -78,13 +90,6 @@ module _ (s : Sem) (ask : Ask) (now : Moment) (rises : Rises 0 s.entries s.made)
       push-owner n (without number s.entries) (entry_of (s.made + 1) ask Owner (deadline_after now ask.control)) refl
       ∙ drops-nothing number s.entries (without number s.entries)
       (ap (λ m. asker_at m s.entries) (sym at.number) ∙ not_queued s.made s.entries at.hung rises at.among (holder at.hung at.is_hung)) (drops-without number s.entries) n
-    where
-      holder : (e : SemEntry) → not (is_queued e) ≡ true → is_queued e ≡ false
-      holder e h = by_test (is_queued e) refl h
-        where
-          by_test : (b : Bool) → is_queued e ≡ b → not b ≡ true → is_queued e ≡ false
-          by_test true k g = absurd (cc g)
-          by_test false k g = k
   has-one Gets is h n = push-owner n s.entries (entry_of (s.made + 1) ask Owner (deadline_after now ask.control)) refl
   has-one TimesOut is h n = refl
   has-one (WaitsUntil deadline) is h n = absurd (cc h)
@@ -99,22 +104,61 @@ module _ (s : Sem) (ask : Ask) (now : Moment) (rises : Rises 0 s.entries s.made)
   waits-one (WaitsUntil deadline) h n = push-waiter 0 s.made n s.entries (entry_of (s.made + 1) ask Queued (Some deadline)) rises (omega arith) refl
   waits-one WaitsForEver h n = push-waiter 0 s.made n s.entries (entry_of (s.made + 1) ask Queued None) rises (omega arith) refl
 
+-- the same of a pool
+module _ (p : pool.Pool) (ask : Ask) (now : Moment) (rises : Rises 0 p.entries p.made) where
+  has-named : (o : PoolOutcome) (g : Option ℕ) → pool.outcome p ask now ≡ o → pool.answer_of o (p.made + 1) ask ≡ Ok (token.Granted (pool.grant_to (p.made + 1) ask g))
+      → (n : ℕ) → asker_at n (pool.effect_of o p ask now).entries ≡ asker_at n p.entries
+  has-named comes_to.Refused g is h n = refl
+  has-named (comes_to.Preempts number k) g is h n =
+      let at = pool-taking.outcome-preempts p ask now number k is in
+      push-owner n (without number p.entries) (pool.owner_entry (p.made + 1) ask k now) refl
+      ∙ drops-nothing number p.entries (without number p.entries)
+      (ap (λ m. asker_at m p.entries) (sym at.number) ∙ not_queued p.made p.entries at.hung rises at.among (holder at.hung at.is_hung)) (drops-without number p.entries) n
+  has-named (comes_to.Gets t) g is h n = push-owner n p.entries (pool.owner_entry (p.made + 1) ask (Some t) now) refl
+  has-named comes_to.TimesOut g is h n = refl
+  has-named (comes_to.WaitsUntil deadline) g is h n = absurd (cc h)
+  has-named comes_to.WaitsForEver g is h n = absurd (cc h)
+
+  waits-named : (o : PoolOutcome) → pool.answer_of o (p.made + 1) ask ≡ Ok (token.Waits (p.made + 1))
+      → (n : ℕ) → asker_at n (pool.effect_of o p ask now).entries ≡ cond (n == p.made + 1) (Some (ask.client, ask.invoke)) (asker_at n p.entries)
+  waits-named comes_to.Refused h n = absurd (cc h)
+  waits-named (comes_to.Preempts number k) h n = absurd (cc h)
+  waits-named (comes_to.Gets t) h n = absurd (cc h)
+  waits-named comes_to.TimesOut h n = absurd (cc h)
+  waits-named (comes_to.WaitsUntil deadline) h n = push-waiter 0 p.made n p.entries (pool.queued_entry (p.made + 1) ask (Some deadline)) rises (omega arith) refl
+  waits-named comes_to.WaitsForEver h n = push-waiter 0 p.made n p.entries (pool.queued_entry (p.made + 1) ask None) rises (omega arith) refl
+
 -- what a request for a token does to a semaphore
 abbrev pub Takes : ℕ → ℕ → Moment → TakeControl → Semaphore → TakeDone → Type 0
-Takes client invoke now x s (Answered told) = (n : ℕ) → asker_at n (entries_in (with_take (ask_of client invoke x) now s)) ≡ asker_at n (entries_in s)
+Takes client invoke now x s (Answered told) = (n : ℕ) → asker_at n (entries_in (with_take client invoke x now s)) ≡ asker_at n (entries_in s)
 Takes client invoke now x s (Waits entry) = (entry ≡ made_in s + 1)
-    × ((n : ℕ) → asker_at n (entries_in (with_take (ask_of client invoke x) now s)) ≡ cond (n == entry) (Some (client, invoke)) (asker_at n (entries_in s)))
+    × ((n : ℕ) → asker_at n (entries_in (with_take client invoke x now s)) ≡ cond (n == entry) (Some (client, invoke)) (asker_at n (entries_in s)))
 
-pub takes : (client invoke : ℕ) (now : Moment) (x : TakeControl) (s : Sem) → Rises 0 s.entries s.made → first_of (take_conditions_in client x (Token s)) ≡ None
-    → Takes client invoke now x (Token s) (take_told_in x (Token s))
-takes client invoke now x s rises none = by_token (has_token x.preempt s) (take_told s client invoke x now none)
+pub takes : (client invoke : ℕ) (now : Moment) (x : TakeControl) (s : Semaphore) → IsSound s → first_of (take_conditions_in client x s) ≡ None
+    → Takes client invoke now x s (take_told_in x s)
+takes client invoke now x (Token s) is none = by_token (has_token x.preempt s) (take_told s client invoke x now none)
   where
-    by_token : (b : Bool)
-        → answer_of (outcome s (ask_of client invoke x) now) (s.made + 1) (ask_of client invoke x)
-        ≡ Ok (if b then token.Granted (grant_to (s.made + 1) (ask_of client invoke x)) else token.Waits (s.made + 1))
+    ask : Ask
+    ask = ask_of client invoke None x
+
+    by_token : (b : Bool) → answer_of (outcome s ask now) (s.made + 1) ask ≡ Ok (if b then token.Granted (grant_to (s.made + 1) ask) else token.Waits (s.made + 1))
         → Takes client invoke now x (Token s) (if b then Answered NoResult else Waits (s.made + 1))
-    by_token true h = has-one s (ask_of client invoke x) now rises (outcome s (ask_of client invoke x) now) refl h
-    by_token false h = (refl, waits-one s (ask_of client invoke x) now rises (outcome s (ask_of client invoke x) now) h)
+    by_token true h = has-one s ask now is.rises (outcome s ask now) refl h
+    by_token false h = (refl, waits-one s ask now is.rises (outcome s ask now) h)
+takes client invoke now x (Pool p) is none = by_token (pool.has_token x.preempt place p) (pool_take_told p client invoke x now none)
+  where
+    place : Option ℕ
+    place = place_asked x.token p.tokens
+
+    ask : Ask
+    ask = ask_of client invoke place x
+
+    by_token : (b : Bool)
+        → pool.answer_of (pool.outcome p ask now) (p.made + 1) ask
+        ≡ Ok (if b then token.Granted (pool.grant_to (p.made + 1) ask (pool.token_got x.preempt place p)) else token.Waits (p.made + 1))
+        → Takes client invoke now x (Pool p) (if b then Answered (pool_answer x.preempt place p) else Waits (p.made + 1))
+    by_token true h = has-named p ask now is.rises (pool.outcome p ask now) (pool.token_got x.preempt place p) refl h
+    by_token false h = (refl, waits-named p ask now is.rises (pool.outcome p ask now) h)
 
 pub own-name : (client d : ℕ) (asked : ObjectName) → scope_eq (key_of client asked).scope (Association d) ≡ true → client ≡ d
 own-name client d (name.Vmd item) h = absurd (cc h)

@@ -29,13 +29,13 @@ use Rattle.association.specs.Client.{ClientRow}
 use Rattle.association.specs.Negotiation.{negotiation}
 use Rattle.association.specs.Waiting.{is_waiting}
 use Rattle.cell_config.specs.declared.config.Config.{Config}
-use Rattle.token_sem.specs.declared.entry.Grant.{Grant}
-use Rattle.mms_time.specs.Loss.{lost_grants}
-use Rattle.mms_time.specs.Services.{relinquish_grant, take_told}
+use Rattle.mms_time.specs.Services.{take_told}
 use Rattle.mms_time.specs.declared.taking.TakeDone.{TakeDone}
 use Rattle.mms_time.specs.declared.taking.TakeDone.TheVariants as taken
 use Rattle.parted_state.specs.Lists.{get_changed, get_change, length-change}
 use Rattle.parted_state.specs.Served.{delivered, reached, row_at}
+use Rattle.sem_ticks.specs.Granted.{lost_granted, relinquish_granted}
+use Rattle.sem_ticks.specs.declared.granted.Granted.{Granted}
 use Rattle.sem_ticks.specs.declared.ticks.Happening.{Happening}
 use Rattle.sem_ticks.specs.declared.ticks.Happening.TheVariants as happens
 use Rattle.cell_services.specs.Association.{Verdict, Tells, Takes, Concludes, Cancels, Aborts, verdict, verdict_by, idle_verdict, open_verdict, admitted, requested, concluded, cancelled, negotiated, refused, loss_told, other_error}
@@ -189,7 +189,7 @@ by-kept (Open values) row heard = open-kept values row heard
 
 -- ---- each event
 
-grants-kept : (grants : List Grant) → AreKept (grants_told grants)
+grants-kept : (grants : List Granted) → AreKept (grants_told grants)
 grants-kept [] = tt
 grants-kept (g ∷ grants) = (tt, (tt, grants-kept grants))
 
@@ -205,13 +205,13 @@ module _ (t : Tables) (row : ClientRow) where
   took invoke (Some (taken.Answered told)) asked = tt
   took invoke (Some (taken.Waits entry)) asked = (tt, tt)
 
-  gave : (o : Option (Option Grant)) (asked : RelinquishControl) → AreKept (relinquish_outcome t row.client asked o).also
+  gave : (o : Option (Option Granted)) (asked : RelinquishControl) → AreKept (relinquish_outcome t row.client asked o).also
   gave None asked = tt
   gave (Some grant) asked = grants-kept (option_to_list grant)
 
   effect-kept : (invoke : ℕ) (asked : Request) → AreKept (effect t row invoke asked).also
   effect-kept invoke (request.TakeControl x) = took invoke (take_told row.client x t.semaphores) x
-  effect-kept invoke (request.RelinquishControl x) = gave (relinquish_grant row.client x t.semaphores) x
+  effect-kept invoke (request.RelinquishControl x) = gave (relinquish_granted row.client x t.semaphores) x
   effect-kept invoke asked = tt
 
   also-kept : (v : Verdict) → AreKept (also_told t row v)
@@ -221,9 +221,9 @@ module _ (t : Tables) (row : ClientRow) where
       by_served true = effect-kept invoke asked
       by_served false = tt
   also-kept (Tells effects) = tt
-  also-kept Concludes = grants-kept (lost_grants row.client (moment_of t) t.semaphores)
+  also-kept Concludes = grants-kept (lost_granted row.client (moment_of t) t.semaphores)
   also-kept (Cancels invoke) = tt
-  also-kept Aborts = grants-kept (lost_grants row.client (moment_of t) t.semaphores)
+  also-kept Aborts = grants-kept (lost_granted row.client (moment_of t) t.semaphores)
 
   answered-kept : (invoke : ℕ) (told : Option Answer) → AllKept (answer_told invoke told)
   answered-kept invoke None = tt
@@ -250,7 +250,7 @@ module _ (t : Tables) (row : ClientRow) where
 
   lost-kept : (a : Association) → AreKept (also_lost a row.client t)
   lost-kept Idle = tt
-  lost-kept (Open values) = grants-kept (lost_grants row.client (moment_of t) t.semaphores)
+  lost-kept (Open values) = grants-kept (lost_granted row.client (moment_of t) t.semaphores)
 
 -- an event that is no drain
 abbrev IsNoDrain : CellEvent → Type 0

@@ -1,29 +1,33 @@
 -- A token whose control times out while time goes by goes to the first that waits, or is free.
-use Rattle.std.proofs.Common.{◌≡◌, ℕ, zero, suc, ◌≤◌, Bool, true, ◌==◌, List, [], ◌∷◌, ◌++◌, length, Option, None, Some, option_and_then, option_map, if◌then◌else◌, refl, sym, ◌∙◌, ap, subst, arith}
+use Rattle.std.proofs.Common.{◌≡◌, ℕ, zero, suc, ◌≤◌, Bool, true, false, ◌==◌, List, [], ◌∷◌, ◌++◌, length, Option, None, Some, option_and_then, option_map, if◌then◌else◌, refl, sym, ◌∙◌, ap, subst, arith}
 use Rattle.std.specs.List.{Contains}
 use Rattle.std.specs.Map.{lookup}
 use Rattle.std.proofs.lemmas.List.Elements.{Contains-append_left, Contains-append_right}
 use Rattle.mms_types.specs.Order.{key_eq}
 use Rattle.mms_types.specs.declared.event.CellEvent.TheVariants.{Tick}
+use Rattle.mms_types.specs.declared.key.Key.{Key}
 use Rattle.mms_types.specs.declared.moment.Moment.{Moment}
 use Rattle.association.specs.Client.{ClientRow}
 use Rattle.cell_config.specs.declared.config.Config.{Config}
 use Rattle.cell_config.specs.Said.{IsConfig}
 use Rattle.mms_types.specs.declared.event.CellEvent.{CellEvent}
 use Rattle.token_sem.specs.declared.entry.Expired.{Expired}
-use Rattle.token_sem.specs.declared.entry.Grant.{Grant}
 use Rattle.token_sem.specs.declared.entry.SemEntry.{SemEntry}
-use Rattle.token_sem.specs.Semaphore.{IsSem, Sem, after_cancel, expired_of, grant_of, is_queued, next, numbered, without}
+use Rattle.token_sem.specs.Semaphore.{is_queued, numbered, without}
 use Rattle.token_sem.specs.Semaphore as token
 use Rattle.token_sem.proofs.Keeping.{Among, among-find}
+use Rattle.pool_sem.specs.Pools as pool
 use Rattle.mms_time.specs.Deadlines.{NamedDeadline, expired, expired_entry, expired_in, expire_after, next_due, without_due}
 use Rattle.mms_time.specs.Semaphores.{IsSound, Rows, entries_in, entries_of, entry_in}
 use Rattle.mms_time.specs.declared.row.Semaphore.{Semaphore}
-use Rattle.mms_time.specs.declared.row.Semaphore.TheVariants.{Token}
+use Rattle.mms_time.specs.declared.row.Semaphore.TheVariants.{Token, Pool}
 use Rattle.mms_time.specs.declared.row.SemaphoreRow.{SemaphoreRow}
 use Rattle.parted_state.specs.Served.{delivered}
+use Rattle.sem_ticks.specs.Granted.{granted}
 use Rattle.sem_ticks.specs.Sound.{AreSound}
-use Rattle.sem_ticks.specs.Ticks.{Ticking, abort_told, entries_left, expiry_told, granted, met, met_as, next_met, ticked_on}
+use Rattle.sem_ticks.specs.Ticks.{Ticking, abort_told, entries_left, expiry_told, met, met_as, next_met, ticked_on}
+use Rattle.sem_ticks.specs.Ticks as ticks
+use Rattle.sem_ticks.specs.declared.granted.Granted.{Granted}
 use Rattle.sem_ticks.specs.declared.ticks.Happening.{Happening}
 use Rattle.sem_ticks.specs.declared.ticks.Happening.TheVariants as happens
 use Rattle.sem_ticks.proofs.Kept.{row_found}
@@ -37,13 +41,15 @@ use Rattle.mms_step.specs.Step.{replay, step}
 use Rattle.mms_step.proofs.Outboxes.{ticked_to}
 use Rattle.mms_step.proofs.PartsAfter.{step_sized}
 use Rattle.mms_step.proofs.Sound.{replay_sound}
-use Rattle.cell_laws.specs.Freed.{IsPassedOn, TimesOut, after_met}
+use Rattle.cell_laws.specs.Freed.{IsPassedOn, TimesOut, after_met, grant_of, held_found, held_in, token_held}
 use Rattle.cell_laws.specs.Linked.{asker}
 use Rattle.cell_laws.proofs.Bound.{Bound}
-use Rattle.cell_laws.proofs.Freeing.{Found, IsTold, found-changed, freed, next-left, passes-on}
+use Rattle.cell_laws.proofs.Entries.{leaving}
+use Rattle.cell_laws.proofs.Freeing.{Found, Gone, IsTold, found-changed, freed, gone, granted-same, next_of, passes-on}
 use Rattle.cell_laws.proofs.Granted.{happened-none, next-range, told-of}
 use Rattle.cell_laws.proofs.Hears.{waits_in}
 use Rattle.cell_laws.proofs.Linking.{Meanwhile, next-keeps}
+use Rattle.cell_laws.proofs.Meetings.{expiry-is, expiry_by}
 use Rattle.cell_laws.proofs.Replayed.{replay_linked}
 use Rattle.cell_laws.proofs.Sent.{told-many}
 
@@ -79,7 +85,7 @@ still-happened until h t is = settle-keeps (next_met until) (λ u. Contains u.ha
         by_expired d (Some x) g =
             let one : met_as u d x ≡ v = cc g in
             subst (λ (w : Ticking). Contains w.happened h) one
-            (Contains-append_left u.happened (expiry_told x ++ abort_told x.abort x.client d.at (expire_after d.key d.entry d.at u.rows)) h was)
+            (Contains-append_left u.happened (expiry_told (expire_after d.key d.entry d.at u.rows) d.key x ++ abort_told x.abort x.client d.at (expire_after d.key d.entry d.at u.rows)) h was)
 
         by_due : (o : Option NamedDeadline) → option_and_then (met u) o ≡ Some v → Contains v.happened h
         by_due None g = absurd (cc g)
@@ -88,20 +94,31 @@ still-happened until h t is = settle-keeps (next_met until) (λ u. Contains u.ha
 -- ---- the entry at a point
 
 pub record Due (rows : Rows) (due : NamedDeadline) (entry : SemEntry) : Type 0 where
-  pub sem : Sem
+  pub sem : Semaphore
   pub found : Found due.key rows sem
-  pub sound : IsSem sem
-  pub at : numbered due.entry sem.entries ≡ Some entry
+  pub sound : IsSound sem
+  pub at : numbered due.entry (entries_in sem) ≡ Some entry
 
 due-found : (rows : Rows) (due : NamedDeadline) (entry : SemEntry) → AreSound rows → entry_in due.key due.entry rows ≡ Some entry → Due rows due entry
 due-found rows due entry sound is = by_row (lookup (key_eq due.key) rows) refl is
   where
-    by_semaphore : (row : SemaphoreRow) → lookup (key_eq due.key) rows ≡ Some row → (t : Semaphore) → row.semaphore ≡ t → IsSound t → numbered due.entry (entries_in t) ≡ Some entry → Due rows due entry
-    by_semaphore row there (Token s) same is_sound at = record { sem = s; found = record { row = row; there = there; is = same }; sound = is_sound; at = at }
-
     by_row : (o : Option SemaphoreRow) → lookup (key_eq due.key) rows ≡ o → option_and_then (λ row. numbered due.entry (entries_of row)) o ≡ Some entry → Due rows due entry
     by_row None e h = absurd (cc h)
-    by_row (Some row) e h = by_semaphore row e row.semaphore refl (row_found rows due.key row sound.each e) h
+    by_row (Some row) e h = record {
+      sem = row.semaphore;
+      found = record { row = row; there = e; is = refl };
+      sound = row_found rows due.key row sound.each e;
+      at = h;
+    }
+
+-- one that has a token goes
+due-freed : (t : Semaphore) (number : ℕ) (now : Moment) (e : SemEntry) → numbered number (entries_in t) ≡ Some e → is_queued e ≡ false → without_due number now t ≡ freed e now t
+due-freed (Token s) number now e at holds =
+    ap (λ (o : Option SemEntry). Token (token.expired_entry o now s)) at
+    ∙ ap (λ (b : Bool). Token (if b then token.after_cancel s e.number else record s { entries = token.after_freeing now (without e.number s.entries) })) holds
+due-freed (Pool p) number now e at holds =
+    ap (λ (o : Option SemEntry). Pool (pool.expired_entry o now p)) at
+    ∙ ap (λ (b : Bool). Pool (if b then pool.after_cancel p e.number else record p { entries = pool.after_leaving e now p.entries })) holds
 
 module _ (count : ℕ) (s : State) (sound : IsSoundState count s) (bound : Bound (asker s.semaphores) (waits_in s.clients)) (ms : ℕ) (point : Ticking) (due : NamedDeadline)
     (entry : SemEntry) (times : TimesOut s ms point due entry) where
@@ -119,18 +136,23 @@ module _ (count : ℕ) (s : State) (sound : IsSoundState count s) (bound : Bound
   pub has : Due point.rows due entry
   has = due-found point.rows due entry at_point.sound times.its
 
-  among : Among has.sem.entries entry × ((entry.number == due.entry) ≡ true)
-  among = among-find (λ e. e.number == due.entry) has.sem.entries entry has.at
+  among : Among (entries_in has.sem) entry × ((entry.number == due.entry) ≡ true)
+  among = among-find (λ e. e.number == due.entry) (entries_in has.sem) entry has.at
+
+  -- the semaphores then
+  abbrev pub later : Rows
+  later = expire_after due.key due.entry due.at point.rows
 
   -- what is told of it
-  pub is_expired : expired due.key due.entry point.rows ≡ Some (expired_of entry has.sem.entries)
+  abbrev pub expiry : Expired
+  expiry = expiry_by (leaving has.sem) entry (entries_in has.sem)
+
+  pub is_expired : expired due.key due.entry point.rows ≡ Some expiry
   is_expired =
       ap (option_and_then (expired_in due.entry)) has.found.there
-      ∙ ap (λ (t : Semaphore). expired_entry (entries_in t) (numbered due.entry (entries_in t))) has.found.is
-      ∙ ap (expired_entry has.sem.entries) has.at
-
-  abbrev pub expiry : Expired
-  expiry = expired_of entry has.sem.entries
+      ∙ ap (λ (t : Semaphore). expired_entry t (numbered due.entry (entries_in t))) has.found.is
+      ∙ ap (expired_entry has.sem) has.at
+      ∙ ap Some (expiry-is entry has.sem)
 
   pub then_on : ticked_on until (record { rows = s.semaphores; happened = [] }) ≡ ticked_on until (met_as point due expiry)
   then_on =
@@ -138,56 +160,64 @@ module _ (count : ℕ) (s : State) (sound : IsSoundState count s) (bound : Bound
       ∙ tick_meets until point (met_as point due expiry) (ap (option_and_then (met point)) times.next ∙ ap (option_map (met_as point due)) is_expired)
 
   -- whatever is told then has happened after the event
-  pub happens-then : (g : Grant)
-      → Contains (expiry_told expiry ++ abort_told expiry.abort expiry.client due.at (expire_after due.key due.entry due.at point.rows)) (happens.Grants g)
+  pub happens-then : (g : Granted) → Contains (expiry_told later due.key expiry ++ abort_told expiry.abort expiry.client due.at later) (happens.Grants g)
       → Contains (meanwhile ms (cell.tables_of s)).happened (happens.Grants g)
   happens-then g is =
       subst (λ (t : Ticking). Contains t.happened (happens.Grants g)) (sym then_on)
       (still-happened until (happens.Grants g) (met_as point due expiry)
-      (Contains-append_right point.happened (expiry_told expiry ++ abort_told expiry.abort expiry.client due.at (expire_after due.key due.entry due.at point.rows)) (happens.Grants g) is))
+      (Contains-append_right point.happened (expiry_told later due.key expiry ++ abort_told expiry.abort expiry.client due.at later) (happens.Grants g) is))
 
   -- who is granted a token then is told
-  pub told-then : (e : SemEntry) → (1 ≤ e.client) × (e.client ≤ length s.clients) → Contains (meanwhile ms (cell.tables_of s)).happened (happens.Grants (grant_of e)) → IsTold after e
-  told-then e range is =
-      told-of after e range.0 (let few = range.1 in let sized = step_sized s (Tick ms) in omega (arith, few, sized))
-      (happened-none (meanwhile ms (cell.tables_of s)).happened s.clients (grant_of e) is) (ticked_to s ms (grant_of e) is)
+  pub told-then : (key : Key) (rows : Rows) (token : Option ℕ) (e : SemEntry) → (1 ≤ e.client) × (e.client ≤ length s.clients)
+      → Contains (meanwhile ms (cell.tables_of s)).happened (happens.Grants (granted rows (key, grant_of token e))) → IsTold after e (granted rows (key, grant_of token e))
+  told-then key rows token e range is =
+      told-of after key rows token e range.0 (let few = range.1 in let sized = step_sized s (Tick ms) in omega (arith, few, sized))
+      (happened-none (meanwhile ms (cell.tables_of s)).happened s.clients (granted rows (key, grant_of token e)) is) (ticked_to s ms (granted rows (key, grant_of token e)) is)
 
-  told : (e : SemEntry) → next has.sem.entries ≡ Some e → IsTold after e
-  told e first = told-then e (range.0, few) (happens-then (grant_of e) (Contains-append_left (expiry_told expiry) _ (happens.Grants (grant_of e)) grants))
+  abbrev named : Option ℕ
+  named = held_in entry has.sem
+
+  goes : Gone has.sem entry due.at
+  goes = gone has.sem entry due.at has.sound among.0 times.holds
+
+  then_found : Found due.key later (freed entry due.at has.sem)
+  then_found =
+      found-changed due.key point.rows has.sem has.found (without_due due.entry due.at) (freed entry due.at has.sem) (due-freed has.sem due.entry due.at entry has.at times.holds)
+
+  told : (e : SemEntry) → next_of named (entries_in has.sem) ≡ Some e → IsTold after e (granted point.rows (due.key, grant_of named e))
+  told e first =
+      subst (IsTold after e) (granted-same due.key point.rows later has.sem (freed entry due.at has.sem) (grant_of named e) has.found then_found goes.names)
+      (told-then due.key later named e (range.0, few)
+      (happens-then (granted later (due.key, grant_of named e)) (Contains-append_left (expiry_told later due.key expiry) _ (happens.Grants (granted later (due.key, grant_of named e))) grants)))
     where
       clients : List ClientRow
       clients = delivered cell (all_told point.happened) s.clients
 
       range : (1 ≤ e.client) × (e.client ≤ length clients)
-      range = next-range due.key point.rows has.sem clients has.found has.sound at_point.bound e first
+      range = next-range due.key point.rows has.sem clients has.found has.sound at_point.bound named e first
 
       few : e.client ≤ length s.clients
       few = let low = range.1 in let many = told-many (all_told point.happened) s.clients in omega (arith, low, many)
 
-      heir : next (without entry.number has.sem.entries) ≡ Some e
-      heir = next-left has.sem entry has.sound among.0 times.holds ∙ first
+      heir : (leaving has.sem).heir entry (entries_in has.sem) ≡ Some (grant_of named e)
+      heir = goes.heir ∙ ap (option_map (grant_of named)) first
 
-      tells : expiry_told expiry ≡ happens.Grants (grant_of e) ∷ []
+      tells : expiry_told later due.key expiry ≡ happens.Grants (granted later (due.key, grant_of named e)) ∷ []
       tells =
-          ap (λ (b : Bool). if b then happens.WaitEnds entry.client entry.invoke ∷ [] else granted (if b then None else option_map grant_of (next (without entry.number has.sem.entries)))) times.holds
-          ∙ ap (λ (o : Option SemEntry). granted (option_map grant_of o)) heir
+          ap (λ (b : Bool). if b then happens.WaitEnds entry.client entry.invoke ∷ [] else ticks.grant_told later due.key (if b then None else (leaving has.sem).heir entry (entries_in has.sem))) times.holds
+          ∙ ap (ticks.grant_told later due.key) heir
 
-      grants : Contains (expiry_told expiry) (happens.Grants (grant_of e))
-      grants = subst (λ (l : List Happening). Contains l (happens.Grants (grant_of e))) (sym tells) (zero, omega arith, refl)
+      grants : Contains (expiry_told later due.key expiry) (happens.Grants (granted later (due.key, grant_of named e)))
+      grants = subst (λ (l : List Happening). Contains l (happens.Grants (granted later (due.key, grant_of named e)))) (sym tells) (zero, omega arith, refl)
 
-  -- the semaphores then
-  pub then_found : Found due.key (expire_after due.key due.entry due.at point.rows) (freed entry.number due.at has.sem)
-  then_found =
-      found-changed due.key point.rows has.sem has.found (without_due due.entry due.at) (freed entry.number due.at has.sem)
-      (ap (λ (o : Option SemEntry). Token (token.expired_entry o due.at has.sem)) has.at
-      ∙ ap (λ (b : Bool). Token (if b then after_cancel has.sem entry.number else freed entry.number due.at has.sem)) times.holds)
-
-  pub timed-out : IsPassedOn due.key due.at point.rows (expire_after due.key due.entry due.at point.rows) after
+  pub timed-out : IsPassedOn due.key (token_held due.key entry point.rows) due.at point.rows later after
   timed-out =
-      passes-on due.key due.at point.rows (expire_after due.key due.entry due.at point.rows) after has.sem entry has.sound among.0 times.holds has.found then_found told
+      subst (λ (place : Option ℕ). IsPassedOn due.key place due.at point.rows later after)
+      (sym (ap (held_found entry) has.found.there ∙ ap (held_in entry) has.found.is))
+      (passes-on due.key due.at point.rows later after has.sem entry has.sound among.0 times.holds has.found then_found told)
 
 pub replay_timed_out : (config : Config) (history : List CellEvent) (ms : ℕ) (point : Ticking) (due : NamedDeadline) (entry : SemEntry) → IsConfig config
     → TimesOut (replay config history) ms point due entry
-    → IsPassedOn due.key due.at point.rows (expire_after due.key due.entry due.at point.rows) (step (replay config history) (Tick ms))
+    → IsPassedOn due.key (token_held due.key entry point.rows) due.at point.rows (expire_after due.key due.entry due.at point.rows) (step (replay config history) (Tick ms))
 replay_timed_out config history ms point due entry is times =
     timed-out (length history) (replay config history) (replay_sound config history is) (replay_linked config history is).bound ms point due entry times

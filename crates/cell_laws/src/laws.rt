@@ -1,14 +1,19 @@
 //! What holds of every history.
 
-ghost use Rattle.std.specs.Prelude.{◌≡◌, ℕ, ◌≤◌, false, true, List, Some, [], ◌++◌, length};
+ghost use Rattle.std.specs.Prelude.{◌≡◌, ℕ, ◌≤◌, false, true, List, None, Option, Some, [], ◌∷◌, ◌++◌, length};
+ghost use Rattle.std.specs.Map.{lookup};
+ghost use Rattle.mms_types.specs.Order.{key_eq, scope_eq};
 ghost use Rattle.mms_types.specs.declared.event.CellEvent.{CellEvent};
 ghost use Rattle.mms_types.specs.declared.event.CellEvent.TheVariants.{Drain, Heard, Tick};
 ghost use Rattle.mms_types.specs.declared.event.What.{What};
 ghost use Rattle.mms_types.specs.declared.key.Key.{Key};
+ghost use Rattle.mms_types.specs.declared.key.Scope.TheVariants.{Association};
+ghost use Rattle.mms_types.specs.declared.moment.Moment.{Moment};
 ghost use Rattle.token_sem.specs.declared.entry.SemEntry.{SemEntry};
 ghost use Rattle.token_sem.specs.Semaphore.{is_owner};
 ghost use Rattle.mms_time.specs.Deadlines.{NamedDeadline, expire_after};
 ghost use Rattle.mms_time.specs.Loss.{lost};
+ghost use Rattle.mms_time.specs.Semaphores.{Rows};
 ghost use Rattle.sem_ticks.specs.Ticks.{Ticking};
 ghost use Rattle.cell_config.specs.declared.config.Config.{Config};
 ghost use Rattle.cell_config.specs.Said.{IsConfig};
@@ -18,7 +23,7 @@ ghost use Rattle.association.specs.declared.negotiation.Association.TheVariants.
 ghost use Rattle.association.specs.declared.negotiation.Negotiated.{Negotiated};
 ghost use Rattle.parted_state.specs.Served.{row_at};
 ghost use Rattle.mms_step.specs.Partition.{cell};
-ghost use Rattle.cell_laws.specs.Freed.{GivesBack, IsPassedOn, Leaves, OwnsUnkept, TimesOut};
+ghost use Rattle.cell_laws.specs.Freed.{GivesBack, IsPassedOn, Leaves, OwnsNamed, OwnsUnkept, TimesOut, lost_so_far, owners_at, token_held, token_named};
 ghost use Rattle.cell_laws.specs.Linked.{AreLinked};
 ghost use Rattle.cell_laws.specs.Tally.{HaveOneAnswerEach, account, drained, drains, sent_to, told_in};
 
@@ -58,31 +63,68 @@ pub fn what_is_sent_is_in_the_outbox()
         ≡ older ++ (account config history client).sent) }
 {}
 
-/// A token that is freed goes, at that point of the event, to the queued entry of least rank, by priority and then by
-/// number: it is an owner entry from that moment on, and after the event its request waits no more, and its positive
-/// answer is in its client's outbox. Where no entry is queued, one more token is free. A token is freed where a client
-/// gives it back; where control of an entry that has it times out, while time goes by; and where the client of an
-/// owner entry is lost, unless it keeps the token: because its association ends, or is aborted as control times out.
+/// A token that is freed goes, at that point of the event, to the entry of least rank, by priority and then by number,
+/// of those that wait for it or for any: it is an owner entry from that moment on, and after the event its request waits
+/// no more, and its positive answer is in its client's outbox. Where no entry waits for it, it is free. A token is freed
+/// where a client gives it back; where control of an entry that has it times out, while time goes by; and where the
+/// client of an owner entry is lost, unless it keeps the token: because its association ends, or is aborted as control
+/// times out. Of equal tokens a client owns one at most; of a pool it may own several, of which the next law tells.
 pub fn a_freed_token_is_passed_on()
     ensures given_back { (config : Config) (history : List CellEvent) (client : ℕ) (octets : List ℕ) (key : Key)
-        → IsConfig config → GivesBack (replay config history) client octets key
-        → IsPassedOn key (record { 0 = (replay config history).now }) (replay config history).semaphores
+        (token : Option (List ℕ))
+        → IsConfig config → GivesBack (replay config history) client octets key token
+        → IsPassedOn key (token_named key token (replay config history).semaphores)
+        (record { 0 = (replay config history).now }) (replay config history).semaphores
         (step (replay config history) (Heard client octets)).semaphores
         (step (replay config history) (Heard client octets)) }
     ensures timed_out { (config : Config) (history : List CellEvent) (ms : ℕ) (point : Ticking) (due : NamedDeadline)
         (entry : SemEntry) → IsConfig config → TimesOut (replay config history) ms point due entry
-        → IsPassedOn due.key due.at point.rows (expire_after due.key due.entry due.at point.rows)
-        (step (replay config history) (Tick ms)) }
+        → IsPassedOn due.key (token_held due.key entry point.rows) due.at point.rows
+        (expire_after due.key due.entry due.at point.rows) (step (replay config history) (Tick ms)) }
     ensures left { (config : Config) (history : List CellEvent) (event : CellEvent) (client : ℕ) (key : Key)
         → IsConfig config → Leaves client (replay config history) event
         → OwnsUnkept key (replay config history).semaphores client
-        → IsPassedOn key (record { 0 = (replay config history).now }) (replay config history).semaphores
+        → IsPassedOn key None (record { 0 = (replay config history).now }) (replay config history).semaphores
         (step (replay config history) event).semaphores (step (replay config history) event) }
     ensures aborted { (config : Config) (history : List CellEvent) (ms : ℕ) (point : Ticking) (due : NamedDeadline)
         (entry : SemEntry) (key : Key) → IsConfig config → TimesOut (replay config history) ms point due entry
         → is_owner entry ≡ true → entry.abort ≡ Some true
         → OwnsUnkept key (expire_after due.key due.entry due.at point.rows) entry.client
-        → IsPassedOn key due.at (expire_after due.key due.entry due.at point.rows)
+        → IsPassedOn key None due.at (expire_after due.key due.entry due.at point.rows)
         (lost entry.client due.at (expire_after due.key due.entry due.at point.rows))
         (step (replay config history) (Tick ms)) }
+{}
+
+/// The tokens of a pool that a client owns who is lost are freed one after the other, in order of number of their
+/// entries, when the client waits no more: at its point of the loss each that isn't kept goes to the entry of least
+/// rank of those that wait for it or for any then, whose positive answer is in its client's outbox after the event; or
+/// no entry waits for it, and it is free. After the last of them the semaphore is as the loss leaves it.
+pub fn tokens_of_a_pool_are_passed_on_in_order()
+    ensures left { (config : Config) (history : List CellEvent) (event : CellEvent) (client : ℕ) (key : Key)
+        (first : List SemEntry) (owner : SemEntry)
+        → IsConfig config → Leaves client (replay config history) event
+        → OwnsNamed key (replay config history).semaphores client first owner
+        → IsPassedOn key owner.token (record { 0 = (replay config history).now })
+        (lost_so_far client (record { 0 = (replay config history).now }) first key (replay config history).semaphores)
+        (lost_so_far client (record { 0 = (replay config history).now }) (first ++ owner ∷ []) key
+        (replay config history).semaphores) (step (replay config history) event) }
+    ensures left_last { (config : Config) (history : List CellEvent) (event : CellEvent) (client : ℕ) (key : Key)
+        → IsConfig config → Leaves client (replay config history) event
+        → scope_eq key.scope (Association client) ≡ false
+        → lookup (key_eq key) (step (replay config history) event).semaphores
+        ≡ lookup (key_eq key) (lost_so_far client (record { 0 = (replay config history).now })
+        (owners_at key client (replay config history).semaphores) key (replay config history).semaphores) }
+    ensures aborted { (config : Config) (history : List CellEvent) (ms : ℕ) (point : Ticking)
+        (due : NamedDeadline) (entry : SemEntry) (key : Key) (first : List SemEntry) (owner : SemEntry)
+        → IsConfig config → TimesOut (replay config history) ms point due entry
+        → is_owner entry ≡ true → entry.abort ≡ Some true
+        → OwnsNamed key (expire_after due.key due.entry due.at point.rows) entry.client first owner
+        → IsPassedOn key owner.token due.at
+        (lost_so_far entry.client due.at first key (expire_after due.key due.entry due.at point.rows))
+        (lost_so_far entry.client due.at (first ++ owner ∷ []) key
+        (expire_after due.key due.entry due.at point.rows)) (step (replay config history) (Tick ms)) }
+    ensures aborted_last { (client : ℕ) (now : Moment) (key : Key) (rows : Rows)
+        → scope_eq key.scope (Association client) ≡ false
+        → lookup (key_eq key) (lost client now rows)
+        ≡ lookup (key_eq key) (lost_so_far client now (owners_at key client rows) key rows) }
 {}
