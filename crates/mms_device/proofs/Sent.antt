@@ -37,10 +37,10 @@ pub lists_send : IsSend Lists.the_row
 lists_send = let a = lists_inside in search sendable
 
 pub cell_send : IsSend Cell.the_row
-cell_send = declared_send Cell.the_type (search (crosses, sendable, type_knot.crosses, identifier.the_send) depth 20, (search (crosses, sendable, data_knot.crosses, octets.the_send, bits.the_send) depth 20, tt))
+cell_send = declared_send Cell.the_type (search (crosses, sendable, type_knot.crosses, identifier.the_send) depth 20, (search (crosses, sendable, data_knot.crosses, octets.the_send, bits.the_send) depth 20, (search (crosses, sendable, identifier.the_send) depth 20, tt)))
 
 pub vars_inside : IsSend vars.the_row
-vars_inside = declared_send vars.the_type (let a = cell_send in search (crosses, sendable) depth 20, (named.the_send Variable.the_row variable.the_send, tt))
+vars_inside = declared_send vars.the_type (let a = cell_send in search (crosses, sendable) depth 20, (named.the_send Variable.the_row variable.the_send, (search (crosses, sendable) depth 20, tt)))
 
 pub vars_send : IsSend Vars.the_row
 vars_send = let a = vars_inside in search sendable
