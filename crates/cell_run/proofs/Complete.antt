@@ -8,17 +8,16 @@ use Rattle.cell_record.specs.Grammar.{ReadsRecording}
 use Rattle.cell_record.specs.History.{Interleaves}
 use Rattle.cell_record.specs.Recording.{Reading, Opening, config_in, after_opening, opening_of_text}
 use Rattle.cell_record.proofs.Valid.{recording_is_read}
-use Rattle.cell_run.specs.declared.words.Command.{Command}
-use Rattle.cell_run.specs.Words.{Serves}
+use Rattle.cell_words.specs.declared.words.Command.{Command}
+use Rattle.cell_run.specs.Bodies.{Serves}
 use Rattle.cell_run.specs.declared.status.Status.{Status}
 use Rattle.cell_run.specs.declared.status.Status.TheVariants as status
-use Rattle.cell_run.specs.Codes.{code_of}
 use Rattle.cell_run.specs.Outcome.{Completes, IsFinal, PrintsBy, WritesAll, last_line, report_of, status_of, status_for}
 
 -- what is promised of a text
 abbrev pub Promise : Command → Status → Option (List ℕ) → Option (List ℕ) → Type 0 → Type 0 → List ℕ → Type 0
 Promise command s a b R K text =
-    (config : Config) (phases : List (List CellEvent)) → ReadsRecording text config phases → (R → ⊥) → (K → ⊥) → (code_of s ≡ 3) ⊎ ((code_of s ≡ 0) × Completes command config phases a b)
+    (config : Config) (phases : List (List CellEvent)) → ReadsRecording text config phases → (R → ⊥) → (K → ⊥) → (s ≡ status.Memory) ⊎ ((s ≡ status.Done) × Completes command config phases a b)
 
 is_done : (text : List ℕ) (config : Config) (phases : List (List CellEvent)) → ReadsRecording text config phases → status_of text ≡ status.Done
 is_done text config phases r = ap (λ (y : Reading). status_for y.refusal) (recording_is_read text config phases r).1

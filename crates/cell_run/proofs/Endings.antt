@@ -1,17 +1,16 @@
 -- How a command that serves a recording ends.
-use Rattle.std.proofs.Common.{◌≡◌, ◌≢◌, ◌⊎◌, ℕ, List, [], ◌∷◌, ◌++◌, ◌≤◌, length, ap, subst, refl, sym, ◌∙◌, Some, None, Ok, Err, IfSome, arith}
+use Rattle.std.proofs.Common.{◌≡◌, ◌≢◌, ◌⊎◌, inl, inr, ℕ, List, [], ◌∷◌, ◌++◌, ◌≤◌, length, ap, subst, refl, sym, ◌∙◌, Some, None, Ok, Err, IfSome, arith}
 use Rattle.std.specs.declared.option.Option.{Option}
 use Rattle.std.specs.Io.KnownBytes.{Appends, IsAtEnd}
-use Rattle.std.proofs.KnownBytes.{Appends-nil}
 use Rattle.cell_io.specs.Faults.{Rose}
 use Rattle.cell_io.specs.Prefix.{AppendsPrefix}
 use Rattle.mms_types.specs.declared.event.CellEvent.{CellEvent}
 use Rattle.cell_config.specs.declared.config.Config.{Config}
 use Rattle.cell_record.specs.Grammar.{ReadsRecording}
 use Rattle.cell_record.specs.Recording.{Place, Reading, Opening, after_opening, config_in, opening_of_text, reading_of_text}
-use Rattle.cell_run.specs.declared.words.Command.{Command}
-use Rattle.cell_run.specs.declared.words.Command.TheVariants.{Replay, Run}
-use Rattle.cell_run.specs.Words.{Serves}
+use Rattle.cell_words.specs.declared.words.Command.{Command}
+use Rattle.cell_words.specs.declared.words.Command.TheVariants.{Replay, Run}
+use Rattle.cell_run.specs.Bodies.{Serves}
 use Rattle.cell_run.specs.declared.status.Status.{Status}
 use Rattle.cell_run.specs.declared.status.Status.TheVariants as status
 use Rattle.cell_run.specs.Codes.{code_of}
@@ -24,8 +23,8 @@ use Rattle.cell_io.specs.Held.{Held, IsLaterPart}
 use Rattle.cell_record.specs.Progress.{Becomes}
 use Rattle.cell_record.specs.Stops.{LeadsText, ReadsText, lines_in}
 use Rattle.cell_run.specs.Serving.{WritesAllOf, WritesSomeOf, WritesToStop, interleaves_self}
-use Rattle.cell_run.proofs.Fronts.{Tells, none_written}
-use Rattle.cell_run.proofs.Complete.{completes}
+use Rattle.cell_run.proofs.Fronts.{Tells}
+use Rattle.cell_run.proofs.Complete.{Promise, completes}
 
 -- phases may be served by themselves
 serves_self : (command : Command) (phases : List (List CellEvent)) → Serves command phases phases
@@ -120,10 +119,25 @@ pub rose_later : (a b c : ℕ) → a ≤ b → Rose b c → Rose a c
 rose_later a b c h r = omega (arith, h, r)
 
 -- a recording that no fault hinders
+pub done_or_memory : (command : Command) (s : Status) (input rest out after : Seen) → EndsServing command s input rest out after
+    → IfSome input.octets (Promise command s out.octets after.octets (Rose input.faults rest.faults) (Rose out.faults after.faults))
+done_or_memory command s input rest out after e = completes command s input.octets out.octets after.octets (Rose input.faults rest.faults) (Rose out.faults after.faults) e.whole e.read e.write e.known
+
+-- and by its exit status
 serving_completes : (command : Command) (s : Status) (code : ℕ) (input rest out after : Seen) → code ≡ code_of s → EndsServing command s input rest out after
     → IfSome input.octets (λ text. (config : Config) (phases : List (List CellEvent)) → ReadsRecording text config phases → (Rose input.faults rest.faults → ⊥) → (Rose out.faults after.faults → ⊥)
     → (code ≡ 3) ⊎ ((code ≡ 0) × Completes command config phases out.octets after.octets))
-serving_completes command s code input rest out after is e = rw is (completes command s input.octets out.octets after.octets (Rose input.faults rest.faults) (Rose out.faults after.faults) e.whole e.read e.write e.known)
+serving_completes command s code input rest out after is e = at input.octets (done_or_memory command s input rest out after e)
+  where
+    in_code : {X : Type 0} → (s ≡ status.Memory) ⊎ ((s ≡ status.Done) × X) → (code ≡ 3) ⊎ ((code ≡ 0) × X)
+    in_code (inl m) = inl (is ∙ ap code_of m)
+    in_code (inr d) = inr (is ∙ ap code_of d.0, d.1)
+
+    at : (left : Option (List ℕ)) → IfSome left (Promise command s out.octets after.octets (Rose input.faults rest.faults) (Rose out.faults after.faults))
+        → IfSome left (λ text. (config : Config) (phases : List (List CellEvent)) → ReadsRecording text config phases → (Rose input.faults rest.faults → ⊥) → (Rose out.faults after.faults → ⊥)
+        → (code ≡ 3) ⊎ ((code ≡ 0) × Completes command config phases out.octets after.octets))
+    at None p = tt
+    at (Some text) p = λ config phases r nr nk. in_code (p config phases r nr nk)
 
 pub completes_with : (command : Command) (asked : Option Command) (s : Status) (code : ℕ) (input rest out after : Seen) → code ≡ code_of s → asked ≡ Some command → Ends asked s input rest out after
     → IfSome input.octets (λ text. (config : Config) (phases : List (List CellEvent)) → ReadsRecording text config phases → (Rose input.faults rest.faults → ⊥) → (Rose out.faults after.faults → ⊥)
@@ -133,9 +147,3 @@ completes_with command asked s code input rest out after is e ends = serving_com
 -- the words ask for the command
 pub asked_ends : (command : Command) (asked : Option Command) (s : Status) (input rest out after : Seen) → asked ≡ Some command → EndsServing command s input rest out after → Ends asked s input rest out after
 asked_ends command asked s input rest out after is e = subst (λ (x : Option Command). Ends x s input rest out after) (sym is) e
-
--- memory was wanting before the words were read
-pub memory_ends : (asked : Option Command) (input out : Seen) → Ends asked status.Memory input input out out
-memory_ends None input out = Appends-nil out.octets
-memory_ends (Some command) input out =
-    opening_ends command status.Memory input input out out (λ e. cc) (λ f. absurd f) (none_written input.octets out.octets) (λ e. cc) (λ e. cc) (λ e. cc) (λ e. cc)

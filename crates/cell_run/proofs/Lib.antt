@@ -1,4 +1,3 @@
-mod Asked
 pub mod Alongside
 pub mod Fronts
 pub mod Phases
@@ -16,4 +15,3 @@ pub mod Given
 pub mod Laid
 pub mod Begun
 pub mod CrewPhase
-pub mod Ranges

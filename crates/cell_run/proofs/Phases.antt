@@ -14,10 +14,10 @@ use Rattle.cell_record.specs.Progress.{Becomes, IsStated}
 use Rattle.cell_record.specs.Grammar.{all_ms, phase_ms}
 use Rattle.cell_record.specs.History.{Interleaves, history}
 use Rattle.cell_record.specs.Report.{report_from}
-use Rattle.cell_run.specs.declared.words.Command.{Command}
-use Rattle.cell_run.specs.declared.words.Command.TheVariants.{Replay, Run}
+use Rattle.cell_words.specs.declared.words.Command.{Command}
+use Rattle.cell_words.specs.declared.words.Command.TheVariants.{Replay, Run}
 use Rattle.cell_run.specs.declared.status.Status.{Status}
-use Rattle.cell_run.specs.Words.{Serves}
+use Rattle.cell_run.specs.Bodies.{Serves}
 use Rattle.cell_run.specs.Outcome.{IsFinal, last_line, report_of, status_for}
 use Rattle.cell_run.specs.Running.{size_of}
 use Rattle.cell_run.specs.Serving.{body_text, interleaves_self, WritesAllOf, WritesSomeOf}

@@ -1,28 +1,27 @@
 -- How a run ends (this profile's choice).
-use Rattle.std.specs.Prelude.{◌≡◌, ◌≢◌, ◌≤◌, ℕ, List, [], IfSome, Some, None}
+use Rattle.std.specs.Prelude.{◌≡◌, ◌≢◌, ◌≤◌, ℕ, List, IfSome, Some, None}
 use Rattle.std.specs.Io.KnownBytes.{Appends, IsAtEnd}
 use Rattle.std.specs.declared.option.Option.{Option}
 use Rattle.cell_io.specs.Faults.{Rose}
 use Rattle.cell_io.specs.Prefix.{AppendsPrefix}
-use Rattle.cell_run.specs.declared.words.Command.{Command}
+use Rattle.cell_words.specs.declared.words.Command.{Command}
 use Rattle.cell_run.specs.declared.status.Status.{Status}
 use Rattle.cell_run.specs.declared.status.Status.TheVariants as status
 use Rattle.cell_run.specs.Codes.{code_of}
-use Rattle.cell_run.specs.Words.{usage_text}
-use Rattle.cell_run.specs.Outcome.{IsCut, IsFinal, WritesAll, WritesSome, status_of}
+use Rattle.cell_run.specs.Outcome.{IsCut, IsFinal, WritesAll, WritesSome, status_of, usage_text}
 
 -- what is seen of a source or a sink: what is left there or held, where that is told, and the count of faults
 pub record Seen : Type 0 where
   pub octets : Option (List ℕ)
   pub faults : ℕ
 
--- with other words the usage line is written, unless the sink fails or memory is wanting
+-- with other words the usage line is written, unless the sink fails
 abbrev pub EndsUsage : Status → Seen → Seen → Type 0
 EndsUsage status.Usage out after = Appends out.octets after.octets usage_text
 EndsUsage status.WriteFault out after = Rose out.faults after.faults × AppendsPrefix out.octets after.octets usage_text
 EndsUsage status.Done out after = ⊥
 EndsUsage status.Bad out after = ⊥
-EndsUsage status.Memory out after = Appends out.octets after.octets []
+EndsUsage status.Memory out after = ⊥
 EndsUsage status.ReadFault out after = ⊥
 EndsUsage status.BadConfig out after = ⊥
 EndsUsage status.TooMuch out after = ⊥

@@ -1,11 +1,10 @@
-pub mod Words
+pub mod Bodies
 pub mod Outcome
 pub mod Ending
 pub mod Printed
 pub mod Serving
 pub mod Codes
 pub mod Along
-pub mod Parser
 pub mod Laying
 pub mod Drained
 pub mod Jobs

@@ -6,8 +6,8 @@ use Rattle.std.specs.declared.option.Option.{Option}
 use Rattle.cell_io.specs.Lines.{whole_lines}
 use Rattle.cell_io.specs.Prefix.{AppendsPrefix}
 use Rattle.cell_record.specs.History.{Interleaves}
-use Rattle.cell_run.specs.declared.words.Command.{Command}
-use Rattle.cell_run.specs.Words.{Serves}
+use Rattle.cell_words.specs.declared.words.Command.{Command}
+use Rattle.cell_run.specs.Bodies.{Serves}
 use Rattle.mms_types.specs.declared.event.CellEvent.{CellEvent}
 use Rattle.mms_step.specs.Step.{said}
 use Rattle.cell_record.specs.declared.refusal.BadWord.{BadWord}
@@ -20,6 +20,10 @@ use Rattle.cell_record.specs.Stops.{IsRead, lines_in}
 use Rattle.cell_record.specs.Report.{report}
 use Rattle.cell_run.specs.declared.status.Status.{Status}
 use Rattle.cell_run.specs.declared.status.Status.TheVariants as status
+
+-- how the command is used
+abbrev pub usage_text : List ℕ
+usage_text = codes "usage: mmscell replay | run --workers N | stress --seed N --clients N --rounds N --workers N\n"
 
 -- ---- why a recording isn't served to its end
 

@@ -12,11 +12,11 @@ use Rattle.mms_device.specs.declared.turns.CellJob.{CellJob}
 use Rattle.cell_record.specs.Grammar.{all_ms}
 use Rattle.cell_record.specs.History.{Interleaves, history}
 use Rattle.cell_run.specs.declared.crew.Crew.{Crew}
-use Rattle.cell_run.specs.declared.words.Command.{Command}
-use Rattle.cell_run.specs.declared.words.Command.TheVariants.{Replay, Run}
+use Rattle.cell_words.specs.declared.words.Command.{Command}
+use Rattle.cell_words.specs.declared.words.Command.TheVariants.{Replay, Run}
 use Rattle.cell_run.specs.Drained.{AreKnown}
 use Rattle.cell_run.specs.Jobs.{job_of}
-use Rattle.cell_run.specs.Words.{Serves}
+use Rattle.cell_run.specs.Bodies.{Serves}
 use Rattle.cell_run.specs.Serving.{IsNext}
 
 -- What was served to a job that had served nothing: all events that were left. Their places are the new own places of its pass, and they are what it has made

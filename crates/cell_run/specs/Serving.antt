@@ -18,9 +18,9 @@ use Rattle.cell_record.specs.History.{Interleaves, history}
 use Rattle.cell_record.specs.Report.{phase_text, placed_from, taken}
 use Rattle.cell_record.specs.Stops.{Stops}
 use Rattle.cell_record.specs.declared.told.Told.{Told}
-use Rattle.cell_run.specs.declared.words.Command.{Command}
-use Rattle.cell_run.specs.declared.words.Command.TheVariants.{Replay}
-use Rattle.cell_run.specs.Words.{Serves}
+use Rattle.cell_words.specs.declared.words.Command.{Command}
+use Rattle.cell_words.specs.declared.words.Command.TheVariants.{Replay}
+use Rattle.cell_run.specs.Bodies.{Serves}
 use Rattle.cell_run.specs.Outcome.{PrintsFor, report_of}
 
 -- the text of a phase of this number that was served by this body, after a history

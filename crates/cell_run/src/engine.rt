@@ -1,34 +1,43 @@
 //! A recording, served phase by phase.
 
-ghost use Rattle.std.specs.Prelude.{◌≡◌, ◌≢◌, ◌≤◌, [], false, IfSome, None};
+ghost use Rattle.std.specs.Prelude.{◌≡◌, ◌≢◌, ◌≤◌, ◌⊎◌, [], List, false, IfSome, None};
 ghost use Rattle.std.specs.Io.KnownBytes.{Appends, IsAtEnd};
 ghost use Rattle.cell_io.specs.Faults.{Rose};
 ghost use Rattle.cell_io.specs.Held.{IsEndSeen, IsLaterPart};
 ghost use Rattle.cell_io.specs.Prefix.{AppendsPrefix};
+ghost use Rattle.mms_types.specs.declared.event.CellEvent.{CellEvent};
+ghost use Rattle.cell_config.specs.declared.config.Config.{Config};
+ghost use Rattle.cell_record.specs.Grammar.{ReadsRecording};
 ghost use Rattle.cell_record.specs.Progress.{place_of, rest_in, rest_of};
 ghost use Rattle.cell_run.specs.Ending.{EndsServing};
-ghost use Rattle.cell_run.specs.Outcome.{IsFinal, status_for};
+ghost use Rattle.cell_run.specs.Outcome.{Completes, IsFinal, status_for};
 ghost use Rattle.cell_run.specs.Serving.{WritesAllOf, WritesSomeOf, WritesToStop};
 
 use crate::last_line::refuse;
 use crate::server::Server;
 use crate::status::Status;
-use crate::words::Command;
 use cell_io::{Sink, Source, WriteError};
 use cell_record::{Recording, write_phase};
+use cell_words::Command;
 use mms_device::Whole;
 use std::alloc::Global;
 
 /// More phases than a recording has.
 pub(crate) const PHASES: u64 = 4_294_967_296;
 
-/// Serves a recording phase by phase on one thread, in its own order, and writes its report. It takes no runtime: it
-/// waits for nobody, and always returns.
-pub fn replay<S: Source, K: Sink>(alloc: Global, input: &mut S, out: &mut K) -> Status
+/// Serves a recording phase by phase on one thread, in its own order, writes its report, and tells how it ended: what
+/// `run_cell` does for the word `replay`. It takes no runtime: it waits for nobody, and always returns.
+pub fn serve_alone<S: Source, K: Sink>(alloc: Global, input: &mut S, out: &mut K) -> Status
+    // How it ends, and what was read and written.
     ensures ends { EndsServing Command.Replay result (record { octets = S.left input.old; faults = S.faults input.old }) (record { octets = S.left input.new; faults = S.faults input.new })
         (record { octets = K.held out.old; faults = K.faults out.old }) (record { octets = K.held out.new; faults = K.faults out.new }) }
     ensures reads { S.faults input.old ≤ S.faults input.new }
     ensures writes { K.faults out.old ≤ K.faults out.new }
+
+    // A recording without a fault is served and reported, unless memory runs out.
+    ensures complete { IfSome (S.left input.old) (λ text. (config : Config) (phases : List (List CellEvent))
+        → ReadsRecording text config phases → (Rose (S.faults input.old) (S.faults input.new) → ⊥) → (Rose (K.faults out.old) (K.faults out.new) → ⊥)
+        → (result ≡ Status.Memory) ⊎ ((result ≡ Status.Done) × Completes Command.Replay config phases (K.held out.old) (K.held out.new))) }
 {
     let mut recording = match Recording::open(alloc, input) {
         Ok(recording) => recording,

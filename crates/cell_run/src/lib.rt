@@ -12,7 +12,8 @@ mod server;
 mod serving;
 mod status;
 mod top;
-mod words;
 mod workers;
 
+pub use engine::serve_alone;
+pub use status::Status;
 pub use top::run_cell;

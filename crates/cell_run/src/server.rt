@@ -4,8 +4,8 @@ ghost use Rattle.std.specs.Prelude.{◌≡◌, List, IfOk};
 ghost use Rattle.mms_types.specs.declared.event.CellEvent.{CellEvent};
 ghost use Rattle.cell_config.specs.declared.config.Config.{Config};
 ghost use Rattle.cell_record.specs.History.{Interleaves};
-ghost use Rattle.cell_run.specs.declared.words.Command.{Command as CommandOf};
-ghost use Rattle.cell_run.specs.Words.{Serves};
+ghost use Rattle.cell_words.specs.declared.words.Command.{Command as CommandOf};
+ghost use Rattle.cell_run.specs.Bodies.{Serves};
 ghost use Rattle.cell_run.specs.Serving.{MayServe, ServesPhase};
 
 use cell_record::{Phase, Told};

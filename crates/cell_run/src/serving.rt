@@ -71,7 +71,7 @@ fn serve_whole(alloc: Global, device: &mut Whole, phase: Phase) -> Result<Told, 
 }
 
 impl Server for Whole {
-    ghost use Rattle.cell_run.specs.declared.words.Command.TheVariants.{Replay};
+    ghost use Rattle.cell_words.specs.declared.words.Command.TheVariants.{Replay};
     ghost use Rattle.cell_run.specs.Serving.{HasReplayed, replay_serves};
 
     ghost command = { Replay };

@@ -6,15 +6,15 @@ ghost use Rattle.cell_io.specs.Faults.{Rose};
 ghost use Rattle.mms_types.specs.declared.event.CellEvent.{CellEvent};
 ghost use Rattle.cell_config.specs.declared.config.Config.{Config};
 ghost use Rattle.cell_record.specs.Grammar.{ReadsRecording};
-ghost use Rattle.cell_run.specs.Words.{command_of as command_in, texts};
+ghost use Rattle.cell_words.specs.Words.{command_of as command_in, texts};
 ghost use Rattle.cell_run.specs.Outcome.{Completes};
 ghost use Rattle.cell_run.specs.Ending.{Ends, EndsUsage, EndsWith};
 
-use crate::engine::replay;
+use crate::engine::serve_alone;
 use crate::status::Status;
-use crate::words::{Command, command_of};
 use crate::workers::run;
 use cell_io::{Gate, Sink, Source, write_all};
+use cell_words::{Command, command_of};
 use std::alloc::Global;
 use std::sync::Wait;
 use std::thread::Threads;
@@ -49,10 +49,9 @@ fn serve<R: Threads + Wait + Sync, S: Source, K: Sink, G: Gate + Sync>(
     ensures writes { K.faults out.old ≤ K.faults out.new }
 {
     match command_of(alloc, words) {
-        Err(_) => Status::Memory,
-        Ok(None) => usage(out),
-        Ok(Some(Command::Replay)) => replay(alloc, input, out),
-        Ok(Some(Command::Run { workers })) => run(rt, alloc, workers, input, out, gate),
+        None => usage(out),
+        Some(Command::Replay) => serve_alone(alloc, input, out),
+        Some(Command::Run { workers }) => run(rt, alloc, workers, input, out, gate),
     }
 }
 
@@ -60,16 +59,16 @@ fn serve<R: Threads + Wait + Sync, S: Source, K: Sink, G: Gate + Sync>(
 ///
 /// The forms of the command are `replay` and `run --workers N`, or `--workers=N`, with 1 to 20 digits from 1 to 16. Each
 /// reads a recording from `input` to its end, serves it phase by phase, and writes the report to `out`. `replay` serves
-/// it on one thread in its own order: what it calls waits for nobody. `run` serves each phase by N workers on threads of
-/// their own, and may wait; its report is that of the one history that came about. Each caller of the device passes
-/// `gate`.
+/// it on one thread in its own order: it is `serve_alone`, which waits for nobody. `run` serves each phase by N workers
+/// on threads of their own, and may wait; its report is that of the one history that came about. Each caller of the
+/// device passes `gate`.
 ///
 /// | status | comes | written |
 /// |---|---|---|
 /// | 0 | the whole input was read, served and written | the report |
 /// | 1 | exactly where the words are no form of the command | the usage line |
 /// | 2 | exactly where a line of the recording breaks a rule | the complete phases before it, `bad <line> <word>` |
-/// | 3 | want of memory | a prefix of what was to be written |
+/// | 3 | want of memory, where the words are a form of the command | a prefix of what was to be written |
 /// | 4 | only where the source's count of faults rose | the phases that are complete in what was read |
 /// | 5 | only where the sink's count of faults rose | a prefix of what was to be written |
 /// | 6 | exactly where the configuration breaks a rule | `bad config <rule>`, of the least one that it breaks |

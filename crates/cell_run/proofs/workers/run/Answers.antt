@@ -1,4 +1,4 @@
-use Rattle.cell_run.specs.declared.words.Command.TheVariants.{Run}
+use Rattle.cell_words.specs.declared.words.Command.TheVariants.{Run}
 use Rattle.cell_run.specs.declared.status.Status.TheVariants as status
 use Rattle.cell_record.specs.Progress.{place_of, rest_in, rest_of}
 use Rattle.cell_run.proofs.Fronts.{cut_in_opening, none_written, opening_partly, opening_written}

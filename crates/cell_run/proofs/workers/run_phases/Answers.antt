@@ -5,7 +5,7 @@ use Rattle.cell_record.specs.Progress.{rest_of}
 use Rattle.cell_record.proofs.Readings.{then}
 use Rattle.cell_record.specs.History.{Interleaves}
 use Rattle.cell_run.specs.Running.{run_interleaves, run_serves}
-use Rattle.cell_run.specs.Words.{Serves}
+use Rattle.cell_run.specs.Bodies.{Serves}
 use Rattle.cell_run.proofs.Fronts.{with_phases, phases-then, later_then, leads_phases}
 use Rattle.cell_run.proofs.Phases.{some_of, refusal_all, refusal_of, whole_report, body_whole, body_part, interleaves_length, all_ms-append, size-append}
 use Rattle.cell_run.proofs.workers.run_phases.Goals as goal

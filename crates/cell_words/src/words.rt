@@ -1,14 +1,13 @@
 //! The words of the command.
 
-ghost use Rattle.std.specs.Prelude.{◌≡◌, Some, codes, not, IfOk, string_bytes};
+ghost use Rattle.std.specs.Prelude.{◌≡◌, [], ◌∷◌, Some, codes, not, IfOk, string_bytes};
 ghost use Rattle.std.specs.List.{list_all};
 ghost use Rattle.clap.specs.Words.{app_of, first_of, found_of, rows_of, subcommand_rows_of};
-ghost use Rattle.cell_run.specs.Parser.{Answers, asked_of, mmscell};
-ghost use Rattle.cell_run.specs.Words.{command_of, is_askable, is_digit, is_option, is_refused, number_in, run_of, texts};
+ghost use Rattle.cell_words.specs.Parser.{Answers, asked_of, mmscell};
+ghost use Rattle.cell_words.specs.Words.{command_of, is_askable, is_digit, is_option, is_refused, number_in, replay_of, run_of, texts, workers_text};
 
 use clap::error::ErrorKind;
 use clap::{Arg, ArgAction, ArgMatches};
-use mms_types::Memory;
 use std::alloc::{AllocError, Global};
 
 /// What the words may ask.
@@ -104,17 +103,15 @@ fn number(text: &str, least: u64, most: u64) -> Option<u64>
 }
 
 /// What the parser makes of the words: None where it refuses them.
-fn parsed<'a>(alloc: Global, words: &'a [String]) -> Result<Option<ArgMatches<'a>>, Memory>
+fn parsed<'a>(alloc: Global, words: &'a [String]) -> Result<Option<ArgMatches<'a>>, AllocError>
     ensures { IfOk result (Answers (texts words.entry.now)) }
 {
-    let Ok(app) = app(alloc) else {
-        return Err(Memory);
-    };
+    let app = app(alloc)?;
     match app.try_get_matches_from(words) {
         Ok(matches) => Ok(Some(matches)),
         Err(error) => {
             if error.kind() == ErrorKind::OutOfMemory {
-                Err(Memory)
+                Err(AllocError)
             } else {
                 Ok(None)
             }
@@ -156,15 +153,82 @@ fn asked(matches: &ArgMatches<'_>) -> Option<Command>
     }
 }
 
-/// What the words after the program's name ask for: None where they are no form of the command.
-pub fn command_of<'a>(alloc: Global, words: &'a [String]) -> Result<Option<Command>, Memory>
-    ensures { IfOk result (λ command. command ≡ command_of (texts words.entry.now)) }
+/// `run` and one word behind it, `--workers=N`.
+fn joined_form(word: &str) -> Option<Command>
+    ensures { result ≡ run_of (workers_text (word.now ∷ [])) }
+{
+    match word.strip_prefix("--workers=") {
+        Some(text) => run_of(text),
+        None => None,
+    }
+}
+
+/// `run` and two words behind it, `--workers N`.
+fn parted_form(option: &str, text: &str) -> Option<Command>
+    ensures { result ≡ run_of (workers_text (option.now ∷ text.now ∷ [])) }
+{
+    if option == "--workers" {
+        run_of(text)
+    } else {
+        None
+    }
+}
+
+/// `run` and the words behind it: `--workers=N`, or `--workers N`.
+fn run_form(rest: &[String]) -> Option<Command>
+    ensures { result ≡ run_of (workers_text (texts rest.now)) }
+{
+    match rest {
+        [word] => joined_form(word.as_str()),
+        [option, text] => parted_form(option.as_str(), text.as_str()),
+        _ => None,
+    }
+}
+
+/// `replay` and the words behind it, which are none.
+fn replay_form(rest: &[String]) -> Option<Command>
+    ensures { result ≡ replay_of (texts rest.now) }
+{
+    match rest {
+        [] => Some(Command::Replay),
+        _ => None,
+    }
+}
+
+/// The form of the command that has this word first.
+fn form_with(form: &str, rest: &[String]) -> Option<Command>
+    ensures { result ≡ command_of (form.now ∷ texts rest.now) }
+{
+    if form == "replay" {
+        replay_form(rest)
+    } else if form == "run" {
+        run_form(rest)
+    } else {
+        None
+    }
+}
+
+/// The form of the command that the words are, found without memory.
+fn form_of(words: &[String]) -> Option<Command>
+    ensures { result ≡ command_of (texts words.now) }
+{
+    match words {
+        [] => None,
+        [form, rest @ ..] => form_with(form.as_str(), rest),
+    }
+}
+
+/// What the words after the program's name ask for: None where they are no form of the command. The parser reads them;
+/// words for which it wants memory are read without.
+pub fn command_of(alloc: Global, words: &[String]) -> Option<Command>
+    ensures { result ≡ command_of (texts words.now) }
 {
     if !is_askable(words) {
-        return Ok(None);
+        return None;
     }
-    match parsed(alloc, words)? {
-        Some(matches) => Ok(asked(&matches)),
-        None => Ok(None),
+    match parsed(alloc, words) {
+        Ok(Some(matches)) => asked(&matches),
+        Ok(None) => None,
+        Err(AllocError) => form_of(words),
     }
 }

@@ -1,9 +1,9 @@
-use Rattle.cell_run.specs.declared.words.Command.TheVariants.{Replay}
+use Rattle.cell_words.specs.declared.words.Command.TheVariants.{Replay}
 use Rattle.cell_run.specs.declared.status.Status.TheVariants as status
 use Rattle.cell_record.specs.Progress.{place_of, rest_in, rest_of}
 use Rattle.cell_run.proofs.Fronts.{cut_in_opening, none_written, opening_partly, opening_written}
-use Rattle.cell_run.proofs.Endings.{cut_said, phases_end, opening_ends, rose_later}
-use Rattle.cell_run.proofs.engine.replay.Goals as goal
+use Rattle.cell_run.proofs.Endings.{cut_said, done_or_memory, phases_end, opening_ends, rose_later}
+use Rattle.cell_run.proofs.engine.serve_alone.Goals as goal
 
 pub returns-in-Err-clause-ends : goal.returns-in-Err-clause-ends
 returns-in-Err-clause-ends g c =
@@ -27,3 +27,12 @@ returns-clause-ends g c =
     (λ e. rose_later _ _ _ c.open.ensures.later (s.read e))
     (λ e. cut_said Replay config (rest_in c.in-Ok.recording) c.in-Ok.recording.held (place_of c.in-Ok.recording) (g.S.Source.left c.args.input.now) (g.S.Source.left c.open.new.input) (g.S.Source.left c.serve_phases.new.input)
     (g.K.Sink.held c.args.out.now) (g.K.Sink.held c.serve_phases.new.out) s.left c.in-Ok.ensures.leads (s.stop e)) s.write
+
+pub returns-in-Err-clause-complete : goal.returns-in-Err-clause-complete
+returns-in-Err-clause-complete g c = done_or_memory Replay c.refuse.result _ _ _ _ (returns-in-Err-clause-ends g c)
+
+pub returns-in_default-clause-complete : goal.returns-in_default-clause-complete
+returns-in_default-clause-complete g c = done_or_memory Replay status.Memory _ _ _ _ (returns-in_default-clause-ends g c)
+
+pub returns-clause-complete : goal.returns-clause-complete
+returns-clause-complete g c = done_or_memory Replay c.serve_phases.result _ _ _ _ (returns-clause-ends g c)

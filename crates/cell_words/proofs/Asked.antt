@@ -23,9 +23,9 @@ use Rattle.clap.specs.Kinds.{Kinds, or_else}
 use Rattle.clap.specs.Walk.{Held, Names, Rule, Step, Waiting, Walk, after_step, arg_by_index, finished, idle, long_or_other, nothing_held, option, plain_word, settled, short_or_plain, subcommand_met, subcommand_or_other, trailing, walk_from, walked, word_met}
 use Rattle.clap.specs.Simple.{Shape, built, names_of, subcommand_of}
 use Rattle.clap.specs.Faults.{bundle_fault, check_fault, defaults_fault, fault_of, flag_word_fault, level_fault, other_fault, positional_fault, settle_fault, step_fault, stray_fault, turn_fault, walk_fault, word_fault}
-use Rattle.cell_run.specs.declared.words.Command.{Command}
-use Rattle.cell_run.specs.Words.{Text, command_of, is_askable, is_digit, is_refused, number_in, run_of}
-use Rattle.cell_run.specs.Parser.{Answers, asked_of, mmscell}
+use Rattle.cell_words.specs.declared.words.Command.{Command}
+use Rattle.cell_words.specs.Words.{Text, command_of, is_askable, is_digit, is_refused, number_in, run_of}
+use Rattle.cell_words.specs.Parser.{Answers, asked_of, mmscell}
 
 -- ---- of lists of kinds
 

@@ -1,14 +1,13 @@
 -- The words of the command (this profile's choice).
-use Rattle.std.specs.Prelude.{◌≡◌, ◌&&◌, ◌||◌, ◌==◌, ℕ, Bool, true, not, if◌then◌else◌, List, [], ◌∷◌, Option, Some, None, codes, drop, length, map, nat_eq, nat_le, option_and_then, option_map}
+use Rattle.std.specs.Prelude.{◌&&◌, ◌||◌, ◌==◌, ℕ, Bool, true, not, if◌then◌else◌, List, [], ◌∷◌, Option, Some, None, codes, drop, length, map, nat_eq, nat_le, option_and_then, option_map}
 use Rattle.std.specs.Prelude.{String}
 use Rattle.std.specs.Global.{Global}
 use Rattle.std.specs.List.{list_all, starts_with}
 use Rattle.std.specs.Str.{bytes_eq}
 use Rattle.std.specs.Str.Parse.{digits_value}
 use Rattle.std.specs.String.{string_bytes}
-use Rattle.mms_types.specs.declared.event.CellEvent.{CellEvent}
-use Rattle.cell_run.specs.declared.words.Command.{Command}
-use Rattle.cell_run.specs.declared.words.Command.TheVariants.{Replay, Run}
+use Rattle.cell_words.specs.declared.words.Command.{Command}
+use Rattle.cell_words.specs.declared.words.Command.TheVariants.{Replay, Run}
 
 -- a word, as its octets
 abbrev pub Text : Type 0
@@ -48,14 +47,6 @@ abbrev pub command_of : List Text → Option Command
 command_of [] = None
 command_of (form ∷ rest) = if bytes_eq (codes "replay") form then replay_of rest
     else (if bytes_eq (codes "run") form then run_of (workers_text rest) else None)
-
--- the bodies by which a command may serve phases, of all those that interleave them: `replay` serves them as they were recorded, and `run` by any of them
-abbrev pub Serves : Command → List (List CellEvent) → List (List CellEvent) → Type 0
-Serves Replay bodies phases = bodies ≡ phases
-Serves (Run workers) bodies phases = Unit {0}
-
-abbrev pub usage_text : List ℕ
-usage_text = codes "usage: mmscell replay | run --workers N | stress --seed N --clients N --rounds N --workers N\n"
 
 -- ---- the words that are refused before the parser is asked
 

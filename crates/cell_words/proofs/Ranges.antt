@@ -4,8 +4,8 @@ use Rattle.std.specs.Prelude.{option_map}
 use Rattle.std.specs.Str.{bytes_eq}
 use Rattle.std.specs.Str.Parse.{digits_value}
 use Rattle.std.proofs.lemmas.Bool.{leb-true}
-use Rattle.cell_run.specs.declared.words.Command.TheVariants.{Run}
-use Rattle.cell_run.specs.Words.{Text, command_of, is_value, replay_of, run_of, workers_text}
+use Rattle.cell_words.specs.declared.words.Command.TheVariants.{Run}
+use Rattle.cell_words.specs.Words.{Text, command_of, is_value, replay_of, run_of, workers_text}
 
 both : (a b : Bool) → (a && b) ≡ true → (a ≡ true) × (b ≡ true)
 both true b e = (refl, e)

@@ -6,9 +6,9 @@ use Rattle.clap.specs.Walk.{Row, Rule, Text, first_of}
 use Rattle.clap.specs.Faults.{fault_of}
 use Rattle.clap.specs.declared.builder.action.ArgAction.TheVariants.{Set}
 use Rattle.clap.specs.declared.parser.matches.ArgMatches.{ArgMatches}
-use Rattle.cell_run.specs.declared.words.Command.{Command}
-use Rattle.cell_run.specs.declared.words.Command.TheVariants.{Replay}
-use Rattle.cell_run.specs.Words.{run_of}
+use Rattle.cell_words.specs.declared.words.Command.{Command}
+use Rattle.cell_words.specs.declared.words.Command.TheVariants.{Replay}
+use Rattle.cell_words.specs.Words.{run_of}
 
 abbrev pub workers : Rule
 workers = record (new_rule (codes "workers")) { long = Some (codes "workers"); required = true; action = Some Set }

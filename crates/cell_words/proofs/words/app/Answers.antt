@@ -2,8 +2,8 @@ use Rattle.std.proofs.Common.{rules, ap, ap₂, codes, ◌≡◌, ◌∙◌}
 use Rattle.std.proofs.lemmas.Result.{IfOk-weaker}
 use Rattle.clap.specs.Simple.{App, app_of, new_app, with_rule, with_subcommand}
 use Rattle.clap.specs.Walk.{rule_of}
-use Rattle.cell_run.specs.Parser.{workers, set_up}
-use Rattle.cell_run.proofs.words.app.Goals as goal
+use Rattle.cell_words.specs.Parser.{workers, set_up}
+use Rattle.cell_words.proofs.words.app.Goals as goal
 
 pub returns : goal.returns
 returns c =

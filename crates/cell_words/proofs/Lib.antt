@@ -1,0 +1,3 @@
+mod Asked
+mod Texts
+pub mod Ranges

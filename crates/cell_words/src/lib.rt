@@ -1,0 +1,6 @@
+//! The words of the command: which form of it they are.
+#![tactic(auto)]
+
+mod words;
+
+pub use words::{Command, command_of};
