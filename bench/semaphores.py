@@ -5,10 +5,11 @@
 
 Writes recordings of so many events, in phases of 16,000: status requests; one client takes the token of a semaphore and
 gives it back, in turn, among 1 and among 256 semaphores; two clients, of which one always waits, in turn; ticks in which
-nothing is due, of 1 and of 1,000 milliseconds; and a token that is taken for a millisecond, with a tick that ends it. Runs
-the built program on each of them in turn, several rounds in one run, and prints of the least times of an event the ratio
-to the status requests. Times are user and system time of the process, less those of a recording with the same head and no
-further event. Nothing here is a test.
+nothing is due, of 1 and of 1,000 milliseconds; a token that is taken for a millisecond, with a tick that ends it; and one
+client takes any token of a pool and gives it back by its name, in turn, of 1 token, of 256 that are free, and of 256 of which
+all but the last are another client's. Runs the built program on each of them in turn, several rounds in one run, and prints of
+the least times of an event the ratio to the status requests. Times are user and system time of the process, less those of a
+recording with the same head and no further event. Nothing here is a test.
 """
 
 import argparse
@@ -23,18 +24,32 @@ DEFINE = b"1 A00F020101B50AA0058003%s810101\n"
 TAKE = b"%d A00C020101B307A0058003533030\n"
 BRIEF_TAKE = b"1 A00F020101B30AA0058003533030840101\n"
 GIVE = b"%d A00C020102B407A0058003533030\n"
+# Any token of the pool P is taken, and the token T00 to TFF of that number given back.
+TAKE_ANY = b"%d A00A020101B305A003800150\n"
+GIVE_NAMED = b"1 A00F020102B40AA003800150810354%02X%02X\n"
 
 
-def head(semaphores):
-    """Two clients, and so many semaphores of one token each, with names of three characters."""
-    names = [b"53%02X%02X" % (0x30 + n // 16, 0x30 + n % 16) for n in range(semaphores)]
-    return b"mms-recording 1\nconfig\nend\n" + OPEN % 1 + OPEN % 2 + b"".join(DEFINE % name for name in names)
+class Semaphores:
+    """So many semaphores of one token each, with names of three characters, or a pool of so many tokens, of which the second
+    client owns so many."""
+
+    def __init__(self, equal=0, tokens=0, owned=0):
+        names = [b"53%02X%02X" % (0x30 + n // 16, 0x30 + n % 16) for n in range(equal)]
+        rows = b", ".join(b'"T%02X"' % n for n in range(tokens))
+        pool = b'pool = [{ name = "P", tokens = [%s] }]\n' % rows if tokens else b""
+        opens = OPEN % 1 + OPEN % 2 + b"".join(DEFINE % name for name in names) + TAKE_ANY % 2 * owned
+        self.head = b"mms-recording 1\nconfig\n" + pool + b"end\n" + opens
+
+
+def give_named(token):
+    """The token of that number is given back."""
+    return GIVE_NAMED % tuple(b"%02X" % token)
 
 
 def recording(semaphores, lines, events):
-    """A recording of so many events, which these lines are in turn; after the last, every token is free again."""
+    """A recording of so many events, which these lines are in turn; after the last, every token is as before."""
     pieces = [b"".join(lines) * (min(PHASE, events - first) // len(lines)) for first in range(0, events, PHASE)]
-    return head(semaphores) + b"phase\n" + b"phase\n".join(pieces)
+    return semaphores.head + b"phase\n" + b"phase\n".join(pieces)
 
 
 def main():
@@ -45,17 +60,23 @@ def main():
     asked = parser.parse_args()
     alone = [TAKE % 1, GIVE % 1]
     waits = [TAKE % 1, TAKE % 2, GIVE % 1, GIVE % 2]
-    cases = [("status", 1, [STATUS]), ("take and give, of 1", 1, alone), ("take and give, of 256", 256, alone),
-             ("one waits, of 1", 1, waits), ("one waits, of 256", 256, waits),
-             ("tick 1, of 1", 1, [b"tick 1\n"]), ("tick 1, of 256", 256, [b"tick 1\n"]),
-             ("tick 1000, of 256", 256, [b"tick 1000\n"]),
-             ("brief take and tick, of 1", 1, [BRIEF_TAKE, b"tick 1\n"]),
-             ("brief take and tick, of 256", 256, [BRIEF_TAKE, b"tick 1\n"])]
+    brief = [BRIEF_TAKE, b"tick 1\n"]
+    first, last = [TAKE_ANY % 1, give_named(0)], [TAKE_ANY % 1, give_named(255)]
+    one, many = Semaphores(equal=1), Semaphores(equal=256)
+    # What is measured, of which semaphores, by which lines, and of how many of the events one is made.
+    cases = [("status", one, [STATUS], 1), ("take and give, of 1", one, alone, 1), ("take and give, of 256", many, alone, 1),
+             ("one waits, of 1", one, waits, 1), ("one waits, of 256", many, waits, 1),
+             ("tick 1, of 1", one, [b"tick 1\n"], 1), ("tick 1, of 256", many, [b"tick 1\n"], 1),
+             ("tick 1000, of 256", many, [b"tick 1000\n"], 1),
+             ("brief take and tick, of 1", one, brief, 1), ("brief take and tick, of 256", many, brief, 1),
+             ("pool, 1 token", Semaphores(tokens=1), first, 1), ("pool, 256 tokens", Semaphores(tokens=256), first, 1),
+             ("pool, 1 free of 256", Semaphores(tokens=256, owned=255), last, 10)]
     with tempfile.TemporaryDirectory() as folder:
         paths = []
-        for place, (_, semaphores, lines) in enumerate(cases):
+        for place, (_, semaphores, lines, share) in enumerate(cases):
             path = os.path.join(folder, str(place))
-            for part, text in (("head", head(semaphores)), ("whole", recording(semaphores, lines, asked.events))):
+            whole = recording(semaphores, lines, asked.events // share)
+            for part, text in (("head", semaphores.head), ("whole", whole)):
                 with open(f"{path}-{part}", "wb") as out:
                     out.write(text)
             paths.append((f"{path}-head", f"{path}-whole"))
@@ -64,10 +85,11 @@ def main():
             for row, files in zip(least, paths):
                 for part, path in enumerate(files):
                     row[part] = min(row[part], seconds([asked.program, "replay"], path))
-        status = least[0][1] - least[0][0]
+        status = (least[0][1] - least[0][0]) / asked.events
         print(f"{'events':>28} {'ns an event':>12} {'ratio':>6}")
-        for (name, _, _), (empty, whole) in zip(cases, least):
-            print(f"{name:>28} {(whole - empty) / asked.events * 1e9:>12.0f} {(whole - empty) / status:>6.2f}")
+        for (name, _, _, share), (empty, whole) in zip(cases, least):
+            each = (whole - empty) / (asked.events // share)
+            print(f"{name:>28} {each * 1e9:>12.0f} {each / status:>6.2f}")
 
 
 if __name__ == "__main__":
