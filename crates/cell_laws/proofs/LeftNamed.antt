@@ -1,8 +1,7 @@
 -- The tokens of a pool that a client owns who is lost go, one after the other, to the first that waits for each, or are free.
-use Rattle.std.proofs.Common.{◌≡◌, ℕ, ◌<◌, ◌≤◌, inl, inr, Bool, true, false, not, cond, ◌==◌, List, [], ◌∷◌, ◌++◌, map, filter, fold, length, Option, None, Some, option_map, option_to_list, refl, sym, ◌∙◌, ap, subst, arith}
-use Rattle.std.specs.Prelude.{count_by}
+use Rattle.std.proofs.Common.{◌≡◌, ℕ, inl, inr, Bool, true, false, not, cond, List, [], ◌∷◌, ◌++◌, map, filter, fold, length, Option, None, Some, option_map, option_to_list, refl, sym, ◌∙◌, ap, subst}
 use Rattle.std.specs.Map.{lookup}
-use Rattle.std.proofs.lemmas.Bool.Decides.{nat_tests}
+use Rattle.std.proofs.lemmas.List.Sums.{fold-append}
 use Rattle.mms_types.specs.Order.{key_eq, scope_eq}
 use Rattle.mms_types.specs.declared.event.CellEvent.{CellEvent}
 use Rattle.mms_types.specs.declared.event.CellEvent.TheVariants.{Tick}
@@ -13,15 +12,12 @@ use Rattle.cell_config.specs.declared.config.Config.{Config}
 use Rattle.cell_config.specs.Said.{IsConfig}
 use Rattle.token_sem.specs.declared.entry.Grant.{Grant}
 use Rattle.token_sem.specs.declared.entry.SemEntry.{SemEntry}
-use Rattle.token_sem.specs.Semaphore.{Loss, Rises, before, hung_entry, is_owner, is_queued, owned_by, waits_for, without}
-use Rattle.token_sem.proofs.Keeping.{Among, among-least, rises-lower, rises-without}
+use Rattle.token_sem.specs.Semaphore.{Loss, Rises, hung_entry, is_owner, is_queued, owned_by, waits_for}
+use Rattle.token_sem.proofs.Keeping.{Among}
 use Rattle.token_sem.proofs.Least.{Stands}
-use Rattle.token_sem.proofs.Losing.{Each, among-filter, among-map, among-unique, each-owned, hung-other, owner-not_queued, rises-filter, waits-queued}
-use Rattle.pool_sem.specs.Pools.{IsPool, Pool as NamedTokens, after_freeing, after_freeing_of, after_leaving, grant_leaving, granted_to, has, loss_of_one, next, wants}
-use Rattle.pool_sem.specs.Pools as pool
-use Rattle.pool_sem.proofs.Counting.{count-fewer, count-kept}
-use Rattle.pool_sem.proofs.Freeing as pool-free
-use Rattle.pool_sem.proofs.Losing.{hung-keeps}
+use Rattle.token_sem.proofs.Losing.{Each, each-owned, owner-not_queued, rises-filter}
+use Rattle.pool_sem.specs.Pools.{IsPool, Pool as NamedTokens, after_leaving, grant_leaving, loss_of_one}
+use Rattle.pool_sem.proofs.Losing.{one-lost, unqueued}
 use Rattle.mms_time.specs.Deadlines.{NamedDeadline, expire_after}
 use Rattle.mms_time.specs.Loss.{grants_of, loss_in, lost, without_client}
 use Rattle.mms_time.specs.Semaphores.{IsSound, Rows, changed_row, changed_to, entries_of}
@@ -42,47 +38,10 @@ use Rattle.cell_laws.proofs.Replayed.{replay_linked}
 
 -- ---- lists
 
-fold-both : {A B : Type 0} (f : B → A → B) (z : B) (xs ys : List A) → fold f z (xs ++ ys) ≡ fold f (fold f z xs) ys
-fold-both f z [] ys = refl
-fold-both f z (x ∷ xs) ys = fold-both f (f z x) xs ys
-
 stands-first : {A : Type 0} (xs ys : List A) (x : A) → Stands xs x → Stands (xs ++ ys) x
 stands-first [] ys x s = absurd s
 stands-first (y ∷ xs) ys x (inl same) = inl same
 stands-first (y ∷ xs) ys x (inr s) = inr (stands-first xs ys x s)
-
--- ---- an owner stays where another goes
-
-among-freed : (made t : ℕ) (now : Moment) (es : List SemEntry) (o : SemEntry) → Rises 0 es made → Among es o → is_owner o ≡ true → Among (after_freeing t now es) o
-among-freed made t now es o r a own = by_next (next t es) refl
-  where
-    by_next : (m : Option SemEntry) → next t es ≡ m → Among (granted_to m t now es) o
-    by_next None f = a
-    by_next (Some m) f = among-map (pool.granted_entry m.number t now) es o a (by_test (o.number == m.number) refl)
-      where
-        by_test : (b : Bool) → (o.number == m.number) ≡ b → cond b (pool.owner_from t now o) o ≡ o
-        by_test true e =
-            let is = among-least before (wants t) es m f in
-            let n : o.number ≡ m.number = grind (arith, nat_tests) in
-            let same : o ≡ m = among-unique 0 made es o m r a is.0 n in
-            absurd (cc (sym (ap is_queued same ∙ pool-free.wants-queued t m is.1) ∙ owner-not_queued o own))
-        by_test false e = refl
-
-among-left : (made : ℕ) (k : Option ℕ) (now : Moment) (es : List SemEntry) (o : SemEntry) → Rises 0 es made → Among es o → is_owner o ≡ true → Among (after_freeing_of k now es) o
-among-left made None now es o r a own = a
-among-left made (Some t) now es o r a own = among-freed made t now es o r a own
-
-each-later : (n made : ℕ) (k : Option ℕ) (now : Moment) (es os : List SemEntry) → Rises 0 es made → Rises n os made → Each es os
-    → Each (after_freeing_of k now (without n es)) os × Each (map (hung_entry n) es) os
-each-later n made k now es [] r q h = (tt, tt)
-each-later n made k now es (o ∷ os) r q h =
-    let lt : n < o.number = q.0 in
-    let other : (o.number == n) ≡ false = grind (arith, nat_tests) in
-    let rest = each-later n made k now es os r (rises-lower o.number n made os (omega arith) q.1) h.1 in
-    let kept = among-filter (λ e. not (e.number == n)) es o h.0.0 (ap not other) in (
-      ((among-left made k now (without n es) o (rises-without 0 made n es r) kept h.0.1, h.0.1), rest.0),
-      ((among-map (hung_entry n) es o h.0.0 (hung-other n o other), h.0.1), rest.1),
-    )
 
 -- ---- a pool, when some owner entries of a client are lost
 
@@ -95,35 +54,8 @@ pub record Point (p : NamedTokens) (l : Loss) (owner : SemEntry) : Type 0 where
 point : (p : NamedTokens) (now : Moment) (first : List SemEntry) (owner : SemEntry) (others : List SemEntry) (l : Loss) (low : ℕ) → IsPool (record p { entries = l.entries })
     → Each l.entries (first ++ owner ∷ others) → Rises low (first ++ owner ∷ others) p.made → Point p (fold (loss_of_one now) l first) owner
 point p now [] owner others l low is h r = record { sound = is; among = h.0.0; owns = h.0.1 }
-point p now (o ∷ first) owner others l low is h r = let k = by_keep o.keep in point p now first owner others (loss_of_one now l o) o.number k.0 k.1 r.1
-  where
-    by_keep : (b : Bool)
-        → IsPool (record p { entries = (cond b (record l { entries = map (hung_entry o.number) l.entries }) (record { entries = after_leaving o now l.entries; grants = l.grants ++ option_to_list (grant_leaving o l.entries) })).entries })
-        × Each (cond b (record l { entries = map (hung_entry o.number) l.entries }) (record { entries = after_leaving o now l.entries; grants = l.grants ++ option_to_list (grant_leaving o l.entries) })).entries (first ++ owner ∷ others)
-    by_keep true = (
-      hung-keeps (record p { entries = l.entries }) o is h.0.0 (ap not (owner-not_queued o h.0.1)),
-      (each-later o.number p.made o.token now l.entries (first ++ owner ∷ others) is.rises r.1 h.1).1,
-    )
-    by_keep false = (
-      pool-free.left (record p { entries = l.entries }) o now is h.0.0 (ap not (owner-not_queued o h.0.1)),
-      (each-later o.number p.made o.token now l.entries (first ++ owner ∷ others) is.rises r.1 h.1).0,
-    )
-
--- the client waits no more
-unqueued : (p : NamedTokens) (client : ℕ) → IsPool p → IsPool (record p { entries = filter (λ e. not (waits_for client e)) p.entries })
-unqueued p client is =
-    let lacks = λ (u : ℕ) (e : SemEntry) (f : not (waits_for client e) ≡ false). pool-free.queued-lacks u e (waits-queued client e f) in
-    let placed : count_by (pool-free.unplaced (length p.tokens)) p.entries ≡ 0 = is.placed in
-    let fewer = λ (test : SemEntry → Bool). count-fewer test (λ e. not (waits_for client e)) p.entries in
-    let same = λ (u : ℕ). count-kept (has u) (λ e. not (waits_for client e)) (lacks u) p.entries in
-    pool-free.is-pool p (filter (λ e. not (waits_for client e)) p.entries) p.made is (rises-filter (λ e. not (waits_for client e)) 0 p.made p.entries is.rises) (record {
-      placed = omega (arith, fewer (pool-free.unplaced (length p.tokens)), placed);
-      once = λ u. let most : count_by (has u) p.entries ≤ 1 = is.once u in omega (arith, same u, most);
-      served = λ u below z.
-          let z_before : count_by (has u) p.entries ≡ 0 = omega (arith, same u, z) in
-          let none : count_by (wants u) p.entries ≡ 0 = is.served u below z_before in
-          omega (arith, fewer (wants u), none);
-    })
+point p now (o ∷ first) owner others l low is h r =
+    let k = one-lost p l o (first ++ owner ∷ others) now is h r.1 in point p now first owner others (loss_of_one now l o) o.number k.0 k.1 r.1
 
 -- grants that are told stay so
 grants-stay : (now : Moment) (os : List SemEntry) (l : Loss) (g : Grant) → Stands l.grants g → Stands (fold (loss_of_one now) l os).grants g
@@ -207,7 +139,7 @@ module _ (key : Key) (rows : Rows) (client : ℕ) (now : Moment) (first : List S
   then : Found key new (freed owner now (Pool at_point))
   then =
       found-changed key rows (Pool p) here.found (with_lost client now (first ++ owner ∷ [])) (freed owner now (Pool at_point))
-      (ap (λ (l : Loss). Pool (record p { entries = l.entries })) (fold-both (loss_of_one now) begun first (owner ∷ []) ∙ goes))
+      (ap (λ (l : Loss). Pool (record p { entries = l.entries })) (fold-append (loss_of_one now) begun first (owner ∷ []) ∙ goes))
 
   told : (t : State) → Tells key rows client now t → (e : SemEntry) → next_of owner.token so_far.entries ≡ Some e → IsTold t e (granted old (key, grant_of owner.token e))
   told t tells e served =
@@ -227,7 +159,7 @@ module _ (key : Key) (rows : Rows) (client : ℕ) (now : Moment) (first : List S
       all =
           ap (λ (s : Semaphore). (loss_in client now s).grants) here.found.is
           ∙ ap (λ (os : List SemEntry). (fold (loss_of_one now) begun os).grants) here.owners
-          ∙ ap (λ (l : Loss). l.grants) (fold-both (loss_of_one now) begun first (owner ∷ owns.others))
+          ∙ ap (λ (l : Loss). l.grants) (fold-append (loss_of_one now) begun first (owner ∷ owns.others))
           ∙ ap (λ (l : Loss). (fold (loss_of_one now) l owns.others).grants) goes
 
       stands : Stands (grants_of client now (Some here.found.row)) g

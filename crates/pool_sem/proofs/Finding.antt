@@ -71,3 +71,34 @@ free-missing asked count u es f lt z =
     first : (a b : Bool) → b ≡ true → (a && b) ≡ false → a ≡ false
     first true b t h = absurd (cc (t, h))
     first false b t h = refl
+
+-- a token that is named is found where it is one of so many and free, and no other is
+named-other : (t u : ℕ) (es : List SemEntry) → meets (Some t) es u ≡ true → (t ≡ u) × (is_free u es ≡ true)
+named-other t u es h = by_test (t == u) refl h
+  where
+    by_test : (b : Bool) → (t == u) ≡ b → (b && is_free u es) ≡ true → (t ≡ u) × (is_free u es ≡ true)
+    by_test true e g = (grind (arith, nat_tests), g)
+    by_test false e g = absurd (cc g)
+
+pub named-found : (t count : ℕ) (es : List SemEntry) → t < count → is_free t es ≡ true → free_token (Some t) count es ≡ Some t
+named-found t count es lt h = by_found (free_token (Some t) count es) refl
+  where
+    by_found : (o : Option ℕ) → free_token (Some t) count es ≡ o → o ≡ Some t
+    by_found (Some u) f = ap Some (sym (named-other t u es (found-in (meets (Some t) es) count 0 u f).0).0)
+    by_found None f =
+        let fails : ((t == t) && is_free t es) ≡ false = none-in (meets (Some t) es) count 0 t f (omega arith) (omega arith) in
+        let same : (t == t) ≡ true = grind (arith, nat_tests) in
+        absurd (cc (fails, same, h))
+
+pub named-missing : (t count : ℕ) (es : List SemEntry) → (t < count → is_free t es ≡ false) → free_token (Some t) count es ≡ None
+named-missing t count es had = by_found (free_token (Some t) count es) refl
+  where
+    by_found : (o : Option ℕ) → free_token (Some t) count es ≡ o → o ≡ None
+    by_found None f = refl
+    by_found (Some u) f =
+        let is = found-in (meets (Some t) es) count 0 u f in
+        let other = named-other t u es is.0 in
+        let same : t ≡ u = other.0 in
+        let below : u < 0 + count = is.1 in
+        let free : is_free t es ≡ true = ap (λ v. is_free v es) same ∙ other.1 in
+        absurd (let not_free = had (omega arith) in cc (free, not_free))

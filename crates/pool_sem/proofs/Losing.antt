@@ -25,7 +25,7 @@ hung-placed count o h = sym (ap (λ b. not (is_place count o.token && (b || is_s
     by_test true g = absurd (cc g)
     by_test false g = refl
 
-pub hung-keeps : (p : Pool) (o : SemEntry) → IsPool p → Among p.entries o → holds o ≡ true → IsPool (record p { entries = map (hung_entry o.number) p.entries })
+hung-keeps : (p : Pool) (o : SemEntry) → IsPool p → Among p.entries o → holds o ≡ true → IsPool (record p { entries = map (hung_entry o.number) p.entries })
 hung-keeps p o is a h =
     let becomes = λ (test : SemEntry → Bool). count-changed test 0 p.made (λ e. record e { state = Hung }) p.entries o is.rises a in
     let placed : count_by (unplaced (length p.tokens)) p.entries ≡ 0 = is.placed in
@@ -77,29 +77,38 @@ each-later n made k now es (o ∷ os) r q h =
       ((among-map (hung_entry n) es o h.0.0 (hung-other n o other), h.0.1), rest.1),
     )
 
-lost-fold : (p : Pool) (os : List SemEntry) (l : Loss) (low : ℕ) (now : Moment) → IsPool (record p { entries = l.entries }) → Each l.entries os → Rises low os p.made
-    → IsPool (record p { entries = (fold (loss_of_one now) l os).entries })
-lost-fold p [] l low now is h r = is
-lost-fold p (o ∷ os) l low now is h r = let k = by_keep o.keep in lost-fold p os (loss_of_one now l o) o.number now k.0 k.1 r.1
+-- where one of a client's owners is lost, what holds of a pool is kept, and the others stay
+pub one-lost : (p : Pool) (l : Loss) (o : SemEntry) (os : List SemEntry) (now : Moment) → IsPool (record p { entries = l.entries }) → Each l.entries (o ∷ os) → Rises o.number os p.made
+    → IsPool (record p { entries = (loss_of_one now l o).entries }) × Each (loss_of_one now l o).entries os
+one-lost p l o os now is h r = by_keep o.keep
   where
     by_keep : (b : Bool) → IsPool (record p { entries = (cond b (record l { entries = map (hung_entry o.number) l.entries }) (record { entries = after_leaving o now l.entries; grants = l.grants ++ option_to_list (grant_leaving o l.entries) })).entries })
         × Each (cond b (record l { entries = map (hung_entry o.number) l.entries }) (record { entries = after_leaving o now l.entries; grants = l.grants ++ option_to_list (grant_leaving o l.entries) })).entries os
-    by_keep true = (hung-keeps (record p { entries = l.entries }) o is h.0.0 (ap not (owner-not_queued o h.0.1)), (each-later o.number p.made o.token now l.entries os is.rises r.1 h.1).1)
-    by_keep false = (left (record p { entries = l.entries }) o now is h.0.0 (ap not (owner-not_queued o h.0.1)), (each-later o.number p.made o.token now l.entries os is.rises r.1 h.1).0)
+    by_keep true = (hung-keeps (record p { entries = l.entries }) o is h.0.0 (ap not (owner-not_queued o h.0.1)), (each-later o.number p.made o.token now l.entries os is.rises r h.1).1)
+    by_keep false = (left (record p { entries = l.entries }) o now is h.0.0 (ap not (owner-not_queued o h.0.1)), (each-later o.number p.made o.token now l.entries os is.rises r h.1).0)
 
-pub lose-keeps : (p : Pool) (client : ℕ) (now : Moment) → IsPool p → IsPool (after_lose p client now)
-lose-keeps p client now is =
+lost-fold : (p : Pool) (os : List SemEntry) (l : Loss) (low : ℕ) (now : Moment) → IsPool (record p { entries = l.entries }) → Each l.entries os → Rises low os p.made
+    → IsPool (record p { entries = (fold (loss_of_one now) l os).entries })
+lost-fold p [] l low now is h r = is
+lost-fold p (o ∷ os) l low now is h r = let k = one-lost p l o os now is h r.1 in lost-fold p os (loss_of_one now l o) o.number now k.0 k.1 r.1
+
+-- the client waits no more
+pub unqueued : (p : Pool) (client : ℕ) → IsPool p → IsPool (record p { entries = filter (λ e. not (waits_for client e)) p.entries })
+unqueued p client is =
     let lacks = λ (u : ℕ) (e : SemEntry) (f : not (waits_for client e) ≡ false). queued-lacks u e (waits-queued client e f) in
     let placed : count_by (unplaced (length p.tokens)) p.entries ≡ 0 = is.placed in
     let fewer = λ (test : SemEntry → Bool). count-fewer test (λ e. not (waits_for client e)) p.entries in
     let same = λ (u : ℕ). count-kept (has u) (λ e. not (waits_for client e)) (lacks u) p.entries in
-    lost-fold p (filter (owned_by client) p.entries) (record { entries = filter (λ e. not (waits_for client e)) p.entries; grants = [] }) 0 now
-    (is-pool p (filter (λ e. not (waits_for client e)) p.entries) p.made is (rises-filter (λ e. not (waits_for client e)) 0 p.made p.entries is.rises) (record {
+    is-pool p (filter (λ e. not (waits_for client e)) p.entries) p.made is (rises-filter (λ e. not (waits_for client e)) 0 p.made p.entries is.rises) (record {
       placed = omega (arith, fewer (unplaced (length p.tokens)), placed);
       once = λ u. let most : count_by (has u) p.entries ≤ 1 = is.once u in omega (arith, same u, most);
       served = λ u below z.
           let z_before : count_by (has u) p.entries ≡ 0 = omega (arith, same u, z) in
           let none : count_by (wants u) p.entries ≡ 0 = is.served u below z_before in
           omega (arith, fewer (wants u), none);
-    }))
+    })
+
+pub lose-keeps : (p : Pool) (client : ℕ) (now : Moment) → IsPool p → IsPool (after_lose p client now)
+lose-keeps p client now is =
+    lost-fold p (filter (owned_by client) p.entries) (record { entries = filter (λ e. not (waits_for client e)) p.entries; grants = [] }) 0 now (unqueued p client is)
     (each-owned client p.entries) (rises-filter (owned_by client) 0 p.made p.entries is.rises)

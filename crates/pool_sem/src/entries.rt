@@ -1,10 +1,10 @@
 //! What is done on the entries of a pool. What equal tokens have in common with it stands in `token_sem`.
 
-ghost use Rattle.std.specs.Prelude.{◌≡◌, ◌+◌, ◌≤◌, ◌<◌, Some, [], find, fold, length, map, option_map, vec_capacity, vec_len};
+ghost use Rattle.std.specs.Prelude.{◌≡◌, ℕ, ◌+◌, ◌≤◌, ◌<◌, ◌||◌, None, Some, [], false, find, fold, length, map, option_map, slice_index_or, vec_capacity, vec_len};
 ghost use Rattle.std.specs.List.{list_any};
 ghost use Rattle.mms_types.specs.Moments.{IsDated};
 ghost use Rattle.token_sem.specs.Semaphore.{earlier, without};
-ghost use Rattle.pool_sem.specs.Pools.{after_freeing, after_freeing_of, free_token, grant_freeing, grant_leaving, grant_of, grant_to, granted_entry, has, has_claim, hung_to_preempt, is_claim, is_free, is_hung_of, loss_of_one, lower, meets, names, next, outcome_later, owner_entry, owner_of, place_of, queued_entry, suits, token_state, token_told, wants};
+ghost use Rattle.pool_sem.specs.Pools.{after_freeing, after_freeing_of, free_token, grant_freeing, grant_leaving, grant_of, grant_to, granted_entry, has, has_claim, hung_to_preempt, is_claim, is_free, is_hung_of, loss_of_one, lower, names, next, outcome_later, owner_entry, owner_of, place_of, queued_entry, suits, token_state, token_told, wants};
 
 use crate::{PoolOutcome, TokenState};
 use mms_types::{Identifier, Moment};
@@ -222,23 +222,81 @@ pub(crate) fn hung_to_preempt(
     }
 }
 
-/// Whether a request is met by the token now.
-fn meets(asked: Option<u32>, token: u32, entries: &[SemEntry]) -> bool
-    ensures { result ≡ meets asked entries.now token }
+/// So many tokens are marked in one walk over the entries: as many as a pool has at most.
+const MARKED: usize = 256;
+
+/// Marks the token that the entry has, where it is one of the first.
+fn mark(had: &mut [bool; MARKED], entry: &SemEntry)
+    ensures { (token : ℕ) → token < MARKED → slice_index_or had.new token false
+        ≡ (slice_index_or had.old token false || has token entry.now) }
 {
-    suits(asked, Some(token)) && is_free(token, entries)
+    let Some(token) = entry.token else {
+        return;
+    };
+    let place = token as usize;
+    if place < MARKED && entry.holds() {
+        had[place] = true;
+    }
+}
+
+/// Which of the first tokens an entry has.
+fn had_of(entries: &[SemEntry]) -> [bool; MARKED]
+    ensures { (token : ℕ) → token < MARKED → slice_index_or result token false
+        ≡ list_any (has token) entries.now }
+{
+    let mut had = [false; MARKED];
+    for entry in entries {
+        mark(&mut had, entry);
+    }
+    had
+}
+
+/// Whether nobody has the token: by its mark, where it is one of the first.
+fn is_free_by_mark(token: u32, had: &[bool; MARKED], entries: &[SemEntry]) -> bool
+    requires { (token : ℕ) → token < MARKED → slice_index_or had.now token false
+        ≡ list_any (has token) entries.now }
+    ensures { result ≡ is_free token entries.now }
+{
+    let place = token as usize;
+    if place < MARKED {
+        !had[place]
+    } else {
+        is_free(token, entries)
+    }
+}
+
+/// The least free token of so many.
+fn least_free(count: u32, entries: &[SemEntry]) -> Option<u32>
+    ensures { result ≡ free_token None count entries.now }
+{
+    let had = had_of(entries);
+    for token in 0..count {
+        if is_free_by_mark(token, &had, entries) {
+            return Some(token);
+        }
+    }
+    None
+}
+
+/// The token, where it is free and one of so many.
+fn free_one(token: u32, count: u32, entries: &[SemEntry]) -> Option<u32>
+    ensures { result ≡ free_token (Some token) count entries.now }
+{
+    if token < count && is_free(token, entries) {
+        Some(token)
+    } else {
+        None
+    }
 }
 
 /// The free token of so many that was named, or the least one where none was.
 pub(crate) fn free_token(asked: Option<u32>, count: u32, entries: &[SemEntry]) -> Option<u32>
     ensures { result ≡ free_token asked count entries.now }
 {
-    for token in 0..count {
-        if meets(asked, token, entries) {
-            return Some(token);
-        }
+    match asked {
+        None => least_free(count, entries),
+        Some(token) => free_one(token, count, entries),
     }
-    None
 }
 
 /// What a request comes to for which no token is there.
