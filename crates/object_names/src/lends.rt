@@ -4,11 +4,12 @@ ghost use Rattle.std.specs.Borrow.{sem, LendsIf, LendsSo};
 ghost use Rattle.std.specs.Option.{option_copied_mut};
 ghost use Rattle.std.specs.Map.{lookup, set_value, keys_of, values_of};
 ghost use Rattle.indexmap.specs.Layout.{set_value_at};
-ghost use Rattle.mms_types.specs.Order.{key_eq};
+ghost use Rattle.mms_types.specs.Order.{key_eq, key_of};
 ghost use Rattle.object_names.specs.contracts.table.Named.{the_row};
 
 use crate::Named;
-use mms_types::Key;
+use crate::borrowed::KeyRef;
+use mms_types::{Key, ObjectName};
 
 impl<T: Drop> Named<T> {
     /// The value under a name, to write: the table has what was written under it, and is else as
@@ -22,6 +23,21 @@ impl<T: Drop> Named<T> {
         ensures found { IsSome result ↔ Contains (keys_of self.old) key.now }
     {
         self.rows.get_mut(key)
+    }
+
+    /// The value under the name by which a client's PDU names an object, to write, as `get_mut` of that key, of which no
+    /// copy is made.
+    #[tactic(auto, using(crate::proofs::Found::found_lent))]
+    pub fn named_mut(&mut self, client: u32, name: &ObjectName) -> Option<&mut T>
+        ensures* writes_back { sem 𝓛 (LendsSo (the_row T.row) T.row self.entry result
+            (λ after written. after
+            ≡ set_value (key_eq (key_of client name.now)) self.old written)
+            (λ after. after ≡ self.old)) }
+        ensures value { option_copied_mut result
+            ≡ lookup (key_eq (key_of client name.now)) self.old }
+        ensures found { IsSome result ↔ Contains (keys_of self.old) (key_of client name.now) }
+    {
+        self.rows.get_mut(KeyRef::of(client, name))
     }
 }
 
