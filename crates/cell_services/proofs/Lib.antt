@@ -2,3 +2,4 @@ pub mod AlsoLaws
 pub mod GuardLaws
 pub mod PlanLaws
 pub mod TimeLaws
+pub mod TokenLaws

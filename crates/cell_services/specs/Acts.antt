@@ -71,3 +71,11 @@ pub record IsDoneOn (row : ClientRow) (semaphores : Rows) (was now : VariableTab
   pub is : new ≡ settled (felt_all effects row)
   pub done : (t : Tables) (client : ℕ) → t.variables ≡ was → t.semaphores ≡ semaphores
       → hears t row client v ≡ record { tables = record t { variables = now }; told = tell client effects }
+
+-- A verdict on what the client of a row sends is done on the row and the semaphores alone, at that moment: the client is told something, nobody else is, and of
+-- the tables the semaphores alone become others.
+pub record IsDoneAmong (row : ClientRow) (now : ℕ) (was become : Rows) (new : RoomyRow) (v : Verdict) : Type 0 where
+  pub effects : List Effect
+  pub is : new ≡ settled (felt_all effects row)
+  pub done : (t : Tables) → t.now ≡ now → t.semaphores ≡ was
+      → hears t row row.client v ≡ record { tables = record t { semaphores = become }; told = tell row.client effects }

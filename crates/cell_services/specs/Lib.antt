@@ -9,3 +9,4 @@ pub mod Services
 pub mod Serving
 pub mod Tables
 pub mod Telling
+pub mod Tokens

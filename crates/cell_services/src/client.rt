@@ -84,7 +84,7 @@ impl Client {
     }
 
     /// The octets of a positive answer.
-    fn spelled_answer(
+    pub(crate) fn spelled_answer(
         &mut self,
         alloc: Global,
         invoke: u32,
@@ -206,7 +206,12 @@ impl Client {
     }
 
     /// Refuses a confirmed request.
-    fn refuse(&mut self, alloc: Global, invoke: u32, error: ServiceError) -> Result<(), Memory>
+    pub(crate) fn refuse(
+        &mut self,
+        alloc: Global,
+        invoke: u32,
+        error: ServiceError,
+    ) -> Result<(), Memory>
         ensures sent { OnOk result (self.new ≡ settled (felt (refuses invoke error) self.old.row)) }
         ensures kept { OnErr result (self.new ≡ self.old) }
     {

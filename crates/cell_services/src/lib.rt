@@ -13,6 +13,7 @@ mod reading;
 mod semaphores;
 mod service;
 mod tables;
+mod tokens;
 mod told;
 mod verdict;
 

@@ -8,10 +8,11 @@ pub mod Others
 pub mod Outboxes
 pub mod PartsAfter
 pub mod Sound
-pub mod Tokens
+pub mod TokensKept
 pub mod TwoTicks
 pub mod ToldLaws
 pub mod ServeLaws
+pub mod TokenLaws
 pub mod Answering
 pub mod Asked
 mod Configured

@@ -58,7 +58,7 @@ in_parts semaphores [] (suc i) part there = absurd (cc there)
 in_parts semaphores (row ∷ rows) zero part there = let same : client_part row ≡ part = cc there in subst (λ (p : Part). with_room no_room p ≡ p) same refl
 in_parts semaphores (row ∷ rows) (suc i) part there = in_parts semaphores rows i part there
 
-part_settled : (s : State) (i : ℕ) (part : Part) → slice_get (parts_of s) i ≡ Some part → with_room no_room part ≡ part
+pub part_settled : (s : State) (i : ℕ) (part : Part) → slice_get (parts_of s) i ≡ Some part → with_room no_room part ≡ part
 part_settled s zero part there = let same : Clock s.now ≡ part = cc there in subst (λ (p : Part). with_room no_room p ≡ p) same refl
 part_settled s (suc zero) part there = let same : Variables s.variables ≡ part = cc there in subst (λ (p : Part). with_room no_room p ≡ p) same refl
 part_settled s (suc (suc zero)) part there = let same : Domains ≡ part = cc there in subst (λ (p : Part). with_room no_room p ≡ p) same refl
@@ -99,7 +99,7 @@ module _ (s : State) (hand : List (Option Part)) (of : IsHandOf hand (parts_of s
 
 -- ---- tables that are put in place of those of held parts
 
-change_as : (f g : Option Part → Option Part) (hand : List (Option Part)) (i : ℕ) → f (held_at hand i) ≡ g (held_at hand i) → change f hand i ≡ change g hand i
+pub change_as : (f g : Option Part → Option Part) (hand : List (Option Part)) (i : ℕ) → f (held_at hand i) ≡ g (held_at hand i) → change f hand i ≡ change g hand i
 change_as f g [] i same = refl
 change_as f g (held ∷ hand) zero same = ap (λ (o : Option Part). o ∷ hand) same
 change_as f g (held ∷ hand) (suc i) same = ap (λ (l : List (Option Part)). held ∷ l) (change_as f g hand i same)
@@ -130,7 +130,7 @@ varied_rooms variables last room hand =
     here (Some part) = refl
 
 -- the place of the semaphores is told by the number of parts
-abbrev behind_clients : List (Option Part) → ℕ
+abbrev pub behind_clients : List (Option Part) → ℕ
 behind_clients hand = semaphores_place (clients_among (length hand))
 
 same_place : (one other : List (Option Part)) → length one ≡ length other → behind_clients one ≡ behind_clients other
@@ -158,7 +158,7 @@ semaphores_rooms semaphores last room hand =
     here (Some r) (Some Journals) = refl
 
 -- the clock and the variables alone
-abbrev first_two : ℕ → VariableTables → List (Option Part) → List (Option Part)
+abbrev pub first_two : ℕ → VariableTables → List (Option Part) → List (Option Part)
 first_two now variables hand = varied variables (clocked now hand)
 
 pub tabled_rooms : (t : Tables) (last : ℕ) (room : ℕ → Room) (hand : List (Option Part)) → tabled t (with_rooms last room hand) ≡ with_rooms last room (tabled t hand)
@@ -305,7 +305,7 @@ own_tables hand = record {
   semaphores = semaphores_in (held_at hand (behind_clients hand));
 }
 
-two_same : (hand : List (Option Part)) → first_two (clock_in (held_at hand 0)) (variables_in (held_at hand 1)) hand ≡ hand
+pub two_same : (hand : List (Option Part)) → first_two (clock_in (held_at hand 0)) (variables_in (held_at hand 1)) hand ≡ hand
 two_same hand = ap (varied (variables_in (held_at hand 1))) (clocked_same hand) ∙ varied_same hand
 
 tabled_same : (hand : List (Option Part)) → tabled (own_tables hand) hand ≡ hand
@@ -508,7 +508,7 @@ done_kept (task.Time ms) t u hand own = refl
 abbrev IsRowAt : List (Option Part) → ℕ → ClientRow → Type 0
 IsRowAt hand client row = held_at hand (client_place client) ≡ Some (client_part row)
 
-told_row_at : (n : ℕ) (effects : List Effect) (client : ℕ) (hand : List (Option Part)) (row : ClientRow) → 1 ≤ client → client ≤ n → IsRowAt hand client row
+pub told_row_at : (n : ℕ) (effects : List Effect) (client : ℕ) (hand : List (Option Part)) (row : ClientRow) → 1 ≤ client → client ≤ n → IsRowAt hand client row
     → told_all cell n (tell client effects) hand ≡ change (λ held. Some (client_part (felt_all effects row))) hand (client_place client)
 told_row_at n [] client hand row some few held =
     sym (change_same hand (client_place client)) ∙ change_as (λ o. o) (λ o. Some (client_part row)) hand (client_place client) held
@@ -555,28 +555,27 @@ change_set g (held ∷ hand) zero (suc j) y other = refl
 change_set g (held ∷ hand) (suc i) zero y other = refl
 change_set g (held ∷ hand) (suc i) (suc j) y other = ap (λ (l : List (Option Part)). held ∷ l) (change_set g hand i j y (λ same. other (ap suc same)))
 
-held_after_set : (hand : List (Option Part)) (i j : ℕ) (y : Option Part) → i ≢ j → held_at (set hand i y) j ≡ held_at hand j
+pub held_after_set : (hand : List (Option Part)) (i j : ℕ) (y : Option Part) → i ≢ j → held_at (set hand i y) j ≡ held_at hand j
 held_after_set [] i j y other = refl
 held_after_set (held ∷ hand) zero zero y other = absurd (other refl)
 held_after_set (held ∷ hand) zero (suc j) y other = refl
 held_after_set (held ∷ hand) (suc i) zero y other = refl
 held_after_set (held ∷ hand) (suc i) (suc j) y other = held_after_set hand i j y (λ same. other (ap suc same))
 
--- a client's part and the variables are taken out, and the variables are put back first
-pub both_changed : (f : ClientRow → ClientRow) (now : VariableTables) (hand out gone there new : List (Option Part)) (place : ℕ) (part value table shown : Part) (own after : RoomyRow) (was : VariableTables)
-    → place ≢ 1 → Some part ≡ held_at hand place → out ≡ set hand place None → Some table ≡ held_at out 1 → gone ≡ set out 1 None
-    → value ≡ part → value ≡ Client own → after ≡ settled (f own.row) → shown ≡ table → shown ≡ Variables was
-    → there ≡ set gone 1 (Some (Variables now)) → new ≡ set there place (Some (Client after))
-    → new ≡ change (option_map (on_client f)) (varied now hand) place
-both_changed f now hand out gone there new place part value table shown own after was apart held taken second left same is done seen of put back =
+-- a client's part and one more are taken out, and that one is put back first
+pub both_changed : (f : ClientRow → ClientRow) (g : Part → Part) (hand out gone there new : List (Option Part)) (place other : ℕ) (part table : Part) (own after : RoomyRow)
+    → place ≢ other → Some part ≡ held_at hand place → out ≡ set hand place None → Some table ≡ held_at out other → gone ≡ set out other None
+    → part ≡ Client own → after ≡ settled (f own.row) → there ≡ set gone other (Some (g table)) → new ≡ set there place (Some (Client after))
+    → new ≡ change (option_map (on_client f)) (change (option_map g) hand other) place
+both_changed f g hand out gone there new place other part table own after apart held taken second left is done put back =
     back
-    ∙ ap (λ (l : List (Option Part)). set l place (Some (Client after))) (put ∙ ap (λ (l : List (Option Part)). set l 1 (Some (Variables now))) left
-    ∙ changed_part (on_variables (λ v. now)) out 1 (Variables was) (sym second ∙ ap Some (sym seen ∙ of))
-    ∙ ap (varied now) taken
-    ∙ change_set (option_map (on_variables (λ v. now))) hand place 1 None apart)
-    ∙ ap (λ (r : RoomyRow). set (set (varied now hand) place None) place (Some (Client r))) done
-    ∙ changed_part (on_client f) (varied now hand) place (Client own)
-    (held_else (option_map (on_variables (λ v. now))) hand 1 place apart ∙ sym held ∙ ap Some (sym same ∙ is))
+    ∙ ap (λ (l : List (Option Part)). set l place (Some (Client after))) (put ∙ ap (λ (l : List (Option Part)). set l other (Some (g table))) left
+    ∙ changed_part g out other table (sym second)
+    ∙ ap (λ (l : List (Option Part)). change (option_map g) l other) taken
+    ∙ change_set (option_map g) hand place other None apart)
+    ∙ ap (λ (r : RoomyRow). set (set (change (option_map g) hand other) place None) place (Some (Client r))) done
+    ∙ changed_part (on_client f) (change (option_map g) hand other) place (Client own)
+    (held_else (option_map g) hand other place apart ∙ sym held ∙ ap Some is)
 
 module _ (s : State) (hand : List (Option Part)) (of : IsHandOf hand (parts_of s)) where
   pub done_in_place : (client : ℕ) (effects : List Effect) (variables : VariableTables) → 1 ≤ client → client ≤ clients_among (length hand) → IsClient (held_at hand (client_place client))
@@ -613,8 +612,9 @@ module _ (s : State) (hand : List (Option Part)) (of : IsHandOf hand (parts_of s
       → (rows : Rows) → rows ≡ semaphores_in (held_at gone (semaphores_place (clients_among (length hand)))) → AreDone rows v part table after now → there ≡ set gone 1 (Some now) → new ≡ set there (client_place client) (Some after)
       → new ≡ put_in_place cell (hears (tables_shown cell hand) (row_held hand client) client v) hand
   served_in_place client v out gone there new part table after now some few held own taken second left rows beside is put back =
-      both_changed (felt_all is.done.effects) is.become hand out gone there new (client_place client) part part table table is.own is.after is.was (λ same. omega (arith, same))
-      own taken second left refl is.is_own is.done.is refl is.is_table (put ∙ ap (λ (p : Part). set gone 1 (Some p)) is.is_now)
+      both_changed (felt_all is.done.effects) (on_variables (λ was. is.become)) hand out gone there new (client_place client) 1 part table is.own is.after (λ same. omega (arith, same))
+      own taken second left is.is_own is.done.is
+      (put ∙ ap (λ (p : Part). set gone 1 (Some p)) (is.is_now ∙ ap (on_variables (λ was. is.become)) (sym is.is_table)))
       (back ∙ ap (λ (p : Part). set there (client_place client) (Some p)) is.is_after)
       ∙ done_in_place client is.done.effects is.become some few held
       ∙ ap (λ (d : Done Tables Effect). put_in_place cell d hand)
@@ -636,15 +636,15 @@ module _ (s : State) (hand : List (Option Part)) (of : IsHandOf hand (parts_of s
           ∙ ap (λ (l : List (Option Part)). held_at l (behind_clients hand)) (sym left))
 
 -- both parts are put back as they were
-pub both_back : (hand out gone there new : List (Option Part)) (place : ℕ) (part table : Part) → Some part ≡ held_at hand place → out ≡ set hand place None
-    → Some table ≡ held_at out 1 → gone ≡ set out 1 None → there ≡ set gone 1 (Some table) → new ≡ set there place (Some part) → new ≡ hand
-both_back hand out gone there new place part table own taken second left put back =
-    as_it_was hand there new place part own (as_it_was out gone there 1 table second left put ∙ taken) back
+pub both_back : (hand out gone there new : List (Option Part)) (place other : ℕ) (part table : Part) → Some part ≡ held_at hand place → out ≡ set hand place None
+    → Some table ≡ held_at out other → gone ≡ set out other None → there ≡ set gone other (Some table) → new ≡ set there place (Some part) → new ≡ hand
+both_back hand out gone there new place other part table own taken second left put back =
+    as_it_was hand there new place part own (as_it_was out gone there other table second left put ∙ taken) back
 
 -- a part is put back where there is no other
-pub one_back : (hand out gone new : List (Option Part)) (place : ℕ) (part : Part) → Some part ≡ held_at hand place → out ≡ set hand place None
-    → None ≡ held_at out 1 → gone ≡ set out 1 None → new ≡ set gone place (Some part) → new ≡ hand
-one_back hand out gone new place part own taken free left back = as_it_was hand gone new place part own (left ∙ stays out 1 (sym free) ∙ taken) back
+pub one_back : (hand out gone new : List (Option Part)) (place other : ℕ) (part : Part) → Some part ≡ held_at hand place → out ≡ set hand place None
+    → None ≡ held_at out other → gone ≡ set out other None → new ≡ set gone place (Some part) → new ≡ hand
+one_back hand out gone new place other part own taken free left back = as_it_was hand gone new place part own (left ∙ stays out other (sym free) ∙ taken) back
   where
     stays : (hand : List (Option Part)) (i : ℕ) → held_at hand i ≡ None → set hand i None ≡ hand
     stays [] i e = refl

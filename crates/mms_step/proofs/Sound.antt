@@ -71,7 +71,7 @@ use Rattle.cell_services.specs.Services.{cause, effect, fits, grant_told, grants
 use Rattle.cell_services.specs.Serving.{all_told, also_lost, also_told, happening_told, is_served, meanwhile, size_of, own_told}
 use Rattle.mms_step.specs.Step.{step, replay}
 use Rattle.mms_step.proofs.PartsAfter.{length-start, length-clients_to, now_lost, step_sized, step_still, told_one}
-use Rattle.mms_step.proofs.Tokens.{AreKept, kept_heard, kept_later, kept_lost, kept_ticked, waits_numbered}
+use Rattle.mms_step.proofs.TokensKept.{AreKept, kept_heard, kept_later, kept_lost, kept_ticked, waits_numbered}
 
 -- ---- requests that wait
 

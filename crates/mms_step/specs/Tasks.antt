@@ -6,14 +6,14 @@ use Rattle.association.specs.Client.{ClientRow, Client as RoomyRow}
 use Rattle.mms_time.specs.Semaphores.{Rows}
 use Rattle.variable_services.specs.declared.tables.VariableTables.{VariableTables}
 use Rattle.parted_state.specs.Served.{Done, change}
-use Rattle.cell_services.specs.Acts.{act_done, IsDoneOn}
+use Rattle.cell_services.specs.Acts.{act_done, IsDoneAmong, IsDoneOn}
 use Rattle.cell_services.specs.Association.{Verdict}
-use Rattle.cell_services.specs.Effects.{Effect, tell}
+use Rattle.cell_services.specs.Effects.{Effect, settled, tell}
 use Rattle.cell_services.specs.Meant.{no_tables, row_after}
 use Rattle.cell_services.specs.Serving.{hears, own_told, passes}
 use Rattle.cell_services.specs.Tables.{Tables, last_moment}
 use Rattle.mms_step.specs.declared.part.Part.{Part}
-use Rattle.mms_step.specs.declared.part.Part.TheVariants.{Client, Variables}
+use Rattle.mms_step.specs.declared.part.Part.TheVariants.{Client, Semaphores, Variables}
 use Rattle.mms_step.specs.declared.serving.Task.{Task}
 use Rattle.mms_step.specs.declared.serving.Task.TheVariants as task
 use Rattle.mms_step.specs.Partition.{client_place, on_client, row_in, IsClient}
@@ -55,6 +55,24 @@ pub record AreDone (semaphores : Rows) (v : Verdict) (part table new now : Part)
   pub is_after : new ≡ Client after
   pub is_now : now ≡ Variables become
   pub done : IsDoneOn own.row semaphores was become after v
+
+-- the part of a client and that of the semaphores, before and after it, at that moment
+pub record AreDoneAmong (client now : ℕ) (v : Verdict) (part table new become : Part) : Type 0 where
+  pub own : RoomyRow
+  pub after : RoomyRow
+  pub was : Rows
+  pub rows : Rows
+  pub is_own : part ≡ Client own
+  pub is_table : table ≡ Semaphores was
+  pub is_after : new ≡ Client after
+  pub is_become : become ≡ Semaphores rows
+  pub of_client : own.row.client ≡ client
+  pub done : IsDoneAmong own.row now was rows after v
+
+-- a client's part in which no room is promised
+abbrev pub IsRoomless : Part → Type 0
+IsRoomless (Client own) = own ≡ settled own.row
+IsRoomless other = Unit {0}
 
 -- the client is told all that comes of a verdict, which uses no table and tells nobody else anything
 pub record IsHeardInPlace (client : ℕ) (v : Verdict) (hand new : List (Option Part)) : Type 0 where

@@ -26,6 +26,7 @@ ghost use Rattle.mms_step.specs.After.{after};
 use crate::needs::{client_held, semaphores_held};
 use crate::serving::{Task, serve};
 use crate::tables::{BEFORE_CLIENTS, VARIABLES, clients_of};
+use crate::tokens::serve_on_semaphores;
 use crate::{Cell, Part};
 use cell_services::{Act, Reading, wants_memory};
 use mms_pdu::{Read, Refusal, read_pdu_to};
@@ -36,7 +37,7 @@ use part_table::Hand;
 use std::alloc::Global;
 
 /// Takes the part of a client out of its place, where it is held.
-fn take_client(held: &mut Hand<Cell>, client: u32) -> Box<Part>
+pub(crate) fn take_client(held: &mut Hand<Cell>, client: u32) -> Box<Part>
     requires small { client ≤ 64 }
     requires held { IsClient (held_at held.old (client_place client)) }
     ensures part { Some result.value ≡ held_at held.old (client_place client) }
@@ -50,7 +51,7 @@ fn take_client(held: &mut Hand<Cell>, client: u32) -> Box<Part>
 }
 
 /// Puts the part of a client into its place.
-fn put_client(held: &mut Hand<Cell>, client: u32, part: Box<Part>)
+pub(crate) fn put_client(held: &mut Hand<Cell>, client: u32, part: Box<Part>)
     requires small { client ≤ 64 }
     requires place { client_place client < length held.old }
     ensures { held.new ≡ slice_set held.old (client_place client) (Some part.value) }
@@ -163,6 +164,36 @@ fn serve_on_variables(
     done
 }
 
+/// Serves a request of a client on the parts as they are held, where it is one that is asked most: it reads or writes
+/// variables, or it is for a token or gives one back. False for any other request, and where it has to be served on
+/// tables that are lifted; then all is as before.
+fn serve_in_place(
+    alloc: Global,
+    held: &mut Hand<Cell>,
+    clients: u32,
+    client: u32,
+    invoke: u32,
+    asked: &Request,
+) -> Result<bool, Memory>
+    requires of { (s : State) × IsHandOf held.old (parts_of s) }
+    requires many { clients ≡ clients_among (length held.old) }
+    requires few { clients ≤ 64 }
+    requires among { (1 ≤ client) × (client ≤ clients) }
+    requires held { IsClient (held_at held.old (client_place client)) }
+    ensures served { IfOk result (λ done. done ≡ true → held.new ≡ put_in_place cell
+        (hears (tables_shown cell held.old) (row_held held.old client) client
+        (Takes invoke asked.now)) held.old) }
+    ensures same { IfOk result (λ done. done ≡ false → held.new ≡ held.old) }
+    ensures kept { OnErr result (held.new ≡ held.old) }
+{
+    match asked {
+        Request::TakeControl(_) | Request::RelinquishControl(_) => {
+            serve_on_semaphores(alloc, held, clients, client, invoke, asked)
+        }
+        _ => serve_on_variables(alloc, held, clients, client, invoke, asked),
+    }
+}
+
 /// Serves a request of a client whose part is held.
 fn finish_request(
     alloc: Global,
@@ -182,7 +213,7 @@ fn finish_request(
         (Takes invoke asked.now)) held.old) }
     ensures kept { OnErr result (held.new ≡ held.old) }
 {
-    match serve_on_variables(alloc, held, clients, client, invoke, asked) {
+    match serve_in_place(alloc, held, clients, client, invoke, asked) {
         Err(error) => Err(error),
         Ok(true) => Ok(()),
         Ok(false) => {

@@ -13,6 +13,7 @@ mod part;
 mod serving;
 mod tables;
 mod telling;
+mod tokens;
 
 pub use applying::{apply, apply_read, drain};
 pub use cell::Cell;

@@ -153,12 +153,9 @@ pub fn take_control_told(
     ensures { Serves result (take_cause client asked.now semaphores.now)
         (take_told client asked.now semaphores.now) }
 {
-    let Some(row) = semaphores.named(client, &asked.name) else {
-        return Err(Refuse::Service(ServiceError::OBJECT_NON_EXISTENT));
-    };
-    match take_cause(&row.semaphore, client, asked) {
-        Some(error) => Err(Refuse::Service(error)),
-        None => Ok(take_told(alloc, &row.semaphore, asked)?),
+    match semaphores.named(client, &asked.name) {
+        None => Err(Refuse::Service(ServiceError::OBJECT_NON_EXISTENT)),
+        Some(row) => row.take_told(alloc, client, asked),
     }
 }
 
@@ -180,8 +177,43 @@ fn ask_of(client: u32, invoke: u32, token: Option<u32>, asked: &TakeControl) -> 
 }
 
 impl SemaphoreRow {
-    /// A token is asked for.
-    fn take(
+    /// What a client is told that asks for a token of this semaphore, as `take_control_told` tells it of the one that is
+    /// named. Nothing is taken yet.
+    pub fn take_told(
+        &self,
+        alloc: Global,
+        client: u32,
+        asked: &TakeControl,
+    ) -> Result<TakeDone, Refuse>
+        ensures { Serves result (first_of (take_conditions_in client asked.now self.now.semaphore))
+            (Some (take_told_in asked.now self.now.semaphore)) }
+    {
+        match take_cause(&self.semaphore, client, asked) {
+            Some(error) => Err(Refuse::Service(error)),
+            None => Ok(take_told(alloc, &self.semaphore, asked)?),
+        }
+    }
+
+    /// Who is granted the token of this semaphore that the client gives back, as `relinquish_control_told` tells it of
+    /// the one that is named. Nothing is given back yet.
+    pub fn relinquish_told(
+        &self,
+        client: u32,
+        asked: &RelinquishControl,
+    ) -> Result<Option<Grant>, Refuse>
+        ensures { Serves result
+            (first_of (relinquish_conditions_in client asked.now self.now.semaphore))
+            (Some (relinquish_grant_in client asked.now self.now.semaphore)) }
+    {
+        match relinquish_cause(&self.semaphore, client, asked) {
+            Some(error) => Err(Refuse::Service(error)),
+            None => Ok(relinquish_grant(&self.semaphore, client, asked)),
+        }
+    }
+
+    /// Asks for a token of this semaphore: the client has it, or waits. The one refusal is want of memory; then all is as
+    /// before.
+    pub fn take(
         &mut self,
         client: u32,
         invoke: u32,
@@ -216,8 +248,9 @@ impl SemaphoreRow {
         }
     }
 
-    /// A token is given back.
-    fn relinquish(&mut self, client: u32, token: Option<&Identifier>, now: Moment)
+    /// Gives the client's token of this semaphore back, of a pool the one that is named: it is granted to the entry that
+    /// is served next with it, or is free. It takes no memory.
+    pub fn relinquish(&mut self, client: u32, token: Option<&Identifier>, now: Moment)
         requires { IsDated now }
         ensures { self.new
             ≡ changed_row (with_token_back client (option_copied token.entry) now) self.old }
@@ -341,12 +374,9 @@ pub fn relinquish_control_told(
     ensures { Serves result (relinquish_cause client asked.now semaphores.now)
         (relinquish_grant client asked.now semaphores.now) }
 {
-    let Some(row) = semaphores.named(client, &asked.name) else {
-        return Err(Refuse::Service(ServiceError::OBJECT_NON_EXISTENT));
-    };
-    match relinquish_cause(&row.semaphore, client, asked) {
-        Some(error) => Err(Refuse::Service(error)),
-        None => Ok(relinquish_grant(&row.semaphore, client, asked)),
+    match semaphores.named(client, &asked.name) {
+        None => Err(Refuse::Service(ServiceError::OBJECT_NON_EXISTENT)),
+        Some(row) => row.relinquish_told(client, asked),
     }
 }
 

@@ -22,7 +22,7 @@ put_client-requires-2-clause-place c =
 
 pub returns-in_default-clause-same : goal.returns-in_default-clause-same
 returns-in_default-clause-same c nothing =
-    one_back c.args.held.now c.take_client-part.new.held c.take_variables.new.held c.put_client.new.held (5 + c.args.client) c.take_client-part.result.value c.take_client-part.ensures.part
+    one_back c.args.held.now c.take_client-part.new.held c.take_variables.new.held c.put_client.new.held (5 + c.args.client) 1 c.take_client-part.result.value c.take_client-part.ensures.part
     c.take_client-part.ensures.left c.in_default.ensures.part c.in_default.ensures.left c.put_client.ensures
 
 pub returns-clause-served : goal.returns-clause-served
@@ -43,7 +43,7 @@ pub returns-clause-same : goal.returns-clause-same
 returns-clause-same c =
     if_ok_then c.serve_parts-done.result
     (λ done is off.
-    both_back c.args.held.now c.take_client-part.new.held c.take_variables.new.held c.put_variables.new.held c.put_client-2.new.held (5 + c.args.client) c.take_client-part.result.value c.in-Some.table.value
+    both_back c.args.held.now c.take_client-part.new.held c.take_variables.new.held c.put_variables.new.held c.put_client-2.new.held (5 + c.args.client) 1 c.take_client-part.result.value c.in-Some.table.value
     c.take_client-part.ensures.part c.take_client-part.ensures.left c.in-Some.ensures.part c.in-Some.ensures.left
     (c.put_variables.ensures ∙ ap (λ (p : Part). set c.take_variables.new.held 1 (Some p)) ((is off).1 ∙ c.deref_mut-2.ensures.value))
     (c.put_client-2.ensures ∙ ap (λ (p : Part). set c.put_variables.new.held (5 + c.args.client) (Some p)) ((is off).0 ∙ c.deref_mut.ensures.value)))
@@ -53,7 +53,7 @@ pub returns-clause-kept : goal.returns-clause-kept
 returns-clause-kept c =
     on_err_both c.serve_parts-done.result
     (λ kept left.
-    both_back c.args.held.now c.take_client-part.new.held c.take_variables.new.held c.put_variables.new.held c.put_client-2.new.held (5 + c.args.client) c.take_client-part.result.value c.in-Some.table.value
+    both_back c.args.held.now c.take_client-part.new.held c.take_variables.new.held c.put_variables.new.held c.put_client-2.new.held (5 + c.args.client) 1 c.take_client-part.result.value c.in-Some.table.value
     c.take_client-part.ensures.part c.take_client-part.ensures.left c.in-Some.ensures.part c.in-Some.ensures.left
     (c.put_variables.ensures ∙ ap (λ (p : Part). set c.take_variables.new.held 1 (Some p)) (left ∙ c.deref_mut-2.ensures.value))
     (c.put_client-2.ensures ∙ ap (λ (p : Part). set c.put_variables.new.held (5 + c.args.client) (Some p)) (kept ∙ c.deref_mut.ensures.value)))

@@ -1,9 +1,8 @@
-use Rattle.std.proofs.Common.{ℕ, ◌∙◌, ap, sym, List, Option, Some, length}
+use Rattle.std.proofs.Common.{ℕ, ◌∙◌, ap, sym}
 use Rattle.std.specs.Option.{option_map}
 use Rattle.part_table.specs.Held.{held_at}
 use Rattle.parted_state.specs.Served.{change}
-use Rattle.mms_step.specs.declared.part.Part.{Part}
-use Rattle.mms_step.specs.Partition.{clients_among, on_semaphores, semaphores_or, semaphores_place}
+use Rattle.mms_step.specs.Partition.{on_semaphores, semaphores_or, semaphores_place}
 use Rattle.mms_step.proofs.Changed.{semaphores_arm, other_arm, free_changed, place_left, no_semaphores_held, no_semaphores_shown, told_of}
 use Rattle.mms_step.proofs.lifted.exchange_semaphores.Goals as goal
 
