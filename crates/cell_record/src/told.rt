@@ -4,7 +4,7 @@ ghost use Rattle.std.specs.Prelude.{◌≡◌, ◌+◌, ◌<◌, ◌^◌, [], �
 ghost use Rattle.cell_record.specs.Report.{placed_from};
 ghost use Rattle.cell_record.specs.Placed.{places_from};
 
-use mms_types::{CellEvent, Events, Memory, What};
+use mms_types::{CellEvent, Memory, What};
 use std::alloc::Global;
 use std::marker::Model;
 
@@ -55,15 +55,16 @@ impl PlacedEvents {
 
     /// Events that were served one after the other, the first of them at that place. Without memory they are dropped.
     #[tactic(auto, using(crate::proofs::Placing::zip_places))]
-    pub fn consecutive(alloc: Global, first: u64, events: Events) -> Result<PlacedEvents, Memory>
-        requires { first + length events < 2 ^ 64 }
-        ensures { IfOk result (λ served. served ≡ placed_from first events) }
+    pub fn consecutive(
+        alloc: Global,
+        first: u64,
+        events: Vec<CellEvent>,
+    ) -> Result<PlacedEvents, Memory>
+        requires { first + length events.items < 2 ^ 64 }
+        ensures { IfOk result (λ served. served ≡ placed_from first events.items) }
     {
         let places = places_from(alloc, first, events.len())?;
-        Ok(PlacedEvents {
-            places,
-            events: events.into_vec(),
-        })
+        Ok(PlacedEvents { places, events })
     }
 
     /// How many there are.

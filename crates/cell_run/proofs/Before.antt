@@ -1,5 +1,5 @@
 -- The jobs of a phase are fit for turns.
-use Rattle.std.proofs.Common.{◌≡◌, ◌&&◌, ◌≤◌, ◌+◌, ◌==◌, ℕ, zero, suc, Bool, true, false, if◌then◌else◌, List, [], ◌∷◌, refl, sym, ap, ◌∙◌, subst, map, length, arith, Some, slice_get}
+use Rattle.std.proofs.Common.{◌≡◌, ◌&&◌, ◌≤◌, ◌+◌, ◌==◌, ℕ, suc, Bool, true, false, if◌then◌else◌, List, [], ◌∷◌, refl, subst, length, arith}
 use Rattle.std.specs.List.{All}
 use Rattle.std.proofs.lemmas.Bool.{eqb-true, leb-true}
 use Rattle.mms_types.specs.Actors.{actor_of}
@@ -7,15 +7,14 @@ use Rattle.mms_types.specs.declared.event.CellEvent.{CellEvent}
 use Rattle.mms_types.specs.declared.event.CellEvent.TheVariants.{Heard, Lost, Tick, Ends, Drain}
 use Rattle.cell_config.specs.declared.config.Config.{Config}
 use Rattle.mms_device.specs.Making.{MayMake}
-use Rattle.mms_device.specs.Shared.{Caller, goes_by, ticks_in}
+use Rattle.mms_device.specs.Shared.{goes_by, ticks_in}
 use Rattle.mms_device.specs.Turns.{AreOf}
-use Rattle.mms_device.specs.declared.turns.CellJob.{CellJob}
 use Rattle.cell_record.specs.EventLine.{IsRecorded}
 use Rattle.cell_record.specs.Words.{between}
 use Rattle.cell_record.specs.Grammar.{phase_ms}
 use Rattle.cell_record.specs.Recording.{ms_in}
 use Rattle.cell_record.specs.History.{events_of}
-use Rattle.cell_run.specs.Jobs.{AreBelow, fresh, with_left, with_events}
+use Rattle.cell_run.specs.Jobs.{AreBelow}
 
 both : (a b : Bool) → (a && b) ≡ true → (a ≡ true) × (b ≡ true)
 both true b e = (refl, e)
@@ -77,25 +76,3 @@ module _ (config : Config) (actor : ℕ) where
       by : (b : Bool) → ticks_in (events_of actor es) ≤ phase_ms es → ticks_in (if b then e ∷ events_of actor es else events_of actor es) ≤ phase_ms (e ∷ es)
       by true r = let s = same_ms e in omega arith
       by false r = omega arith
-
--- the job at a place
-pub job_at : (actor : ℕ) (es : List CellEvent) (passes : List Caller) (i : ℕ) (job : CellJob) → slice_get (with_events actor es (map fresh passes)) i ≡ Some job
-    → (p : Caller) × (slice_get passes i ≡ Some p) × (job ≡ with_left (events_of (actor + i) es) (fresh p))
-job_at actor es [] i job is = cc
-job_at actor es (p ∷ passes) zero job is = let e : with_left (events_of actor es) (fresh p) ≡ job = cc is in let n : actor ≡ actor + 0 = omega arith in (p, refl, sym e ∙ ap (λ k. with_left (events_of k es) (fresh p)) n)
-job_at actor es (p ∷ passes) (suc i) job is =
-    let r = job_at (actor + 1) es passes i job is in
-    let n : actor + 1 + i ≡ actor + suc i = omega arith in
-    (r.0, r.1, r.2 ∙ ap (λ k. with_left (events_of k es) (fresh r.0)) n)
-
-pub at_job : (actor : ℕ) (es : List CellEvent) (passes : List Caller) (i : ℕ) (p : Caller) → slice_get passes i ≡ Some p
-    → slice_get (with_events actor es (map fresh passes)) i ≡ Some (with_left (events_of (actor + i) es) (fresh p))
-at_job actor es [] i p is = cc
-at_job actor es (q ∷ passes) zero p is = let e : q ≡ p = cc is in let n : actor ≡ actor + 0 = omega arith in ap (λ (x : Caller). Some (with_left (events_of actor es) (fresh x))) e ∙ ap (λ k. Some (with_left (events_of k es) (fresh p))) n
-at_job actor es (q ∷ passes) (suc i) p is =
-    let n : actor + 1 + i ≡ actor + suc i = omega arith in
-    at_job (actor + 1) es passes i p is ∙ ap (λ k. Some (with_left (events_of k es) (fresh p))) n
-
-pub jobs_length : (actor : ℕ) (es : List CellEvent) (jobs : List CellJob) → length (with_events actor es jobs) ≡ length jobs
-jobs_length actor es [] = refl
-jobs_length actor es (j ∷ jobs) = let r = jobs_length (actor + 1) es jobs in omega arith

@@ -14,18 +14,17 @@ use Rattle.part_table.specs.Gathered.{AreAll, HaveGathered, own_places}
 use Rattle.part_table.proofs.Histories.{starts_trans, starts_whole, starts_length}
 use Rattle.part_table.proofs.Own.{own_events}
 use Rattle.mms_step.specs.Step.{said}
-use Rattle.mms_device.specs.Agendas.{Parted}
 use Rattle.mms_device.specs.Making.{MayMake}
 use Rattle.mms_device.specs.Shared.{Shared, Caller, History, IsOf, all_events, ticks_in}
-use Rattle.mms_device.specs.Turns.{IsFit, AreOf, events}
+use Rattle.mms_device.specs.Turns.{AreOf, CanServe, events}
 use Rattle.cell_record.specs.EventLine.{IsRecorded}
 use Rattle.cell_record.specs.Grammar.{all_ms}
 use Rattle.cell_record.specs.History.{IsBodyOf, Interleaves, drains, history, events_of as acts_of}
 use Rattle.cell_record.specs.Report.{phase_text, placed_from, taken}
 use Rattle.cell_run.specs.declared.crew.Crew.{Crew}
 use Rattle.cell_run.specs.Drained.{AreKnown, DrainAll, drains_of}
-use Rattle.cell_run.specs.Jobs.{AreBelow, job_of}
-use Rattle.cell_run.specs.Laying.{IsServedBy, placed_of}
+use Rattle.cell_run.specs.Jobs.{AreBelow}
+use Rattle.cell_run.specs.Laying.{IsServedBy, Log, placed_of}
 use Rattle.cell_run.specs.Running.{HasRun, HaveServed, IsWhole, size_of}
 use Rattle.cell_run.specs.Serving.{IsNext, body_text}
 use Rattle.cell_run.proofs.Before.{actor_few, actor_makes, actor_time, recorded_below}
@@ -78,7 +77,7 @@ module _ (device : Shared) (config : Config) (common : History) (passes : List C
   module _ (phases : List (List CellEvent)) (left : (i : ℕ) (p : Caller) → slice_get passes i ≡ Some p → 2 ^ 33 ≤ size_of phases + length phases + p.left)
       (time : (caller : ℕ) → ticks_in (events_of caller common) ≤ all_ms phases) (next : IsNext config phases es) (size : size_of phases + length es ≤ 2 ^ 32) where
     -- each pass is fit to serve its events
-    pub each_fit : (i : ℕ) (p : Caller) → slice_get passes i ≡ Some p → IsFit device (job_of i es p)
+    pub each_fit : (i : ℕ) (p : Caller) → slice_get passes i ≡ Some p → CanServe device p (acts_of i es)
     each_fit i p at =
         let one = known.each i p at in
         let tr = true_of i p at in
@@ -102,15 +101,15 @@ module _ (device : Shared) (config : Config) (common : History) (passes : List C
   pub below : AreBelow (length passes) es
   below = recorded_below config (length passes) es (known.count ∙ of.callers) recorded
 
-  module _ (after : List Caller) (agendas : List Parted) (s : HaveServed device passes es after agendas) (true_after : (i : ℕ) (q : Caller) → slice_get after i ≡ Some q → IsTrueOf MayMake q) where
+  module _ (after : List Caller) (logs : List Log) (s : HaveServed device passes es after logs) (true_after : (i : ℕ) (q : Caller) → slice_get after i ≡ Some q → IsTrueOf MayMake q) where
     before_of : (i : ℕ) (q : Caller) → slice_get after i ≡ Some q
-        → (p : Caller) × (a : Parted) × (slice_get passes i ≡ Some p) × (slice_get agendas i ≡ Some a) × IsWhole device (job_of i es p) (record { pass = q; agenda = a })
+        → (p : Caller) × (log : Log) × (slice_get passes i ≡ Some p) × (slice_get logs i ≡ Some log) × IsWhole device (acts_of i es) p q log
     before_of i q at =
         let lt = slice_get_within after i q at in
         let same = s.same in
         let all = s.all in
         let p = slice_there passes i (omega arith) in
-        let a = slice_there agendas i (omega arith) in
+        let a = slice_there logs i (omega arith) in
         (p.0, a.0, p.1, a.1, s.each i p.0 q a.0 p.1 at a.1)
 
     pub all_after : AreAll device.table after
@@ -132,40 +131,39 @@ module _ (device : Shared) (config : Config) (common : History) (passes : List C
       abbrev pub body : History
       body = from_first.0
 
-      actors : length agendas ≡ length after
+      actors : length logs ≡ length after
       actors = s.all ∙ sym s.same
 
       body_made : IsMade (length after) MayMake body
       body_made = made_rest actor_of MayMake own_actor (length after) common body (subst (λ (l : History). IsMade (length after) MayMake l) from_first.1 g.made)
 
-      served_at : (i : ℕ) (a : Parted) → slice_get agendas i ≡ Some a → (a.served ≡ placed_of (1 + length common) i body) × (a.rest ≡ []) × (acts_of i es ≡ events a.served)
-      served_at i a at =
-          let lt = slice_get_within agendas i a at in
+      served_at : (i : ℕ) (log : Log) → slice_get logs i ≡ Some log → (log ≡ placed_of (1 + length common) i body) × (acts_of i es ≡ events log)
+      served_at i log at =
+          let lt = slice_get_within logs i log at in
           let same = actors in
           let q = slice_there after i (omega arith) in
           let b = before_of i q.0 q.1 in
-          let e : b.1 ≡ a = cc (sym b.3 ∙ at) in
-          let w : IsWhole device (job_of i es b.0) (record { pass = q.0; agenda = a }) = subst (λ (x : Parted). IsWhole device (job_of i es b.0) (record { pass = q.0; agenda = x })) e b.4 in
+          let e : b.1 ≡ log = cc (sym b.3 ∙ at) in
+          let w : IsWhole device (acts_of i es) b.0 q.0 log = subst (λ (x : Log). IsWhole device (acts_of i es) b.0 q.0 x) e b.4 in
           let kept = g.kept i q.0 q.1 in
           let one = known.each i b.0 b.2 in
-          let mine : events_of i q.0.seen ≡ events_of i b.0.seen ++ events a.served = subst (λ n. events_of n q.0.seen ≡ events_of n b.0.seen ++ events a.served) one.by w.known in
-          (served_since MayMake device.table common now body i b.0 q.0 a.served one (true_of i b.0 b.2) (true_after i q.0 q.1) (w.by ∙ one.by) w.own mine kept.4 kept.5 from_first.1, w.rest, w.work)
+          let mine : events_of i q.0.seen ≡ events_of i b.0.seen ++ events log = subst (λ n. events_of n q.0.seen ≡ events_of n b.0.seen ++ events log) one.by w.known in
+          (served_since MayMake device.table common now body i b.0 q.0 log one (true_of i b.0 b.2) (true_after i q.0 q.1) (w.by ∙ one.by) w.own mine kept.4 kept.5 from_first.1, w.work)
 
-      pub served_by : IsServedBy (1 + length common) agendas body
+      pub served_by : IsServedBy (1 + length common) logs body
       served_by = record {
         made = subst (λ n. IsMade n MayMake body) (sym actors) body_made;
-        rest = λ i a at. (served_at i a at).1;
-        served = λ i a at. (served_at i a at).0;
+        served = λ i log at. (served_at i log at).0;
       }
 
       -- a caller's events in the body are those of the phase
       acted : (actor : ℕ) → events_of actor body ≡ acts_of actor es
-      acted actor = by (slice_get agendas actor) refl
+      acted actor = by (slice_get logs actor) refl
         where
-          by : (o : Option Parted) → slice_get agendas actor ≡ o → events_of actor body ≡ acts_of actor es
-          by (Some a) at = let v = served_at actor a at in sym (placed_events (1 + length common) actor body) ∙ ap events (sym v.0) ∙ sym v.2
+          by : (o : Option Log) → slice_get logs actor ≡ o → events_of actor body ≡ acts_of actor es
+          by (Some log) at = let v = served_at actor log at in sym (placed_events (1 + length common) actor body) ∙ ap events (sym v.0) ∙ sym v.1
           by None at =
-              let le = beyond agendas actor at in
+              let le = beyond logs actor at in
               let same = actors in
               let count = s.same in
               none_above actor_of MayMake own_actor (length after) actor body body_made (omega arith) ∙ sym (none_act actor (length passes) es below (omega arith))
@@ -184,7 +182,7 @@ module _ (device : Shared) (config : Config) (common : History) (passes : List C
           let e : kept.0 ≡ r = cc (sym kept.1 ∙ at) in
           let l : r.left ≡ q.0.left = ap (λ (x : Caller). x.left) (sym e) ∙ ap (λ (x : Caller). x.left) kept.2 in
           let w = b.4.left in
-          let n : length (acts_of i es) ≡ length b.1.served = ap length b.4.work ∙ length-map b.1.served (λ (x : ℕ × CellEvent). x.1) in
+          let n : length (acts_of i es) ≡ length b.1 = ap length b.4.work ∙ length-map b.1 (λ (x : ℕ × CellEvent). x.1) in
           let few = actor_few config i es in
           (b.0, b.2, omega (arith, l, w, n, few))
 

@@ -131,12 +131,12 @@ module _ {J X : Type 0} (f : J → List X) where
 -- ---- laying
 
 module _ {A : Type 0} where
-  set_at : (xs : List A) (i : ℕ) (y : A) → i < length xs → slice_get (slice_set xs i y) i ≡ Some y
+  pub set_at : (xs : List A) (i : ℕ) (y : A) → i < length xs → slice_get (slice_set xs i y) i ≡ Some y
   set_at [] i y lt = absurd (omega arith)
   set_at (x ∷ xs) zero y lt = refl
   set_at (x ∷ xs) (suc i) y lt = set_at xs i y (omega arith)
 
-  set_else : (xs : List A) (i p : ℕ) (y : A) → ¬ (i ≡ p) → slice_get (slice_set xs i y) p ≡ slice_get xs p
+  pub set_else : (xs : List A) (i p : ℕ) (y : A) → ¬ (i ≡ p) → slice_get (slice_set xs i y) p ≡ slice_get xs p
   set_else [] i p y other = refl
   set_else (x ∷ xs) zero zero y other = absurd (other refl)
   set_else (x ∷ xs) zero (suc p) y other = refl

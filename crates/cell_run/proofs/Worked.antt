@@ -1,9 +1,9 @@
 -- Jobs that were served, and the passes that they had.
-use Rattle.std.proofs.Common.{◌≡◌, ◌≤◌, ◌<◌, ◌+◌, ℕ, zero, suc, List, [], ◌∷◌, ◌++◌, refl, sym, ap, ap₂, ◌∙◌, subst, map, length, take, drop, arith, append-nil, IfSome, Some, slice_get, get_or}
+use Rattle.std.proofs.Common.{◌≡◌, ◌≤◌, ◌<◌, ◌+◌, ℕ, zero, suc, List, [], ◌∷◌, ◌++◌, refl, sym, ap, ◌∙◌, subst, map, length, take, drop, arith, append-nil, IfSome, Some, slice_get, get_or}
 use native.Mathlib.Decide.{ℕ_discrete}
 use Rattle.std.proofs.Math.Logic.{∥∥₁_elim}
 use Rattle.std.proofs.lemmas.List.{length-map}
-use Rattle.std.proofs.lemmas.Option.{slice_get-get_or}
+use Rattle.std.proofs.lemmas.Option.{slice_get-get_or, slice_get_within}
 use Rattle.std.specs.List.{All}
 use Rattle.std.specs.Coded.{codes}
 use Rattle.mms_types.specs.DatumCode.{datum_code}
@@ -11,13 +11,13 @@ use Rattle.mms_types.specs.ShapeCode.{shape_code}
 use Rattle.mms_types.specs.declared.event.CellEvent.{CellEvent}
 use Rattle.cell_pool.specs.Rule.{EachAt, IsServed}
 use Rattle.part_table.specs.History.{events_of}
-use Rattle.mms_device.specs.Agendas.{Parted}
 use Rattle.mms_device.specs.Shared.{Shared, Caller}
-use Rattle.mms_device.specs.Turns.{IsFit, MadeOf, events, places}
+use Rattle.mms_device.specs.Turns.{CanServe, IsFit, MadeOf, events, places}
 use Rattle.mms_device.specs.declared.turns.CellJob.{CellJob}
-use Rattle.cell_run.specs.Jobs.{fresh, job_of, with_events}
+use Rattle.cell_record.specs.History.{events_of as acts_of}
+use Rattle.cell_run.specs.Jobs.{AreJobsOf}
+use Rattle.cell_run.specs.Laying.{Log}
 use Rattle.cell_run.specs.Running.{HaveServed, IsWhole}
-use Rattle.cell_run.proofs.Before.{job_at, at_job, jobs_length}
 
 module _ {X : Type 0} where
   pub all_of_each : (P : X → Type 0) (xs : List X) → ((i : ℕ) (x : X) → slice_get xs i ≡ Some x → P x) → All P xs
@@ -65,65 +65,72 @@ module _ {X : Type 0} where
 
 -- ---- what turns made of a job
 
-abbrev job_with : Caller → Parted → CellJob
-job_with p a = record { pass = p; agenda = a }
-
-whole_of : (device : Shared) (a b : CellJob) → a.agenda.served ≡ [] → MadeOf a b → IsFit device b → b.agenda.rest ≡ [] → IsWhole device a b
+whole_of : (device : Shared) (a b : CellJob) → a.log.items ≡ [] → MadeOf a b → IsFit device b → b.rest ≡ [] → IsWhole device a.rest a.pass b.pass b.log.items
 whole_of device a b none m f done =
-    let s : m.placed ≡ b.agenda.served = sym (m.served ∙ ap (λ (l : List (ℕ × CellEvent)). l ++ m.placed) none) in
+    let s : m.placed ≡ b.log.items = sym (m.log ∙ ap (λ (l : Log). l ++ m.placed) none) in
     record {
-      rest = done;
       work = m.rest ∙ ap (λ (l : List CellEvent). events m.placed ++ l) done ∙ append-nil (events m.placed) ∙ ap events s;
-      own = m.own ∙ ap (λ (l : List (ℕ × CellEvent)). a.pass.own ++ places l) s;
-      known = m.known ∙ ap (λ (l : List (ℕ × CellEvent)). events_of a.pass.by a.pass.seen ++ events l) s;
+      own = m.own ∙ ap (λ (l : Log). a.pass.own ++ places l) s;
+      known = m.known ∙ ap (λ (l : Log). events_of a.pass.by a.pass.seen ++ events l) s;
       seen = m.seen.1 ∙ ap (λ (l : List (ℕ × CellEvent)). a.pass.seen ++ l) (sym (ap (drop (length a.pass.seen)) m.seen.1 ∙ drop_here a.pass.seen m.seen.0));
-      left = subst (λ (l : List (ℕ × CellEvent)). b.pass.left + length l ≡ a.pass.left) s m.left;
+      left = subst (λ (l : Log). b.pass.left + length l ≡ a.pass.left) s m.left;
       by = ap (λ (p : Caller). p.by) m.pass;
-      of_table = f.of_table;
-      idle = f.idle;
+      of_table = f.serve.of_table;
+      idle = f.serve.idle;
     }
 
-whole_prop : (device : Shared) (a b : CellJob) → IsProp (IsWhole device a b)
-whole_prop device a b = hlevel (codes, datum_code, shape_code)
+abbrev Ended : Shared → CellJob → CellJob → Type 0
+Ended device a b = (b.rest ≡ []) × IsWhole device a.rest a.pass b.pass b.log.items
 
-pub jobs_whole : (device : Shared) (given back : List CellJob) → ((i : ℕ) (job : CellJob) → slice_get given i ≡ Some job → IsFit device job × (job.agenda.served ≡ []))
-    → IsServed (λ j. ∥ IsFit device j ∥₁) (λ a b. ∥ MadeOf a b ∥₁) given back → EachAt (λ p job. ∥ job.agenda.rest ≡ [] ∥₁) back
-    → (i : ℕ) (a b : CellJob) → slice_get given i ≡ Some a → slice_get back i ≡ Some b → IsWhole device a b
+whole_prop : (device : Shared) (given : List CellEvent) (before after : Caller) (log : Log) → IsProp (IsWhole device given before after log)
+whole_prop device given before after log = hlevel (codes, datum_code, shape_code)
+
+ended_prop : (device : Shared) (a b : CellJob) → IsProp (Ended device a b)
+ended_prop device a b =
+    let whole = whole_prop device a.rest a.pass b.pass b.log.items in
+    hlevel (codes, datum_code, shape_code, whole)
+
+pub jobs_whole : (device : Shared) (given back : List CellJob) → ((i : ℕ) (job : CellJob) → slice_get given i ≡ Some job → IsFit device job × (job.log.items ≡ []))
+    → IsServed (λ j. ∥ IsFit device j ∥₁) (λ a b. ∥ MadeOf a b ∥₁) given back → EachAt (λ p job. ∥ job.rest ≡ [] ∥₁) back
+    → (i : ℕ) (a b : CellJob) → slice_get given i ≡ Some a → slice_get back i ≡ Some b → (b.rest ≡ []) × IsWhole device a.rest a.pass b.pass b.log.items
 jobs_whole device given back fit s done i a b at bt =
     let f : ∥ IsFit device b ∥₁ = subst (λ o. IfSome o (λ j. ∥ IsFit device j ∥₁)) bt (s.1 i) in
     let m : ∥ MadeOf a b ∥₁ = subst (λ o. IfSome o (λ j. ∥ MadeOf a j ∥₁)) bt (subst (λ o. IfSome o (λ from. IfSome (slice_get back i) (λ j. ∥ MadeOf from j ∥₁))) at (s.2 i)) in
-    let d : ∥ b.agenda.rest ≡ [] ∥₁ = subst (λ o. IfSome o (λ (j : CellJob). ∥ j.agenda.rest ≡ [] ∥₁)) bt (done i) in
+    let d : ∥ b.rest ≡ [] ∥₁ = subst (λ o. IfSome o (λ (j : CellJob). ∥ j.rest ≡ [] ∥₁)) bt (done i) in
     let none = (fit i a at).1 in
-    ∥∥₁_elim f (whole_prop device a b) (λ x. ∥∥₁_elim m (whole_prop device a b) (λ y. ∥∥₁_elim d (whole_prop device a b) (λ z. whole_of device a b none y x z)))
+    ∥∥₁_elim f (ended_prop device a b) (λ x. ∥∥₁_elim m (ended_prop device a b) (λ y. ∥∥₁_elim d (ended_prop device a b) (λ z. (z, whole_of device a b none y x z))))
 
 -- ---- the jobs of passes
 
-pub jobs_fit : (device : Shared) (passes : List Caller) (es : List CellEvent) (jobs : List CellJob) → jobs ≡ with_events 0 es (map fresh passes)
-    → ((i : ℕ) (p : Caller) → slice_get passes i ≡ Some p → IsFit device (job_of i es p))
-    → (i : ℕ) (job : CellJob) → slice_get jobs i ≡ Some job → IsFit device job × (job.agenda.served ≡ [])
-jobs_fit device passes es jobs is fit i job at =
-    let p = job_at 0 es passes i job (ap (λ (l : List CellJob). slice_get l i) (sym is) ∙ at) in
-    let n : 0 + i ≡ i = omega arith in
-    let job_is : job ≡ job_of i es p.0 = p.2 ∙ ap (λ k. job_of k es p.0) n in
-    (subst (IsFit device) (sym job_is) (fit i p.0 p.1), ap (λ (j : CellJob). j.agenda.served) job_is)
+pub jobs_fit : (device : Shared) (passes : List Caller) (es : List CellEvent) (jobs : List CellJob) → AreJobsOf es passes jobs
+    → ((i : ℕ) (p : Caller) → slice_get passes i ≡ Some p → CanServe device p (acts_of i es))
+    → (i : ℕ) (job : CellJob) → slice_get jobs i ≡ Some job → IsFit device job × (job.log.items ≡ [])
+jobs_fit device passes es jobs are can i job at =
+    let lt = slice_get_within jobs i job at in
+    let same = are.count in
+    let p = slice_there passes i (omega arith) in
+    let j = are.each i p.0 job p.1 at in
+    (record { serve = subst (λ (q : Caller). CanServe device q job.rest) (sym j.pass) (subst (CanServe device p.0) (sym j.rest) (can i p.0 p.1)); room = j.room }, j.log)
 
-pub passes_served : (device : Shared) (passes : List Caller) (es : List CellEvent) (jobs back : List CellJob) (after : List Caller) (agendas : List Parted)
-    → jobs ≡ with_events 0 es (map fresh passes) → length back ≡ length jobs → ((i : ℕ) (a b : CellJob) → slice_get jobs i ≡ Some a → slice_get back i ≡ Some b → IsWhole device a b)
-    → after ≡ map (λ (job : CellJob). job.pass) back → agendas ≡ map (λ (job : CellJob). job.agenda) back → HaveServed device passes es after agendas
-passes_served device passes es jobs back after agendas is count whole after_is agendas_is =
-    let many : length jobs ≡ length passes = ap length is ∙ jobs_length 0 es (map fresh passes) ∙ length-map passes fresh in
-    record {
-      same = ap length after_is ∙ length-map back (λ (job : CellJob). job.pass) ∙ count ∙ many;
-      all = ap length agendas_is ∙ length-map back (λ (job : CellJob). job.agenda) ∙ count ∙ many;
-      each = λ i p q a at qt bt. one i p q a at qt bt;
-    }
+pub passes_served : (device : Shared) (passes : List Caller) (es : List CellEvent) (jobs back : List CellJob) (after : List Caller) (logs : List Log) → AreJobsOf es passes jobs → length back ≡ length jobs
+    → ((i : ℕ) (a b : CellJob) → slice_get jobs i ≡ Some a → slice_get back i ≡ Some b → (b.rest ≡ []) × IsWhole device a.rest a.pass b.pass b.log.items)
+    → after ≡ map (λ (job : CellJob). job.pass) back → logs ≡ map (λ (job : CellJob). job.log.items) back → HaveServed device passes es after logs
+passes_served device passes es jobs back after logs are count whole after_is logs_is = record {
+  same = ap length after_is ∙ length-map back (λ (job : CellJob). job.pass) ∙ count ∙ are.count;
+  all = ap length logs_is ∙ length-map back (λ (job : CellJob). job.log.items) ∙ count ∙ are.count;
+  each = λ i p q log at qt lt. one i p q log at qt lt;
+}
   where
-    one : (i : ℕ) (p q : Caller) (a : Parted) → slice_get passes i ≡ Some p → slice_get after i ≡ Some q → slice_get agendas i ≡ Some a → IsWhole device (job_of i es p) (record { pass = q; agenda = a })
-    one i p q a at qt bt =
+    one : (i : ℕ) (p q : Caller) (log : Log) → slice_get passes i ≡ Some p → slice_get after i ≡ Some q → slice_get logs i ≡ Some log → IsWhole device (acts_of i es) p q log
+    one i p q log at qt lt =
         let x = map_there (λ (job : CellJob). job.pass) back i q (ap (λ (l : List Caller). slice_get l i) (sym after_is) ∙ qt) in
-        let y = map_there (λ (job : CellJob). job.agenda) back i a (ap (λ (l : List Parted). slice_get l i) (sym agendas_is) ∙ bt) in
+        let y = map_there (λ (job : CellJob). job.log.items) back i log (ap (λ (l : List Log). slice_get l i) (sym logs_is) ∙ lt) in
         let same : x.0 ≡ y.0 = cc (sym x.1 ∙ y.1) in
-        let job : job_with x.0.pass x.0.agenda ≡ job_with q a = ap₂ job_with (sym x.2) (ap (λ (j : CellJob). j.agenda) same ∙ sym y.2) in
-        let n : 0 + i ≡ i = omega arith in
-        let from : slice_get jobs i ≡ Some (job_of i es p) = ap (λ (l : List CellJob). slice_get l i) is ∙ at_job 0 es passes i p at ∙ ap (λ k. Some (job_of k es p)) n in
-        subst (IsWhole device (job_of i es p)) job (whole i (job_of i es p) x.0 from x.1)
+        let log_is : x.0.log.items ≡ log = ap (λ (j : CellJob). j.log.items) same ∙ sym y.2 in
+        let within = slice_get_within back i x.0 x.1 in
+        let a = slice_there jobs i (omega arith) in
+        let j = are.each i p a.0 at a.1 in
+        let w1 : IsWhole device (acts_of i es) a.0.pass x.0.pass x.0.log.items = subst (λ (l : List CellEvent). IsWhole device l a.0.pass x.0.pass x.0.log.items) j.rest (whole i a.0 x.0 a.1 x.1).1 in
+        let w2 : IsWhole device (acts_of i es) p x.0.pass x.0.log.items = subst (λ (r : Caller). IsWhole device (acts_of i es) r x.0.pass x.0.log.items) j.pass w1 in
+        let w3 : IsWhole device (acts_of i es) p q x.0.log.items = subst (λ (r : Caller). IsWhole device (acts_of i es) p r x.0.log.items) (sym x.2) w2 in
+        subst (IsWhole device (acts_of i es) p q) log_is w3

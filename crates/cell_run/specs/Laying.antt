@@ -2,8 +2,11 @@
 use Rattle.std.specs.Prelude.{◌≡◌, ◌≤◌, ◌⊎◌, ℕ, ◌+◌, ◌-◌, ◌==◌, if◌then◌else◌, List, [], ◌∷◌, Option, Some, None, slice_get, length}
 use Rattle.part_table.specs.History.{IsMade}
 use Rattle.mms_types.specs.declared.event.CellEvent.{CellEvent}
-use Rattle.mms_device.specs.Agendas.{Parted}
 use Rattle.mms_device.specs.Making.{MayMake}
+
+-- the places of events that were served, each with its event
+abbrev pub Log : Type 0
+Log = List (ℕ × CellEvent)
 
 -- it is one of these
 abbrev pub Has : {X : Type 0} → List X → X → Type 0
@@ -30,8 +33,7 @@ module _ {E : Type 0} where
   filled (None ∷ slots) = filled slots
   filled (Some event ∷ slots) = event ∷ filled slots
 
--- of a body that begins at a place: each actor was served just the events that it has there, at their places, and none is left
-pub record IsServedBy (first : ℕ) (agendas : List Parted) (body : List (ℕ × CellEvent)) : Type 0 where
-  pub made : IsMade (length agendas) MayMake body
-  pub rest : (i : ℕ) (a : Parted) → slice_get agendas i ≡ Some a → a.rest ≡ []
-  pub served : (i : ℕ) (a : Parted) → slice_get agendas i ≡ Some a → a.served ≡ placed_of first i body
+-- of a body that begins at a place: each actor was served just the events that it has there, at their places
+pub record IsServedBy (first : ℕ) (logs : List Log) (body : List (ℕ × CellEvent)) : Type 0 where
+  pub made : IsMade (length logs) MayMake body
+  pub served : (actor : ℕ) (log : Log) → slice_get logs actor ≡ Some log → log ≡ placed_of first actor body

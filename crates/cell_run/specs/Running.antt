@@ -4,40 +4,36 @@ use Rattle.part_table.specs.History.{events_of, IsMade}
 use Rattle.part_table.specs.Known.{HoldsNothing}
 use Rattle.mms_types.specs.declared.event.CellEvent.{CellEvent}
 use Rattle.cell_config.specs.declared.config.Config.{Config}
-use Rattle.mms_device.specs.Agendas.{Parted}
 use Rattle.mms_device.specs.Making.{MayMake}
 use Rattle.mms_device.specs.Shared.{Shared, Caller, History, IsOf, all_events, ticks_in}
 use Rattle.mms_device.specs.Turns.{places, events}
-use Rattle.mms_device.specs.declared.turns.CellJob.{CellJob}
 use Rattle.cell_record.specs.Grammar.{all_ms}
-use Rattle.cell_record.specs.History.{Interleaves, history}
+use Rattle.cell_record.specs.History.{Interleaves, history, events_of as acts_of}
 use Rattle.cell_run.specs.declared.crew.Crew.{Crew}
 use Rattle.cell_words.specs.declared.words.Command.{Command}
 use Rattle.cell_words.specs.declared.words.Command.TheVariants.{Replay, Run}
 use Rattle.cell_run.specs.Drained.{AreKnown}
-use Rattle.cell_run.specs.Jobs.{job_of}
+use Rattle.cell_run.specs.Laying.{Log}
 use Rattle.cell_run.specs.Bodies.{Serves}
 use Rattle.cell_run.specs.Serving.{IsNext}
 
--- What was served to a job that had served nothing: all events that were left. Their places are the new own places of its pass, and they are what it has made
--- since, in a history that begins with the one that it knew. The pass is the same caller's, of the same device, and holds nothing.
-pub record IsWhole (device : Shared) (a b : CellJob) : Type 0 where
-  pub rest : b.agenda.rest ≡ []
-  pub work : a.agenda.rest ≡ events b.agenda.served
-  pub own : b.pass.own ≡ a.pass.own ++ places b.agenda.served
-  pub known : events_of a.pass.by b.pass.seen ≡ events_of a.pass.by a.pass.seen ++ events b.agenda.served
-  pub seen : b.pass.seen ≡ a.pass.seen ++ drop (length a.pass.seen) b.pass.seen
-  pub left : b.pass.left + length b.agenda.served ≡ a.pass.left
-  pub by : b.pass.by ≡ a.pass.by
-  pub of_table : b.pass.table ≡ device.table
-  pub idle : HoldsNothing b.pass
+-- What was served to a pass: all these events. Their places are its new own places, and they are what it has made since, in a history that begins with the one that it
+-- knew. The pass is the same caller's, of the same device, and holds nothing.
+pub record IsWhole (device : Shared) (given : List CellEvent) (before after : Caller) (log : Log) : Type 0 where
+  pub work : given ≡ events log
+  pub own : after.own ≡ before.own ++ places log
+  pub known : events_of before.by after.seen ≡ events_of before.by before.seen ++ events log
+  pub seen : after.seen ≡ before.seen ++ drop (length before.seen) after.seen
+  pub left : after.left + length log ≡ before.left
+  pub by : after.by ≡ before.by
+  pub of_table : after.table ≡ device.table
+  pub idle : HoldsNothing after
 
--- Passes, in the order of their callers' numbers, have served events, each those of its caller: what was made of each, with its events as they were served.
-pub record HaveServed (device : Shared) (before : List Caller) (events : List CellEvent) (after : List Caller) (agendas : List Parted) : Type 0 where
+-- Passes, in the order of their callers' numbers, have served events, each those of its caller: what was made of each, and the places of its events.
+pub record HaveServed (device : Shared) (before : List Caller) (events : List CellEvent) (after : List Caller) (logs : List Log) : Type 0 where
   pub same : length after ≡ length before
-  pub all : length agendas ≡ length before
-  pub each : (i : ℕ) (p q : Caller) (a : Parted) → slice_get before i ≡ Some p → slice_get after i ≡ Some q → slice_get agendas i ≡ Some a
-      → IsWhole device (job_of i events p) (record { pass = q; agenda = a })
+  pub all : length logs ≡ length before
+  pub each : (i : ℕ) (p q : Caller) (log : Log) → slice_get before i ≡ Some p → slice_get after i ≡ Some q → slice_get logs i ≡ Some log → IsWhole device (acts_of i events) p q log
 
 -- how many events there are in phases
 abbrev pub size_of : List (List CellEvent) → ℕ

@@ -1,15 +1,14 @@
 //! The events that were served in a phase, in the order of their places.
 
-ghost use Rattle.std.specs.Prelude.{◌≡◌, ◌≤◌, ◌<◌, ◌+◌, ◌-◌, ◌^◌, ◌⊎◌, [], ◌∷◌, ℕ, List, Option, None, Some, IfOk, length, map, slice_get, slice_set};
-ghost use Rattle.std.specs.List.{zip};
+ghost use Rattle.std.specs.Prelude.{◌≡◌, ◌<◌, ◌+◌, ◌-◌, ◌^◌, ◌⊎◌, ℕ, List, Option, None, Some, IfOk, length, map, slice_get, slice_set, vec_items};
 ghost use Rattle.mms_types.specs.declared.event.CellEvent.{CellEvent as EventOf};
 ghost use Rattle.mms_device.specs.Shared.{History, all_events};
 ghost use Rattle.cell_record.specs.Report.{placed_from};
 ghost use Rattle.cell_run.specs.Laying.{Has, IsLaid, IsServedBy, Stands, filled};
 
 use cell_record::PlacedEvents;
-use mms_device::Agenda;
-use mms_types::{CellEvent, Events, Memory};
+use mms_device::Tickets;
+use mms_types::{CellEvent, Memory};
 use std::alloc::Global;
 
 /// So many slots, all empty.
@@ -32,42 +31,37 @@ fn put(slots: &mut [Option<CellEvent>], index: usize, event: CellEvent)
 }
 
 /// Lays each event in the slot of its place, where the first slot is that of the place `first`.
-fn lay(slots: &mut [Option<CellEvent>], first: u64, places: Vec<u64>, events: Vec<CellEvent>)
-    requires pairs { length places.items ≡ length events.items }
-    requires stands { (all : List EventOf) × (length all ≡ length slots.old) × ((q : ℕ × EventOf) → Has (zip places.items events.items) q → Stands first all q) }
+fn lay(slots: &mut [Option<CellEvent>], first: u64, log: Tickets)
+    requires { (all : List EventOf) × (length all ≡ length slots.old) × ((q : ℕ × EventOf) → Has log.items q → Stands first all q) }
     ensures count { length slots.new ≡ length slots.old }
-    ensures laid { (all : List EventOf) (index : ℕ) → ((q : ℕ × EventOf) → Has (zip places.items events.items) q → Stands first all q)
-        → (IsLaid slots.old all index) ⊎ ((e : EventOf) → slice_get all index ≡ Some e → Has (zip places.items events.items) (first + index, e))
+    ensures laid { (all : List EventOf) (index : ℕ) → ((q : ℕ × EventOf) → Has log.items q → Stands first all q)
+        → (IsLaid slots.old all index) ⊎ ((e : EventOf) → slice_get all index ≡ Some e → Has log.items (first + index, e))
         → IsLaid slots.new all index }
 {
-    let mut places = places;
-    let mut events = events;
-    while let Some(event) = events.pop() {
-        let Some(place) = places.pop() else {
-            unreachable!()
-        };
+    let mut log = log;
+    while let Some(ticket) = log.pop() {
+        let (place, event) = ticket;
         let index = (place - first) as usize;
         put(slots, index, event);
     }
 }
 
-/// Lays the events of all agendas, of a body that begins at the place `first`.
-fn lay_all(slots: &mut [Option<CellEvent>], first: u64, agendas: Vec<Agenda>)
-    requires body { (body : History) × (length body ≡ length slots.old) × IsServedBy first agendas.items body }
+/// Lays the events of all logs, of a body that begins at the place `first`.
+fn lay_all(slots: &mut [Option<CellEvent>], first: u64, logs: Vec<Tickets>)
+    requires body { (body : History) × (length body ≡ length slots.old) × IsServedBy first (map vec_items logs.items) body }
     ensures count { length slots.new ≡ length slots.old }
-    ensures laid { (body : History) → IsServedBy first agendas.items body → (index : ℕ) → IsLaid slots.new (all_events body) index }
+    ensures laid { (body : History) → IsServedBy first (map vec_items logs.items) body → (index : ℕ) → IsLaid slots.new (all_events body) index }
 {
-    for agenda in agendas {
-        let served = agenda.into_served();
-        lay(slots, first, served.0, served.1);
+    for log in logs {
+        lay(slots, first, log);
     }
 }
 
 /// What lies in the slots, in their order.
-fn in_order(alloc: Global, slots: Vec<Option<CellEvent>>) -> Result<Events, Memory>
-    ensures { IfOk result (λ events. events ≡ filled slots.items) }
+fn in_order(alloc: Global, slots: Vec<Option<CellEvent>>) -> Result<Vec<CellEvent>, Memory>
+    ensures { IfOk result (λ events. events.items ≡ filled slots.items) }
 {
-    let mut events = Events::new(alloc);
+    let mut events = Vec::new(alloc);
     for slot in slots {
         if let Some(event) = slot {
             events.push(event)?;
@@ -81,15 +75,15 @@ pub(crate) fn placed(
     alloc: Global,
     first: u64,
     count: usize,
-    agendas: Vec<Agenda>,
+    logs: Vec<Tickets>,
 ) -> Result<PlacedEvents, Memory>
-    requires body { (body : History) × (length body ≡ count) × IsServedBy first agendas.items body }
+    requires body { (body : History) × (length body ≡ count) × IsServedBy first (map vec_items logs.items) body }
     requires few { first + count < 2 ^ 64 }
-    ensures { (body : History) → length body ≡ count → IsServedBy first agendas.items body
+    ensures { (body : History) → length body ≡ count → IsServedBy first (map vec_items logs.items) body
         → IfOk result (λ served. served ≡ placed_from first (all_events body)) }
 {
     let mut slots = empty_slots(alloc, count)?;
-    lay_all(slots.as_mut_slice(), first, agendas);
+    lay_all(slots.as_mut_slice(), first, logs);
     let events = in_order(alloc, slots)?;
     PlacedEvents::consecutive(alloc, first, events)
 }

@@ -1,6 +1,6 @@
 //! A phase that several workers serve.
 
-ghost use Rattle.std.specs.Prelude.{◌≡◌, ◌≤◌, ◌<◌, [], ◌∷◌, ℕ, List, Some, IfOk, length, slice_get};
+ghost use Rattle.std.specs.Prelude.{◌≡◌, ◌≤◌, ◌<◌, [], ◌∷◌, ℕ, List, Some, IfOk, length, map, slice_get, vec_items};
 ghost use Rattle.part_table.specs.History.{StartsWith};
 ghost use Rattle.part_table.specs.Known.{HoldsNothing, IsTrueOf};
 ghost use Rattle.mms_types.specs.declared.event.CellEvent.{CellEvent as EventOf};
@@ -8,10 +8,11 @@ ghost use Rattle.cell_config.specs.declared.config.Config.{Config as ConfigOf};
 ghost use Rattle.mms_device.specs.Making.{MayMake};
 ghost use Rattle.mms_step.specs.Step.{said};
 ghost use Rattle.mms_device.specs.Shared.{Caller, History};
-ghost use Rattle.mms_device.specs.Turns.{IsFit};
+ghost use Rattle.mms_device.specs.Turns.{CanServe, IsFit};
 ghost use Rattle.mms_device.specs.declared.turns.CellJob.{CellJob as JobOf};
+ghost use Rattle.cell_record.specs.History.{events_of};
 ghost use Rattle.cell_run.specs.Drained.{DrainAll};
-ghost use Rattle.cell_run.specs.Jobs.{AreBelow, job_of};
+ghost use Rattle.cell_run.specs.Jobs.{AreBelow};
 ghost use Rattle.cell_run.specs.Running.{HasRun, HaveServed, IsWhole, MayRun};
 ghost use Rattle.cell_run.specs.Serving.{ServesPhase};
 
@@ -22,7 +23,7 @@ use crate::laying::placed;
 use cell_io::Gate;
 use cell_pool::{PhaseStopped, serve_phase};
 use cell_record::{ClientOutputs, Phase, Told};
-use mms_device::{Agenda, CellJob, CellTurns, Device};
+use mms_device::{CellJob, CellTurns, Device, Tickets};
 use mms_step::Cell;
 use mms_types::{Events, Memory};
 use part_table::{Pass, a_pass_knows_its_own_places};
@@ -49,10 +50,11 @@ fn serve_jobs<R: Threads + Wait + Sync, G: Gate + Sync>(
     workers: u32,
     gate: &G,
 ) -> Result<Vec<CellJob>, Memory>
-    requires fit { (i : ℕ) (job : JobOf) → slice_get jobs.items i ≡ Some job → IsFit device.now job × (job.agenda.served ≡ []) }
+    requires fit { (i : ℕ) (job : JobOf) → slice_get jobs.items i ≡ Some job → IsFit device.now job × (job.log.items ≡ []) }
     requires workers { (1 ≤ workers) × (workers ≤ 16) }
     ensures count { IfOk result (λ back. length back.items ≡ length jobs.items) }
-    ensures whole { IfOk result (λ back. (i : ℕ) (a b : JobOf) → slice_get jobs.items i ≡ Some a → slice_get back.items i ≡ Some b → IsWhole device.now a b) }
+    ensures whole { IfOk result (λ back. (i : ℕ) (a b : JobOf) → slice_get jobs.items i ≡ Some a → slice_get back.items i ≡ Some b
+        → (b.rest ≡ []) × IsWhole device.now a.rest a.pass b.pass b.log.items) }
 {
     let turns = CellTurns { device, alloc };
     match serve_phase(rt, &turns, jobs, workers, gate) {
@@ -70,11 +72,11 @@ fn serve_all<R: Threads + Wait + Sync, G: Gate + Sync>(
     events: Events,
     workers: u32,
     gate: &G,
-) -> Result<(Vec<Pass<Cell>>, Vec<Agenda>), Memory>
-    requires fit { (i : ℕ) (p : Caller) → slice_get passes.items i ≡ Some p → IsFit device.now (job_of i events p) }
+) -> Result<(Vec<Pass<Cell>>, Vec<Tickets>), Memory>
+    requires fit { (i : ℕ) (p : Caller) → slice_get passes.items i ≡ Some p → CanServe device.now p (events_of i events) }
     requires below { AreBelow (length passes.items) events }
     requires workers { (1 ≤ workers) × (workers ≤ 16) }
-    ensures { IfOk result (λ served. HaveServed device.now passes.items events served.0.items served.1.items) }
+    ensures { IfOk result (λ served. HaveServed device.now passes.items events served.0.items (map vec_items served.1.items)) }
 {
     let mut jobs = jobs_of(alloc, passes)?;
     give_out(jobs.as_mut_slice(), events.into_vec())?;
@@ -114,7 +116,7 @@ impl Crew {
     {
         let passes = mem::replace(&mut self.passes, Vec::new(alloc));
         know_all(&passes);
-        let (mut passes, agendas) = serve_all(
+        let (mut passes, logs) = serve_all(
             rt,
             alloc,
             &self.device,
@@ -126,12 +128,7 @@ impl Crew {
         know_all(&passes);
         let count = self.device.gather(passes.as_mut_slice());
         know_all(&passes);
-        let served = placed(
-            alloc,
-            self.count + 1,
-            (count - self.count) as usize,
-            agendas,
-        )?;
+        let served = placed(alloc, self.count + 1, (count - self.count) as usize, logs)?;
         let outputs = drain_all(rt, alloc, &self.device, passes.as_mut_slice(), gate)?;
         self.count = self.device.gather(passes.as_mut_slice());
         self.passes = passes;

@@ -60,9 +60,10 @@ fn serve_whole(alloc: Global, device: &mut Whole, phase: Phase) -> Result<Told, 
     ensures device { OnOk result (device.new ≡ along device.old (phase.events ++ drains (clients_to (length device.old.state.clients)))) }
 {
     let first = device.count() + 1;
-    serve_events(alloc, device, phase.events.as_slice())?;
+    let events = phase.events.into_vec();
+    serve_events(alloc, device, &events)?;
     let outputs = drain_clients(alloc, device)?;
-    let served = PlacedEvents::consecutive(alloc, first, phase.events)?;
+    let served = PlacedEvents::consecutive(alloc, first, events)?;
     Ok(Told {
         number: phase.number,
         served,

@@ -3,9 +3,11 @@ use denote.Ref.{NamedLft}
 use denote.Param.Send.{IsSend, IsSync, sendable, shr_sync}
 use denote.Param.SendFields.{declared_send, declared_sync}
 use Rattle.std.proofs.Crossing.{crosses}
+use Rattle.mms_types.proofs.octets.Octets.TheSendSync as octets
+use Rattle.mms_types.proofs.identifier.Identifier.TheSendSync as identifier
+use Rattle.mms_types.proofs.event.Events.TheSendSync as events
 use Rattle.part_table.proofs.pass.Pass.TheSendSync as pass
 use Rattle.part_table.proofs.table.PartTable.TheSendSync as table
-use Rattle.mms_device.proofs.agenda.Agenda.TheSendSync as agenda
 use Rattle.mms_device.proofs.Sent.{part_send}
 use Rattle.mms_device.specs.contracts.turns.CellJob as CellJob
 use Rattle.mms_device.specs.contracts.turns.CellTurns as CellTurns
@@ -13,7 +15,7 @@ use Rattle.mms_device.specs.contracts.many.Device as Device
 use Rattle.mms_device.specs.contracts.many.Device.TheInside as device
 
 pub job_send : IsSend CellJob.the_row
-job_send = declared_send CellJob.the_type (let a = part_send in search (sendable, pass.the_send), (agenda.the_send, tt))
+job_send = declared_send CellJob.the_type (let a = part_send in search (sendable, pass.the_send), (events.the_send, (search (crosses, sendable, octets.the_send, identifier.the_send) depth 20, tt)))
 
 pub device_inside : IsSync device.the_row
 device_inside = declared_sync device.the_type (let a = part_send in search (sendable, table.the_sync), (search (crosses, sendable) depth 20, (search (crosses, sendable) depth 20, (search (crosses, sendable) depth 20, tt))))

@@ -7,8 +7,8 @@ use Rattle.mms_types.specs.DatumCode.{datum_code}
 use Rattle.mms_types.specs.ShapeCode.{shape_code}
 use Rattle.mms_types.specs.declared.event.CellEvent.{CellEvent}
 use Rattle.mms_types.specs.declared.event.CellEvent.TheVariants.{Heard, Lost, Tick, Ends, Drain}
-use Rattle.mms_device.specs.Shared.{Shared}
-use Rattle.mms_device.specs.Turns.{AreOf, IsFit}
+use Rattle.mms_device.specs.Shared.{Shared, Caller}
+use Rattle.mms_device.specs.Turns.{AreOf, CanServe, IsFit}
 use Rattle.mms_device.specs.declared.turns.CellJob.{CellJob}
 
 among_prop : (n : ℕ) (event : CellEvent) → IsProp (IsAmong n event)
@@ -25,7 +25,12 @@ are_of_prop caller (event ∷ events) =
     let others = are_of_prop caller events in
     hlevel (props, first, others)
 
+serve_prop : (device : Shared) (pass : Caller) (events : List CellEvent) → IsProp (CanServe device pass events)
+serve_prop device pass events =
+    let actor = are_of_prop pass.by events in
+    hlevel (props, codes, datum_code, shape_code, actor)
+
 pub fit_prop : (device : Shared) (job : CellJob) → IsProp (IsFit device job)
 fit_prop device job =
-    let actor = are_of_prop job.pass.by job.agenda.rest in
-    hlevel (props, codes, datum_code, shape_code, actor)
+    let serve = serve_prop device job.pass job.rest in
+    hlevel (props, serve)

@@ -9,7 +9,6 @@ pub mod Between
 pub mod Draining
 pub mod Gathering
 pub mod Sent
-pub mod Agendas
 pub mod Turning
 pub mod Fitting
 pub mod Crossing

@@ -5,5 +5,4 @@ pub mod Refusals
 pub mod Taken
 pub mod Callers
 pub mod Stepping
-pub mod Agendas
 pub mod Turns

@@ -1,5 +1,5 @@
 -- Jobs of actors on a device that many callers share (this profile's choice).
-use Rattle.std.specs.Prelude.{◌≡◌, ◌≤◌, ℕ, ◌+◌, List, [], ◌∷◌, ◌++◌, map, length, refl}
+use Rattle.std.specs.Prelude.{◌≡◌, ◌≤◌, ℕ, ◌+◌, List, [], ◌∷◌, ◌++◌, map, length, vec_capacity, refl}
 use Rattle.std.proofs.Common.{sym, ap, subst, ◌∙◌, append_assoc, append-nil, length-append, arith}
 use Rattle.mms_types.specs.declared.event.CellEvent.{CellEvent}
 use Rattle.part_table.specs.History.{StartsWith, events_of}
@@ -14,13 +14,18 @@ abbrev pub AreOf : ℕ → List CellEvent → Type 0
 AreOf caller [] = Unit {0}
 AreOf caller (event ∷ events) = MayMake caller event × AreOf caller events
 
--- The pass is the device's and holds nothing, it has a commit left for each event that is left, these are its actor's, and time doesn't end before them.
+-- The pass is the device's and holds nothing, it has a commit left for each of the events, these are its actor's, and time doesn't end before them.
+pub record CanServe (device : Shared) (pass : Caller) (events : List CellEvent) : Type 0 where
+  pub of_table : pass.table ≡ device.table
+  pub idle : HoldsNothing pass
+  pub left : length events ≤ pass.left
+  pub actor : AreOf pass.by events
+  pub time : device.config.start.0 + (ticks_in (events_of pass.by pass.seen) + ticks_in events) ≤ last_moment
+
+-- the pass can serve the events that are left, and there is room for the place of each
 pub record IsFit (device : Shared) (job : CellJob) : Type 0 where
-  pub of_table : job.pass.table ≡ device.table
-  pub idle : HoldsNothing job.pass
-  pub left : length job.agenda.rest ≤ job.pass.left
-  pub actor : AreOf job.pass.by job.agenda.rest
-  pub time : device.config.start.0 + (ticks_in (events_of job.pass.by job.pass.seen) + ticks_in job.agenda.rest) ≤ last_moment
+  pub serve : CanServe device job.pass job.rest
+  pub room : length job.log.items + length job.rest ≤ vec_capacity job.log
 
 abbrev pub places : List (ℕ × CellEvent) → List ℕ
 places placed = map (λ p. p.0) placed
@@ -32,8 +37,8 @@ events placed = map (λ p. p.1) placed
 -- that it has made since, in the history that it then knows, which begins with the one that it knew. So many commits fewer are left. It is the same caller's.
 pub record MadeOf (a b : CellJob) : Type 0 where
   pub placed : List (ℕ × CellEvent)
-  pub served : b.agenda.served ≡ a.agenda.served ++ placed
-  pub rest : a.agenda.rest ≡ events placed ++ b.agenda.rest
+  pub log : b.log.items ≡ a.log.items ++ placed
+  pub rest : a.rest ≡ events placed ++ b.rest
   pub own : b.pass.own ≡ a.pass.own ++ places placed
   pub known : events_of a.pass.by b.pass.seen ≡ events_of a.pass.by a.pass.seen ++ events placed
   pub seen : StartsWith b.pass.seen a.pass.seen
@@ -42,7 +47,8 @@ pub record MadeOf (a b : CellJob) : Type 0 where
 
 -- the same events are served and left, and the pass has the same own places and commits left
 pub record SameWork (a b : CellJob) : Type 0 where
-  pub agenda : b.agenda ≡ a.agenda
+  pub rest : b.rest ≡ a.rest
+  pub log : b.log ≡ a.log
   pub own : b.pass.own ≡ a.pass.own
   pub left : b.pass.left ≡ a.pass.left
 
@@ -52,8 +58,9 @@ pub record HasMoved (a b : CellJob) : Type 0 where
   pub more : List CellEvent
   pub place : ℕ
   pub before : History
-  pub next : a.agenda.rest ≡ event ∷ more
-  pub agenda : b.agenda ≡ record { served = a.agenda.served ++ (place, event) ∷ []; rest = more }
+  pub next : a.rest ≡ event ∷ more
+  pub rest : b.rest ≡ more
+  pub log : b.log.items ≡ a.log.items ++ (place, event) ∷ []
   pub pass : IsServed event a.pass b.pass place before
 
 -- A claim was lost: on a part that the first event that was left wants, and to another caller. The same events are served and left.
@@ -62,14 +69,15 @@ pub record IsHeldUp (device : Shared) (a b : CellJob) : Type 0 where
   pub more : List CellEvent
   pub part : ℕ
   pub by : ℕ
-  pub next : a.agenda.rest ≡ event ∷ more
-  pub agenda : b.agenda ≡ a.agenda
+  pub next : a.rest ≡ event ∷ more
+  pub rest : b.rest ≡ a.rest
+  pub log : b.log ≡ a.log
   pub pass : IsBusy device.config event a.pass b.pass part by
 
 pub made_of_itself : (a : CellJob) → MadeOf a a
 made_of_itself a = record {
   placed = [];
-  served = sym (append-nil _);
+  log = sym (append-nil _);
   rest = refl;
   own = sym (append-nil _);
   known = sym (append-nil _);
@@ -90,8 +98,8 @@ made_of_made a b c m n =
     let known : events_of a.pass.by c.pass.seen ≡ events_of a.pass.by b.pass.seen ++ events n.placed = subst (λ (k : ℕ). events_of k c.pass.seen ≡ events_of k b.pass.seen ++ events n.placed) by n.known in
     record {
       placed = m.placed ++ n.placed;
-      served = n.served ∙ ap (λ (l : List (ℕ × CellEvent)). l ++ n.placed) m.served ∙ append_assoc a.agenda.served m.placed n.placed;
-      rest = m.rest ∙ ap (λ (l : List CellEvent). events m.placed ++ l) n.rest ∙ sym (append_assoc (events m.placed) (events n.placed) c.agenda.rest) ∙ ap (λ (l : List CellEvent). l ++ c.agenda.rest) (sym es);
+      log = n.log ∙ ap (λ (l : List (ℕ × CellEvent)). l ++ n.placed) m.log ∙ append_assoc a.log.items m.placed n.placed;
+      rest = m.rest ∙ ap (λ (l : List CellEvent). events m.placed ++ l) n.rest ∙ sym (append_assoc (events m.placed) (events n.placed) c.rest) ∙ ap (λ (l : List CellEvent). l ++ c.rest) (sym es);
       own = n.own ∙ ap (λ (l : List ℕ). l ++ places n.placed) m.own ∙ append_assoc a.pass.own (places m.placed) (places n.placed) ∙ ap (λ (l : List ℕ). a.pass.own ++ l) (sym ps);
       known = known ∙ ap (λ (l : List CellEvent). l ++ events n.placed) m.known ∙ append_assoc (events_of a.pass.by a.pass.seen) (events m.placed) (events n.placed)
           ∙ ap (λ (l : List CellEvent). events_of a.pass.by a.pass.seen ++ l) (sym es);

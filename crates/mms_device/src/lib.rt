@@ -4,7 +4,6 @@
 //! all events have one history. Jobs of its actors take turns on it in a pool of workers.
 #![tactic(auto)]
 
-mod agenda;
 mod answers;
 mod calls;
 mod giving;
@@ -14,8 +13,7 @@ mod taking;
 mod turns;
 mod whole;
 
-pub use agenda::Agenda;
 pub use answers::{Busy, Refused, Served, Unclosed};
 pub use many::Device;
-pub use turns::{CellJob, CellTurns};
+pub use turns::{CellJob, CellTurns, Tickets};
 pub use whole::{Drained, Whole};

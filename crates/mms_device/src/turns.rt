@@ -5,21 +5,28 @@ ghost use Rattle.mms_device.specs.Shared.{IsAsBefore};
 ghost use Rattle.mms_device.specs.Turns.{HasMoved, IsFit, IsHeldUp, MadeOf, SameWork};
 ghost use Rattle.cell_pool.specs.declared.turn.Step.TheVariants as step;
 
-use crate::{Agenda, Device, Refused};
+use crate::{Device, Refused};
 use cell_io::Gate;
 use cell_pool::{Step, Turn};
 use mms_step::Cell;
+use mms_types::{CellEvent, Events};
 use part_table::Pass;
 use std::alloc::Global;
 
-/// What an actor has to have served in a phase: its pass, and its events, of which those that were served have their
-/// places.
+/// The places of events that were served, each with its event, in rising order.
+pub type Tickets = Vec<(u64, CellEvent)>;
+
+/// What an actor has to have served in a phase: its pass, and its events in their order, those that are left and those
+/// that were served. An event goes from `rest` to `log` as it is served.
 #[derive(Drop)]
 pub struct CellJob {
     /// The actor's pass.
     pub pass: Pass<Cell>,
-    /// Its events in their order.
-    pub agenda: Agenda,
+    /// The events that are left.
+    pub rest: Events,
+    /// The places of those that were served. It has its room before the phase begins, so that an event that was
+    /// committed is never refused.
+    pub log: Tickets,
 }
 
 /// Turns on a device. In a turn the first event that is left is served, unless a part that it wants is held by another.
@@ -37,19 +44,22 @@ fn serve_next<G: Gate>(device: &Device, alloc: Global, job: &mut CellJob, gate: 
     requires fit { IsFit device.now job.old }
     ensures fit { IsFit device.now job.new }
     ensures made { MadeOf job.old job.new }
-    ensures ended { (result ≡ step.Done) ↔ (job.old.agenda.rest ≡ []) }
+    ensures ended { (result ≡ step.Done) ↔ (job.old.rest ≡ []) }
     ensures kept { result ≡ step.Done → job.new ≡ job.old }
     ensures moved { (result ≡ step.Moved) ↔ HasMoved job.old job.new }
     ensures held_up { (result ≡ step.Busy) ↔ IsHeldUp device.now job.old job.new }
     ensures short { result ≡ step.Memory → IsAsBefore job.old.pass job.new.pass }
     ensures same { (result ≡ step.Busy) ⊎ (result ≡ step.Memory) → SameWork job.old job.new }
 {
-    let Some(event) = job.agenda.first() else {
+    let Some(event) = job.rest.first() else {
         return Step::Done;
     };
     match device.try_serve(alloc, &mut job.pass, event, gate) {
         Ok(served) => {
-            job.agenda.pass_on(served.ticket);
+            let Some(event) = job.rest.take_first() else {
+                unreachable!()
+            };
+            job.log.push_reserved((served.ticket, event));
             Step::Moved
         }
         Err(Refused::Busy(_)) => Step::Busy,
@@ -65,7 +75,7 @@ impl<'a> Turn for CellTurns<'a> {
 
     ghost fit = { λ turns job. IsFit turns.device.now job };
 
-    ghost done = { λ job. job.agenda.rest ≡ [] };
+    ghost done = { λ job. job.rest ≡ [] };
 
     ghost same_work = { SameWork };
 
@@ -82,9 +92,9 @@ impl<'a> Turn for CellTurns<'a> {
         requires fit { ∥ IsFit self.now.device.now job.old ∥₁ }
         ensures fit { ∥ IsFit self.now.device.now job.new ∥₁ }
         ensures made { ∥ MadeOf job.old job.new ∥₁ }
-        ensures done { result ≡ step.Done → ∥ job.new.agenda.rest ≡ [] ∥₁ }
+        ensures done { result ≡ step.Done → ∥ job.new.rest ≡ [] ∥₁ }
         ensures same { (result ≡ step.Busy) ⊎ (result ≡ step.Memory) → ∥ SameWork job.old job.new ∥₁ }
-        ensures ended { (result ≡ step.Done) ↔ (job.old.agenda.rest ≡ []) }
+        ensures ended { (result ≡ step.Done) ↔ (job.old.rest ≡ []) }
         ensures moved { (result ≡ step.Moved) ↔ HasMoved job.old job.new }
         ensures held_up { (result ≡ step.Busy) ↔ IsHeldUp self.now.device.now job.old job.new }
     {

@@ -1,7 +1,9 @@
-ghost use Rattle.std.specs.Prelude.{◌≡◌, ◌==◌, [], ◌∷◌, ◌++◌, OnOk, OnErr, length};
+ghost use Rattle.std.specs.Prelude.{◌≡◌, ◌==◌, [], ◌∷◌, ◌++◌, List, OnOk, OnErr, MatchOption, length};
+ghost use Rattle.mms_types.specs.declared.event.CellEvent.{CellEvent as EventOf};
 
 use crate::{Identifier, Memory, Octets};
 use std::alloc::Global;
+use std::collections::VecDeque;
 use std::marker::Model;
 
 /// What is sent to a client.
@@ -36,10 +38,10 @@ pub enum CellEvent {
     Drain { client: u32 },
 }
 
-/// Events in order. Contracts see the list of them.
+/// Events in order, of which the first can be taken off. Contracts see the list of them.
 #[derive(Debug, Drop)]
 pub struct Events {
-    list: Vec<CellEvent>,
+    list: VecDeque<CellEvent>,
 }
 
 impl Model for Events {
@@ -57,7 +59,7 @@ impl Events {
         ensures { result ≡ [] }
     {
         Events {
-            list: Vec::new(alloc),
+            list: VecDeque::new(alloc),
         }
     }
 
@@ -66,15 +68,23 @@ impl Events {
         ensures appended { OnOk result (self.new ≡ self.old ++ event ∷ []) }
         ensures kept { OnErr result (self.new ≡ self.old) }
     {
-        self.list.push(event)?;
+        self.list.push_back(event)?;
         Ok(())
     }
 
-    /// The events.
-    pub fn as_slice(&self) -> &[CellEvent]
-        ensures { result.now ≡ self.now }
+    /// The first event: None where there is none.
+    pub fn first(&self) -> Option<&CellEvent>
+        ensures { MatchOption result (self.now ≡ [])
+            (λ event. (more : List EventOf) × (self.now ≡ event.now ∷ more)) }
     {
-        &self.list
+        self.list.front()
+    }
+
+    /// Takes the first event off: None where there is none.
+    pub fn take_first(&mut self) -> Option<CellEvent>
+        ensures { MatchOption result ((self.old ≡ []) × (self.new ≡ [])) (λ event. self.old ≡ event ∷ self.new) }
+    {
+        self.list.pop_front()
     }
 
     /// How many there are.
@@ -91,10 +101,10 @@ impl Events {
         self.list.is_empty()
     }
 
-    /// The vector that holds the events.
+    /// The vector that holds the events. Where none was taken off, none is moved.
     pub fn into_vec(self) -> Vec<CellEvent>
         ensures { result.items ≡ self }
     {
-        self.list
+        self.list.into_vec()
     }
 }

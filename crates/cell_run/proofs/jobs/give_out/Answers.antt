@@ -1,10 +1,9 @@
 use Rattle.std.proofs.Common.{◌++◌, ◌∷◌, [], length, ap, sym, refl, ◌∙◌, append_assoc, rules, arith}
-use Rattle.cell_run.specs.Jobs.{with_events}
-use Rattle.cell_run.proofs.Given.{below_at, given_more, given_none}
+use Rattle.cell_run.proofs.Given.{below_at}
 use Rattle.cell_run.proofs.jobs.give_out.Goals as goal
 
 pub loop-event-init : goal.loop-event-init
-loop-event-init c = record { events = search rules; jobs = sym (given_none 0 c.args.jobs.now); count = refl }
+loop-event-init c = record { events = search rules; jobs = λ passes are. are; count = refl }
 
 pub give-requires : goal.give-requires
 give-requires c =
@@ -19,6 +18,6 @@ loop-event-preserved c =
     let s = c.in-Some.ensures.steps in
     record {
       events = i.events ∙ ap (λ l. c.loop-event.yielded ++ l) s.0 ∙ sym (append_assoc c.loop-event.yielded (c.in-Some.event ∷ []) _);
-      jobs = c.in_ok-give.ensures.given ∙ ap (with_events 0 (c.in-Some.event ∷ [])) i.jobs ∙ sym (given_more 0 c.loop-event.yielded (c.in-Some.event ∷ []) c.args.jobs.now);
+      jobs = λ passes are. c.in_ok-give.ensures.given c.loop-event.yielded passes (i.jobs passes are);
       count = c.give.ensures.count ∙ i.count;
     }

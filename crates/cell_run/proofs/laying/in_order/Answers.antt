@@ -8,7 +8,7 @@ loop-slot-preserved-in-Continue-1 c =
     let s = c.in-Some.ensures.steps in
     record {
       slots = i.slots ∙ ap (λ l. c.loop-slot.yielded ++ l) s.0 ∙ sym (append_assoc c.loop-slot.yielded (c.in-Some.slot ∷ []) _);
-      events = c.in_ok-push.ensures.appended ∙ ap (λ l. l ++ c.in-Some-slot.event ∷ []) i.events ∙ sym (filled_more c.loop-slot.yielded c.in-Some.slot c.in-Some-slot.event c.in-Some-slot.is);
+      events = c.in_ok-push.ensures.items ∙ ap (λ l. l ++ c.in-Some-slot.event ∷ []) i.events ∙ sym (filled_more c.loop-slot.yielded c.in-Some.slot c.in-Some-slot.event c.in-Some-slot.is);
     }
 
 pub loop-slot-preserved : goal.loop-slot-preserved

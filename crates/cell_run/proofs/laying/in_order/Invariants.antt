@@ -6,5 +6,5 @@ use Rattle.cell_run.proofs.laying.in_order.Given as goal
 abbrev pub invariant-loop-slot : goal.invariant-loop-slot
 invariant-loop-slot l = record {
   slots : l.fn.slots.items ≡ l.yielded ++ into_iter_items l.slot-iterator;
-  events : l.events ≡ filled l.yielded;
+  events : l.events.items ≡ filled l.yielded;
 }

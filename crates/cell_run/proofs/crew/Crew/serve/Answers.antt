@@ -1,4 +1,4 @@
-use Rattle.std.proofs.Common.{◌≡◌, ℕ, Some, List, length, slice_get, ap, refl, sym, subst, ◌∙◌, arith}
+use Rattle.std.proofs.Common.{◌≡◌, ℕ, Some, List, length, map, slice_get, vec_items, ap, refl, sym, subst, ◌∙◌, arith}
 use Rattle.std.specs.List.{All}
 use Rattle.cell_config.specs.declared.config.Config.{Config}
 use Rattle.part_table.specs.Known.{IsTrueOf}
@@ -39,9 +39,9 @@ gather-count-requires g c =
     let true_of : (i : ℕ) (p : Caller) → slice_get passes i ≡ Some p → IsTrueOf MayMake p = λ i p at. c.know_all.ensures i p (ap (λ (l : List Caller). slice_get l i) c.deref.ensures.value ∙ at) in
     let n = c.requires.next in
     let after = c.in_ok-passes.passes.items in
-    let agendas = c.in_ok-passes.agendas.items in
+    let logs = map vec_items c.in_ok-passes.logs.items in
     let true_after : (i : ℕ) (p : Caller) → slice_get after i ≡ Some p → IsTrueOf MayMake p = λ i p at. c.know_all-2.ensures i p (ap (λ (l : List Caller). slice_get l i) c.deref-2.ensures.value ∙ at) in
-    record { all = subst (AreAll self.device.table) (sym c.as_mut_slice.ensures.value) (crew_all self n.config n.phases n.bodies es n.served n.next.recorded passes items true_of after agendas c.in_ok-passes.ensures true_after) }
+    record { all = subst (AreAll self.device.table) (sym c.as_mut_slice.ensures.value) (crew_all self n.config n.phases n.bodies es n.served n.next.recorded passes items true_of after logs c.in_ok-passes.ensures true_after) }
 
 pub overflow_add-self : goal.overflow_add-self
 overflow_add-self g c =
@@ -52,7 +52,7 @@ overflow_add-self g c =
     let true_of : (i : ℕ) (p : Caller) → slice_get passes i ≡ Some p → IsTrueOf MayMake p = λ i p at. c.know_all.ensures i p (ap (λ (l : List Caller). slice_get l i) c.deref.ensures.value ∙ at) in
     let n = c.requires.next in
     let after = c.in_ok-passes.passes.items in
-    let agendas = c.in_ok-passes.agendas.items in
+    let logs = map vec_items c.in_ok-passes.logs.items in
     let true_after : (i : ℕ) (p : Caller) → slice_get after i ≡ Some p → IsTrueOf MayMake p = λ i p at. c.know_all-2.ensures i p (ap (λ (l : List Caller). slice_get l i) c.deref-2.ensures.value ∙ at) in
     let gathered = c.gather-count.new.passes in
     let now = c.gather-count.ensures.gathered.0 in
@@ -60,8 +60,8 @@ overflow_add-self g c =
     let v = c.in_ok-passes.passes in
     let w1 = written v.items gathered v.len g1.same (omega (arith, v.ok)) in
     let true_now : (i : ℕ) (p : Caller) → slice_get gathered i ≡ Some p → IsTrueOf MayMake p = λ i p at. c.know_all-3.ensures i p (ap (λ (l : List Caller). slice_get l i) (c.deref-3.ensures.value ∙ w1) ∙ at) in
-    let grows = count_grows self n.config n.phases n.bodies es n.served n.next.recorded passes items true_of after agendas c.in_ok-passes.ensures true_after gathered c.gather-count.result now g1 in
-    let small = count_small self n.config n.phases n.bodies es n.served n.next.recorded passes items true_of after agendas c.in_ok-passes.ensures true_after gathered c.gather-count.result now g1 true_now in
+    let grows = count_grows self n.config n.phases n.bodies es n.served n.next.recorded passes items true_of after logs c.in_ok-passes.ensures true_after gathered c.gather-count.result now g1 in
+    let small = count_small self n.config n.phases n.bodies es n.served n.next.recorded passes items true_of after logs c.in_ok-passes.ensures true_after gathered c.gather-count.result now g1 true_now in
     omega arith
 
 pub overflow_sub-count : goal.overflow_sub-count
@@ -73,14 +73,14 @@ overflow_sub-count g c =
     let true_of : (i : ℕ) (p : Caller) → slice_get passes i ≡ Some p → IsTrueOf MayMake p = λ i p at. c.know_all.ensures i p (ap (λ (l : List Caller). slice_get l i) c.deref.ensures.value ∙ at) in
     let n = c.requires.next in
     let after = c.in_ok-passes.passes.items in
-    let agendas = c.in_ok-passes.agendas.items in
+    let logs = map vec_items c.in_ok-passes.logs.items in
     let true_after : (i : ℕ) (p : Caller) → slice_get after i ≡ Some p → IsTrueOf MayMake p = λ i p at. c.know_all-2.ensures i p (ap (λ (l : List Caller). slice_get l i) c.deref-2.ensures.value ∙ at) in
     let gathered = c.gather-count.new.passes in
     let now = c.gather-count.ensures.gathered.0 in
     let g1 : HaveGathered MayMake after gathered c.gather-count.result now = subst (λ (l : List Caller). HaveGathered MayMake l gathered c.gather-count.result now) c.as_mut_slice.ensures.value c.gather-count.ensures.gathered.1 in
     let v = c.in_ok-passes.passes in
     let w1 = written v.items gathered v.len g1.same (omega (arith, v.ok)) in
-    count_grows self n.config n.phases n.bodies es n.served n.next.recorded passes items true_of after agendas c.in_ok-passes.ensures true_after gathered c.gather-count.result now g1
+    count_grows self n.config n.phases n.bodies es n.served n.next.recorded passes items true_of after logs c.in_ok-passes.ensures true_after gathered c.gather-count.result now g1
 
 pub placed-requires-clause-body : goal.placed-requires-clause-body
 placed-requires-clause-body g c =
@@ -91,14 +91,14 @@ placed-requires-clause-body g c =
     let true_of : (i : ℕ) (p : Caller) → slice_get passes i ≡ Some p → IsTrueOf MayMake p = λ i p at. c.know_all.ensures i p (ap (λ (l : List Caller). slice_get l i) c.deref.ensures.value ∙ at) in
     let n = c.requires.next in
     let after = c.in_ok-passes.passes.items in
-    let agendas = c.in_ok-passes.agendas.items in
+    let logs = map vec_items c.in_ok-passes.logs.items in
     let true_after : (i : ℕ) (p : Caller) → slice_get after i ≡ Some p → IsTrueOf MayMake p = λ i p at. c.know_all-2.ensures i p (ap (λ (l : List Caller). slice_get l i) c.deref-2.ensures.value ∙ at) in
     let gathered = c.gather-count.new.passes in
     let now = c.gather-count.ensures.gathered.0 in
     let g1 : HaveGathered MayMake after gathered c.gather-count.result now = subst (λ (l : List Caller). HaveGathered MayMake l gathered c.gather-count.result now) c.as_mut_slice.ensures.value c.gather-count.ensures.gathered.1 in
     let v = c.in_ok-passes.passes in
     let w1 = written v.items gathered v.len g1.same (omega (arith, v.ok)) in
-    crew_body self n.config n.phases n.bodies es n.served n.next.recorded passes items true_of after agendas c.in_ok-passes.ensures true_after gathered c.gather-count.result now g1
+    crew_body self n.config n.phases n.bodies es n.served n.next.recorded passes items true_of after logs c.in_ok-passes.ensures true_after gathered c.gather-count.result now g1
 
 pub placed-requires-clause-few : goal.placed-requires-clause-few
 placed-requires-clause-few g c =
@@ -109,7 +109,7 @@ placed-requires-clause-few g c =
     let true_of : (i : ℕ) (p : Caller) → slice_get passes i ≡ Some p → IsTrueOf MayMake p = λ i p at. c.know_all.ensures i p (ap (λ (l : List Caller). slice_get l i) c.deref.ensures.value ∙ at) in
     let n = c.requires.next in
     let after = c.in_ok-passes.passes.items in
-    let agendas = c.in_ok-passes.agendas.items in
+    let logs = map vec_items c.in_ok-passes.logs.items in
     let true_after : (i : ℕ) (p : Caller) → slice_get after i ≡ Some p → IsTrueOf MayMake p = λ i p at. c.know_all-2.ensures i p (ap (λ (l : List Caller). slice_get l i) c.deref-2.ensures.value ∙ at) in
     let gathered = c.gather-count.new.passes in
     let now = c.gather-count.ensures.gathered.0 in
@@ -117,8 +117,8 @@ placed-requires-clause-few g c =
     let v = c.in_ok-passes.passes in
     let w1 = written v.items gathered v.len g1.same (omega (arith, v.ok)) in
     let true_now : (i : ℕ) (p : Caller) → slice_get gathered i ≡ Some p → IsTrueOf MayMake p = λ i p at. c.know_all-3.ensures i p (ap (λ (l : List Caller). slice_get l i) (c.deref-3.ensures.value ∙ w1) ∙ at) in
-    let grows = count_grows self n.config n.phases n.bodies es n.served n.next.recorded passes items true_of after agendas c.in_ok-passes.ensures true_after gathered c.gather-count.result now g1 in
-    let small = count_small self n.config n.phases n.bodies es n.served n.next.recorded passes items true_of after agendas c.in_ok-passes.ensures true_after gathered c.gather-count.result now g1 true_now in
+    let grows = count_grows self n.config n.phases n.bodies es n.served n.next.recorded passes items true_of after logs c.in_ok-passes.ensures true_after gathered c.gather-count.result now g1 in
+    let small = count_small self n.config n.phases n.bodies es n.served n.next.recorded passes items true_of after logs c.in_ok-passes.ensures true_after gathered c.gather-count.result now g1 true_now in
     omega arith
 
 pub drain_all-requires-clause-passes : goal.drain_all-requires-clause-passes
@@ -130,14 +130,14 @@ drain_all-requires-clause-passes g c = λ i p at.
     let true_of : (i : ℕ) (p : Caller) → slice_get passes i ≡ Some p → IsTrueOf MayMake p = λ i p at. c.know_all.ensures i p (ap (λ (l : List Caller). slice_get l i) c.deref.ensures.value ∙ at) in
     let n = c.requires.next in
     let after = c.in_ok-passes.passes.items in
-    let agendas = c.in_ok-passes.agendas.items in
+    let logs = map vec_items c.in_ok-passes.logs.items in
     let true_after : (i : ℕ) (p : Caller) → slice_get after i ≡ Some p → IsTrueOf MayMake p = λ i p at. c.know_all-2.ensures i p (ap (λ (l : List Caller). slice_get l i) c.deref-2.ensures.value ∙ at) in
     let gathered = c.gather-count.new.passes in
     let now = c.gather-count.ensures.gathered.0 in
     let g1 : HaveGathered MayMake after gathered c.gather-count.result now = subst (λ (l : List Caller). HaveGathered MayMake l gathered c.gather-count.result now) c.as_mut_slice.ensures.value c.gather-count.ensures.gathered.1 in
     let v = c.in_ok-passes.passes in
     let w1 = written v.items gathered v.len g1.same (omega (arith, v.ok)) in
-    crew_may_drain self n.config n.phases n.bodies es n.served n.next.recorded passes items true_of after agendas c.in_ok-passes.ensures true_after gathered c.gather-count.result now g1 n.next n.size i p (ap (λ (l : List Caller). slice_get l i) (sym w1 ∙ sym c.as_mut_slice-2.ensures.value) ∙ at)
+    crew_may_drain self n.config n.phases n.bodies es n.served n.next.recorded passes items true_of after logs c.in_ok-passes.ensures true_after gathered c.gather-count.result now g1 n.next n.size i p (ap (λ (l : List Caller). slice_get l i) (sym w1 ∙ sym c.as_mut_slice-2.ensures.value) ∙ at)
 
 pub gather-self-requires : goal.gather-self-requires
 gather-self-requires g c =
@@ -148,18 +148,18 @@ gather-self-requires g c =
     let true_of : (i : ℕ) (p : Caller) → slice_get passes i ≡ Some p → IsTrueOf MayMake p = λ i p at. c.know_all.ensures i p (ap (λ (l : List Caller). slice_get l i) c.deref.ensures.value ∙ at) in
     let n = c.requires.next in
     let after = c.in_ok-passes.passes.items in
-    let agendas = c.in_ok-passes.agendas.items in
+    let logs = map vec_items c.in_ok-passes.logs.items in
     let true_after : (i : ℕ) (p : Caller) → slice_get after i ≡ Some p → IsTrueOf MayMake p = λ i p at. c.know_all-2.ensures i p (ap (λ (l : List Caller). slice_get l i) c.deref-2.ensures.value ∙ at) in
     let gathered = c.gather-count.new.passes in
     let now = c.gather-count.ensures.gathered.0 in
     let g1 : HaveGathered MayMake after gathered c.gather-count.result now = subst (λ (l : List Caller). HaveGathered MayMake l gathered c.gather-count.result now) c.as_mut_slice.ensures.value c.gather-count.ensures.gathered.1 in
     let v = c.in_ok-passes.passes in
     let w1 = written v.items gathered v.len g1.same (omega (arith, v.ok)) in
-    let f = crew_front self n.config n.phases n.bodies es n.served n.next.recorded passes items true_of after agendas c.in_ok-passes.ensures true_after gathered c.gather-count.result now g1 in
+    let f = crew_front self n.config n.phases n.bodies es n.served n.next.recorded passes items true_of after logs c.in_ok-passes.ensures true_after gathered c.gather-count.result now g1 in
     let d = c.in_ok-outputs.ensures.drained now f.0 f.1 (c.as_mut_slice-2.ensures.value ∙ w1 ∙ f.2) f.3 in
     let passed = c.drain_all.new.passes in
-    let all = crew_drained self n.config n.phases n.bodies es n.served n.next.recorded passes items true_of after agendas c.in_ok-passes.ensures true_after gathered c.gather-count.result now g1 f.0 f.1 f.2 passed c.in_ok-outputs.outputs d in
-    let same2 = all.count ∙ sym (crew_all self n.config n.phases n.bodies es n.served n.next.recorded passes items true_of after agendas c.in_ok-passes.ensures true_after).count ∙ sym (ap length w1 ∙ g1.same) in
+    let all = crew_drained self n.config n.phases n.bodies es n.served n.next.recorded passes items true_of after logs c.in_ok-passes.ensures true_after gathered c.gather-count.result now g1 f.0 f.1 f.2 passed c.in_ok-outputs.outputs d in
+    let same2 = all.count ∙ sym (crew_all self n.config n.phases n.bodies es n.served n.next.recorded passes items true_of after logs c.in_ok-passes.ensures true_after).count ∙ sym (ap length w1 ∙ g1.same) in
     let w2 = written _ passed v.len same2 (let n1 = ap length w1 ∙ g1.same in omega (arith, v.ok, n1)) in
     record { all = subst (AreAll self.device.table) (sym (c.as_mut_slice-3.ensures.value ∙ w2)) all }
 
@@ -174,26 +174,26 @@ returns g c = record {
       let n0 = c.requires.next in
       let recorded : All (IsRecorded config) es = subst (λ (k : Config). All (IsRecorded k) es) (sym n0.served.device ∙ h.device) n0.next.recorded in
       let after = c.in_ok-passes.passes.items in
-      let agendas = c.in_ok-passes.agendas.items in
+      let logs = map vec_items c.in_ok-passes.logs.items in
       let true_after : (i : ℕ) (p : Caller) → slice_get after i ≡ Some p → IsTrueOf MayMake p = λ i p at. c.know_all-2.ensures i p (ap (λ (l : List Caller). slice_get l i) c.deref-2.ensures.value ∙ at) in
       let gathered = c.gather-count.new.passes in
       let now = c.gather-count.ensures.gathered.0 in
       let g1 : HaveGathered MayMake after gathered c.gather-count.result now = subst (λ (l : List Caller). HaveGathered MayMake l gathered c.gather-count.result now) c.as_mut_slice.ensures.value c.gather-count.ensures.gathered.1 in
       let v = c.in_ok-passes.passes in
       let w1 = written v.items gathered v.len g1.same (omega (arith, v.ok)) in
-      let f = crew_front self config phases bodies es h recorded passes items true_of after agendas c.in_ok-passes.ensures true_after gathered c.gather-count.result now g1 in
+      let f = crew_front self config phases bodies es h recorded passes items true_of after logs c.in_ok-passes.ensures true_after gathered c.gather-count.result now g1 in
       let d = c.in_ok-outputs.ensures.drained now f.0 f.1 (c.as_mut_slice-2.ensures.value ∙ w1 ∙ f.2) f.3 in
       let passed = c.drain_all.new.passes in
-      let all = crew_drained self config phases bodies es h recorded passes items true_of after agendas c.in_ok-passes.ensures true_after gathered c.gather-count.result now g1 f.0 f.1 f.2 passed c.in_ok-outputs.outputs d in
+      let all = crew_drained self config phases bodies es h recorded passes items true_of after logs c.in_ok-passes.ensures true_after gathered c.gather-count.result now g1 f.0 f.1 f.2 passed c.in_ok-outputs.outputs d in
       let n1 = ap length w1 ∙ g1.same in
-      let same2 = all.count ∙ sym (crew_all self config phases bodies es h recorded passes items true_of after agendas c.in_ok-passes.ensures true_after).count ∙ sym n1 in
+      let same2 = all.count ∙ sym (crew_all self config phases bodies es h recorded passes items true_of after logs c.in_ok-passes.ensures true_after).count ∙ sym n1 in
       let w2 = written _ passed v.len same2 (omega (arith, v.ok, n1)) in
       let again = c.gather-self.new.passes in
       let later = c.gather-self.ensures.gathered.0 in
       let g2 : HaveGathered MayMake passed again c.gather-self.result later = subst (λ (l : List Caller). HaveGathered MayMake l again c.gather-self.result later) (c.as_mut_slice-3.ensures.value ∙ w2) c.gather-self.ensures.gathered.1 in
       let n2 = ap length w2 in
       let w3 = written _ again v.len (g2.same ∙ sym n2) (omega (arith, v.ok, n1, same2, n2)) in
-      let body = crew_body self config phases bodies es h recorded passes items true_of after agendas c.in_ok-passes.ensures true_after gathered c.gather-count.result now g1 in
-      crew_serves self config phases bodies es h recorded passes items true_of after agendas c.in_ok-passes.ensures true_after gathered c.gather-count.result now g1 f.0 f.1 f.2 passed c.in_ok-outputs.outputs d again c.gather-self.result later g2 c.args.phase.number c.in_ok-served.served _
+      let body = crew_body self config phases bodies es h recorded passes items true_of after logs c.in_ok-passes.ensures true_after gathered c.gather-count.result now g1 in
+      crew_serves self config phases bodies es h recorded passes items true_of after logs c.in_ok-passes.ensures true_after gathered c.gather-count.result now g1 f.0 f.1 f.2 passed c.in_ok-outputs.outputs d again c.gather-self.result later g2 c.args.phase.number c.in_ok-served.served _
       (c.in_ok-served.ensures body.0 body.1 body.2) refl w3 refl refl;
 }
