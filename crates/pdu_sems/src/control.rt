@@ -43,9 +43,23 @@ impl Formed for TakeControlRequest {
         true
     }
 
+    #[tactic(auto, unfolding(ber_forms::specs::Reading::optional_part, ber_forms::specs::Reading::optional_by, ber_forms::specs::Reading::next_at, ber_forms::specs::Reading::defaulting, ber_forms::specs::Reading::at_end))]
     fn read(alloc: Global, contents: &[u8], edition: Edition) -> Result<TakeControl, Unread> {
         let mut parts = cursor(edition, contents);
         let name = required::<Name>(alloc, &mut parts, edition, 0)?;
+        // Mostly nothing else is said.
+        if parts.is_empty() {
+            return Ok(TakeControl {
+                name,
+                token: None,
+                priority: 64,
+                delay: None,
+                control: None,
+                abort: None,
+                relinquish: true,
+                preempt: None,
+            });
+        }
         let token = optional::<Identifier>(alloc, &mut parts, edition, 1)?;
         let priority = priority(&mut parts, edition, 2)?;
         let delay = parts.optional_u32(3)?;
