@@ -238,6 +238,98 @@ fn tell_status(
     }
 }
 
+/// Tells the request to read variables, as `tell_served` does.
+#[inline(never)]
+#[tactic(auto, unfolding(crate::specs::Hearing::request_told, crate::specs::Services::requests))]
+fn tell_read(
+    alloc: Global,
+    invoke: u32,
+    service: Element<'_>,
+    edition: Edition,
+    told: &mut Result<Read, Refusal>,
+)
+    requires read { service.tag.number ≡ 4 }
+    requires fresh { IsErr told.old }
+    ensures told { Hears (λ r. pdu_value r.pdu) told.new
+        (request_told (lengths_of edition) edition (asking invoke false (part service.entry))) }
+    ensures client { IfOk told.new (λ r. IsHeard r.pdu) }
+    ensures depth { IfOk told.new (λ r. r.depth ≡ depth_of r.pdu) }
+{
+    match argument::<ReadRequest>(alloc, invoke, service, edition) {
+        Ok(x) => tell_asked(invoke, Request::Read(x), told),
+        Err(refusal) => tell(told, Err(refusal)),
+    }
+}
+
+/// Tells the request to write variables, as `tell_served` does.
+#[inline(never)]
+#[tactic(auto, unfolding(crate::specs::Hearing::request_told, crate::specs::Services::requests))]
+fn tell_write(
+    alloc: Global,
+    invoke: u32,
+    service: Element<'_>,
+    edition: Edition,
+    told: &mut Result<Read, Refusal>,
+)
+    requires write { service.tag.number ≡ 5 }
+    requires fresh { IsErr told.old }
+    ensures told { Hears (λ r. pdu_value r.pdu) told.new
+        (request_told (lengths_of edition) edition (asking invoke false (part service.entry))) }
+    ensures client { IfOk told.new (λ r. IsHeard r.pdu) }
+    ensures depth { IfOk told.new (λ r. r.depth ≡ depth_of r.pdu) }
+{
+    match argument::<WriteRequest>(alloc, invoke, service, edition) {
+        Ok(x) => tell_asked(invoke, Request::Write(x), told),
+        Err(refusal) => tell(told, Err(refusal)),
+    }
+}
+
+/// Tells the request for a token, as `tell_served` does.
+#[inline(never)]
+#[tactic(auto, unfolding(crate::specs::Hearing::request_told, crate::specs::Services::requests))]
+fn tell_take(
+    alloc: Global,
+    invoke: u32,
+    service: Element<'_>,
+    edition: Edition,
+    told: &mut Result<Read, Refusal>,
+)
+    requires take { service.tag.number ≡ 19 }
+    requires fresh { IsErr told.old }
+    ensures told { Hears (λ r. pdu_value r.pdu) told.new
+        (request_told (lengths_of edition) edition (asking invoke false (part service.entry))) }
+    ensures client { IfOk told.new (λ r. IsHeard r.pdu) }
+    ensures depth { IfOk told.new (λ r. r.depth ≡ depth_of r.pdu) }
+{
+    match argument_apart::<TakeControlRequest>(alloc, invoke, service, edition) {
+        Ok(x) => tell_asked(invoke, Request::TakeControl(x), told),
+        Err(refusal) => tell(told, Err(refusal)),
+    }
+}
+
+/// Tells the request to give a token back, as `tell_served` does.
+#[inline(never)]
+#[tactic(auto, unfolding(crate::specs::Hearing::request_told, crate::specs::Services::requests))]
+fn tell_relinquish(
+    alloc: Global,
+    invoke: u32,
+    service: Element<'_>,
+    edition: Edition,
+    told: &mut Result<Read, Refusal>,
+)
+    requires relinquish { service.tag.number ≡ 20 }
+    requires fresh { IsErr told.old }
+    ensures told { Hears (λ r. pdu_value r.pdu) told.new
+        (request_told (lengths_of edition) edition (asking invoke false (part service.entry))) }
+    ensures client { IfOk told.new (λ r. IsHeard r.pdu) }
+    ensures depth { IfOk told.new (λ r. r.depth ≡ depth_of r.pdu) }
+{
+    match argument::<RelinquishControlRequest>(alloc, invoke, service, edition) {
+        Ok(x) => tell_asked(invoke, Request::RelinquishControl(x), told),
+        Err(refusal) => tell(told, Err(refusal)),
+    }
+}
+
 /// Tells the request that is asked for, or why it is refused. What is asked most has a way of its own, on which no
 /// other request is made room for.
 #[tactic(auto, unfolding(crate::specs::Hearing::request_told))]
@@ -256,11 +348,15 @@ pub(crate) fn tell_request(
     ensures depth { IfOk told.new (λ r. r.depth ≡ depth_of r.pdu) }
 {
     if modified {
-        tell(told, Err(Refusal::Modifier { invoke }));
-    } else if service.tag.number == 0 {
-        tell_status(alloc, invoke, service, edition, told);
-    } else {
-        tell_served(alloc, invoke, service, edition, told);
+        return tell(told, Err(Refusal::Modifier { invoke }));
+    }
+    match service.tag.number {
+        0 => tell_status(alloc, invoke, service, edition, told),
+        4 => tell_read(alloc, invoke, service, edition, told),
+        5 => tell_write(alloc, invoke, service, edition, told),
+        19 => tell_take(alloc, invoke, service, edition, told),
+        20 => tell_relinquish(alloc, invoke, service, edition, told),
+        _ => tell_served(alloc, invoke, service, edition, told),
     }
 }
 
