@@ -1,5 +1,5 @@
 -- What a verdict that was found means.
-use Rattle.std.specs.Prelude.{◌≡◌, ℕ, List, [], ◌∷◌}
+use Rattle.std.specs.Prelude.{◌≡◌, ℕ, Bool, true, false, is_some, List, [], ◌∷◌}
 use Rattle.mms_types.specs.declared.event.What.TheVariants.{Abort}
 use Rattle.mms_types.specs.declared.pdu.Pdu.TheVariants as pdu
 use Rattle.association.specs.Client.{ClientRow, Client as RoomyRow}
@@ -12,6 +12,7 @@ use Rattle.cell_services.specs.Effects.{Effect, Sends, felt_all, settled, tell}
 use Rattle.cell_services.specs.Tables.{Tables}
 use Rattle.variable_services.specs.Services.{no_variables}
 use Rattle.cell_services.specs.Association.{Verdict, Tells, Takes, Concludes, Cancels, Aborts, sends, negotiated, further_error, unknown_error}
+use Rattle.cell_services.specs.Services.{plain_answer}
 use Rattle.cell_services.specs.Serving.{own_told, hears}
 
 abbrev pub effects_of : Said → List Effect
@@ -41,3 +42,9 @@ row_after v row = felt_all (own_told no_tables row v) row
 pub record IsPlainlyHeard (row : ClientRow) (new : RoomyRow) (v : Verdict) : Type 0 where
   pub is : new ≡ settled (row_after v row)
   pub alone : (t : Tables) (client : ℕ) → hears t row client v ≡ record { tables = t; told = tell client (own_told no_tables row v) }
+
+-- whether a verdict on what the client of a row sends is done on that row alone
+abbrev pub uses_no_table : ClientRow → Verdict → Bool
+uses_no_table row (Tells effects) = true
+uses_no_table row (Takes invoke asked) = is_some (plain_answer row asked)
+uses_no_table row other = false

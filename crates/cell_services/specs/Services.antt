@@ -155,6 +155,12 @@ plain_answer row (request.ReportSemaphoreStatus x) = None
 plain_answer row (request.ReportPoolSemaphoreStatus x) = None
 plain_answer row (request.ReportSemaphoreEntryStatus x) = None
 
+-- the requests that use the variables alone
+abbrev pub reads_or_writes : Request → Bool
+reads_or_writes (request.Read x) = true
+reads_or_writes (request.Write x) = true
+reads_or_writes other = false
+
 -- the names of a class and a scope that come after that one, in order of octets; other classes have no names yet
 abbrev pub names_in : Tables → Scope → ObjectClass → Option (List ℕ) → List (List ℕ)
 names_in t s class.NamedVariable after = names_after s after t.variables.vars.variables

@@ -1,15 +1,18 @@
 -- What comes of a request for a token on the one semaphore that it names (ISO 9506-1, TakeControl and RelinquishControl).
-use Rattle.std.specs.Prelude.{◌≡◌, ℕ, Bool, false, List, [], ◌∷◌, Option, None, Some, if◌then◌else◌}
+use Rattle.std.specs.Prelude.{◌≡◌, ℕ, Bool, true, false, ◌||◌, is_none, is_some, List, [], ◌∷◌, Option, None, Some, if◌then◌else◌}
+use Rattle.std.specs.Map.{lookup}
 use Rattle.mms_types.specs.Errors.{first_of}
-use Rattle.mms_types.specs.Order.{key_of}
+use Rattle.mms_types.specs.Order.{key_eq, key_of}
 use Rattle.mms_types.specs.declared.moment.Moment.{Moment}
 use Rattle.mms_types.specs.declared.pdu.Answer.TheVariants as answer
+use Rattle.mms_types.specs.declared.pdu.Request.{Request}
+use Rattle.mms_types.specs.declared.pdu.Request.TheVariants as request
 use Rattle.mms_types.specs.declared.semaphore.RelinquishControl.{RelinquishControl}
 use Rattle.mms_types.specs.declared.semaphore.TakeControl.{TakeControl}
 use Rattle.mms_types.specs.declared.service_error.ServiceError.{ServiceError}
 use Rattle.association.specs.Client.{ClientRow}
-use Rattle.mms_time.specs.Semaphores.{changed_row}
-use Rattle.mms_time.specs.Services.{relinquish_conditions_in, take_conditions_in, take_told_in, with_take, with_token_back}
+use Rattle.mms_time.specs.Semaphores.{Rows, changed_row}
+use Rattle.mms_time.specs.Services.{relinquish_conditions_in, relinquish_grant_in, take_conditions_in, take_told_in, with_take, with_token_back}
 use Rattle.mms_time.specs.declared.row.SemaphoreRow.{SemaphoreRow}
 use Rattle.mms_time.specs.declared.taking.TakeDone.{TakeDone}
 use Rattle.mms_time.specs.declared.taking.TakeDone.TheVariants.{Answered, Waits as Waiting}
@@ -63,3 +66,22 @@ abbrev pub relinquished_on : ClientRow → ℕ → Moment → RelinquishControl 
 relinquished_on row invoke now x s =
     if is_done (size_of row.association) invoke (relinquish_cause_on row.client x s) (Some answer.RelinquishControl)
     then changed_row (with_token_back row.client x.token now) s else s
+
+-- ---- who is told
+
+-- nobody is granted the token: it is not given back, or nobody waits for it
+abbrev pub grants_nobody_on : ℕ → RelinquishControl → SemaphoreRow → Bool
+grants_nobody_on client x s = is_some (relinquish_cause_on client x s) || is_none (relinquish_grant_in client x s.semaphore)
+
+abbrev grants_nobody_among : ℕ → RelinquishControl → Option SemaphoreRow → Bool
+grants_nobody_among client x None = true
+grants_nobody_among client x (Some s) = grants_nobody_on client x s
+
+abbrev pub grants_nobody : ℕ → RelinquishControl → Rows → Bool
+grants_nobody client x rows = grants_nobody_among client x (lookup (key_eq (key_of client x.name)) rows)
+
+-- a client's request is for a token, or gives one back that nobody is granted: the client alone is told of it
+abbrev pub tells_alone : ℕ → Request → Rows → Bool
+tells_alone client (request.TakeControl x) rows = true
+tells_alone client (request.RelinquishControl x) rows = grants_nobody client x rows
+tells_alone client other rows = false

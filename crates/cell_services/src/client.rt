@@ -1,6 +1,6 @@
 //! The part of a client, and what becomes of it.
 
-ghost use Rattle.std.specs.Prelude.{◌≡◌, ◌≤◌, nat_le, length, true, false, OnOk, OnErr, OnSome, IfOk, IfNone, IfSome, [], ◌∷◌, None, Some, if◌then◌else◌};
+ghost use Rattle.std.specs.Prelude.{◌≡◌, ◌≤◌, nat_le, length, is_none, is_some, true, false, OnOk, OnErr, OnSome, IfOk, IfNone, IfSome, [], ◌∷◌, None, Some, if◌then◌else◌};
 ghost use Rattle.association.specs.Client.{closed_row, drained_row, new_row};
 ghost use Rattle.association.specs.Negotiation.{negotiation};
 ghost use Rattle.mms_pdu.specs.Pdus.{pdu_octets};
@@ -8,14 +8,14 @@ ghost use Rattle.variable_services.specs.Services.{read_answer, read_cause, writ
 ghost use Rattle.cell_services.specs.Acts.{IsActOf, IsDoneOn};
 ghost use Rattle.cell_services.specs.Association.{further_error, negotiated, sends, unknown_error, verdict_by, Takes};
 ghost use Rattle.cell_services.specs.Effects.{felt, felt_all, settled, Sends};
-ghost use Rattle.cell_services.specs.Meant.{effects_of, meant, row_after, IsPlainlyHeard};
+ghost use Rattle.cell_services.specs.Meant.{effects_of, meant, row_after, uses_no_table, IsPlainlyHeard};
 ghost use Rattle.cell_services.specs.Reads.{pdu_read, IsDeep};
-ghost use Rattle.cell_services.specs.Services.{fits, is_done, refuses, request_told, variables_written, write_told};
+ghost use Rattle.cell_services.specs.Services.{fits, identity, is_done, plain_answer, reads_or_writes, refuses, request_told, variables_written, write_told};
 ghost use Rattle.cell_services.specs.Serving.{size_of};
 ghost use Rattle.cell_services.specs.Telling.{effect_of, output_count, told_row, wait_count};
 
 use crate::guards::owned_guards;
-use crate::service::{STATUS, plain_answer};
+use crate::service::{STATUS, identity};
 use crate::{Act, Found, Said, Told, verdict_of};
 use association::{ClientPart, Constants, outcome_of};
 use mms_pdu::{Read, Refusal, Writer, put_answer, put_pdu};
@@ -274,34 +274,33 @@ impl Client {
         Ok(true)
     }
 
+    /// Answers a request for what the device is.
+    #[inline(never)]
+    fn answer_identity(&mut self, alloc: Global, invoke: u32) -> Result<bool, Memory>
+        ensures sent { OnOk result (self.new ≡ settled (felt_all
+            (request_told (size_of self.old.row.association) invoke None
+            (Some (identity self.old.row))) self.old.row)) }
+        ensures done { IfOk result (λ done. done ≡ true) }
+        ensures kept { OnErr result (self.new ≡ self.old) }
+    {
+        let answer = identity(alloc, &self.part)?;
+        self.respond(alloc, invoke, answer)?;
+        Ok(true)
+    }
+
     /// Answers a request that the row of the client alone answers. False for any other, where all stays as it was.
-    /// The status is asked most, and has a way on which no other answer is made room for.
     fn serve(&mut self, alloc: Global, invoke: u32, asked: &Request) -> Result<bool, Memory>
         ensures served { IfOk result (λ done. done ≡ true
             → IsPlainlyHeard self.old.row self.new (Takes invoke asked.now)) }
         ensures same { IfOk result (λ done. done ≡ false → self.new ≡ self.old) }
+        ensures exact { IfOk result (λ done.
+            done ≡ is_some (plain_answer self.old.row asked.now)) }
         ensures kept { OnErr result (self.new ≡ self.old) }
     {
         match asked {
             Request::Status(_) => self.answer_status(alloc, invoke),
-            _ => self.serve_plainly(alloc, invoke, asked),
-        }
-    }
-
-    /// Answers a request that the row of the client alone answers. False for any other, where all stays as it was.
-    #[inline(never)]
-    fn serve_plainly(&mut self, alloc: Global, invoke: u32, asked: &Request) -> Result<bool, Memory>
-        ensures served { IfOk result (λ done. done ≡ true
-            → IsPlainlyHeard self.old.row self.new (Takes invoke asked.now)) }
-        ensures same { IfOk result (λ done. done ≡ false → self.new ≡ self.old) }
-        ensures kept { OnErr result (self.new ≡ self.old) }
-    {
-        match plain_answer(alloc, &self.part, asked)? {
-            None => Ok(false),
-            Some(answer) => {
-                self.respond(alloc, invoke, answer)?;
-                Ok(true)
-            }
+            Request::Identify => self.answer_identity(alloc, invoke),
+            _ => Ok(false),
         }
     }
 
@@ -419,6 +418,7 @@ impl Client {
             variables.old variables.new self.new (Takes invoke asked.now)) }
         ensures same { IfOk result (λ done. done ≡ false
             → (self.new ≡ self.old) × (variables.new ≡ variables.old)) }
+        ensures exact { IfOk result (λ done. done ≡ reads_or_writes asked.now) }
         ensures kept { OnErr result (self.new ≡ self.old) }
         ensures written { OnErr result (variables.new ≡ variables.old) }
     {
@@ -442,6 +442,8 @@ impl Client {
             self.old.row (pdu_read read.now)))) }
         ensures left { IfOk result (λ left. IfSome left (λ act. IsActOf self.old.row
             (verdict_by self.old.row.association self.old.row (pdu_read read.now)) act)) }
+        ensures exact { IfOk result (λ left. is_none left ≡ uses_no_table self.old.row
+            (verdict_by self.old.row.association self.old.row (pdu_read read.now))) }
         ensures same { IfOk result (λ left. OnSome left (self.new ≡ self.old)) }
         ensures kept { OnErr result (self.new ≡ self.old) }
     {
@@ -494,6 +496,14 @@ impl Client {
                 let _waited = self.part.answered(invoke);
             }
         }
+    }
+
+    /// Octets are sent to the client. They use the room for one output.
+    pub(crate) fn push(&mut self, octets: Octets)
+        requires room { 1 ≤ self.old.output_room }
+        ensures { self.new ≡ told_row (Sends (What.Octets octets)) 1 0 self.old }
+    {
+        self.part.push(What::Octets(octets));
     }
 
     /// Hands on what is to be sent.

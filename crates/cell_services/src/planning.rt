@@ -18,7 +18,7 @@ use crate::semaphores::{tell_grant, tell_grants};
 use crate::service::{Outcome, served};
 use crate::{Act, Change, Tables, Told};
 use association::{ClientPart, Waiting};
-use mms_pdu::{Writer, put_pdu};
+use mms_pdu::{Writer, put_answer, put_pdu};
 use mms_time::next_due;
 use mms_types::{
     Answer, ConfirmedError, Memory, Moment, Octets, Pdu, Refuse, Request, ServiceError, What,
@@ -44,20 +44,14 @@ pub(crate) fn sent(alloc: Global, pdu: &Pdu) -> Result<Told, Memory>
     Ok(Told::Sends(What::Octets(Octets::from_slice(alloc, out.octets())?)))
 }
 
-/// A client is sent a PDU, where it is not longer than so many octets.
-fn sent_within(alloc: Global, size: u32, pdu: &Pdu) -> Result<Option<Told>, Memory>
-    ensures { IfOk result (λ told. MatchOption told
-        (nat_le (length (pdu_octets pdu.now)) size ≡ false)
-        (λ sent. (nat_le (length (pdu_octets pdu.now)) size ≡ true)
-        × (effect_of sent ≡ sends pdu.now))) }
+/// The octets of a positive answer.
+pub(crate) fn answer_octets(alloc: Global, invoke: u32, answer: Answer) -> Result<Octets, Memory>
+    ensures { IfOk result (λ octets.
+        octets ≡ pdu_octets (Pdu.ConfirmedResponse invoke answer)) }
 {
     let mut out = Writer::new(alloc);
-    put_pdu(&mut out, pdu)?;
-    let octets = Octets::from_slice(alloc, out.octets())?;
-    if octets.len() > size as usize {
-        return Ok(None);
-    }
-    Ok(Some(Told::Sends(What::Octets(octets))))
+    put_answer(&mut out, invoke, &answer)?;
+    Octets::from_slice(alloc, out.octets())
 }
 
 /// A client is sent a positive answer, where it is not longer than so many octets.
@@ -72,8 +66,11 @@ pub(crate) fn answer_within(
         (λ sent. (fits size invoke (Some answer) ≡ true)
         × (effect_of sent ≡ sends (Pdu.ConfirmedResponse invoke answer)))) }
 {
-    let response = Pdu::ConfirmedResponse { invoke, answer };
-    sent_within(alloc, size, &response)
+    let octets = answer_octets(alloc, invoke, answer)?;
+    if octets.len() > size as usize {
+        return Ok(None);
+    }
+    Ok(Some(Told::Sends(What::Octets(octets))))
 }
 
 /// A client is sent a confirmed-Error.

@@ -7,13 +7,14 @@ ghost use Rattle.sem_ticks.specs.Granted.{relinquish_granted};
 ghost use Rattle.mms_time.specs.Statuses.{entry_status_answer, entry_status_cause, pool_status_answer, pool_status_cause, status, status_cause};
 ghost use Rattle.std.specs.Option.{option_map};
 ghost use Rattle.cell_services.specs.Acts.{outcome_of, Settles};
+ghost use Rattle.mms_types.specs.declared.pdu.Pdu.TheVariants as pdu;
 ghost use Rattle.cell_services.specs.Association.{sends};
 ghost use Rattle.cell_services.specs.Changes.{MayChange};
 ghost use Rattle.cell_services.specs.Services.{answers, becomes_semaphores, grant_told, grants_told, relinquish_outcome, take_outcome};
 ghost use Rattle.cell_services.specs.Tables.{moment_of};
 ghost use Rattle.cell_services.specs.Telling.{effect_of, effects_told};
 
-use crate::planning::{one_told, sent};
+use crate::planning::{answer_octets, one_told};
 use crate::service::{Outcome, answers, becomes};
 use crate::{Change, Tables, Told};
 use association::Waiting;
@@ -22,8 +23,8 @@ use mms_time::{
     report_semaphore_entry_status, report_semaphore_status, take_control_told,
 };
 use mms_types::{
-    Answer, DefineSemaphore, Memory, ObjectName, Pdu, Refuse, RelinquishControl,
-    ReportPoolSemaphoreStatus, ReportSemaphoreEntryStatus, TakeControl, TakeControlAnswer,
+    Answer, DefineSemaphore, Memory, ObjectName, Refuse, RelinquishControl,
+    ReportPoolSemaphoreStatus, ReportSemaphoreEntryStatus, TakeControl, TakeControlAnswer, What,
 };
 use sem_ticks::{Granted, relinquish_told};
 use std::alloc::Global;
@@ -31,10 +32,10 @@ use std::alloc::Global;
 /// A client is sent the answer to a request for a token that waited.
 fn granted(alloc: Global, invoke: u32, answer: TakeControlAnswer) -> Result<Told, Memory>
     ensures { IfOk result (λ told. effect_of told
-        ≡ sends (Pdu.ConfirmedResponse invoke (Answer.TakeControl answer))) }
+        ≡ sends (pdu.ConfirmedResponse invoke (Answer.TakeControl answer))) }
 {
-    let answer = Answer::TakeControl(answer);
-    sent(alloc, &Pdu::ConfirmedResponse { invoke, answer })
+    let octets = answer_octets(alloc, invoke, Answer::TakeControl(answer))?;
+    Ok(Told::Sends(What::Octets(octets)))
 }
 
 /// Tells a client that waited that it has a token.

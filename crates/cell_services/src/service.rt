@@ -5,7 +5,7 @@ ghost use Rattle.std.specs.Prelude.{◌≡◌, false, [], IfOk, Some};
 ghost use Rattle.variable_services.specs.Services.{define_after, define_cause, define_list_after, define_list_cause, delete_after, delete_answer, delete_cause, delete_lists_after, delete_lists_answer, write_after, write_answer, write_cause};
 ghost use Rattle.cell_services.specs.Acts.{outcome_of, Settles};
 ghost use Rattle.cell_services.specs.Changes.{MayChange};
-ghost use Rattle.cell_services.specs.Services.{becomes, cause, effect, identity, listed, names_in, owned_guards, plain_answer, scope_cause, scope_of};
+ghost use Rattle.cell_services.specs.Services.{becomes, cause, effect, identity, listed, names_in, owned_guards, scope_cause, scope_of};
 
 use crate::guards::owned_guards;
 use crate::semaphores::{
@@ -56,7 +56,7 @@ pub(crate) const STATUS: Answer = Answer::Status(StatusAnswer {
 
 /// The device's texts (ISO 9506-2, Identify).
 #[inline(always)]
-fn identity(alloc: Global, part: &ClientPart) -> Result<Answer, Memory>
+pub(crate) fn identity(alloc: Global, part: &ClientPart) -> Result<Answer, Memory>
     ensures { IfOk result (λ answer. answer ≡ identity part.now.row) }
 {
     let device = part.constants();
@@ -65,37 +65,6 @@ fn identity(alloc: Global, part: &ClientPart) -> Result<Answer, Memory>
         model: device.model.copy(alloc)?,
         revision: device.revision.copy(alloc)?,
     }))
-}
-
-/// The answer to a request that is never refused and that the row of its client alone answers, and None for any other.
-#[inline(always)]
-pub(crate) fn plain_answer(
-    alloc: Global,
-    part: &ClientPart,
-    asked: &Request,
-) -> Result<Option<Answer>, Memory>
-    ensures { IfOk result (λ answer. answer ≡ plain_answer part.now.row asked.now) }
-{
-    match asked {
-        Request::Status(_) => Ok(Some(STATUS)),
-        Request::Identify => Ok(Some(identity(alloc, part)?)),
-        Request::GetNameList(_)
-        | Request::Read(_)
-        | Request::Write(_)
-        | Request::GetVariableAccessAttributes(_)
-        | Request::DefineNamedVariable(_)
-        | Request::DeleteVariableAccess(_)
-        | Request::DefineNamedVariableList(_)
-        | Request::GetNamedVariableListAttributes(_)
-        | Request::DeleteNamedVariableList(_)
-        | Request::TakeControl(_)
-        | Request::RelinquishControl(_)
-        | Request::DefineSemaphore(_)
-        | Request::DeleteSemaphore(_)
-        | Request::ReportSemaphoreStatus(_)
-        | Request::ReportPoolSemaphoreStatus(_)
-        | Request::ReportSemaphoreEntryStatus(_) => Ok(None),
-    }
 }
 
 /// The scope that a client means by one whose names it asks for. Names of a domain aren't listed: there is none yet.

@@ -9,11 +9,10 @@ ghost use Rattle.mms_time.specs.Services.{relinquish_grant_in, with_take, with_t
 ghost use Rattle.mms_time.specs.declared.taking.TakeDone.TheVariants.{Answered, Waits as WaitsIn};
 ghost use Rattle.cell_services.specs.Acts.{IsDoneAmong};
 ghost use Rattle.cell_services.specs.Association.{Takes};
-ghost use Rattle.cell_services.specs.Effects.{felt, felt_all, settled};
+ghost use Rattle.cell_services.specs.Effects.{felt_all, settled};
 ghost use Rattle.cell_services.specs.Services.{fits, request_told};
 ghost use Rattle.cell_services.specs.Serving.{size_of};
-ghost use Rattle.cell_services.specs.Telling.{effect_of};
-ghost use Rattle.cell_services.specs.Tokens.{relinquish_cause_on, relinquish_on, relinquished_on, take_done, take_on, taken_done, taken_on};
+ghost use Rattle.cell_services.specs.Tokens.{grants_nobody, grants_nobody_on, relinquish_cause_on, relinquish_on, relinquished_on, take_done, take_on, taken_done, taken_on, tells_alone};
 
 use crate::client::size_of;
 use crate::{Client, Told};
@@ -21,38 +20,37 @@ use association::Waiting;
 use mms_time::{SemaphoreRow, TakeDone};
 use mms_types::{
     Answer, Memory, Moment, Refuse, RelinquishControl, Request, ServiceError, TakeControl,
-    TakeControlAnswer, What,
+    TakeControlAnswer,
 };
 use object_names::Named;
 use std::alloc::Global;
 
 impl Client {
-    /// A token is asked for that is not refused, and the client is told of it.
-    fn take_telling(
+    /// A token is taken, or waited for, with room for what the client is told of it.
+    fn take_with_room(
         &mut self,
         row: &mut SemaphoreRow,
         now: Moment,
         invoke: u32,
         asked: &TakeControl,
-        told: Told,
+        outputs: usize,
+        waiting: usize,
     ) -> Result<(), Memory>
         requires now { IsDated now }
         requires settled { self.old ≡ settled self.old.row }
-        ensures told { OnOk result (self.new ≡ settled (felt (effect_of told) self.old.row)) }
+        ensures made { OnOk result (self.new
+            ≡ record { row = self.old.row; output_room = outputs; waiting_room = waiting }) }
         ensures taken { OnOk result (row.new
             ≡ changed_row (with_take self.old.row.client invoke asked.now now) row.old) }
         ensures kept { OnErr result (self.new ≡ self.old) }
         ensures same { OnErr result (row.new ≡ row.old) }
     {
         let client = self.part().client();
-        let outputs = if told.is_output() { 1 } else { 0 };
-        let waiting = if told.is_wait() { 1 } else { 0 };
         self.reserve(outputs, waiting)?;
         if let Err(error) = row.take(client, invoke, asked, now) {
             self.release();
             return Err(error);
         }
-        self.tell(told);
         Ok(())
     }
 
@@ -82,8 +80,9 @@ impl Client {
         if octets.len() > size_of(self.part()) as usize {
             return self.refuse(alloc, invoke, ServiceError::OTHER);
         }
-        let told = Told::Sends(What::Octets(octets));
-        self.take_telling(row, now, invoke, asked, told)
+        self.take_with_room(row, now, invoke, asked, 1, 0)?;
+        self.push(octets);
+        Ok(())
     }
 
     /// A token is waited for.
@@ -107,8 +106,9 @@ impl Client {
         ensures same { OnErr result (row.new ≡ row.old) }
     {
         let key = asked.name.key(alloc, self.part().client())?;
-        let told = Told::Waits(Waiting { invoke, key, entry });
-        self.take_telling(row, now, invoke, asked, told)
+        self.take_with_room(row, now, invoke, asked, 0, 1)?;
+        self.tell(Told::Waits(Waiting { invoke, key, entry }));
+        Ok(())
     }
 
     /// A token of a semaphore is asked for: the client has it, waits, or is refused.
@@ -165,11 +165,11 @@ impl Client {
         }
         self.reserve(1, 0)?;
         row.relinquish(self.part().client(), asked.token.as_ref(), now);
-        self.tell(Told::Sends(What::Octets(octets)));
+        self.push(octets);
         Ok(())
     }
 
-    /// A token of a semaphore is given back. False where somebody is granted it; then all stays as it was.
+    /// A token of a semaphore is given back. False exactly where somebody is granted it; then all stays as it was.
     fn give_back(
         &mut self,
         alloc: Global,
@@ -188,6 +188,8 @@ impl Client {
             → relinquish_grant_in self.old.row.client asked.now row.old.semaphore ≡ None) }
         ensures unchanged { IfOk result (λ done. done ≡ false
             → (self.new ≡ self.old) × (row.new ≡ row.old)) }
+        ensures exact { IfOk result (λ done.
+            done ≡ grants_nobody_on self.old.row.client asked.now row.old) }
         ensures kept { OnErr result (self.new ≡ self.old) }
         ensures same { OnErr result (row.new ≡ row.old) }
     {
@@ -227,7 +229,8 @@ impl Client {
         }
     }
 
-    /// A token of the semaphore of that name is given back. False where somebody is granted it; then all stays as it was.
+    /// A token of the semaphore of that name is given back. False exactly where somebody is granted it; then all stays
+    /// as it was.
     fn give_back_named(
         &mut self,
         alloc: Global,
@@ -242,6 +245,8 @@ impl Client {
             (Takes invoke (Request.RelinquishControl asked.now))) }
         ensures unchanged { IfOk result (λ done. done ≡ false
             → (self.new ≡ self.old) × (semaphores.new ≡ semaphores.old)) }
+        ensures exact { IfOk result (λ done.
+            done ≡ grants_nobody self.old.row.client asked.now semaphores.old) }
         ensures kept { OnErr result (self.new ≡ self.old) }
         ensures same { OnErr result (semaphores.new ≡ semaphores.old) }
     {
@@ -255,8 +260,8 @@ impl Client {
     }
 
     /// Serves a request for a token, or to give one back, at that moment, on those semaphores and the part of its client.
-    /// False where somebody else is told of it, as who is granted a token, and for any other request; then all stays as
-    /// it was, as it does without memory.
+    /// False exactly where somebody else is granted a token by it, and for any other request; then all stays as it was,
+    /// as it does without memory.
     pub fn serve_tokens(
         &mut self,
         alloc: Global,
@@ -271,6 +276,8 @@ impl Client {
             semaphores.old semaphores.new self.new (Takes invoke asked.now)) }
         ensures unchanged { IfOk result (λ done. done ≡ false
             → (self.new ≡ self.old) × (semaphores.new ≡ semaphores.old)) }
+        ensures exact { IfOk result (λ done.
+            done ≡ tells_alone self.old.row.client asked.now semaphores.old) }
         ensures kept { OnErr result (self.new ≡ self.old) }
         ensures same { OnErr result (semaphores.new ≡ semaphores.old) }
     {
