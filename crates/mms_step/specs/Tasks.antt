@@ -1,7 +1,9 @@
 -- What is done on the tables that are lifted out of held parts (this profile's choice).
-use Rattle.std.specs.Prelude.{◌≡◌, ℕ, ◌+◌, ◌≤◌, List, Option, Some}
+use Rattle.std.specs.Prelude.{◌≡◌, ◌==◌, ◌&&◌, Bool, true, false, ℕ, ◌+◌, ◌≤◌, List, Option, Some}
 use Rattle.std.specs.Option.{option_map}
 use Rattle.part_table.specs.Held.{held_at}
+use Rattle.mms_types.specs.declared.pdu.Request.{Request}
+use Rattle.mms_types.specs.declared.pdu.Request.TheVariants as request
 use Rattle.association.specs.Client.{ClientRow, Client as RoomyRow}
 use Rattle.mms_time.specs.Semaphores.{Rows}
 use Rattle.variable_services.specs.declared.tables.VariableTables.{VariableTables}
@@ -10,13 +12,15 @@ use Rattle.cell_services.specs.Acts.{act_done, IsDoneAmong, IsDoneOn}
 use Rattle.cell_services.specs.Association.{Verdict}
 use Rattle.cell_services.specs.Effects.{Effect, settled, tell}
 use Rattle.cell_services.specs.Meant.{no_tables, row_after}
+use Rattle.cell_services.specs.Services.{reads_or_writes}
 use Rattle.cell_services.specs.Serving.{hears, own_told, passes}
 use Rattle.cell_services.specs.Tables.{Tables, last_moment}
+use Rattle.cell_services.specs.Tokens.{tells_alone}
 use Rattle.mms_step.specs.declared.part.Part.{Part}
-use Rattle.mms_step.specs.declared.part.Part.TheVariants.{Client, Semaphores, Variables}
+use Rattle.mms_step.specs.declared.part.Part.TheVariants.{Client, Clock, Semaphores, Variables}
 use Rattle.mms_step.specs.declared.serving.Task.{Task}
 use Rattle.mms_step.specs.declared.serving.Task.TheVariants as task
-use Rattle.mms_step.specs.Partition.{client_place, on_client, row_in, IsClient}
+use Rattle.mms_step.specs.Partition.{client_place, on_client, row_in, semaphores_place, IsClient}
 
 -- ---- tasks
 
@@ -78,3 +82,37 @@ IsRoomless other = Unit {0}
 pub record IsHeardInPlace (client : ℕ) (v : Verdict) (hand new : List (Option Part)) : Type 0 where
   pub is : new ≡ change (option_map (on_client (row_after v))) hand (client_place client)
   pub alone : (t : Tables) → hears t (row_held hand client) client v ≡ record { tables = t; told = tell client (own_told no_tables (row_held hand client) v) }
+
+-- ---- which requests are served in place
+
+abbrev pub is_clock : Option Part → Bool
+is_clock (Some (Clock clock)) = true
+is_clock other = false
+
+-- on the part of a client of that number and that of the semaphores: what its client alone is told of
+abbrev pub serves_tokens : ℕ → Request → Part → Part → Bool
+serves_tokens client asked (Client own) (Semaphores rows) = (own.row.client == client) && tells_alone own.row.client asked rows
+serves_tokens client asked part table = false
+
+-- on the part of a client and that of the variables
+abbrev pub serves_variables : Request → Part → Part → Bool
+serves_variables asked (Client own) (Variables table) = reads_or_writes asked
+serves_variables asked part table = false
+
+-- where both parts are held
+abbrev pub on_both : (Part → Part → Bool) → Option Part → Option Part → Bool
+on_both serves (Some part) (Some table) = serves part table
+on_both serves part table = false
+
+abbrev pub tokens_in_place : ℕ → ℕ → Request → List (Option Part) → Bool
+tokens_in_place clients client asked hand =
+    is_clock (held_at hand 0) && on_both (serves_tokens client asked) (held_at hand (client_place client)) (held_at hand (semaphores_place clients))
+
+abbrev pub variables_in_place : ℕ → Request → List (Option Part) → Bool
+variables_in_place client asked hand = on_both (serves_variables asked) (held_at hand (client_place client)) (held_at hand 1)
+
+-- a client's request, where there are so many clients
+abbrev pub in_place : ℕ → ℕ → Request → List (Option Part) → Bool
+in_place clients client (request.TakeControl x) hand = tokens_in_place clients client (request.TakeControl x) hand
+in_place clients client (request.RelinquishControl x) hand = tokens_in_place clients client (request.RelinquishControl x) hand
+in_place clients client asked hand = variables_in_place client asked hand

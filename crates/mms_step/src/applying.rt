@@ -1,6 +1,6 @@
 //! One event on the parts that are held.
 
-ghost use Rattle.std.specs.Prelude.{◌≡◌, ℕ, ◌+◌, ◌<◌, ◌≤◌, false, true, [], length, slice_set, None, Some, Result, OnOk, OnErr, OnSome, IfOk, IfNone, IfSome};
+ghost use Rattle.std.specs.Prelude.{◌≡◌, ℕ, ◌+◌, ◌<◌, ◌≤◌, false, true, [], is_none, length, slice_set, None, Some, Result, OnOk, OnErr, OnSome, IfOk, IfNone, IfSome};
 ghost use Rattle.std.specs.Box.{box_value};
 ghost use Rattle.std.specs.Option.{option_map};
 ghost use Rattle.mms_types.specs.Actors.{IsAmong};
@@ -19,7 +19,8 @@ ghost use Rattle.mms_step.specs.Partition.{cell, parts_of, clients_among, clock_
 ghost use Rattle.mms_step.specs.Needs.{need};
 ghost use Rattle.cell_services.specs.Reads.{IsDeep, IsReadOf, IsReadingOf};
 ghost use Rattle.cell_services.specs.Acts.{act_done, verdict_read, IsActOf};
-ghost use Rattle.mms_step.specs.Tasks.{row_held, AreDone, HoldsOwn, IsHeardInPlace};
+ghost use Rattle.mms_step.specs.Tasks.{in_place, row_held, serves_variables, variables_in_place, AreDone, HoldsOwn, IsHeardInPlace};
+ghost use Rattle.cell_services.specs.Meant.{uses_no_table};
 ghost use Rattle.cell_services.specs.Serving.{hears};
 ghost use Rattle.mms_step.specs.After.{after};
 
@@ -92,6 +93,8 @@ fn hear_own<'a>(
     ensures left { IfOk result (λ left. IfSome left
         (IsActOf (row_held held.old client)
         (verdict_read (row_held held.old client) read.now))) }
+    ensures exact { IfOk result (λ left. is_none left ≡ uses_no_table
+        (row_held held.old client) (verdict_read (row_held held.old client) read.now)) }
     ensures same { IfOk result (λ left. OnSome left (held.new ≡ held.old)) }
     ensures kept { OnErr result (held.new ≡ held.old) }
 {
@@ -105,7 +108,7 @@ fn hear_own<'a>(
 }
 
 /// Serves a request that reads or writes variables on the part of its client and theirs, beside those semaphores. False
-/// for any other request, and where they are other parts; then all is as before.
+/// exactly for any other request, and where they are other parts; then all is as before.
 fn serve_parts(
     alloc: Global,
     part: &mut Part,
@@ -118,6 +121,8 @@ fn serve_parts(
         → AreDone semaphores.now (Takes invoke asked.now) part.old table.old part.new table.new) }
     ensures same { IfOk result (λ done. done ≡ false
         → (part.new ≡ part.old) × (table.new ≡ table.old)) }
+    ensures exact { IfOk result (λ done.
+        done ≡ serves_variables asked.now part.old table.old) }
     ensures kept { OnErr result (part.new ≡ part.old) }
     ensures left { OnErr result (table.new ≡ table.old) }
 {
@@ -149,6 +154,8 @@ fn serve_on_variables(
         (hears (tables_shown cell held.old) (row_held held.old client) client
         (Takes invoke asked.now)) held.old) }
     ensures same { IfOk result (λ done. done ≡ false → held.new ≡ held.old) }
+    ensures exact { IfOk result (λ done.
+        done ≡ variables_in_place client asked.now held.old) }
     ensures kept { OnErr result (held.new ≡ held.old) }
 {
     let mut part = take_client(held, client);
@@ -184,6 +191,7 @@ fn serve_in_place(
         (hears (tables_shown cell held.old) (row_held held.old client) client
         (Takes invoke asked.now)) held.old) }
     ensures same { IfOk result (λ done. done ≡ false → held.new ≡ held.old) }
+    ensures exact { IfOk result (λ done. done ≡ in_place clients client asked.now held.old) }
     ensures kept { OnErr result (held.new ≡ held.old) }
 {
     match asked {

@@ -1,6 +1,6 @@
 //! Requests for tokens, served on the part of their client and that of the semaphores as they are held.
 
-ghost use Rattle.std.specs.Prelude.{◌≡◌, ℕ, ◌<◌, ◌≤◌, false, true, length, slice_set, None, Some, OnErr, IfOk, IfSome};
+ghost use Rattle.std.specs.Prelude.{◌≡◌, ℕ, ◌<◌, ◌≤◌, false, true, is_some, length, slice_set, None, Some, OnErr, IfOk, IfSome};
 ghost use Rattle.std.specs.Box.{box_value};
 ghost use Rattle.std.specs.Option.{option_map};
 ghost use Rattle.mms_types.specs.Moments.{IsDated};
@@ -10,7 +10,7 @@ ghost use Rattle.cell_services.specs.Association.{Takes};
 ghost use Rattle.cell_services.specs.Serving.{hears};
 ghost use Rattle.mms_step.specs.State.{State};
 ghost use Rattle.mms_step.specs.Partition.{cell, parts_of, clients_among, clock_in, client_place, semaphores_place, IsClient};
-ghost use Rattle.mms_step.specs.Tasks.{row_held, AreDoneAmong, IsRoomless};
+ghost use Rattle.mms_step.specs.Tasks.{is_clock, row_held, serves_tokens, tokens_in_place, AreDoneAmong, IsRoomless};
 
 use crate::applying::{put_client, take_client};
 use crate::tables::semaphores as semaphores_part;
@@ -21,7 +21,9 @@ use std::alloc::Global;
 
 /// The moment, where the clock is held.
 fn moment_held(held: &Hand<Cell>) -> Option<Moment>
-    ensures { IfSome result (λ now. (now.0 ≡ clock_in (held_at held.now 0)) × IsDated now) }
+    ensures moment { IfSome result (λ now.
+        (now.0 ≡ clock_in (held_at held.now 0)) × IsDated now) }
+    ensures exact { is_some result ≡ is_clock (held_at held.now 0) }
 {
     match held.get(0) {
         Some(Part::Clock(clock)) => Some(clock.now()),
@@ -48,8 +50,8 @@ fn put_semaphores(held: &mut Hand<Cell>, clients: u32, part: Box<Part>)
 }
 
 /// Serves a request for a token, or to give one back, at that moment, on the part of its client and that of the
-/// semaphores. False where somebody else is told of it, for any other request, and where they are other parts; then all
-/// is as before.
+/// semaphores. False exactly where somebody else is granted a token by it, for any other request, and where they are
+/// other parts; then all is as before.
 fn serve_tokens(
     alloc: Global,
     client: u32,
@@ -65,6 +67,8 @@ fn serve_tokens(
         (Takes invoke asked.now) part.old table.old part.new table.new) }
     ensures same { IfOk result (λ done. done ≡ false
         → (part.new ≡ part.old) × (table.new ≡ table.old)) }
+    ensures exact { IfOk result (λ done.
+        done ≡ serves_tokens client asked.now part.old table.old) }
     ensures kept { OnErr result (part.new ≡ part.old) }
     ensures left { OnErr result (table.new ≡ table.old) }
 {
@@ -81,8 +85,8 @@ fn serve_tokens(
 }
 
 /// Serves a client's request for a token, or to give one back, on its part and that of the semaphores as they are held,
-/// without lifting tables. False where somebody else is told of it, for any other request, and where the clock or the
-/// semaphores aren't held; then all is as before.
+/// without lifting tables. False exactly where somebody else is granted a token by it, for any other request, and where
+/// the clock or the semaphores aren't held; then all is as before.
 pub(crate) fn serve_on_semaphores(
     alloc: Global,
     held: &mut Hand<Cell>,
@@ -100,6 +104,8 @@ pub(crate) fn serve_on_semaphores(
         (hears (tables_shown cell held.old) (row_held held.old client) client
         (Takes invoke asked.now)) held.old) }
     ensures same { IfOk result (λ done. done ≡ false → held.new ≡ held.old) }
+    ensures exact { IfOk result (λ done.
+        done ≡ tokens_in_place clients client asked.now held.old) }
     ensures kept { OnErr result (held.new ≡ held.old) }
 {
     let Some(now) = moment_held(held) else {

@@ -25,7 +25,7 @@ returns-clause-served c =
     served_among c.requires.of.0 c.args.held.now c.requires.of.1 c.args.clients c.args.client (Takes c.args.invoke c.args.asked.now) c.take_client-part.new.held c.take_semaphores.new.held
     c.put_semaphores.new.held c.put_client-2.new.held c.take_client-part.result.value c.in-Some-take_semaphores.table.value c.serve_tokens-done.new.part c.serve_tokens-done.new.table
     c.in-Some.now.0 c.requires.many c.requires.among.0 c.requires.among.1 c.requires.held c.take_client-part.ensures.part c.take_client-part.ensures.left
-    c.in-Some-take_semaphores.ensures.part c.in-Some-take_semaphores.ensures.left c.in-Some.ensures.0
+    c.in-Some-take_semaphores.ensures.part c.in-Some-take_semaphores.ensures.left c.in-Some.ensures.moment.0
     (subst (λ (p : Part). AreDoneAmong c.args.client c.in-Some.now.0 (Takes c.args.invoke c.args.asked.now) p c.in-Some-take_semaphores.table.value c.serve_tokens-done.new.part c.serve_tokens-done.new.table)
     c.deref_mut.ensures.value
     (subst (λ (p : Part). AreDoneAmong c.args.client c.in-Some.now.0 (Takes c.args.invoke c.args.asked.now) c.deref_mut.result.now p c.serve_tokens-done.new.part c.serve_tokens-done.new.table)
