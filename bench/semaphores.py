@@ -8,12 +8,13 @@ gives it back, in turn, among 1 and among 256 semaphores; two clients, of which 
 nothing is due, of 1 and of 1,000 milliseconds; a token that is taken for a millisecond, with a tick that ends it; and one
 client takes any token of a pool and gives it back by its name, in turn, of 1 token, of 256 that are free, and of 256 of which
 all but the last are another client's. Runs the built program on each of them in turn, several rounds in one run, and prints of
-the least times of an event the ratio to the status requests. Times are user and system time of the process, less those of a
-recording with the same head and no further event. Nothing here is a test.
+the least times of an event, and of the medians, the ratio to the status requests. Times are user and system time of the process,
+less those of a recording with the same head and no further event. Nothing here is a test.
 """
 
 import argparse
 import os
+import statistics
 import tempfile
 
 from run import HERE, OPEN, seconds
@@ -80,16 +81,15 @@ def main():
                 with open(f"{path}-{part}", "wb") as out:
                     out.write(text)
             paths.append((f"{path}-head", f"{path}-whole"))
-        least = [[float("inf")] * 2 for _ in cases]
+        times = [[] for _ in cases]
         for _ in range(asked.rounds):
-            for row, files in zip(least, paths):
-                for part, path in enumerate(files):
-                    row[part] = min(row[part], seconds([asked.program, "replay"], path))
-        status = (least[0][1] - least[0][0]) / asked.events
-        print(f"{'events':>28} {'ns an event':>12} {'ratio':>6}")
-        for (name, _, _, share), (empty, whole) in zip(cases, least):
-            each = (whole - empty) / (asked.events // share)
-            print(f"{name:>28} {each * 1e9:>12.0f} {each / status:>6.2f}")
+            for row, (_, _, _, share), (empty, whole) in zip(times, cases, paths):
+                taken = seconds([asked.program, "replay"], whole) - seconds([asked.program, "replay"], empty)
+                row.append(taken / (asked.events // share))
+        print(f"{'events':>28} {'least ns':>9} {'ratio':>6} {'median ns':>9} {'ratio':>6}")
+        for (name, _, _, _), row in zip(cases, times):
+            told = [(of(row), of(row) / of(times[0])) for of in (min, statistics.median)]
+            print(f"{name:>28}" + "".join(f" {each * 1e9:>9.0f} {ratio:>6.2f}" for each, ratio in told))
 
 
 if __name__ == "__main__":
