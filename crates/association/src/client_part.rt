@@ -14,7 +14,7 @@ use std::marker::Model;
 use std::mem;
 
 /// Why a request is not taken (ISO 9506-2, RejectPDU, confirmed-requestPDU).
-#[derive(Clone, Copy, Debug, PartialEq, Eq)]
+#[derive(Clone, Copy)]
 pub enum NotAdmitted {
     /// A request of that invokeID waits: invalid-invokeID.
     Waiting,
@@ -44,7 +44,7 @@ fn make_room(outbox: &mut Vec<What>, outputs: usize) -> Result<(), Memory>
 /// what is to be sent to the client in order, and the constants; and beside it the numbers of
 /// outputs and of waiting requests for which there is room, as `reserve` made it. All but `reserve`
 /// take no memory.
-#[derive(Debug, Drop)]
+#[derive(Drop)]
 pub struct ClientPart {
     client: u32,
     association: Association,

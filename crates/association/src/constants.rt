@@ -2,7 +2,7 @@ use mms_types::{Edition, Octets};
 
 /// What never changes of a client's part: the edition that its PDUs are of, and what the device
 /// answers to Identify (ISO 9506-1, VMD support).
-#[derive(Debug, Drop)]
+#[derive(Drop)]
 pub struct Constants {
     pub edition: Edition,
     pub vendor: Octets,

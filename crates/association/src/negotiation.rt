@@ -24,7 +24,7 @@ const PARAMETERS: [u8; 2] = [0xE9, 0x00];
 const SERVICES: [u8; 11] = [0xEF, 0x3C, 0x1F, 0xC0, 0, 0, 0, 0, 0, 0, 0x18];
 
 /// What an association was negotiated to (ISO 9506-1, Initiate).
-#[derive(Clone, Copy, Debug, PartialEq, Eq)]
+#[derive(Clone, Copy)]
 pub struct Negotiated {
     /// The most octets of a PDU.
     pub size: u32,
@@ -37,7 +37,7 @@ pub struct Negotiated {
 }
 
 /// The state of a client's association (ISO 9506-1, Initiate, Conclude and Abort).
-#[derive(Clone, Copy, Debug, PartialEq, Eq)]
+#[derive(Clone, Copy)]
 pub enum Association {
     /// There is none.
     Idle,

@@ -4,7 +4,7 @@ ghost use Rattle.association.specs.Waiting.{is_waiting, without, AreDistinct};
 use mms_types::Key;
 
 /// A request of the client that waits at the server for a semaphore (ISO 9506-1, TakeControl).
-#[derive(Debug, PartialEq, Eq, Drop)]
+#[derive(Drop)]
 pub struct Waiting {
     /// The invokeID of the request.
     pub invoke: u32,

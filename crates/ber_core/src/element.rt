@@ -3,7 +3,7 @@
 ghost use Rattle.std.specs.Prelude.{◌≡◌, true, false};
 
 /// Which forms of the length an element may have (ITU-T X.690, 8.1.3).
-#[derive(Clone, Copy, Debug, PartialEq, Eq)]
+#[derive(Clone, Copy)]
 pub enum Lengths {
     /// The definite forms alone, also longer than needed.
     Definite,
@@ -11,7 +11,7 @@ pub enum Lengths {
 
 /// The tag of an element (ITU-T X.690, 8.1.2): its class from 0, universal, to 3, private; whether
 /// its contents are elements; and its number.
-#[derive(Clone, Copy, Debug, PartialEq, Eq)]
+#[derive(Clone, Copy)]
 pub struct Tag {
     pub class: u8,
     pub constructed: bool,
@@ -57,14 +57,14 @@ impl Tag {
 }
 
 /// One element: its tag and its contents.
-#[derive(Clone, Copy, Debug)]
+#[derive(Clone, Copy)]
 pub struct Element<'a> {
     pub tag: Tag,
     pub contents: &'a [u8],
 }
 
 /// A bit string: how many bits of the last octet are unused, from 0 to 7, and the octets.
-#[derive(Clone, Copy, Debug)]
+#[derive(Clone, Copy)]
 pub struct Bits<'a> {
     pub unused: u8,
     pub octets: &'a [u8],

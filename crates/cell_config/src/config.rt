@@ -5,7 +5,6 @@ use mms_types::{Cells, Edition, Memory, Moment, NamedCells, Octets, Pools};
 use thiserror::Error;
 
 /// What a configuration says of a cell.
-#[derive(Debug, PartialEq, Eq, Drop)]
 pub struct Config {
     /// The edition that it is of.
     pub edition: Edition,
@@ -58,5 +57,21 @@ impl From<Memory> for BadConfig {
 
     fn from(_lost: Memory) -> BadConfig {
         BadConfig::Memory
+    }
+}
+
+impl Drop for Config {
+    fn drop(self) {
+        let Config {
+            edition: _,
+            clients: _,
+            start: _,
+            vendor: _vendor,
+            model: _model,
+            revision: _revision,
+            cells: _cells,
+            variables: _variables,
+            pools: _pools,
+        } = self;
     }
 }

@@ -16,7 +16,7 @@ pub enum Said {
 }
 
 /// Why a line says nothing.
-#[derive(Clone, Copy, Debug, PartialEq, Eq, Drop)]
+#[derive(Clone, Copy, Drop)]
 pub enum LineError {
     /// It breaks this rule.
     Bad(BadWord),

@@ -10,7 +10,7 @@ use std::marker::Model;
 
 /// Events with their places in the history, in order of place. Contracts see the list of pairs of
 /// place and event.
-#[derive(Debug, Drop)]
+#[derive(Drop)]
 pub struct PlacedEvents {
     places: Vec<u64>,
     events: Vec<CellEvent>,
@@ -99,7 +99,7 @@ fn places_from(alloc: Global, first: u64, count: usize) -> Result<Vec<u64>, Memo
 }
 
 /// What each client was sent, from client 1 on. Contracts see the list of the clients' lists.
-#[derive(Debug, Drop)]
+#[derive(Drop)]
 pub struct ClientOutputs {
     list: Vec<Vec<What>>,
 }
@@ -150,7 +150,7 @@ impl ClientOutputs {
 }
 
 /// A phase as it was served.
-#[derive(Debug, Drop)]
+#[derive(Drop)]
 pub struct Told {
     /// The phase's number, from 1.
     pub number: u32,

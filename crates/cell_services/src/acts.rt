@@ -3,7 +3,7 @@
 use mms_types::Request;
 
 /// What a client does on the tables that its part alone doesn't settle: by what it sends, or by being lost.
-#[derive(Clone, Copy, Debug, PartialEq, Eq)]
+#[derive(Clone, Copy)]
 pub enum Act<'a> {
     /// Its request of that invokeID is served.
     Request { invoke: u32, asked: &'a Request },

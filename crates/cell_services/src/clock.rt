@@ -9,7 +9,7 @@ use std::marker::Model;
 
 /// The moment of the device, no later than the last millisecond of day 65,535 (ISO 9506-2, TimeOfDay). Contracts see
 /// its milliseconds.
-#[derive(Debug, Drop)]
+#[derive(Drop)]
 pub struct Clock {
     moment: Moment,
 }

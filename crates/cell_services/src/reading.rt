@@ -29,7 +29,6 @@ pub fn wants_memory(read: &Result<Read, Refusal>) -> bool
 
 /// What was read of the octets of an event, so that what the event needs and what it does share it and read them once.
 /// Contracts see the edition by which they were read and what was read, or that nothing was.
-#[derive(Drop)]
 pub struct Reading {
     kept: Option<(Edition, Result<Read, Refusal>)>,
 }
@@ -81,5 +80,11 @@ pub fn read_event(alloc: Global, event: &CellEvent, edition: Edition) -> Result<
         | CellEvent::Tick { .. }
         | CellEvent::Ends { .. }
         | CellEvent::Drain { .. } => Ok(Reading::none()),
+    }
+}
+
+impl Drop for Reading {
+    fn drop(self) {
+        let Reading { kept: _kept } = self;
     }
 }

@@ -50,7 +50,6 @@ impl Model for Tables {
 }
 
 /// How tables change.
-#[derive(Drop)]
 pub enum Change<'a> {
     /// They stay as they are.
     Nothing,
@@ -175,47 +174,108 @@ impl Tables {
         ensures done { OnOk result (self.new ≡ changed change.entry self.old) }
         ensures kept { OnErr result (self.new ≡ self.old) }
     {
-        match change {
+        change.make(alloc, self)
+    }
+}
+
+impl Change<'_> {
+    /// Lets tables change so. Without memory they are as before.
+    fn make(self, alloc: Global, tables: &mut Tables) -> Result<(), Memory>
+        requires may { MayChange self tables.old }
+        ensures done { OnOk result (tables.new ≡ changed self.entry tables.old) }
+        ensures kept { OnErr result (tables.new ≡ tables.old) }
+    {
+        match self {
             Change::Nothing => {}
-            Change::Passes(ms) => self.clock.advance(ms),
+            Change::Passes(ms) => tables.clock.advance(ms),
             Change::Ticks {
                 ms,
                 semaphores,
                 clients,
             } => {
-                self.clock.advance(ms);
-                self.semaphores = semaphores;
-                lose_variables(&mut self.variables, &clients);
+                tables.clock.advance(ms);
+                tables.semaphores = semaphores;
+                lose_variables(&mut tables.variables, &clients);
             }
             Change::Writes {
                 client,
                 owned,
                 asked,
                 values,
-            } => self.variables.write(client, &owned, asked, values),
-            Change::Defines { client, asked } => self.variables.define(alloc, client, asked)?,
+            } => tables.variables.write(client, &owned, asked, values),
+            Change::Defines { client, asked } => tables.variables.define(alloc, client, asked)?,
             Change::DefinesList { client, asked } => {
-                self.variables.define_list(alloc, client, asked)?
+                tables.variables.define_list(alloc, client, asked)?
             }
-            Change::Deletes(selection) => self.variables.vars.delete(&selection),
-            Change::DeletesLists(selection) => self.variables.lists.delete(&selection),
+            Change::Deletes(selection) => tables.variables.vars.delete(&selection),
+            Change::DeletesLists(selection) => tables.variables.lists.delete(&selection),
             Change::Takes {
                 client,
                 invoke,
                 asked,
-            } => self.take(alloc, client, invoke, asked)?,
+            } => tables.take(alloc, client, invoke, asked)?,
             Change::Relinquishes { client, key, asked } => {
-                let now = self.moment();
+                let now = tables.moment();
                 let token = asked.token.as_ref();
-                relinquish_control(&mut self.semaphores, &key, client, token, now)
+                relinquish_control(&mut tables.semaphores, &key, client, token, now)
             }
-            Change::Cancels { key, entry } => cancel_take(&mut self.semaphores, &key, entry),
+            Change::Cancels { key, entry } => cancel_take(&mut tables.semaphores, &key, entry),
             Change::DefinesSemaphore { client, asked } => {
-                define_semaphore(alloc, &mut self.semaphores, client, asked)?
+                define_semaphore(alloc, &mut tables.semaphores, client, asked)?
             }
-            Change::DeletesSemaphore(key) => delete_semaphore(&mut self.semaphores, &key),
-            Change::Loses(client) => self.lose(alloc, client)?,
+            Change::DeletesSemaphore(key) => delete_semaphore(&mut tables.semaphores, &key),
+            Change::Loses(client) => tables.lose(alloc, client)?,
         }
         Ok(())
+    }
+}
+
+impl Drop for Change<'_> {
+    fn drop(self) {
+        match self {
+            Change::Nothing => {}
+            Change::Passes(_ms) => {}
+            Change::Ticks {
+                ms: _,
+                semaphores: _semaphores,
+                clients: _clients,
+            } => {}
+            Change::Writes {
+                client: _,
+                owned: _owned,
+                asked: _,
+                values: _values,
+            } => {}
+            Change::Defines {
+                client: _,
+                asked: _,
+            } => {}
+            Change::DefinesList {
+                client: _,
+                asked: _,
+            } => {}
+            Change::Deletes(_selection) => {}
+            Change::DeletesLists(_selection) => {}
+            Change::Takes {
+                client: _,
+                invoke: _,
+                asked: _,
+            } => {}
+            Change::Relinquishes {
+                client: _,
+                key: _key,
+                asked: _,
+            } => {}
+            Change::Cancels {
+                key: _key,
+                entry: _,
+            } => {}
+            Change::DefinesSemaphore {
+                client: _,
+                asked: _,
+            } => {}
+            Change::DeletesSemaphore(_key) => {}
+            Change::Loses(_client) => {}
+        }
     }
 }

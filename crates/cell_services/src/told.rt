@@ -7,7 +7,7 @@ use association::Waiting;
 use mms_types::What;
 
 /// What a client is told by an event (ISO 9506-1, environment and general management).
-#[derive(Debug, PartialEq, Eq, Drop)]
+#[derive(Drop)]
 pub enum Told {
     /// One more output is to be sent.
     Sends(What),

@@ -12,7 +12,7 @@ use mms_pdu::{Read, Refusal, reject_for};
 use mms_types::{Initiate, Memory, Pdu, Reject, RejectReason, Request};
 
 /// What a client is told at once.
-#[derive(Clone, Copy, Debug, PartialEq, Eq)]
+#[derive(Clone, Copy)]
 pub enum Said<'a> {
     Nothing,
     Abort,
@@ -26,7 +26,7 @@ pub enum Said<'a> {
 }
 
 /// What octets come to. A request is the one that was read.
-#[derive(Clone, Copy, Debug, PartialEq, Eq)]
+#[derive(Clone, Copy)]
 pub enum Found<'a> {
     /// The client is told something, and nothing else comes of it.
     Tells(Said<'a>),

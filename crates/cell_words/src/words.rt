@@ -11,7 +11,7 @@ use clap::{Arg, ArgAction, ArgMatches};
 use std::alloc::{AllocError, Global};
 
 /// What the words may ask.
-#[derive(Clone, Copy, Debug, PartialEq, Eq, Drop)]
+#[derive(Clone, Copy, Drop)]
 pub enum Command {
     /// A recording is served on one thread, in its own order.
     Replay,

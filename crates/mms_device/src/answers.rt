@@ -5,14 +5,14 @@ use mms_step::Cell;
 use part_table::Pass;
 
 /// An event was served.
-#[derive(Clone, Copy, Debug, PartialEq, Eq, Drop)]
+#[derive(Clone, Copy, Drop)]
 pub struct Served {
     /// Its place in the history, from 1.
     pub ticket: u64,
 }
 
 /// A part that the event wants is held by another caller.
-#[derive(Clone, Copy, Debug, PartialEq, Eq, Drop)]
+#[derive(Clone, Copy, PartialEq, Eq, Drop)]
 pub struct Busy {
     /// The part's number.
     pub part: u32,
@@ -21,7 +21,7 @@ pub struct Busy {
 }
 
 /// Why an event was not served.
-#[derive(Clone, Copy, Debug, PartialEq, Eq, Drop)]
+#[derive(Clone, Copy, Drop)]
 pub enum Refused {
     /// A part that it wants is held by another caller.
     Busy(Busy),

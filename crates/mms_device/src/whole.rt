@@ -18,7 +18,7 @@ use std::alloc::{AllocError, Global};
 use std::marker::Model;
 
 /// What a client took, and the place of that event in the history.
-#[derive(Debug, Drop)]
+#[derive(Drop)]
 pub struct Drained {
     /// The place, from 1.
     pub ticket: u64,

@@ -22,7 +22,7 @@ use std::alloc::Global;
 use std::mem;
 
 /// A PDU that a client sent.
-#[derive(Debug, PartialEq, Eq, Drop)]
+#[derive(Drop)]
 pub struct Read {
     pub pdu: Pdu,
     /// How deep the data and the type of a request nest, and 0 where it has none.

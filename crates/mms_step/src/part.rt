@@ -6,7 +6,6 @@ use object_names::Named;
 use variable_services::VariableTables;
 
 /// A part of the device. With n clients there are n + 7 of them, in this order, with a part for each client.
-#[derive(Drop)]
 pub enum Part {
     /// Part 0.
     Clock(Clock),
@@ -24,4 +23,19 @@ pub enum Part {
     Client(Client),
     /// Part 6 + n: semaphores.
     Semaphores(Named<SemaphoreRow>),
+}
+
+impl Drop for Part {
+    fn drop(self) {
+        match self {
+            Part::Clock(_clock) => {}
+            Part::Variables(_variables) => {}
+            Part::Domains => {}
+            Part::Programs => {}
+            Part::Conditions => {}
+            Part::Journals => {}
+            Part::Client(_client) => {}
+            Part::Semaphores(_semaphores) => {}
+        }
+    }
 }

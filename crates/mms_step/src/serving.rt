@@ -20,7 +20,7 @@ use part_table::Hand;
 use std::alloc::Global;
 
 /// What is done on the tables.
-#[derive(Clone, Copy, Debug, PartialEq, Eq)]
+#[derive(Clone, Copy)]
 pub(crate) enum Task<'a> {
     /// A client does something.
     Client(u32, Act<'a>),

@@ -17,7 +17,7 @@ use mms_types::Memory;
 use part_table::Hand;
 
 /// Room in the part of a client.
-#[derive(Clone, Copy, Debug, PartialEq, Eq)]
+#[derive(Clone, Copy)]
 pub(crate) struct Room {
     /// For so many outputs.
     outputs: usize,

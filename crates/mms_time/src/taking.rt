@@ -24,7 +24,7 @@ use token_sem::entries::numbered;
 use token_sem::{Ask, Grant, SemEntry, TakeRefused, TokenSem};
 
 /// What comes of a TakeControl that is not refused.
-#[derive(Debug, PartialEq, Eq, Drop)]
+#[derive(Drop)]
 pub enum TakeDone {
     /// The client has a token, and is answered.
     Answered(TakeControlAnswer),

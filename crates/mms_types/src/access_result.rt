@@ -6,7 +6,7 @@ ghost use Rattle.mms_types.specs.AccessErrors.{access_error_number};
 use crate::{Data, Listed};
 
 /// Why a variable was not read or not written (ISO 9506-2, DataAccessError).
-#[derive(Clone, Copy, Debug, PartialEq, Eq)]
+#[derive(Clone, Copy)]
 pub enum DataAccessError {
     ObjectInvalidated,
     HardwareFault,
@@ -53,7 +53,7 @@ impl DataAccessError {
 }
 
 /// What was read of a variable (ISO 9506-2, AccessResult).
-#[derive(Debug, PartialEq, Eq, Drop)]
+#[derive(Drop)]
 pub enum AccessResult {
     /// Nothing, and why.
     Failure(DataAccessError),
@@ -68,7 +68,7 @@ pub type AccessResults = Listed<AccessResult>;
 pub type DataList = Listed<Data>;
 
 /// What became of a variable that was to be written (ISO 9506-2, Write-Response).
-#[derive(Clone, Copy, Debug, PartialEq, Eq)]
+#[derive(Clone, Copy)]
 pub enum WriteResult {
     /// It is as before, and why.
     Failure(DataAccessError),

@@ -5,7 +5,7 @@ use std::alloc::Global;
 use std::marker::Model;
 
 /// A value that is kept apart from what holds it, in an allocation of its own. Contracts see the value.
-#[derive(Debug, Drop)]
+#[derive(Drop)]
 pub struct Boxed<T: Drop> {
     held: Box<T>,
 }
@@ -32,18 +32,4 @@ impl<T: Drop> Boxed<T> {
     {
         self.held.as_ref()
     }
-}
-
-impl<T: PartialEq + Drop> PartialEq for Boxed<T> {
-    ghost eq = { T.eq };
-
-    ghost laws = { T.laws };
-
-    fn eq(&self, other: &Boxed<T>) -> bool {
-        *self.held == *other.held
-    }
-}
-
-impl<T: Eq + Drop> Eq for Boxed<T> {
-    ghost laws = { T.Eq.laws };
 }

@@ -6,7 +6,7 @@ use crate::{Data, Identifier, Identifiers, Listed, Memory, TypeSpec, copied_name
 use std::alloc::Global;
 
 /// A cell, as it is configured: a variable that has an address and no name of its own (ISO 9506-1, unnamed variable).
-#[derive(Debug, PartialEq, Eq, Drop)]
+#[derive(Drop)]
 pub struct CellRow {
     /// Its number, from 0 to 4,095 in a configuration: the address by which PDUs name it.
     pub number: u16,
@@ -23,7 +23,7 @@ pub struct CellRow {
 pub type Cells = Listed<CellRow>;
 
 /// A variable of the VMD that is configured, and can't be deleted (ISO 9506-1, named variable).
-#[derive(Debug, PartialEq, Eq, Drop)]
+#[derive(Drop)]
 pub struct NamedCell {
     /// Its name.
     pub name: Identifier,
@@ -35,7 +35,7 @@ pub struct NamedCell {
 pub type NamedCells = Listed<NamedCell>;
 
 /// A pool of the VMD that is configured, and can't be deleted (ISO 9506-1, pool semaphore).
-#[derive(Debug, PartialEq, Eq, Drop)]
+#[derive(Drop)]
 pub struct PoolRow {
     /// Its name.
     pub name: Identifier,

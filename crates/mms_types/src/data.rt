@@ -10,7 +10,7 @@ use std::marker::Model;
 /// A value of a variable (ISO 9506-2, Data). Contracts see it as a `Datum`. It nests no deeper than 10: a simple value
 /// has depth 0, and an array or a structure one more than its deepest part.
 #[cycle(data)]
-#[derive(Debug, Drop)]
+#[derive(Drop)]
 pub struct Data {
     /// What it is.
     pub kind: DataKind,
@@ -18,7 +18,7 @@ pub struct Data {
 
 /// What a value is, one level of it.
 #[cycle(data)]
-#[derive(Debug, Drop)]
+#[derive(Drop)]
 pub enum DataKind {
     /// Elements, in their order.
     Array(Vec<Data>),
@@ -43,7 +43,7 @@ pub enum DataKind {
 }
 
 /// A bit string.
-#[derive(Debug, PartialEq, Eq, Drop)]
+#[derive(PartialEq, Eq, Drop)]
 pub struct BitString {
     /// How many bits of the last octet are unused.
     pub unused: u8,

@@ -7,7 +7,7 @@ use std::collections::VecDeque;
 use std::marker::Model;
 
 /// What is sent to a client.
-#[derive(Debug, PartialEq, Eq, Drop)]
+#[derive(PartialEq, Eq, Drop)]
 pub enum What {
     /// The octets of one PDU.
     Octets(Octets),
@@ -16,7 +16,7 @@ pub enum What {
 }
 
 /// What is sent, and to which client.
-#[derive(Debug, PartialEq, Eq, Drop)]
+#[derive(Drop)]
 pub struct Output {
     /// The number of the client.
     pub client: u32,
@@ -24,7 +24,7 @@ pub struct Output {
 }
 
 /// What happens to the device.
-#[derive(Debug, PartialEq, Eq, Drop)]
+#[derive(Drop)]
 pub enum CellEvent {
     /// A client sent octets.
     Heard { client: u32, octets: Octets },
@@ -39,7 +39,7 @@ pub enum CellEvent {
 }
 
 /// Events in order, of which the first can be taken off. Contracts see the list of them.
-#[derive(Debug, Drop)]
+#[derive(Drop)]
 pub struct Events {
     list: VecDeque<CellEvent>,
 }

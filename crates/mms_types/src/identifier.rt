@@ -19,7 +19,7 @@ use std::marker::Model;
 use thiserror::Error;
 
 /// The edition of the profile that octets are read by.
-#[derive(Clone, Copy, Debug, PartialEq, Eq)]
+#[derive(Clone, Copy)]
 pub enum Edition {
     /// Identifiers have at most 32 octets.
     One,
@@ -50,7 +50,6 @@ pub enum Unnamed {
 
 /// A name of ISO 9506-2: letters, digits, `_` and `$`, with no digit in front. Contracts see it as
 /// its octets, which are an identifier of some edition.
-#[derive(Debug, Drop)]
 pub struct Identifier {
     text: String,
 }
@@ -232,5 +231,11 @@ pub fn copied_name(alloc: Global, name: &Option<Identifier>) -> Result<Option<Id
     match name {
         None => Ok(None),
         Some(name) => Ok(Some(name.copy(alloc)?)),
+    }
+}
+
+impl Drop for Identifier {
+    fn drop(self) {
+        let Identifier { text: _text } = self;
     }
 }

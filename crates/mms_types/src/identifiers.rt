@@ -9,7 +9,6 @@ use std::alloc::Global;
 use std::marker::Model;
 
 /// Identifiers in order. Contracts see the list of them.
-#[derive(Debug, Drop)]
 pub struct Identifiers {
     list: Vec<Identifier>,
 }
@@ -90,16 +89,8 @@ impl From<Vec<Identifier>> for Identifiers {
     }
 }
 
-impl PartialEq for Identifiers {
-    ghost eq = { pointwise (pointwise nat_eq) };
-
-    ghost laws = { Prim.search (comparing, rules) };
-
-    fn eq(&self, other: &Identifiers) -> bool {
-        self.list == other.list
+impl Drop for Identifiers {
+    fn drop(self) {
+        let Identifiers { list: _list } = self;
     }
-}
-
-impl Eq for Identifiers {
-    ghost laws = { Prim.search (comparing, rules) };
 }

@@ -4,7 +4,7 @@ ghost use Rattle.mms_types.specs.OptionBits.{IsOptionSet};
 /// The parameters that a side supports (ISO 9506-2, ParameterSupportOptions): 11 bits, of which bit
 /// 0 is the most significant one of the first octet. Bit 9 has no name, and the last five bits of
 /// the octets are not used.
-#[derive(Clone, Copy, Debug, PartialEq, Eq)]
+#[derive(Clone, Copy)]
 pub struct ParameterOptions {
     pub octets: [u8; 2],
 }
@@ -52,7 +52,7 @@ impl ParameterOptions {
 /// The services that a side supports (ISO 9506-2, ServiceSupportOptions): in this profile 85 bits, of
 /// which bit 0 is the most significant one of the first octet. The last three bits are not used.
 /// The bit of a service is the service's number; those from 78 on are named here.
-#[derive(Clone, Copy, Debug, PartialEq, Eq)]
+#[derive(Clone, Copy)]
 pub struct ServiceOptions {
     pub octets: [u8; 11],
 }
@@ -83,7 +83,7 @@ impl ServiceOptions {
 
 /// What a client proposes, or the server answers, of a version and what it supports (ISO 9506-2,
 /// initRequestDetail and initResponseDetail).
-#[derive(Clone, Copy, Debug, PartialEq, Eq)]
+#[derive(Clone, Copy)]
 pub struct InitiateDetail {
     /// The number of the version.
     pub version: i16,
@@ -92,7 +92,7 @@ pub struct InitiateDetail {
 }
 
 /// What a client proposes for an association (ISO 9506-2, Initiate-Request).
-#[derive(Clone, Copy, Debug, PartialEq, Eq)]
+#[derive(Clone, Copy)]
 pub struct Initiate {
     /// The most octets of a PDU.
     pub size: Option<i32>,
@@ -106,7 +106,7 @@ pub struct Initiate {
 }
 
 /// What the server answers: the negotiated values (ISO 9506-2, Initiate-Response).
-#[derive(Clone, Copy, Debug, PartialEq, Eq)]
+#[derive(Clone, Copy)]
 pub struct InitiateAnswer {
     /// The most octets of a PDU.
     pub size: i32,

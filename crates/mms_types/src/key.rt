@@ -10,7 +10,7 @@ use std::cmp::Ordering;
 
 /// Where the name of an object belongs (ISO 9506-1, the scope of names). Scopes are ordered: the
 /// VMD, then the domains by name, then the associations by client.
-#[derive(Debug, Hash, Drop)]
+#[derive(Hash)]
 pub enum Scope {
     /// The whole device.
     Vmd,
@@ -21,7 +21,7 @@ pub enum Scope {
 }
 
 /// A name in its scope. Keys are ordered by scope, and in one scope by the octets of the name.
-#[derive(Debug, Hash, Drop)]
+#[derive(Hash)]
 pub struct Key {
     /// Where the name belongs.
     pub scope: Scope,
@@ -141,5 +141,24 @@ impl PartialOrd for Key {
 
     fn partial_cmp(&self, other: &Key) -> Option<Ordering> {
         Some(self.cmp(other))
+    }
+}
+
+impl Drop for Scope {
+    fn drop(self) {
+        match self {
+            Scope::Vmd => {}
+            Scope::Domain(_domain) => {}
+            Scope::Association(_) => {}
+        }
+    }
+}
+
+impl Drop for Key {
+    fn drop(self) {
+        let Key {
+            scope: _scope,
+            item: _item,
+        } = self;
     }
 }

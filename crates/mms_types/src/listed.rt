@@ -7,7 +7,6 @@ use std::alloc::Global;
 use std::marker::Model;
 
 /// Items in order. Contracts see the list of them.
-#[derive(Debug, Drop)]
 pub struct Listed<T: Drop> {
     list: Vec<T>,
 }
@@ -50,7 +49,8 @@ impl<T: Drop> Listed<T> {
     pub fn into_vec(self) -> Vec<T>
         ensures { result.items ≡ self }
     {
-        self.list
+        let Listed { list } = self;
+        list
     }
 
     /// The item at a place of the list, counted from 0. None where the list is not as long.
@@ -84,16 +84,8 @@ impl<T: Drop> From<Vec<T>> for Listed<T> {
     }
 }
 
-impl<T: PartialEq + Drop> PartialEq for Listed<T> {
-    ghost eq = { pointwise T.eq };
-
-    ghost laws = { lists_per T.laws };
-
-    fn eq(&self, other: &Listed<T>) -> bool {
-        self.list == other.list
+impl<T: Drop> Drop for Listed<T> {
+    fn drop(self) {
+        let Listed { list: _list } = self;
     }
-}
-
-impl<T: Eq + Drop> Eq for Listed<T> {
-    ghost laws = { lists_equiv T.Eq.laws };
 }

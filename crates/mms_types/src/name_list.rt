@@ -4,7 +4,7 @@ ghost use Rattle.mms_types.specs.Classes.{class_number};
 use crate::{Identifier, Identifiers};
 
 /// A class of objects that have names (ISO 9506-2, ObjectClass).
-#[derive(Clone, Copy, Debug, PartialEq, Eq)]
+#[derive(Clone, Copy)]
 pub enum ObjectClass {
     NamedVariable,
     ScatteredAccess,
@@ -51,7 +51,7 @@ impl ObjectClass {
 }
 
 /// The scope whose names are asked for (ISO 9506-2, GetNameList, objectScope).
-#[derive(Debug, PartialEq, Eq, Drop)]
+#[derive(Drop)]
 pub enum ObjectScope {
     /// The names of the whole device.
     Vmd,
@@ -62,7 +62,7 @@ pub enum ObjectScope {
 }
 
 /// Which names are asked for (ISO 9506-2, GetNameList-Request).
-#[derive(Debug, PartialEq, Eq, Drop)]
+#[derive(Drop)]
 pub struct GetNameList {
     /// The class of the objects.
     pub class: ObjectClass,
@@ -73,7 +73,7 @@ pub struct GetNameList {
 }
 
 /// The names (ISO 9506-2, GetNameList-Response).
-#[derive(Debug, PartialEq, Eq, Drop)]
+#[derive(Drop)]
 pub struct GetNameListAnswer {
     /// The names, in order of octets.
     pub names: Identifiers,

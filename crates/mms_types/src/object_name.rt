@@ -5,7 +5,6 @@ use crate::{Identifier, Key, Listed, Memory, Scope};
 use std::alloc::Global;
 
 /// The name of an object as a PDU gives it (ISO 9506-2, ObjectName).
-#[derive(Debug, PartialEq, Eq, Drop)]
 pub enum ObjectName {
     /// A vmd-specific name.
     Vmd(Identifier),
@@ -49,5 +48,18 @@ impl ObjectName {
             scope,
             item: item.copy(alloc)?,
         })
+    }
+}
+
+impl Drop for ObjectName {
+    fn drop(self) {
+        match self {
+            ObjectName::Vmd(_x) => {}
+            ObjectName::Domain {
+                domain: _x,
+                item: _y,
+            } => {}
+            ObjectName::Association(_x) => {}
+        }
     }
 }

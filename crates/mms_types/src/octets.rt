@@ -13,7 +13,6 @@ const SHORT: usize = 16;
 
 /// Octets that are kept, as a PDU or a text: up to 16 in the value itself, and more in an allocation. Contracts see
 /// the list of them.
-#[derive(Debug, Drop)]
 pub struct Octets {
     held: SmallVec<u8, SHORT>,
 }
@@ -86,4 +85,10 @@ impl PartialEq for Octets {
 
 impl Eq for Octets {
     ghost laws = { Prim.search (comparing, rules) };
+}
+
+impl Drop for Octets {
+    fn drop(self) {
+        let Octets { held: _held } = self;
+    }
 }

@@ -9,7 +9,6 @@ use crate::{
 
 /// What a client asks of the server (ISO 9506-2, ConfirmedServiceRequest): a variant for each service, with its
 /// argument.
-#[derive(Debug, PartialEq, Eq, Drop)]
 pub enum Request {
     /// The state of the device.
     Status(Status),
@@ -51,7 +50,6 @@ pub enum Request {
 
 /// What the server answers to a request (ISO 9506-2, ConfirmedServiceResponse): a variant for each service, with what
 /// it answers.
-#[derive(Debug, PartialEq, Eq, Drop)]
 pub enum Answer {
     /// The state of the device.
     Status(StatusAnswer),
@@ -92,7 +90,7 @@ pub enum Answer {
 }
 
 /// Why a PDU is rejected (ISO 9506-2, RejectPDU): the reasons that the server gives.
-#[derive(Clone, Copy, Debug, PartialEq, Eq)]
+#[derive(Clone, Copy)]
 pub enum RejectReason {
     /// confirmed-requestPDU: the service is unknown, or is not offered.
     UnrecognizedService,
@@ -113,7 +111,7 @@ pub enum RejectReason {
 }
 
 /// The server rejects a PDU (ISO 9506-2, RejectPDU).
-#[derive(Clone, Copy, Debug, PartialEq, Eq)]
+#[derive(Clone, Copy)]
 pub struct Reject {
     /// The invokeID of the request that is rejected, where one is.
     pub invoke: Option<u32>,
@@ -122,7 +120,6 @@ pub struct Reject {
 
 /// A PDU (ISO 9506-2, MMSpdu). Of some PDUs less is kept where a client sent them than where the
 /// server sends them; these have a variant for each of the two.
-#[derive(Debug, PartialEq, Eq, Drop)]
 pub enum Pdu {
     /// A confirmed-Request, without modifiers.
     ConfirmedRequest { invoke: u32, request: Request },
@@ -156,4 +153,83 @@ pub enum Pdu {
     ConcludeResponse,
     /// A conclude-Error.
     ConcludeError(ServiceError),
+}
+
+impl Drop for Request {
+    fn drop(self) {
+        match self {
+            Request::Status(_x) => {}
+            Request::GetNameList(_x) => {}
+            Request::Identify => {}
+            Request::Read(_x) => {}
+            Request::Write(_x) => {}
+            Request::GetVariableAccessAttributes(_x) => {}
+            Request::DefineNamedVariable(_x) => {}
+            Request::DeleteVariableAccess(_x) => {}
+            Request::DefineNamedVariableList(_x) => {}
+            Request::GetNamedVariableListAttributes(_x) => {}
+            Request::DeleteNamedVariableList(_x) => {}
+            Request::TakeControl(_x) => {}
+            Request::RelinquishControl(_x) => {}
+            Request::DefineSemaphore(_x) => {}
+            Request::DeleteSemaphore(_x) => {}
+            Request::ReportSemaphoreStatus(_x) => {}
+            Request::ReportPoolSemaphoreStatus(_x) => {}
+            Request::ReportSemaphoreEntryStatus(_x) => {}
+        }
+    }
+}
+
+impl Drop for Answer {
+    fn drop(self) {
+        match self {
+            Answer::Status(_x) => {}
+            Answer::GetNameList(_x) => {}
+            Answer::Identify(_x) => {}
+            Answer::Read(_x) => {}
+            Answer::Write(_x) => {}
+            Answer::GetVariableAccessAttributes(_x) => {}
+            Answer::DefineNamedVariable => {}
+            Answer::DeleteVariableAccess(_x) => {}
+            Answer::DefineNamedVariableList => {}
+            Answer::GetNamedVariableListAttributes(_x) => {}
+            Answer::DeleteNamedVariableList(_x) => {}
+            Answer::TakeControl(_x) => {}
+            Answer::RelinquishControl => {}
+            Answer::DefineSemaphore => {}
+            Answer::DeleteSemaphore => {}
+            Answer::ReportSemaphoreStatus(_x) => {}
+            Answer::ReportPoolSemaphoreStatus(_x) => {}
+            Answer::ReportSemaphoreEntryStatus(_x) => {}
+        }
+    }
+}
+
+impl Drop for Pdu {
+    fn drop(self) {
+        match self {
+            Pdu::ConfirmedRequest {
+                invoke: _,
+                request: _x,
+            } => {}
+            Pdu::ConfirmedResponse {
+                invoke: _,
+                answer: _x,
+            } => {}
+            Pdu::ConfirmedError(_x) => {}
+            Pdu::HeardError { invoke: _ } => {}
+            Pdu::Reject(_x) => {}
+            Pdu::HeardReject { invoke: _ } => {}
+            Pdu::CancelRequest { invoke: _ } => {}
+            Pdu::CancelResponse { invoke: _ } => {}
+            Pdu::CancelError(_x) => {}
+            Pdu::HeardOther => {}
+            Pdu::InitiateRequest(_x) => {}
+            Pdu::InitiateResponse(_x) => {}
+            Pdu::InitiateError(_x) => {}
+            Pdu::ConcludeRequest => {}
+            Pdu::ConcludeResponse => {}
+            Pdu::ConcludeError(_x) => {}
+        }
+    }
 }

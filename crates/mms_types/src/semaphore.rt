@@ -6,7 +6,7 @@ ghost use Rattle.mms_types.specs.Semaphores.{semaphore_class_number, entry_state
 use crate::{Identifier, Listed, ObjectName, Octets};
 
 /// Which token is taken, and on what terms (ISO 9506-2, TakeControl-Request).
-#[derive(Debug, PartialEq, Eq, Drop)]
+#[derive(Drop)]
 pub struct TakeControl {
     /// The semaphore.
     pub name: ObjectName,
@@ -28,7 +28,7 @@ pub struct TakeControl {
 }
 
 /// Which token was taken (ISO 9506-2, TakeControl-Response).
-#[derive(Debug, PartialEq, Eq, Drop)]
+#[derive(Drop)]
 pub enum TakeControlAnswer {
     /// One of a token semaphore, or the one that the request named.
     NoResult,
@@ -37,7 +37,7 @@ pub enum TakeControlAnswer {
 }
 
 /// Which token is given back (ISO 9506-2, RelinquishControl-Request).
-#[derive(Debug, PartialEq, Eq, Drop)]
+#[derive(Drop)]
 pub struct RelinquishControl {
     /// The semaphore.
     pub name: ObjectName,
@@ -46,7 +46,7 @@ pub struct RelinquishControl {
 }
 
 /// Which semaphore is made (ISO 9506-2, DefineSemaphore-Request).
-#[derive(Debug, PartialEq, Eq, Drop)]
+#[derive(Drop)]
 pub struct DefineSemaphore {
     /// Its name.
     pub name: ObjectName,
@@ -55,7 +55,7 @@ pub struct DefineSemaphore {
 }
 
 /// What kind of semaphore it is (ISO 9506-2, ReportSemaphoreStatus-Response, class).
-#[derive(Clone, Copy, Debug, PartialEq, Eq)]
+#[derive(Clone, Copy)]
 pub enum SemaphoreClass {
     /// Its tokens are equal.
     Token,
@@ -84,7 +84,7 @@ impl SemaphoreClass {
 }
 
 /// What a semaphore is and has (ISO 9506-2, ReportSemaphoreStatus-Response).
-#[derive(Clone, Copy, Debug, PartialEq, Eq)]
+#[derive(Clone, Copy)]
 pub struct SemaphoreStatus {
     /// Whether it can be deleted.
     pub deletable: bool,
@@ -99,7 +99,7 @@ pub struct SemaphoreStatus {
 }
 
 /// Which pool is asked for (ISO 9506-2, ReportPoolSemaphoreStatus-Request).
-#[derive(Debug, PartialEq, Eq, Drop)]
+#[derive(Drop)]
 pub struct ReportPoolSemaphoreStatus {
     /// The semaphore.
     pub name: ObjectName,
@@ -108,7 +108,7 @@ pub struct ReportPoolSemaphoreStatus {
 }
 
 /// A token of a pool by its name (ISO 9506-2, ReportPoolSemaphoreStatus-Response, listOfNamedTokens).
-#[derive(Debug, PartialEq, Eq, Drop)]
+#[derive(Drop)]
 pub enum NamedToken {
     /// One that nobody has.
     Free(Identifier),
@@ -122,7 +122,7 @@ pub enum NamedToken {
 pub type NamedTokens = Listed<NamedToken>;
 
 /// The tokens of a pool (ISO 9506-2, ReportPoolSemaphoreStatus-Response).
-#[derive(Debug, PartialEq, Eq, Drop)]
+#[derive(Drop)]
 pub struct PoolStatus {
     /// The tokens, in order of octets.
     pub tokens: NamedTokens,
@@ -131,7 +131,7 @@ pub struct PoolStatus {
 }
 
 /// Where an entry of a semaphore stands (ISO 9506-2, ReportSemaphoreEntryStatus-Request, state).
-#[derive(Clone, Copy, Debug, PartialEq, Eq)]
+#[derive(Clone, Copy)]
 pub enum EntryState {
     /// It waits for a token.
     Queued,
@@ -163,13 +163,13 @@ impl EntryState {
 }
 
 /// The number of an entry as requests give it: 8 octets, the most significant first.
-#[derive(Clone, Copy, Debug, PartialEq, Eq)]
+#[derive(Clone, Copy)]
 pub struct EntryNumber {
     pub octets: [u8; 8],
 }
 
 /// Which entries of a semaphore are asked for (ISO 9506-2, ReportSemaphoreEntryStatus-Request).
-#[derive(Debug, PartialEq, Eq, Drop)]
+#[derive(Drop)]
 pub struct ReportSemaphoreEntryStatus {
     /// The semaphore.
     pub name: ObjectName,
@@ -180,7 +180,7 @@ pub struct ReportSemaphoreEntryStatus {
 }
 
 /// What made an entry of a semaphore (ISO 9506-2, SemaphoreEntry, entryClass).
-#[derive(Clone, Copy, Debug, PartialEq, Eq)]
+#[derive(Clone, Copy)]
 pub enum EntryClass {
     /// A request for control.
     Simple,
@@ -209,7 +209,7 @@ impl EntryClass {
 }
 
 /// An entry of a semaphore (ISO 9506-2, SemaphoreEntry).
-#[derive(Debug, PartialEq, Eq, Drop)]
+#[derive(Drop)]
 pub struct EntryStatus {
     /// Its number, in 8 octets where the server tells it, the most significant first (entryID).
     pub number: Octets,
@@ -234,7 +234,7 @@ pub struct EntryStatus {
 pub type SemaphoreEntries = Listed<EntryStatus>;
 
 /// The entries of a semaphore that have the state (ISO 9506-2, ReportSemaphoreEntryStatus-Response).
-#[derive(Debug, PartialEq, Eq, Drop)]
+#[derive(Drop)]
 pub struct EntryStatuses {
     /// The entries, in order of their numbers.
     pub entries: SemaphoreEntries,

@@ -20,7 +20,7 @@ pub struct ServiceError {
 }
 
 /// A request is refused (ISO 9506-2, Confirmed-ErrorPDU).
-#[derive(Clone, Copy, Debug, PartialEq, Eq)]
+#[derive(Clone, Copy)]
 pub struct ConfirmedError {
     /// The invokeID of the request.
     pub invoke: u32,
@@ -30,7 +30,7 @@ pub struct ConfirmedError {
 }
 
 /// A request is not cancelled (ISO 9506-2, Cancel-ErrorPDU).
-#[derive(Clone, Copy, Debug, PartialEq, Eq)]
+#[derive(Clone, Copy)]
 pub struct CancelError {
     /// The invokeID of the request.
     pub invoke: u32,

@@ -6,7 +6,7 @@ use std::marker::Model;
 /// A type of variables (ISO 9506-2, TypeSpecification). Contracts see it as a `Shape`. It nests no deeper than 10: a simple type
 /// has depth 0, and an array or a structure one more than its deepest part.
 #[cycle(types)]
-#[derive(Debug, Drop)]
+#[derive(Drop)]
 pub struct TypeSpec {
     /// What it is.
     pub kind: TypeKind,
@@ -14,7 +14,7 @@ pub struct TypeSpec {
 
 /// What a type is, one level of it.
 #[cycle(types)]
-#[derive(Debug, Drop)]
+#[derive(Drop)]
 pub enum TypeKind {
     /// So many elements of one type.
     Array {
@@ -51,7 +51,7 @@ pub enum TypeKind {
 
 /// A component of a structure.
 #[cycle(types)]
-#[derive(Debug, Drop)]
+#[derive(Drop)]
 pub struct Component {
     /// Its name, where it has one.
     pub name: Option<Identifier>,

@@ -10,7 +10,6 @@ use crate::{
 use std::alloc::Global;
 
 /// A variable as a PDU names it (ISO 9506-2, VariableSpecification): by its name, or by the address of a cell.
-#[derive(Debug, PartialEq, Eq, Drop)]
 pub enum Spec {
     /// The variable of that name.
     Name(ObjectName),
@@ -22,7 +21,6 @@ pub enum Spec {
 pub type Specs = Listed<Spec>;
 
 /// Which variables are read or written (ISO 9506-2, VariableAccessSpecification).
-#[derive(Debug, PartialEq, Eq, Drop)]
 pub enum Access {
     /// These variables, in this order.
     Specs(Specs),
@@ -81,7 +79,7 @@ impl Access {
 }
 
 /// Which variables are read (ISO 9506-2, Read-Request).
-#[derive(Debug, PartialEq, Eq, Drop)]
+#[derive(Drop)]
 pub struct Read {
     /// Whether the answer says again which variables were read (specificationWithResult).
     pub with_access: bool,
@@ -90,7 +88,7 @@ pub struct Read {
 }
 
 /// What is written, and to which variables (ISO 9506-2, Write-Request).
-#[derive(Debug, PartialEq, Eq, Drop)]
+#[derive(Drop)]
 pub struct Write {
     /// The variables.
     pub access: Access,
@@ -99,7 +97,7 @@ pub struct Write {
 }
 
 /// Which named variable is defined (ISO 9506-2, DefineNamedVariable-Request).
-#[derive(Debug, PartialEq, Eq, Drop)]
+#[derive(Drop)]
 pub struct DefineNamedVariable {
     /// Its name.
     pub name: ObjectName,
@@ -111,7 +109,7 @@ pub struct DefineNamedVariable {
 
 /// Which names are deleted (ISO 9506-2, DeleteVariableAccess-Request and DeleteNamedVariableList-Request,
 /// scopeOfDelete).
-#[derive(Clone, Copy, Debug, PartialEq, Eq)]
+#[derive(Clone, Copy)]
 pub enum DeleteScope {
     /// Those that are listed.
     Specific,
@@ -147,7 +145,7 @@ impl DeleteScope {
 
 /// Which names of variables, or of variable lists, are deleted (ISO 9506-2, DeleteVariableAccess-Request and
 /// DeleteNamedVariableList-Request).
-#[derive(Debug, PartialEq, Eq, Drop)]
+#[derive(Drop)]
 pub struct DeleteNames {
     /// Which of them.
     pub scope: DeleteScope,
@@ -158,7 +156,7 @@ pub struct DeleteNames {
 }
 
 /// Which list of variables is defined (ISO 9506-2, DefineNamedVariableList-Request).
-#[derive(Debug, PartialEq, Eq, Drop)]
+#[derive(Drop)]
 pub struct DefineNamedVariableList {
     /// Its name.
     pub name: ObjectName,
@@ -167,7 +165,7 @@ pub struct DefineNamedVariableList {
 }
 
 /// What was read (ISO 9506-2, Read-Response).
-#[derive(Debug, PartialEq, Eq, Drop)]
+#[derive(Drop)]
 pub struct ReadAnswer {
     /// Which variables were read, where the request asked for it.
     pub access: Option<Access>,
@@ -176,7 +174,7 @@ pub struct ReadAnswer {
 }
 
 /// What a variable is (ISO 9506-2, GetVariableAccessAttributes-Response).
-#[derive(Debug, PartialEq, Eq, Drop)]
+#[derive(Drop)]
 pub struct VariableAttributes {
     /// Whether it can be deleted.
     pub deletable: bool,
@@ -187,7 +185,7 @@ pub struct VariableAttributes {
 }
 
 /// How many names were deleted (ISO 9506-2, DeleteVariableAccess-Response and DeleteNamedVariableList-Response).
-#[derive(Clone, Copy, Debug, PartialEq, Eq)]
+#[derive(Clone, Copy)]
 pub struct Deleted {
     /// How many names the request named that there were.
     pub matched: u32,
@@ -196,10 +194,28 @@ pub struct Deleted {
 }
 
 /// What a list of variables is (ISO 9506-2, GetNamedVariableListAttributes-Response).
-#[derive(Debug, PartialEq, Eq, Drop)]
+#[derive(Drop)]
 pub struct ListAttributes {
     /// Whether it can be deleted.
     pub deletable: bool,
     /// Its variables, in their order.
     pub variables: Specs,
+}
+
+impl Drop for Spec {
+    fn drop(self) {
+        match self {
+            Spec::Name(_x) => {}
+            Spec::Address(_) => {}
+        }
+    }
+}
+
+impl Drop for Access {
+    fn drop(self) {
+        match self {
+            Access::Specs(_x) => {}
+            Access::List(_x) => {}
+        }
+    }
 }

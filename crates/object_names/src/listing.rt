@@ -8,7 +8,7 @@ use mms_types::{Identifier, Identifiers, Key, Memory, Scope};
 use std::alloc::Global;
 
 /// Some names of a scope, and whether there are more.
-#[derive(Debug, Drop)]
+#[derive(Drop)]
 pub struct Names {
     /// The names, in order of octets.
     pub list: Identifiers,

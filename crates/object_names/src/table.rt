@@ -27,7 +27,7 @@ impl<T: Drop> Model for Named<T> {
 }
 
 /// There was no memory for one more row. Here is what it was to hold.
-#[derive(Debug, Drop)]
+#[derive(Drop)]
 pub struct Unplaced<T: Drop> {
     /// The name.
     pub key: Key,

@@ -17,7 +17,7 @@ pub struct Amounts;
 /// A move of an amount from one part to another, by the caller of that number, who alone may make
 /// it. Where one of the two numbers is odd, the amount goes to the third part. It stays where it is
 /// if it has nowhere else to go, if it is more than there is, or if there is no room for it.
-#[derive(Clone, Copy, Debug, PartialEq, Eq)]
+#[derive(Clone, Copy)]
 pub struct Move {
     /// The caller.
     pub by: u32,

@@ -3,7 +3,7 @@ ghost use Rattle.std.specs.Prelude.{⊤};
 use std::alloc::{AllocError, AllocFailed};
 
 /// There was not enough memory. It is the one answer that no contract ties to a cause.
-#[derive(Clone, Copy, Debug, PartialEq, Eq)]
+#[derive(Clone, Copy)]
 pub struct Memory;
 
 impl From<AllocError> for Memory {
@@ -23,7 +23,7 @@ impl<T: Drop> From<AllocFailed<T>> for Memory {
 }
 
 /// The part is held by another caller.
-#[derive(Clone, Copy, Debug, PartialEq, Eq)]
+#[derive(Clone, Copy)]
 pub struct Held {
     /// That caller's number.
     pub by: u32,

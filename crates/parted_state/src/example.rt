@@ -16,7 +16,7 @@ use std::alloc::AllocError;
 use std::marker::Model;
 
 /// What a client is told.
-#[derive(Clone, Copy, Debug, PartialEq, Eq)]
+#[derive(Clone, Copy)]
 pub enum Word {
     /// It has the tool.
     Yours,
@@ -29,7 +29,7 @@ pub enum Word {
 }
 
 /// What a client asks for.
-#[derive(Clone, Copy, Debug, PartialEq, Eq)]
+#[derive(Clone, Copy)]
 pub enum Ask {
     /// The tool.
     Take,
@@ -40,21 +40,21 @@ pub enum Ask {
 }
 
 /// A client asks for something. Clients count from 1.
-#[derive(Clone, Copy, Debug, PartialEq, Eq)]
+#[derive(Clone, Copy)]
 pub struct Asked {
     pub client: u32,
     pub ask: Ask,
 }
 
 /// Who has the tool and who waits for it; 0 is nobody.
-#[derive(Clone, Copy, Debug, PartialEq, Eq)]
+#[derive(Clone, Copy)]
 pub struct Tool {
     pub owner: u32,
     pub next: u32,
 }
 
 /// The tables: the pieces on the shelf, and the tool.
-#[derive(Clone, Copy, Debug, PartialEq, Eq)]
+#[derive(Clone, Copy)]
 pub struct Tables {
     pub pieces: u32,
     pub tool: Tool,
@@ -62,7 +62,7 @@ pub struct Tables {
 
 /// What a client was told, in order, with room for more words that is made before it is used. Contracts see the words,
 /// and for how many more there is room.
-#[derive(Debug, Drop)]
+#[derive(Drop)]
 pub struct Row {
     words: Vec<Word>,
     room: usize,

@@ -13,7 +13,7 @@ const WORDS: usize = 4;
 
 /// A set of parts, by their numbers, which are below 256. It takes no memory. Contracts see the list of its numbers, in
 /// increasing order.
-#[derive(Debug, Drop)]
+#[derive(Drop)]
 pub struct Parts {
     words: [u64; 4],
 }

@@ -1,7 +1,7 @@
 use mms_types::Moment;
 
 /// What a request for a token of a pool comes to. Tokens are places in the pool's sorted list.
-#[derive(Clone, Copy, Debug, PartialEq, Eq)]
+#[derive(Clone, Copy)]
 pub enum PoolOutcome {
     /// The client waits for a token, or owns the one that it names.
     Refused,
@@ -18,7 +18,7 @@ pub enum PoolOutcome {
 }
 
 /// What is told of a token of a pool (ISO 9506-1, ReportPoolSemaphoreStatus).
-#[derive(Clone, Copy, Debug, PartialEq, Eq)]
+#[derive(Clone, Copy)]
 pub enum TokenState {
     /// Nobody has it.
     Free,

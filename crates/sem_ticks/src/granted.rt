@@ -13,7 +13,7 @@ use std::alloc::Global;
 use token_sem::Grant;
 
 /// A client that waited for a token has one: its request of that invokeID is answered so (ISO 9506-2, TakeControl).
-#[derive(Debug, PartialEq, Eq, Drop)]
+#[derive(Drop)]
 pub struct Granted {
     /// The client.
     pub client: u32,

@@ -15,7 +15,7 @@ use std::alloc::Global;
 use token_sem::Expired;
 
 /// What happens where a deadline is met.
-#[derive(Debug, PartialEq, Eq, Drop)]
+#[derive(Drop)]
 pub enum Happening {
     /// The acceptable delay of a request for a token ends: the client waits no more for the answer of that invokeID.
     WaitEnds { client: u32, invoke: u32 },

@@ -5,7 +5,7 @@ use object_names::{Copied, Deletable};
 use std::alloc::Global;
 
 /// A list of variables (ISO 9506-1, named variable list).
-#[derive(Debug, PartialEq, Eq, Drop)]
+#[derive(Drop)]
 pub struct VariableList {
     /// Its variables as they were given, in their order.
     pub variables: Specs,

@@ -1,7 +1,7 @@
 use mms_types::{Data, Identifier, TypeSpec};
 
 /// A cell: a variable that has an address (ISO 9506-1, unnamed variable).
-#[derive(Debug, Drop)]
+#[derive(Drop)]
 pub struct Cell {
     /// Its type, which stays.
     pub of: TypeSpec,
@@ -12,7 +12,7 @@ pub struct Cell {
 }
 
 /// A name of a cell (ISO 9506-1, named variable).
-#[derive(Clone, Copy, Debug, PartialEq, Eq)]
+#[derive(Clone, Copy)]
 pub struct Variable {
     /// The number of the cell.
     pub cell: u16,
