@@ -4,6 +4,7 @@ ghost use Rattle.std.specs.Prelude.{◌≡◌, ◌≤◌, nat_le, length, is_non
 ghost use Rattle.association.specs.Client.{closed_row, drained_row, new_row};
 ghost use Rattle.association.specs.Negotiation.{negotiation};
 ghost use Rattle.mms_pdu.specs.Pdus.{pdu_octets};
+ghost use Rattle.mms_types.specs.declared.pdu.Pdu.TheVariants as pdu;
 ghost use Rattle.variable_services.specs.Services.{read_answer, read_cause, write_after, write_answer, write_cause};
 ghost use Rattle.cell_services.specs.Acts.{IsActOf, IsDoneOn};
 ghost use Rattle.cell_services.specs.Association.{further_error, negotiated, sends, unknown_error, verdict_by, Takes};
@@ -18,11 +19,14 @@ use crate::guards::owned_guards;
 use crate::service::{STATUS, identity};
 use crate::{Act, Found, Said, Told, verdict_of};
 use association::{ClientPart, Constants, outcome_of};
-use mms_pdu::{Read, Refusal, Writer, put_answer, put_pdu};
+use mms_pdu::{
+    Read, Refusal, Writer, put_answer, put_cancel_error, put_conclude_error, put_confirmed_error,
+    put_initiate_error, put_initiate_response, put_reject,
+};
 use mms_time::SemaphoreRow;
 use mms_types::{
-    Answer, CancelError, ConfirmedError, Initiate, InitiateAnswer, Memory, Octets, Pdu,
-    Read as VariableRead, Refuse, Reject, Request, ServiceError, What, Write,
+    Answer, CancelError, ConfirmedError, Initiate, Memory, Octets, Read as VariableRead, Refuse,
+    Reject, Request, ServiceError, What, Write,
 };
 use object_names::Named;
 use std::alloc::Global;
@@ -55,6 +59,18 @@ pub(crate) fn size_of(part: &ClientPart) -> u32
     }
 }
 
+/// Appends a PDU, as it is spelled there, to what is to be sent.
+fn push_spelled(alloc: Global, part: &mut ClientPart, out: &Writer) -> Result<(), Memory>
+    ensures sent { OnOk result (part.new
+        ≡ settled (felt (Sends (What.Octets out.now)) part.old.row)) }
+    ensures kept { OnErr result (part.new ≡ part.old) }
+{
+    let octets = Octets::from_slice(alloc, out.octets())?;
+    part.reserve(1, 0)?;
+    part.push(What::Octets(octets));
+    Ok(())
+}
+
 impl Client {
     /// The part of a client of that number, with which there is no association.
     pub fn new(alloc: Global, client: u32, device: Constants) -> Client
@@ -73,16 +89,6 @@ impl Client {
         &self.part
     }
 
-    /// The octets of a PDU.
-    fn spelled(&mut self, alloc: Global, pdu: &Pdu) -> Result<Octets, Memory>
-        ensures octets { IfOk result (λ octets. octets ≡ pdu_octets pdu.now) }
-        ensures kept { self.new ≡ self.old }
-    {
-        self.out.truncate(0);
-        put_pdu(&mut self.out, pdu)?;
-        Octets::from_slice(alloc, self.out.octets())
-    }
-
     /// The octets of a positive answer.
     pub(crate) fn spelled_answer(
         &mut self,
@@ -91,23 +97,12 @@ impl Client {
         answer: &Answer,
     ) -> Result<Octets, Memory>
         ensures octets { IfOk result (λ octets.
-            octets ≡ pdu_octets (Pdu.ConfirmedResponse invoke answer.now)) }
+            octets ≡ pdu_octets (pdu.ConfirmedResponse invoke answer.now)) }
         ensures kept { self.new ≡ self.old }
     {
         self.out.truncate(0);
         put_answer(&mut self.out, invoke, answer)?;
         Octets::from_slice(alloc, self.out.octets())
-    }
-
-    /// Appends a PDU to what is to be sent.
-    fn send(&mut self, alloc: Global, pdu: &Pdu) -> Result<(), Memory>
-        ensures sent { OnOk result (self.new ≡ settled (felt (sends pdu.now) self.old.row)) }
-        ensures kept { OnErr result (self.new ≡ self.old) }
-    {
-        let octets = self.spelled(alloc, pdu)?;
-        self.part.reserve(1, 0)?;
-        self.part.push(What::Octets(octets));
-        Ok(())
     }
 
     /// Appends an abort to what is to be sent.
@@ -120,22 +115,15 @@ impl Client {
         Ok(())
     }
 
-    /// The octets of the answer to a proposal.
-    fn spelled_opening(&mut self, alloc: Global, answer: InitiateAnswer) -> Result<Octets, Memory>
-        ensures octets { IfOk result (λ octets.
-            octets ≡ pdu_octets (Pdu.InitiateResponse answer)) }
-        ensures kept { self.new ≡ self.old }
-    {
-        self.spelled(alloc, &Pdu::InitiateResponse(answer))
-    }
-
     /// Refuses a proposal.
     fn decline(&mut self, alloc: Global, error: ServiceError) -> Result<(), Memory>
         ensures sent { OnOk result (self.new
-            ≡ settled (felt (sends (Pdu.InitiateError error)) self.old.row)) }
+            ≡ settled (felt (sends (pdu.InitiateError error)) self.old.row)) }
         ensures kept { OnErr result (self.new ≡ self.old) }
     {
-        self.send(alloc, &Pdu::InitiateError(error))
+        self.out.truncate(0);
+        put_initiate_error(&mut self.out, &error)?;
+        push_spelled(alloc, &mut self.part, &self.out)
     }
 
     /// Negotiates a proposal.
@@ -147,7 +135,9 @@ impl Client {
         match outcome_of(proposal) {
             Err(error) => self.decline(alloc, error),
             Ok(answer) => {
-                let octets = self.spelled_opening(alloc, answer)?;
+                self.out.truncate(0);
+                put_initiate_response(&mut self.out, &answer)?;
+                let octets = Octets::from_slice(alloc, self.out.octets())?;
                 self.part.reserve(1, 0)?;
                 let _ = self.part.negotiate(proposal);
                 self.part.push(What::Octets(octets));
@@ -159,31 +149,36 @@ impl Client {
     /// Rejects what was sent.
     fn reject(&mut self, alloc: Global, reject: Reject) -> Result<(), Memory>
         ensures sent { OnOk result (self.new
-            ≡ settled (felt (sends (Pdu.Reject reject)) self.old.row)) }
+            ≡ settled (felt (sends (pdu.Reject reject)) self.old.row)) }
         ensures kept { OnErr result (self.new ≡ self.old) }
     {
-        self.send(alloc, &Pdu::Reject(reject))
+        self.out.truncate(0);
+        put_reject(&mut self.out, &reject)?;
+        push_spelled(alloc, &mut self.part, &self.out)
     }
 
     /// Refuses a conclusion.
     fn keep_open(&mut self, alloc: Global) -> Result<(), Memory>
         ensures sent { OnOk result (self.new
-            ≡ settled (felt (sends (Pdu.ConcludeError further_error)) self.old.row)) }
+            ≡ settled (felt (sends (pdu.ConcludeError further_error)) self.old.row)) }
         ensures kept { OnErr result (self.new ≡ self.old) }
     {
-        let error = ServiceError::FURTHER_COMMUNICATION_REQUIRED;
-        self.send(alloc, &Pdu::ConcludeError(error))
+        self.out.truncate(0);
+        put_conclude_error(&mut self.out, &ServiceError::FURTHER_COMMUNICATION_REQUIRED)?;
+        push_spelled(alloc, &mut self.part, &self.out)
     }
 
     /// Refuses to cancel a request that doesn't wait.
     fn deny_cancel(&mut self, alloc: Global, invoke: u32) -> Result<(), Memory>
         ensures sent { OnOk result (self.new ≡ settled (felt
-            (sends (Pdu.CancelError (record { invoke = invoke; error = unknown_error })))
+            (sends (pdu.CancelError (record { invoke = invoke; error = unknown_error })))
             self.old.row)) }
         ensures kept { OnErr result (self.new ≡ self.old) }
     {
         let error = ServiceError::INVOKE_ID_UNKNOWN;
-        self.send(alloc, &Pdu::CancelError(CancelError { invoke, error }))
+        self.out.truncate(0);
+        put_cancel_error(&mut self.out, &CancelError { invoke, error })?;
+        push_spelled(alloc, &mut self.part, &self.out)
     }
 
     /// Tells the client something.
@@ -215,14 +210,14 @@ impl Client {
         ensures sent { OnOk result (self.new ≡ settled (felt (refuses invoke error) self.old.row)) }
         ensures kept { OnErr result (self.new ≡ self.old) }
     {
-        self.send(
-            alloc,
-            &Pdu::ConfirmedError(ConfirmedError {
-                invoke,
-                modifier: None,
-                error,
-            }),
-        )
+        let error = ConfirmedError {
+            invoke,
+            modifier: None,
+            error,
+        };
+        self.out.truncate(0);
+        put_confirmed_error(&mut self.out, &error)?;
+        push_spelled(alloc, &mut self.part, &self.out)
     }
 
     /// Answers a confirmed request, or refuses it where the answer is too long.
@@ -250,14 +245,14 @@ impl Client {
     }
 
     /// Answers a confirmed request, or refuses it where the answer is longer than was negotiated.
-    fn respond(&mut self, alloc: Global, invoke: u32, answer: Answer) -> Result<(), Memory>
+    fn respond(&mut self, alloc: Global, invoke: u32, answer: &Answer) -> Result<(), Memory>
         ensures sent { OnOk result (self.new ≡ settled (felt_all
-            (request_told (size_of self.old.row.association) invoke None (Some answer))
+            (request_told (size_of self.old.row.association) invoke None (Some answer.now))
             self.old.row)) }
         ensures kept { OnErr result (self.new ≡ self.old) }
     {
         let size = size_of(&self.part);
-        let _answered = self.answer(alloc, size, invoke, &answer)?;
+        let _answered = self.answer(alloc, size, invoke, answer)?;
         Ok(())
     }
 
@@ -284,7 +279,7 @@ impl Client {
         ensures kept { OnErr result (self.new ≡ self.old) }
     {
         let answer = identity(alloc, &self.part)?;
-        self.respond(alloc, invoke, answer)?;
+        self.respond(alloc, invoke, &answer)?;
         Ok(true)
     }
 

@@ -33,7 +33,7 @@ fn is_answered(alloc: Global, part: &ClientPart, invoke: u32) -> Result<bool, Me
     ensures { IfOk result (λ b. b ≡ fits (size_of part.now.row.association) invoke
         (Some Answer.RelinquishControl)) }
 {
-    let told = answer_within(alloc, size_of(part), invoke, Answer::RelinquishControl)?;
+    let told = answer_within(alloc, size_of(part), invoke, &Answer::RelinquishControl)?;
     Ok(told.is_some())
 }
 

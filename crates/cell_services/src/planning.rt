@@ -3,11 +3,12 @@
 ghost use Rattle.std.specs.Prelude.{◌≡◌, ◌≤◌, ◌+◌, ◌++◌, ◌∷◌, [], nat_le, true, false, length, IfOk, OnOk, MatchOption, None, Some};
 ghost use Rattle.std.specs.Option.{option_map};
 ghost use Rattle.mms_pdu.specs.Pdus.{pdu_octets};
+ghost use Rattle.mms_types.specs.declared.pdu.Pdu.TheVariants as pdu;
 ghost use Rattle.cell_services.specs.Acts.{act_done, outcome_of, plan_done, request_done};
 ghost use Rattle.sem_ticks.specs.Meant.{state_of};
 ghost use Rattle.cell_services.specs.Tables.{Tables as Rows, last_moment};
 ghost use Rattle.cell_services.specs.Changes.{changed, MayChange};
-ghost use Rattle.cell_services.specs.Effects.{tell};
+ghost use Rattle.cell_services.specs.Effects.{tell, Sends};
 ghost use Rattle.cell_services.specs.Association.{abort_told, cancel_told, conclusion_told, sends, Takes};
 ghost use Rattle.cell_services.specs.Services.{fits, refuses};
 ghost use Rattle.cell_services.specs.Serving.{aborted, aborted_one, all_told, happening_told, hears, loses, loss_also, passed, passes, tables_cancelled, waiting_of};
@@ -18,10 +19,12 @@ use crate::semaphores::{tell_grant, tell_grants};
 use crate::service::{Outcome, served};
 use crate::{Act, Change, Tables, Told};
 use association::{ClientPart, Waiting};
-use mms_pdu::{Writer, put_answer, put_pdu};
+use mms_pdu::{
+    Writer, put_answer, put_cancel_response, put_conclude_response, put_confirmed_error,
+};
 use mms_time::next_due;
 use mms_types::{
-    Answer, ConfirmedError, Memory, Moment, Octets, Pdu, Refuse, Request, ServiceError, What,
+    Answer, ConfirmedError, Memory, Moment, Octets, Refuse, Request, ServiceError, What,
 };
 use sem_ticks::{Happening, Ticked, lose_told, tick};
 use std::alloc::Global;
@@ -35,22 +38,20 @@ pub struct Plan<'a> {
     pub told: Vec<(u32, Told)>,
 }
 
-/// A client is sent a PDU.
-pub(crate) fn sent(alloc: Global, pdu: &Pdu) -> Result<Told, Memory>
-    ensures { IfOk result (λ told. effect_of told ≡ sends pdu.now) }
+/// A client is sent a PDU, as it is spelled there.
+fn sent(alloc: Global, out: &Writer) -> Result<Told, Memory>
+    ensures { IfOk result (λ told. effect_of told ≡ Sends (What.Octets out.now)) }
 {
-    let mut out = Writer::new(alloc);
-    put_pdu(&mut out, pdu)?;
     Ok(Told::Sends(What::Octets(Octets::from_slice(alloc, out.octets())?)))
 }
 
 /// The octets of a positive answer.
-pub(crate) fn answer_octets(alloc: Global, invoke: u32, answer: Answer) -> Result<Octets, Memory>
+pub(crate) fn answer_octets(alloc: Global, invoke: u32, answer: &Answer) -> Result<Octets, Memory>
     ensures { IfOk result (λ octets.
-        octets ≡ pdu_octets (Pdu.ConfirmedResponse invoke answer)) }
+        octets ≡ pdu_octets (pdu.ConfirmedResponse invoke answer.now)) }
 {
     let mut out = Writer::new(alloc);
-    put_answer(&mut out, invoke, &answer)?;
+    put_answer(&mut out, invoke, answer)?;
     Octets::from_slice(alloc, out.octets())
 }
 
@@ -59,12 +60,12 @@ pub(crate) fn answer_within(
     alloc: Global,
     size: u32,
     invoke: u32,
-    answer: Answer,
+    answer: &Answer,
 ) -> Result<Option<Told>, Memory>
     ensures { IfOk result (λ told. MatchOption told
-        (fits size invoke (Some answer) ≡ false)
-        (λ sent. (fits size invoke (Some answer) ≡ true)
-        × (effect_of sent ≡ sends (Pdu.ConfirmedResponse invoke answer)))) }
+        (fits size invoke (Some answer.now) ≡ false)
+        (λ sent. (fits size invoke (Some answer.now) ≡ true)
+        × (effect_of sent ≡ sends (pdu.ConfirmedResponse invoke answer.now)))) }
 {
     let octets = answer_octets(alloc, invoke, answer)?;
     if octets.len() > size as usize {
@@ -77,12 +78,14 @@ pub(crate) fn answer_within(
 fn refusal(alloc: Global, invoke: u32, error: ServiceError) -> Result<Told, Memory>
     ensures { IfOk result (λ told. effect_of told ≡ refuses invoke error) }
 {
-    let error = Pdu::ConfirmedError(ConfirmedError {
+    let error = ConfirmedError {
         invoke,
         modifier: None,
         error,
-    });
-    sent(alloc, &error)
+    };
+    let mut out = Writer::new(alloc);
+    put_confirmed_error(&mut out, &error)?;
+    sent(alloc, &out)
 }
 
 /// One client is told one thing.
@@ -130,12 +133,12 @@ fn answered<'a>(
     client: u32,
     size: u32,
     invoke: u32,
-    answer: Answer,
+    answer: &Answer,
     done: Plan<'a>,
 ) -> Result<Plan<'a>, Memory>
     ensures done { IfOk result (λ plan. (t : Rows)
         → plan_done t plan.change plan.told.items ≡ request_done t client size invoke None
-        (outcome_of t done.entry.change (Some answer) done.entry.told.items)) }
+        (outcome_of t done.entry.change (Some answer.now) done.entry.told.items)) }
     ensures may { IfOk result (λ plan. (t : Rows)
         → MayChange done.entry.change t → MayChange plan.change t) }
 {
@@ -168,7 +171,7 @@ fn settled<'a>(
     let done = Plan { change, told: also };
     match answer {
         None => Ok(done),
-        Some(answer) => answered(alloc, client, size, invoke, answer, done),
+        Some(answer) => answered(alloc, client, size, invoke, &answer, done),
     }
 }
 
@@ -194,16 +197,20 @@ fn request_plan<'a>(
 
 /// A client is sent a conclude-Response.
 fn concluded(alloc: Global) -> Result<Told, Memory>
-    ensures { IfOk result (λ told. effect_of told ≡ sends Pdu.ConcludeResponse) }
+    ensures { IfOk result (λ told. effect_of told ≡ sends pdu.ConcludeResponse) }
 {
-    sent(alloc, &Pdu::ConcludeResponse)
+    let mut out = Writer::new(alloc);
+    put_conclude_response(&mut out)?;
+    sent(alloc, &out)
 }
 
 /// A client is sent a cancel-Response.
 fn cancelled(alloc: Global, invoke: u32) -> Result<Told, Memory>
-    ensures { IfOk result (λ told. effect_of told ≡ sends (Pdu.CancelResponse invoke)) }
+    ensures { IfOk result (λ told. effect_of told ≡ sends (pdu.CancelResponse invoke)) }
 {
-    sent(alloc, &Pdu::CancelResponse { invoke })
+    let mut out = Writer::new(alloc);
+    put_cancel_response(&mut out, invoke)?;
+    sent(alloc, &out)
 }
 
 /// A client is lost, of which it is told that; tokens that it had are granted to others, which are told so.
@@ -278,10 +285,10 @@ fn cancel_plan<'a>(
         ≡ tables_cancelled (waiting_of invoke part.now.row.waiting) t) }
     ensures may { IfOk result (λ plan. (t : Rows) → MayChange plan.change t) }
 {
-    let change = cancel_change(alloc, part, invoke)?;
     let mut told = one_told(alloc, client, Told::Answers(invoke))?;
     told.push((client, cancelled(alloc, invoke)?))?;
     told.push((client, refusal(alloc, invoke, ServiceError::CANCEL)?))?;
+    let change = cancel_change(alloc, part, invoke)?;
     Ok(Plan { change, told })
 }
 

@@ -34,7 +34,7 @@ fn granted(alloc: Global, invoke: u32, answer: TakeControlAnswer) -> Result<Told
     ensures { IfOk result (λ told. effect_of told
         ≡ sends (pdu.ConfirmedResponse invoke (Answer.TakeControl answer))) }
 {
-    let octets = answer_octets(alloc, invoke, Answer::TakeControl(answer))?;
+    let octets = answer_octets(alloc, invoke, &Answer::TakeControl(answer))?;
     Ok(Told::Sends(What::Octets(octets)))
 }
 
@@ -87,21 +87,27 @@ pub(crate) fn take<'a>(
         ≡ outcome_of tables.now o.change o.answer o.also.items) }
     ensures may { IfOk result (λ o. MayChange o.change tables.now) }
 {
-    let done = take_control_told(alloc, &tables.semaphores, client, asked)?;
-    let change = Change::Takes {
-        client,
-        invoke,
-        asked,
-    };
-    match done {
-        TakeDone::Answered(answer) => Ok(becomes(alloc, change, Answer::TakeControl(answer))),
+    match take_control_told(alloc, &tables.semaphores, client, asked)? {
+        TakeDone::Answered(answer) => {
+            let change = Change::Takes {
+                client,
+                invoke,
+                asked,
+            };
+            Ok(becomes(alloc, change, Answer::TakeControl(answer)))
+        }
         TakeDone::Waits(entry) => {
             let key = asked.name.key(alloc, client)?;
             let request = Waiting { invoke, key, entry };
+            let also = one_told(alloc, client, Told::Waits(request))?;
             Ok(Outcome {
-                change,
+                change: Change::Takes {
+                    client,
+                    invoke,
+                    asked,
+                },
                 answer: None,
-                also: one_told(alloc, client, Told::Waits(request))?,
+                also,
             })
         }
     }

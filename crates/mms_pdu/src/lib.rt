@@ -14,4 +14,7 @@ pub use laws::{hears_each_form, spells_each_asking};
 pub use mms_types::{Edition, Memory, Pdu};
 pub use reading::{Read, read_pdu, read_pdu_to};
 pub use refusal::{Refusal, reject_for};
-pub use writing::{put_answer, put_pdu, write_pdu};
+pub use writing::{
+    put_answer, put_cancel_error, put_cancel_response, put_conclude_error, put_conclude_response,
+    put_confirmed_error, put_initiate_error, put_initiate_response, put_pdu, put_reject, write_pdu,
+};

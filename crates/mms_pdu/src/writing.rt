@@ -11,7 +11,9 @@ use crate::request::put_argument;
 use crate::response::Answers;
 use ber_core::{Memory as Full, Tag, Writer};
 use ber_forms::{enclose, put_universal_integer};
-use mms_types::{Answer, Memory, Pdu, Request};
+use mms_types::{
+    Answer, CancelError, ConfirmedError, InitiateAnswer, Memory, Pdu, Reject, Request, ServiceError,
+};
 use pdu_assoc::{
     CancelErrors, ConfirmedErrors, InitiateRequest, InitiateResponse, Rejects, ServiceErrors,
 };
@@ -92,6 +94,78 @@ pub fn put_answer(out: &mut Writer, invoke: u32, answer: &Answer) -> Result<(), 
     ensures err { OnErr result (out.new ≡ out.old) }
 {
     as_memory(put_response(out, invoke, answer))
+}
+
+/// Appends the one spelling of a confirmed-Error, one element, as `put_pdu` appends that of the PDU. Where memory is wanting,
+/// nothing is changed.
+pub fn put_confirmed_error(out: &mut Writer, error: &ConfirmedError) -> Result<(), Memory>
+    ensures ok { OnOk result (out.new ≡ out.old ++ pdu_octets (Pdu.ConfirmedError error.now)) }
+    ensures err { OnErr result (out.new ≡ out.old) }
+{
+    as_memory(ConfirmedErrors::put_part(out, 2, error))
+}
+
+/// Appends the one spelling of a reject, one element, as `put_pdu` appends that of the PDU. Where memory is wanting,
+/// nothing is changed.
+pub fn put_reject(out: &mut Writer, reject: &Reject) -> Result<(), Memory>
+    ensures ok { OnOk result (out.new ≡ out.old ++ pdu_octets (Pdu.Reject reject.now)) }
+    ensures err { OnErr result (out.new ≡ out.old) }
+{
+    as_memory(Rejects::put_part(out, 4, reject))
+}
+
+/// Appends the one spelling of a cancel-Response, one element, as `put_pdu` appends that of the PDU. Where memory is wanting,
+/// nothing is changed.
+pub fn put_cancel_response(out: &mut Writer, invoke: u32) -> Result<(), Memory>
+    ensures ok { OnOk result (out.new ≡ out.old ++ pdu_octets (Pdu.CancelResponse invoke)) }
+    ensures err { OnErr result (out.new ≡ out.old) }
+{
+    as_memory(Unsigned32::put_part(out, 6, &invoke))
+}
+
+/// Appends the one spelling of a cancel-Error, one element, as `put_pdu` appends that of the PDU. Where memory is wanting,
+/// nothing is changed.
+pub fn put_cancel_error(out: &mut Writer, error: &CancelError) -> Result<(), Memory>
+    ensures ok { OnOk result (out.new ≡ out.old ++ pdu_octets (Pdu.CancelError error.now)) }
+    ensures err { OnErr result (out.new ≡ out.old) }
+{
+    as_memory(CancelErrors::put_part(out, 7, error))
+}
+
+/// Appends the one spelling of an initiate-Response, one element, as `put_pdu` appends that of the PDU. Where memory is wanting,
+/// nothing is changed.
+pub fn put_initiate_response(out: &mut Writer, negotiated: &InitiateAnswer) -> Result<(), Memory>
+    ensures ok { OnOk result (out.new ≡ out.old ++ pdu_octets (Pdu.InitiateResponse negotiated.now)) }
+    ensures err { OnErr result (out.new ≡ out.old) }
+{
+    as_memory(InitiateResponse::put_part(out, 9, negotiated))
+}
+
+/// Appends the one spelling of an initiate-Error, one element, as `put_pdu` appends that of the PDU. Where memory is wanting,
+/// nothing is changed.
+pub fn put_initiate_error(out: &mut Writer, error: &ServiceError) -> Result<(), Memory>
+    ensures ok { OnOk result (out.new ≡ out.old ++ pdu_octets (Pdu.InitiateError error.now)) }
+    ensures err { OnErr result (out.new ≡ out.old) }
+{
+    as_memory(ServiceErrors::put_part(out, 10, error))
+}
+
+/// Appends the one spelling of a conclude-Response, one element, as `put_pdu` appends that of the PDU. Where memory is wanting,
+/// nothing is changed.
+pub fn put_conclude_response(out: &mut Writer) -> Result<(), Memory>
+    ensures ok { OnOk result (out.new ≡ out.old ++ pdu_octets Pdu.ConcludeResponse) }
+    ensures err { OnErr result (out.new ≡ out.old) }
+{
+    as_memory(Null::put_part(out, 12, &()))
+}
+
+/// Appends the one spelling of a conclude-Error, one element, as `put_pdu` appends that of the PDU. Where memory is wanting,
+/// nothing is changed.
+pub fn put_conclude_error(out: &mut Writer, error: &ServiceError) -> Result<(), Memory>
+    ensures ok { OnOk result (out.new ≡ out.old ++ pdu_octets (Pdu.ConcludeError error.now)) }
+    ensures err { OnErr result (out.new ≡ out.old) }
+{
+    as_memory(ServiceErrors::put_part(out, 13, error))
 }
 
 /// The one spelling of the PDU, as `put_pdu` appends it.
