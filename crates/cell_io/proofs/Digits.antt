@@ -30,6 +30,14 @@ copied_behind end size len items to after more e s l =
     ∙ take-append-add (take end items) (to ++ after) size
     ∙ ap (λ (l : List ℕ). take end items ++ l) (take-append-le size to after s)
 
+-- digits that were put behind a text, and then no more: its front is as it was
+pub front_kept : (old mid new digits : List ℕ) (begin end : ℕ) → begin ≤ length old → begin ≤ end → take end new ≡ take end mid → take end mid ≡ take begin old ++ digits → take begin new ≡ take begin old
+front_kept old mid new digits begin end h l k t =
+    sym (take_less begin end new l)
+    ∙ ap (take begin) (k ∙ t)
+    ∙ take-append-le begin (take begin old) digits (omega (arith, length-take-le begin old h))
+    ∙ take_less begin begin old (omega arith)
+
 -- 0 is spelled by one digit
 pub zero_spelled : 48 ∷ [] ≡ decimal 0
 zero_spelled = sym (one_digit 0 (omega arith))

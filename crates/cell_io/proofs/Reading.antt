@@ -1,12 +1,12 @@
 -- A reader of lines in the middle of a line.
-use Rattle.std.proofs.Common.{◌≡◌, ℕ, ◌+◌, ◌<◌, ◌≤◌, true, false, List, [], ◌∷◌, ◌++◌, length, refl, sym, ap, ◌∙◌, arith, Some, None, IfSome, append_assoc, append-nil, length-append}
+use Rattle.std.proofs.Common.{◌≡◌, ℕ, ◌+◌, ◌<◌, ◌≤◌, true, false, List, [], ◌∷◌, ◌++◌, length, refl, sym, ap, ◌∙◌, arith, Some, None, IfSome, subst, append_assoc, append-nil, length-append}
 use Rattle.std.proofs.lemmas.Grind.{common_steps}
 use Rattle.std.proofs.lemmas.Bool.Decides.{nat_tests}
 use Rattle.std.specs.Io.KnownBytes.{Consumes, Keeps, prepend_known, IsAtEnd}
 use Rattle.std.proofs.KnownBytes.{Consumes-nil, Consumes-kept}
 use Rattle.std.specs.declared.option.Option.{Option}
 use Rattle.cell_io.specs.Lines.{has_feed, first_line, after_line, kept_of}
-use Rattle.cell_io.specs.Held.{Held, IsLaterPart, FailsInLine}
+use Rattle.cell_io.specs.Held.{Held, IsLaterPart, FailsInLine, StopsInLine}
 use Rattle.cell_io.proofs.Kept.{kept_more}
 use Rattle.cell_io.proofs.Texts.{first_all, after_none, first_later, after_later, feed_later, first_here, after_here, longer, feed_here}
 
@@ -167,6 +167,27 @@ fails held before left given line o p = record {
   no_feed = p.no_feed;
   size = p.size;
 }
+
+-- the front of a line was given
+pub stops : (held after : Held) (before left : Option (List ℕ)) (line : List ℕ) → held.ended ≡ false → after.ended ≡ false → Passed (prepend_known held.octets before) (prepend_known after.octets left) held.given after.given line
+    → StopsInLine held before after left
+stops held after before left line o e p = record {
+  unended = (o, e);
+  octets = p.octets;
+  consumed = rw (o, e) p.consumed;
+  no_feed = p.no_feed;
+  size = p.size;
+}
+
+none_held : (octets : List ℕ) (left : Option (List ℕ)) → octets ≡ [] → left ≡ prepend_known octets left
+none_held octets None h = refl
+none_held octets (Some y) h = ap (λ (l : List ℕ). Some (l ++ y)) (sym h)
+
+-- and nothing is held
+pub stops_empty : (held after : Held) (before left : Option (List ℕ)) (line : List ℕ) → held.ended ≡ false → after.ended ≡ false → after.octets ≡ [] → Passed (prepend_known held.octets before) left held.given after.given line
+    → StopsInLine held before after left
+stops_empty held after before left line o e h p =
+    stops held after before left line o e (subst (λ (x : Option (List ℕ)). Passed (prepend_known held.octets before) x held.given after.given line) (none_held after.octets left h) p)
 
 -- ---- what is left in the source
 

@@ -29,3 +29,11 @@ pub record FailsInLine (held : Held) (before left : Option (List ℕ)) (given : 
   pub consumed : Consumes (ahead held before) left octets
   pub no_feed : has_feed octets ≡ false
   pub size : given ≡ held.given + length octets
+
+-- the reader stopped in the middle of a line: the front of that line was given, its rest is ahead, and the end wasn't seen
+pub record StopsInLine (held : Held) (before : Option (List ℕ)) (after : Held) (left : Option (List ℕ)) : Type 0 where
+  pub unended : (held.ended ≡ false) × (after.ended ≡ false)
+  pub octets : List ℕ
+  pub consumed : Consumes (ahead held before) (ahead after left) octets
+  pub no_feed : has_feed octets ≡ false
+  pub size : after.given ≡ held.given + length octets

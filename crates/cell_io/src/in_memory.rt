@@ -1,7 +1,7 @@
 ghost use Rattle.std.specs.Prelude.{◌≡◌, ◌+◌, ◌-◌, ◌<◌, ◌≤◌, ◌↔◌, ◌⊎◌, ◌^◌, [], length, drop, min, Some, Contains, IfOk, IsErr, OnOk, OnErr, vec_len, vec_capacity};
 ghost use Rattle.std.specs.Io.{ReadsAtMost, WritesAtMost};
 ghost use Rattle.std.specs.Io.KnownBytes.{ReadConsumes, WriteAppends};
-ghost use Rattle.cell_io.specs.Faults.{HasCause};
+ghost use Rattle.cell_io.specs.Faults.{CountsFault};
 
 use crate::{Failed, Memory, Sink, Source};
 use std::alloc::Global;
@@ -51,17 +51,13 @@ impl Source for MemorySource {
         ensures bound { ReadsAtMost result buf.new }
         ensures bytes { ReadConsumes (⟦<MemorySource as Source>⟧.left self.old)
             (⟦<MemorySource as Source>⟧.left self.new) result buf.new }
-        ensures cause { HasCause (⟦<MemorySource as Source>⟧.faults self.old)
+        ensures cause { CountsFault (⟦<MemorySource as Source>⟧.faults self.old)
             (⟦<MemorySource as Source>⟧.faults self.new) result }
 
         // Which read fails, by its number, which stops at 2^64 - 1.
         ensures fails { IsErr result ↔ Contains (failing_reads self.old) (reads_of self.new) }
         ensures reads { reads_of self.new ≡ min (reads_of self.old + 1) (2 ^ 64 - 1) }
         ensures failing { failing_reads self.new ≡ failing_reads self.old }
-
-        // Only a fault is counted.
-        ensures no_fault { OnOk result (⟦<MemorySource as Source>⟧.faults self.new
-            ≡ ⟦<MemorySource as Source>⟧.faults self.old) }
     {
         self.reads = self.reads.saturating_add(1);
         if self.failing.contains(&self.reads) {
@@ -133,7 +129,7 @@ impl Sink for MemorySink {
         ensures some { IfOk result (λ n. 0 < length bytes.now → 0 < n) }
         ensures bytes { WriteAppends (⟦<MemorySink as Sink>⟧.held self.old)
             (⟦<MemorySink as Sink>⟧.held self.new) result bytes.now }
-        ensures cause { HasCause (⟦<MemorySink as Sink>⟧.faults self.old)
+        ensures cause { CountsFault (⟦<MemorySink as Sink>⟧.faults self.old)
             (⟦<MemorySink as Sink>⟧.faults self.new) result }
 
         // Which write fails, by its number, which stops at 2^64 - 1, and by the room.
@@ -143,10 +139,6 @@ impl Sink for MemorySink {
         ensures writes { writes_of self.new ≡ min (writes_of self.old + 1) (2 ^ 64 - 1) }
         ensures failing { failing_writes self.new ≡ failing_writes self.old }
         ensures room { room_of self.new ≡ room_of self.old }
-
-        // Only a fault is counted.
-        ensures no_fault { OnOk result (⟦<MemorySink as Sink>⟧.faults self.new
-            ≡ ⟦<MemorySink as Sink>⟧.faults self.old) }
     {
         self.writes = self.writes.saturating_add(1);
         let count = bytes.len().min(self.room - self.bytes.len());

@@ -1,8 +1,8 @@
 ghost use Rattle.std.specs.Prelude.{◌≡◌, ◌+◌, ◌-◌, ◌<◌, ◌≤◌, ◌^◌, [], ◌++◌, true, false, ℕ, List, length, take, drop, IfOk, IfSome, IfErr, OnErr, OnOk, Some};
 ghost use Rattle.std.specs.Io.KnownBytes.{IsAtEnd, Keeps, prepend_known};
-ghost use Rattle.cell_io.specs.Faults.{Rose, HasCause};
+ghost use Rattle.cell_io.specs.Faults.{Rose, CountsFault, SteadyBut};
 ghost use Rattle.cell_io.specs.Lines.{first_line, after_line, has_feed, kept_of};
-ghost use Rattle.cell_io.specs.Held.{Held, ahead, IsLaterPart, IsEndSeen, FailsInLine};
+ghost use Rattle.cell_io.specs.Held.{Held, ahead, IsLaterPart, IsEndSeen, FailsInLine, StopsInLine};
 ghost use Rattle.cell_io.specs.declared.lines.Stop.TheVariants as stop;
 
 use crate::first_part::first_part;
@@ -126,7 +126,8 @@ impl Lines {
 
     /// Puts the next line in place of what `line` has, with its line feed where it has one: the
     /// first 196,612 octets of it, while the others are only counted. True where there is a line,
-    /// false at the end of the input. After a `Stop` part of a line may have been passed over.
+    /// false at the end of the input. A read that fails is the last one. After a `Stop` a front of the
+    /// line was passed over and counted as given, and what is ahead begins with the rest of the line.
     pub fn next<S: Source>(&mut self, input: &mut S, line: &mut Vec<u8>) -> Result<bool, Stop>
         // The line, what is ahead after it, and its size.
         ensures line { OnOk result (IfSome (ahead self.old (S.left input.old)) (λ text.
@@ -163,12 +164,14 @@ impl Lines {
             Rose (S.faults input.old) (S.faults input.new)) }
         ensures before_end { IfErr result (λ e. e ≡ Stop.Fault →
             FailsInLine self.old (S.left input.old) (S.left input.new) self.new.given) }
+        ensures stops { OnErr result (StopsInLine
+            self.old (S.left input.old) self.new (S.left input.new)) }
 
         // On every answer.
         ensures order { self.old.given ≤ self.new.given }
         ensures most { self.new.given ≤ 4294967296 }
         ensures left { IsLaterPart (S.left input.old) (S.left input.new) }
-        ensures later { S.faults input.old ≤ S.faults input.new }
+        ensures steady { SteadyBut Stop.Fault (S.faults input.old) (S.faults input.new) result }
     {
         line.clear();
         let _given = self.given();
@@ -205,10 +208,12 @@ impl Lines {
             Rose (S.faults input.old) (S.faults input.new)) }
         ensures before_end { IfErr result (λ e. e ≡ Stop.Fault →
             FailsInLine self.old (S.left input.old) (S.left input.new) self.new.given) }
+        ensures stops { OnErr result (StopsInLine
+            self.old (S.left input.old) self.new (S.left input.new)) }
         ensures order { self.old.given ≤ self.new.given }
         ensures most { self.new.given ≤ 4294967296 }
         ensures left { IsLaterPart (S.left input.old) (S.left input.new) }
-        ensures later { S.faults input.old ≤ S.faults input.new }
+        ensures steady { SteadyBut Stop.Fault (S.faults input.old) (S.faults input.new) result }
     {
         let before = self.given();
         for _turn in 0..MOST + 2 {
@@ -234,6 +239,7 @@ impl Lines {
         ensures too_much { IfErr result (λ e. e ≡ Stop.TooMuch →
             4294967296 < self.old.given + length (first_line self.old.octets)) }
         ensures cause { IfErr result (λ e. ¬ (e ≡ Stop.Fault)) }
+        ensures stays { OnErr result (self.new ≡ self.old) }
         ensures order { self.old.given ≤ self.new.given }
         ensures most { self.new.given ≤ 4294967296 }
         ensures same { self.new.ended ≡ self.old.ended }
@@ -249,7 +255,7 @@ impl Lines {
         Ok(part.ended)
     }
 
-    /// Takes octets from the source in place of what was held. Tells whether there were any.
+    /// Takes octets from the source in place of what was held, by one read. Tells whether there were any.
     fn fill<S: Source>(&mut self, input: &mut S) -> Result<bool, Failed>
         ensures moved { OnOk result (Keeps (S.left input.old) (prepend_known self.new.octets (S.left input.new))) }
         ensures some { IfOk result (λ more. more ≡ true → 0 < length self.new.octets) }
@@ -258,8 +264,9 @@ impl Lines {
         ensures unended { IfOk result (λ more. more ≡ true → self.new.ended ≡ false) }
         ensures ended { IfOk result (λ more. more ≡ false → self.new.ended ≡ true) }
         ensures kept { OnErr result (Keeps (S.left input.old) (S.left input.new)) }
+        ensures emptied { OnErr result (self.new.octets ≡ []) }
         ensures same { OnErr result (self.new.ended ≡ self.old.ended) }
-        ensures cause { HasCause (S.faults input.old) (S.faults input.new) result }
+        ensures cause { CountsFault (S.faults input.old) (S.faults input.new) result }
         ensures given { self.new.given ≡ self.old.given }
     {
         self.start = 0;

@@ -1,6 +1,6 @@
 ghost use Rattle.std.specs.Prelude.{◌≡◌, ◌+◌, [], ◌∷◌, ◌++◌, ◌≤◌, ◌<◌, length, decimal, take, vec_len, IfOk, OnOk, OnErr};
 ghost use Rattle.std.specs.Io.KnownBytes.{Appends};
-ghost use Rattle.cell_io.specs.Faults.{HasCause};
+ghost use Rattle.cell_io.specs.Faults.{CountsFault};
 ghost use Rattle.cell_io.specs.Hex.{upper};
 ghost use Rattle.cell_io.specs.Prefix.{AppendsPrefix, AppendsBefore};
 
@@ -78,12 +78,27 @@ fn put_spelled(buffer: &mut Vec<u8>, end: usize, number: &Spelled) -> Result<usi
     requires { end ≤ vec_len buffer.old }
     ensures within { IfOk result (λ new. new ≤ vec_len buffer.new) }
     ensures text { IfOk result (λ new. take new buffer.new.items ≡ take end buffer.old.items ++ decimal number.now) }
+    ensures order { IfOk result (λ new. end ≤ new) }
     ensures longer { vec_len buffer.old ≤ vec_len buffer.new }
     ensures kept { OnErr result (take end buffer.new.items ≡ take end buffer.old.items) }
 {
     let most = room(buffer, end, WIDTH)?;
     let size = number.put(&mut buffer.as_mut_slice()[end..most]);
     Ok(end + size)
+}
+
+/// Puts octets behind `end`. Tells where they end.
+#[inline(always)]
+fn put_octets(buffer: &mut Vec<u8>, end: usize, octets: &[u8]) -> Result<usize, Memory>
+    requires { end ≤ vec_len buffer.old }
+    ensures within { IfOk result (λ new. new ≤ vec_len buffer.new) }
+    ensures text { IfOk result (λ new. take new buffer.new.items ≡ take end buffer.old.items ++ octets.now) }
+    ensures longer { vec_len buffer.old ≤ vec_len buffer.new }
+    ensures kept { OnErr result (take end buffer.new.items ≡ take end buffer.old.items) }
+{
+    let most = room(buffer, end, octets.len())?;
+    buffer.as_mut_slice()[end..most].copy_from_slice(octets);
+    Ok(most)
 }
 
 impl Text {
@@ -106,9 +121,7 @@ impl Text {
         ensures ok { OnOk result (self.new ≡ self.old ++ octets.now) }
         ensures err { OnErr result (self.new ≡ self.old) }
     {
-        let end = room(&mut self.buffer, self.end, octets.len())?;
-        self.buffer.as_mut_slice()[self.end..end].copy_from_slice(octets);
-        self.end = end;
+        self.end = put_octets(&mut self.buffer, self.end, octets)?;
         Ok(())
     }
 
@@ -127,7 +140,8 @@ impl Text {
     /// Puts a number's decimal digits and a blank to the end.
     #[inline(always)]
     pub fn put_number_before_blank(&mut self, n: u64) -> Result<(), Memory>
-        ensures { OnOk result (self.new ≡ self.old ++ decimal n ++ 32 ∷ []) }
+        ensures ok { OnOk result (self.new ≡ self.old ++ decimal n ++ 32 ∷ []) }
+        ensures err { OnErr result (self.new ≡ self.old) }
     {
         let last = b'0' + (n % 10) as u8;
         if n < 10 {
@@ -137,8 +151,9 @@ impl Text {
             return self.put(&[b'0' + (n / 10) as u8, last, b' ']);
         }
         self.tens.spell(n / 10);
-        self.end = put_spelled(&mut self.buffer, self.end, &self.tens)?;
-        self.put(&[last, b' '])
+        let end = put_spelled(&mut self.buffer, self.end, &self.tens)?;
+        self.end = put_octets(&mut self.buffer, end, &[last, b' '])?;
+        Ok(())
     }
 
     /// Puts octets as pairs of hexadecimal digits in upper case, and a line feed, to the end.
@@ -156,13 +171,14 @@ impl Text {
     }
 
     /// Writes what waits, where it is a piece or more, so that less than a piece waits afterwards. After `Failed` a prefix
-    /// of it may have been written.
+    /// of it may have been written, and nothing waits.
     #[inline(always)]
     pub fn pass<K: Sink>(&mut self, out: &mut K) -> Result<(), Failed>
         ensures whole { OnOk result (AppendsBefore (K.held out.old) (K.held out.new) self.new self.old) }
         ensures few { OnOk result (length self.new < 16384) }
+        ensures emptied { OnErr result (self.new ≡ []) }
         ensures part { OnErr result (AppendsPrefix (K.held out.old) (K.held out.new) self.old) }
-        ensures cause { HasCause (K.faults out.old) (K.faults out.new) result }
+        ensures cause { CountsFault (K.faults out.old) (K.faults out.new) result }
     {
         if self.end < PIECE {
             return Ok(());
@@ -170,12 +186,12 @@ impl Text {
         self.flush(out)
     }
 
-    /// Writes what waits. After `Failed` a prefix of it may have been written.
+    /// Writes what waits. After `Failed` a prefix of it may have been written. Nothing waits afterwards.
     pub fn flush<K: Sink>(&mut self, out: &mut K) -> Result<(), Failed>
         ensures whole { OnOk result (Appends (K.held out.old) (K.held out.new) self.old) }
         ensures part { OnErr result (AppendsPrefix (K.held out.old) (K.held out.new) self.old) }
         ensures emptied { self.new ≡ [] }
-        ensures cause { HasCause (K.faults out.old) (K.faults out.new) result }
+        ensures cause { CountsFault (K.faults out.old) (K.faults out.new) result }
     {
         let written = write_all(out, &self.buffer[..self.end]);
         self.end = 0;

@@ -2,7 +2,7 @@
 
 ghost use Rattle.std.specs.Prelude.{◌≡◌, ◌+◌, ◌<◌, ◌≤◌, ℕ, List, [], true, false, length, take, drop, IfOk, IfErr, IfSome};
 ghost use Rattle.std.specs.declared.option.Option.{Option};
-ghost use Rattle.cell_io.specs.Faults.{Rose};
+ghost use Rattle.cell_io.specs.Faults.{Rose, SteadyBut};
 ghost use Rattle.cell_io.specs.Lines.{first_line, after_line, has_feed};
 ghost use Rattle.cell_io.specs.Held.{ahead, IsEndSeen, FailsInLine};
 ghost use Rattle.cell_record.specs.Words.{content as content_of};
@@ -137,7 +137,7 @@ impl NumberedLines {
         ensures order { self.old.held.given ≤ self.new.held.given }
         ensures most { self.new.held.given ≤ 4294967296 }
         ensures left { IsPart (S.left input.old) (S.left input.new) }
-        ensures later { S.faults input.old ≤ S.faults input.new }
+        ensures steady { SteadyBut RecordError.ReadFault (S.faults input.old) (S.faults input.new) result }
     {
         let _given = self.lines.given();
         match self.lines.next(input, &mut self.line) {

@@ -1,7 +1,7 @@
 //! The lines of a recording up to `end`, and the configuration in them.
 
 ghost use Rattle.std.specs.Prelude.{◌≡◌, ◌+◌, ◌<◌, ◌≤◌, ◌++◌, [], true, false, ℕ, List, length, codes, IfOk, IfErr, IfSome, OnOk, Ok, Err};
-ghost use Rattle.cell_io.specs.Faults.{Rose};
+ghost use Rattle.cell_io.specs.Faults.{Rose, SteadyBut};
 ghost use Rattle.cell_io.specs.Held.{IsEndSeen};
 ghost use Rattle.cell_config.specs.Said.{IsConfig};
 ghost use Rattle.cell_record.specs.Words.{is_long};
@@ -55,7 +55,8 @@ fn read_header<S: Source>(lines: &mut NumberedLines, input: &mut S) -> Result<Ed
     ensures seen { IsEndSeen lines.old.held (S.left input.old) → IsEndSeen lines.new.held
         (S.left input.new) }
     ensures left { IsPart (S.left input.old) (S.left input.new) }
-    ensures later { S.faults input.old ≤ S.faults input.new }
+    ensures steady { SteadyBut RecordError.ReadFault (S.faults input.old) (S.faults input.new)
+        result }
 {
     let line = lines.count() + 1;
     let word = BadWord::Header;
@@ -96,7 +97,8 @@ fn expect<S: Source>(
     ensures seen { IsEndSeen lines.old.held (S.left input.old) → IsEndSeen lines.new.held
         (S.left input.new) }
     ensures left { IsPart (S.left input.old) (S.left input.new) }
-    ensures later { S.faults input.old ≤ S.faults input.new }
+    ensures steady { SteadyBut RecordError.ReadFault (S.faults input.old) (S.faults input.new)
+        result }
 {
     let number = lines.count() + 1;
     let _given = lines.given();
@@ -183,7 +185,8 @@ fn read_setup_line<S: Source>(
         (S.left input.new) }
     ensures most { lines.new.held.given ≤ 4294967296 }
     ensures left { IsPart (S.left input.old) (S.left input.new) }
-    ensures later { S.faults input.old ≤ S.faults input.new }
+    ensures steady { SteadyBut RecordError.ReadFault (S.faults input.old) (S.faults input.new)
+        result }
 {
     let number = lines.count() + 1;
     let before = lines.given();
@@ -229,7 +232,8 @@ fn read_setup<S: Source>(
     ensures seen { IsEndSeen lines.old.held (S.left input.old) → IsEndSeen lines.new.held
         (S.left input.new) }
     ensures left { IsPart (S.left input.old) (S.left input.new) }
-    ensures later { S.faults input.old ≤ S.faults input.new }
+    ensures steady { SteadyBut RecordError.ReadFault (S.faults input.old) (S.faults input.new)
+        result }
 {
     let mut text = Vec::new(alloc);
     let _given = lines.given();
@@ -280,7 +284,8 @@ pub fn read_opening<S: Source>(
         (S.left input.new) }
     ensures grows { OnOk result (lines.old.held.given + 3 ≤ lines.new.held.given) }
     ensures left { IsPart (S.left input.old) (S.left input.new) }
-    ensures later { S.faults input.old ≤ S.faults input.new }
+    ensures steady { SteadyBut RecordError.ReadFault (S.faults input.old) (S.faults input.new)
+        result }
 {
     let edition = read_header(lines, input)?;
     expect(lines, input, b"config", BadWord::Config)?;

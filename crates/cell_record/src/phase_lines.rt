@@ -2,7 +2,7 @@
 
 ghost use Rattle.std.specs.Prelude.{◌≡◌, ◌+◌, ◌<◌, ◌≤◌, ◌^◌, ℕ, List, [], true, false, length, take, drop, Some, IfOk, IfErr, IfSome, MatchOption, All, ⊤};
 ghost use Rattle.std.specs.declared.option.Option.{Option};
-ghost use Rattle.cell_io.specs.Faults.{Rose};
+ghost use Rattle.cell_io.specs.Faults.{Rose, SteadyBut};
 ghost use Rattle.cell_io.specs.Lines.{first_line, after_line, has_feed};
 ghost use Rattle.cell_io.specs.Held.{IsEndSeen};
 ghost use Rattle.cell_record.specs.EventLine.{MayHappen, IsRecorded, said_of, heard_of};
@@ -100,7 +100,7 @@ fn copied_said<S: Source>(
     ensures order { lines.old.held.given ≤ lines.new.held.given }
     ensures most { lines.new.held.given ≤ 4294967296 }
     ensures left { IsPart (S.left input.old) (S.left input.new) }
-    ensures later { S.faults input.old ≤ S.faults input.new }
+    ensures steady { SteadyBut RecordError.ReadFault (S.faults input.old) (S.faults input.new) result }
 {
     let number = lines.count() + 1;
     let _given = lines.given();
@@ -146,7 +146,7 @@ fn next_said<S: Source>(
     ensures order { lines.old.held.given ≤ lines.new.held.given }
     ensures most { lines.new.held.given ≤ 4294967296 }
     ensures left { IsPart (S.left input.old) (S.left input.new) }
-    ensures later { S.faults input.old ≤ S.faults input.new }
+    ensures steady { SteadyBut RecordError.ReadFault (S.faults input.old) (S.faults input.new) result }
 {
     let given = lines.given();
     match first_sent(alloc, lines.held(), buffer)? {
@@ -191,7 +191,7 @@ pub fn read_phase<S: Source>(
     ensures most { IfOk result (λ _. lines.new.held.given ≤ 4294967296) }
     ensures order { lines.old.held.given ≤ lines.new.held.given }
     ensures left { IsPart (S.left input.old) (S.left input.new) }
-    ensures later { S.faults input.old ≤ S.faults input.new }
+    ensures steady { SteadyBut RecordError.ReadFault (S.faults input.old) (S.faults input.new) result }
 {
     let mut events = Events::new(alloc);
     let _given = lines.given();

@@ -2,7 +2,7 @@
 
 ghost use Rattle.std.specs.Prelude.{◌≡◌, ◌+◌, ◌<◌, ◌≤◌, ◌^◌, ◌⊎◌, true, false, length, IfOk, IfErr, IfSome, OnOk, MatchOption, All, Some, None, Err, ⊤, ◌↔◌};
 ghost use Rattle.std.specs.Option.{option_map};
-ghost use Rattle.cell_io.specs.Faults.{Rose};
+ghost use Rattle.cell_io.specs.Faults.{Rose, SteadyBut};
 ghost use Rattle.cell_io.specs.Lines.{lines_of};
 ghost use Rattle.cell_io.specs.Held.{ahead, IsEndSeen, IsLaterPart};
 ghost use Rattle.cell_config.specs.Said.{IsConfig};
@@ -76,6 +76,8 @@ impl Recording {
     /// tells the first line that breaks a rule, or is missing, `TooMuch` the line that holds the octet
     /// after the last that may be read, and `BadConfig` the least rule that the configuration breaks,
     /// once its lines and `end` were read. Part of the source may have been read after any refusal.
+    /// `ReadFault` comes exactly where a read failed, which is the last one: then one fault more is
+    /// counted, and else none.
     pub fn open<S: Source>(alloc: Global, input: &mut S) -> Result<Recording, RecordError>
         // The lines up to `end` are of their forms, and the phases are those of what is ahead.
         ensures opens { IfOk result (λ r. Becomes (option_map opening_of_text (S.left input.old)) (λ o. o)
@@ -97,7 +99,7 @@ impl Recording {
         // On every answer.
         ensures seen { IfOk result (λ r. IsEndSeen r.held (S.left input.new)) }
         ensures left { IsLaterPart (S.left input.old) (S.left input.new) }
-        ensures later { S.faults input.old ≤ S.faults input.new }
+        ensures steady { SteadyBut RecordError.ReadFault (S.faults input.old) (S.faults input.new) result }
     {
         let mut lines = NumberedLines::new(alloc)?;
         let config = read_opening(alloc, &mut lines, input)?;
@@ -122,8 +124,10 @@ impl Recording {
 
     /// Reads the next phase whole: None exactly at the end of the input, after the last phase. `Bad`
     /// tells the first line that breaks a rule, and `TooMuch` the line with which the phase or the
-    /// input is too much; the phase that it stands in isn't given. A refusal is kept, and answered
-    /// again by each further call. Part of the source may have been read after any refusal.
+    /// input is too much; the phase that it stands in isn't given. Part of the source may have been
+    /// read after any refusal. `ReadFault` comes first where a read failed: then one fault more is
+    /// counted, and else none. A refusal is kept, and answered again by each further call, which reads
+    /// nothing.
     pub fn next_phase<S: Source>(
         &mut self,
         alloc: Global,
@@ -152,18 +156,18 @@ impl Recording {
 
         // Why it is refused.
         ensures refused { IfErr result (λ e. IsStated e → IfSome (rest_of self.old (S.left input.old)) (λ r. r ≡ refused e)) }
-        ensures fault { IfErr result (λ e. e ≡ RecordError.ReadFault → (self.old.refusal ≡ Some e) ⊎ Rose (S.faults input.old) (S.faults input.new)) }
+        ensures fault { IfErr result (λ e. e ≡ RecordError.ReadFault → self.old.refusal ≡ None → Rose (S.faults input.old) (S.faults input.new)) }
         ensures stops { IfErr result (λ e. e ≡ RecordError.ReadFault → self.old.refusal ≡ None
             → StopsInPhase (rest_in self.old) self.old.held (place_of self.old) (S.left input.old) (S.left input.new)) }
         ensures open { OnOk result (self.new.refusal ≡ None) }
         ensures kept { IfErr result (λ e. self.new.refusal ≡ Some e) }
-        ensures again { MatchOption self.old.refusal ⊤ (λ e. result ≡ Err e) }
+        ensures again { MatchOption self.old.refusal ⊤ (λ e. (result ≡ Err e) × (self.new ≡ self.old) × (input.new ≡ input.old)) }
 
         // On every answer.
         ensures config { self.new.config ≡ self.old.config }
         ensures seen { IsEndSeen self.old.held (S.left input.old) → IsEndSeen self.new.held (S.left input.new) }
         ensures left { IsLaterPart (S.left input.old) (S.left input.new) }
-        ensures later { S.faults input.old ≤ S.faults input.new }
+        ensures steady { SteadyBut RecordError.ReadFault (S.faults input.old) (S.faults input.new) result }
     {
         if let Some(refusal) = self.refusal {
             return Err(refusal);
@@ -206,7 +210,7 @@ impl Recording {
         ensures fault { IfErr result (λ e. e ≡ RecordError.ReadFault → Rose (S.faults input.old) (S.faults input.new)) }
         ensures same { (self.new.config ≡ self.old.config) × (self.new.refusal ≡ self.old.refusal) }
         ensures left { IsPart (S.left input.old) (S.left input.new) }
-        ensures later { S.faults input.old ≤ S.faults input.new }
+        ensures steady { SteadyBut RecordError.ReadFault (S.faults input.old) (S.faults input.new) result }
     {
         let mut counts = Counts::fresh(self.moment);
         let _given = self.lines.given();

@@ -2,7 +2,7 @@
 
 ghost use Rattle.std.specs.Prelude.{◌≡◌, ◌+◌, ◌<◌, ◌≤◌, ◌^◌, ◌++◌, ◌∷◌, [], decimal, length, OnOk, OnErr, IfErr};
 ghost use Rattle.std.specs.List.{flat_map};
-ghost use Rattle.cell_io.specs.Faults.{Rose};
+ghost use Rattle.cell_io.specs.Faults.{Rose, SteadyBut};
 ghost use Rattle.cell_io.specs.Prefix.{AppendsPrefix, AppendsBefore};
 ghost use Rattle.std.specs.Io.KnownBytes.{Appends};
 ghost use Rattle.cell_record.specs.Report.{is_printed, served_line, placed_line, event_text, output_text, phase_head, section, sections, section_head, phase_text};
@@ -106,7 +106,7 @@ fn write_served<K: Sink>(
     ensures whole { OnOk result (AppendsBefore (K.held out.old) (K.held out.new) text.new (text.old ++ flat_map served_line served.now)) }
     ensures part { OnErr result (AppendsPrefix (K.held out.old) (K.held out.new) (text.old ++ flat_map served_line served.now)) }
     ensures cause { IfErr result (λ e. e ≡ WriteError.Fault → Rose (K.faults out.old) (K.faults out.new)) }
-    ensures later { K.faults out.old ≤ K.faults out.new }
+    ensures steady { SteadyBut WriteError.Fault (K.faults out.old) (K.faults out.new) result }
 {
     for index in 0..served.len() {
         let (place, event) = served.at(index);
@@ -123,7 +123,7 @@ fn write_outputs<K: Sink>(text: &mut Text, out: &mut K, outputs: &[What]) -> Res
     ensures whole { OnOk result (AppendsBefore (K.held out.old) (K.held out.new) text.new (text.old ++ flat_map output_text outputs.now)) }
     ensures part { OnErr result (AppendsPrefix (K.held out.old) (K.held out.new) (text.old ++ flat_map output_text outputs.now)) }
     ensures cause { IfErr result (λ e. e ≡ WriteError.Fault → Rose (K.faults out.old) (K.faults out.new)) }
-    ensures later { K.faults out.old ≤ K.faults out.new }
+    ensures steady { SteadyBut WriteError.Fault (K.faults out.old) (K.faults out.new) result }
 {
     for output in outputs {
         put_output(text, output)?;
@@ -142,7 +142,7 @@ fn write_section<K: Sink>(
     ensures whole { OnOk result (AppendsBefore (K.held out.old) (K.held out.new) text.new (text.old ++ section client outputs.now)) }
     ensures part { OnErr result (AppendsPrefix (K.held out.old) (K.held out.new) (text.old ++ section client outputs.now)) }
     ensures cause { IfErr result (λ e. e ≡ WriteError.Fault → Rose (K.faults out.old) (K.faults out.new)) }
-    ensures later { K.faults out.old ≤ K.faults out.new }
+    ensures steady { SteadyBut WriteError.Fault (K.faults out.old) (K.faults out.new) result }
 {
     if outputs.is_empty() {
         return Ok(());
@@ -160,7 +160,7 @@ fn write_sections<K: Sink>(
     ensures whole { OnOk result (AppendsBefore (K.held out.old) (K.held out.new) text.new (text.old ++ sections 1 outputs.now)) }
     ensures part { OnErr result (AppendsPrefix (K.held out.old) (K.held out.new) (text.old ++ sections 1 outputs.now)) }
     ensures cause { IfErr result (λ e. e ≡ WriteError.Fault → Rose (K.faults out.old) (K.faults out.new)) }
-    ensures later { K.faults out.old ≤ K.faults out.new }
+    ensures steady { SteadyBut WriteError.Fault (K.faults out.old) (K.faults out.new) result }
 {
     let clients = outputs.len();
     for place in 0..clients {
@@ -174,7 +174,7 @@ fn write_text<K: Sink>(text: &mut Text, out: &mut K, phase: &Told) -> Result<(),
     ensures whole { OnOk result (AppendsBefore (K.held out.old) (K.held out.new) text.new (text.old ++ phase_text phase.now.number phase.now.served phase.now.outputs)) }
     ensures part { OnErr result (AppendsPrefix (K.held out.old) (K.held out.new) (text.old ++ phase_text phase.now.number phase.now.served phase.now.outputs)) }
     ensures cause { IfErr result (λ e. e ≡ WriteError.Fault → Rose (K.faults out.old) (K.faults out.new)) }
-    ensures later { K.faults out.old ≤ K.faults out.new }
+    ensures steady { SteadyBut WriteError.Fault (K.faults out.old) (K.faults out.new) result }
 {
     put_phase(text, phase.number)?;
     write_served(text, out, &phase.served)?;
@@ -183,12 +183,13 @@ fn write_text<K: Sink>(text: &mut Text, out: &mut K, phase: &Told) -> Result<(),
 
 /// Writes the text of a phase in the report: the line `phase <number>`, the events with their
 /// places, and what each client was sent that was sent anything. Drains aren't printed. After an
-/// error the sink holds what it held and then a prefix of the text.
+/// error the sink holds what it held and then a prefix of the text. `Fault` comes exactly where a
+/// write failed, which is the last one: then one fault more is counted, and else none.
 pub fn write_phase<K: Sink>(alloc: Global, out: &mut K, phase: &Told) -> Result<(), WriteError>
     ensures whole { OnOk result (Appends (K.held out.old) (K.held out.new) (phase_text phase.now.number phase.now.served phase.now.outputs)) }
     ensures part { OnErr result (AppendsPrefix (K.held out.old) (K.held out.new) (phase_text phase.now.number phase.now.served phase.now.outputs)) }
     ensures cause { IfErr result (λ e. e ≡ WriteError.Fault → Rose (K.faults out.old) (K.faults out.new)) }
-    ensures later { K.faults out.old ≤ K.faults out.new }
+    ensures steady { SteadyBut WriteError.Fault (K.faults out.old) (K.faults out.new) result }
 {
     let mut text = Text::new(alloc)?;
     write_text(&mut text, out, phase)?;

@@ -1,5 +1,5 @@
 -- How a command that serves a recording ends.
-use Rattle.std.proofs.Common.{◌≡◌, ◌≢◌, ◌⊎◌, inl, inr, ℕ, List, [], ◌∷◌, ◌++◌, ◌≤◌, length, ap, subst, refl, sym, ◌∙◌, Some, None, Ok, Err, IfSome, arith}
+use Rattle.std.proofs.Common.{◌≡◌, ◌≢◌, ◌⊎◌, inl, inr, ℕ, List, [], ◌∷◌, ◌++◌, length, ap, subst, refl, sym, ◌∙◌, Some, None, Ok, Err, IfSome, arith}
 use Rattle.std.specs.declared.option.Option.{Option}
 use Rattle.std.specs.Io.KnownBytes.{Appends, IsAtEnd}
 use Rattle.cell_io.specs.Faults.{Rose}
@@ -20,7 +20,9 @@ use Rattle.cell_run.specs.Ending.{Seen, Ends, EndsServing}
 use Rattle.std.specs.Option.{option_map}
 use Rattle.cell_io.specs.Lines.{whole_lines}
 use Rattle.cell_io.specs.Held.{Held, IsLaterPart}
-use Rattle.cell_record.specs.Progress.{Becomes}
+use Rattle.cell_record.specs.Progress.{Becomes, IsStated}
+use Rattle.cell_record.specs.declared.refusal.RecordError.{RecordError}
+use Rattle.cell_record.specs.declared.refusal.RecordError.TheVariants as refusal
 use Rattle.cell_record.specs.Stops.{LeadsText, ReadsText, lines_in}
 use Rattle.cell_run.specs.Serving.{WritesAllOf, WritesSomeOf, WritesToStop, interleaves_self}
 use Rattle.cell_run.proofs.Fronts.{Tells}
@@ -46,16 +48,18 @@ some command (Some text) old new h = record { printed = printed text; prints = p
 -- how it ends where the lines up to `end` are refused, or memory is wanting
 pub opening_ends : (command : Command) (s : Status) (input rest out after : Seen) → s ≢ status.Usage → (IsFinal s → IfSome input.octets (λ text. (s ≡ status_of text) × Appends out.octets after.octets (printed text)))
     → IfSome input.octets (λ text. AppendsPrefix out.octets after.octets (printed text)) → (s ≡ status.Done → IsAtEnd rest.octets) → (s ≡ status.ReadFault → Rose input.faults rest.faults)
-    → (s ≡ status.ReadFault → IfSome input.octets (λ text. IsCut command text rest.octets out.octets after.octets)) → (s ≡ status.WriteFault → Rose out.faults after.faults)
-    → EndsServing command s input rest out after
-opening_ends command s input rest out after known whole part ended read cut write = record {
+    → (s ≢ status.ReadFault → rest.faults ≡ input.faults) → (s ≡ status.ReadFault → IfSome input.octets (λ text. IsCut command text rest.octets out.octets after.octets))
+    → (s ≡ status.WriteFault → Rose out.faults after.faults) → (s ≢ status.WriteFault → after.faults ≡ out.faults) → EndsServing command s input rest out after
+opening_ends command s input rest out after known whole part ended read unfailed cut write accepted = record {
   known = known;
   whole = λ final. all command s input.octets out.octets after.octets (whole final);
   part = some command input.octets out.octets after.octets part;
   ended = ended;
   read = read;
+  unfailed = unfailed;
   cut = cut;
   write = write;
+  accepted = accepted;
 }
 
 -- ---- the phases of a text
@@ -103,20 +107,28 @@ cut_said command config f held p left now last old new later leads w = at left (
 -- how it ends where the lines up to `end` were read
 pub phases_end : (command : Command) (config : Config) (s : Status) (input rest out after : Seen) (a : Option Reading) → Becomes (option_map reading_of_text input.octets) (λ r. r) a → IfSome input.octets (Tells config)
     → s ≢ status.Usage → (IsFinal s → IfSome a (λ r. (s ≡ status_for r.refusal) × WritesAllOf command config r out.octets after.octets)) → IfSome a (λ r. WritesSomeOf command config r out.octets after.octets)
-    → (s ≡ status.Done → IsAtEnd rest.octets) → (s ≡ status.ReadFault → Rose input.faults rest.faults) → (s ≡ status.ReadFault → IfSome input.octets (λ text. IsCut command text rest.octets out.octets after.octets))
-    → (s ≡ status.WriteFault → Rose out.faults after.faults) → EndsServing command s input rest out after
-phases_end command config s input rest out after a b tells known whole part ended read cut write = record {
+    → (s ≡ status.Done → IsAtEnd rest.octets) → (s ≡ status.ReadFault → Rose input.faults rest.faults) → (s ≢ status.ReadFault → rest.faults ≡ input.faults)
+    → (s ≡ status.ReadFault → IfSome input.octets (λ text. IsCut command text rest.octets out.octets after.octets)) → (s ≡ status.WriteFault → Rose out.faults after.faults) → (s ≢ status.WriteFault → after.faults ≡ out.faults)
+    → EndsServing command s input rest out after
+phases_end command config s input rest out after a b tells known whole part ended read unfailed cut write accepted = record {
   known = known;
   whole = λ final. all_said command config s input.octets a out.octets after.octets b tells (whole final);
   part = some_said command config input.octets a out.octets after.octets b tells part;
   ended = ended;
   read = read;
+  unfailed = unfailed;
   cut = cut;
   write = write;
+  accepted = accepted;
 }
 
-pub rose_later : (a b c : ℕ) → a ≤ b → Rose b c → Rose a c
-rose_later a b c h r = omega (arith, h, r)
+-- nothing had failed before
+pub rose_first : (a b c : ℕ) → b ≡ a → Rose b c → Rose a c
+rose_first a b c h r = subst (λ (n : ℕ). Rose n c) h r
+
+-- a fault of the source is told as one
+pub told_fault : (s : Status) (e : RecordError) (X : Type 0) → (¬ (IsStated e) → (s ≡ status_for (Some e)) × X) → e ≡ refusal.ReadFault → s ≡ status.ReadFault
+told_fault s e X kept is = (kept (λ h. subst IsStated is h)).0 ∙ ap (λ (x : RecordError). status_for (Some x)) is
 
 -- a recording that no fault hinders
 pub done_or_memory : (command : Command) (s : Status) (input rest out after : Seen) → EndsServing command s input rest out after

@@ -1,5 +1,5 @@
 -- How a run ends (this profile's choice).
-use Rattle.std.specs.Prelude.{◌≡◌, ◌≢◌, ◌≤◌, ℕ, List, IfSome, Some, None}
+use Rattle.std.specs.Prelude.{◌≡◌, ◌≢◌, ℕ, List, IfSome, Some, None}
 use Rattle.std.specs.Io.KnownBytes.{Appends, IsAtEnd}
 use Rattle.std.specs.declared.option.Option.{Option}
 use Rattle.cell_io.specs.Faults.{Rose}
@@ -17,7 +17,7 @@ pub record Seen : Type 0 where
 
 -- with other words the usage line is written, unless the sink fails
 abbrev pub EndsUsage : Status → Seen → Seen → Type 0
-EndsUsage status.Usage out after = Appends out.octets after.octets usage_text
+EndsUsage status.Usage out after = after.faults ≡ out.faults × Appends out.octets after.octets usage_text
 EndsUsage status.WriteFault out after = Rose out.faults after.faults × AppendsPrefix out.octets after.octets usage_text
 EndsUsage status.Done out after = ⊥
 EndsUsage status.Bad out after = ⊥
@@ -33,10 +33,12 @@ pub record EndsServing (command : Command) (s : Status) (input rest out after : 
   pub whole : IsFinal s → IfSome input.octets (λ text. (s ≡ status_of text) × WritesAll command text out.octets after.octets)
   pub part : IfSome input.octets (λ text. WritesSome command text out.octets after.octets)
   pub ended : s ≡ status.Done → IsAtEnd rest.octets
-  -- faults are told only where a count rose, and one of the source where it stopped the reading
+  -- one fault of the source or of the sink is counted where it is told, and else none; one of the source where it stopped the reading
   pub read : s ≡ status.ReadFault → Rose input.faults rest.faults
+  pub unfailed : s ≢ status.ReadFault → rest.faults ≡ input.faults
   pub cut : s ≡ status.ReadFault → IfSome input.octets (λ text. IsCut command text rest.octets out.octets after.octets)
   pub write : s ≡ status.WriteFault → Rose out.faults after.faults
+  pub accepted : s ≢ status.WriteFault → after.faults ≡ out.faults
 
 -- how a run ends by its words
 abbrev pub Ends : Option Command → Status → Seen → Seen → Seen → Seen → Type 0
@@ -48,4 +50,3 @@ pub record EndsWith (command : Option Command) (code : ℕ) (input rest out afte
   pub status : Status
   pub is : code ≡ code_of status
   pub ends : Ends command status input rest out after
-  pub counts : (input.faults ≤ rest.faults) × (out.faults ≤ after.faults)

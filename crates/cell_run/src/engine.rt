@@ -1,6 +1,6 @@
 //! A recording, served phase by phase.
 
-ghost use Rattle.std.specs.Prelude.{◌≡◌, ◌≢◌, ◌≤◌, ◌⊎◌, [], List, false, IfSome, None};
+ghost use Rattle.std.specs.Prelude.{◌≡◌, ◌≢◌, ◌⊎◌, [], List, false, IfSome, None};
 ghost use Rattle.std.specs.Io.KnownBytes.{Appends, IsAtEnd};
 ghost use Rattle.cell_io.specs.Faults.{Rose};
 ghost use Rattle.cell_io.specs.Held.{IsEndSeen, IsLaterPart};
@@ -31,8 +31,6 @@ pub fn serve_alone<S: Source, K: Sink>(alloc: Global, input: &mut S, out: &mut K
     // How it ends, and what was read and written.
     ensures ends { EndsServing Command.Replay result (record { octets = S.left input.old; faults = S.faults input.old }) (record { octets = S.left input.new; faults = S.faults input.new })
         (record { octets = K.held out.old; faults = K.faults out.old }) (record { octets = K.held out.new; faults = K.faults out.new }) }
-    ensures reads { S.faults input.old ≤ S.faults input.new }
-    ensures writes { K.faults out.old ≤ K.faults out.new }
 
     // A recording without a fault is served and reported, unless memory runs out.
     ensures complete { IfSome (S.left input.old) (λ text. (config : Config) (phases : List (List CellEvent))
@@ -70,8 +68,8 @@ fn serve_phases<V: Server, S: Source, K: Sink>(
     ensures read { result ≡ Status.ReadFault → Rose (S.faults input.old) (S.faults input.new) }
     ensures stop { result ≡ Status.ReadFault → WritesToStop V.command recording.old.config (rest_in recording.old) recording.old.held (place_of recording.old) (S.left input.old) (S.left input.new) (K.held out.old) (K.held out.new) }
     ensures write { result ≡ Status.WriteFault → Rose (K.faults out.old) (K.faults out.new) }
-    ensures reads { S.faults input.old ≤ S.faults input.new }
-    ensures writes { K.faults out.old ≤ K.faults out.new }
+    ensures unfailed { result ≢ Status.ReadFault → S.faults input.new ≡ S.faults input.old }
+    ensures accepted { result ≢ Status.WriteFault → K.faults out.new ≡ K.faults out.old }
     ensures left { IsLaterPart (S.left input.old) (S.left input.new) }
     ensures known { result ≢ Status.Usage }
 {

@@ -36,8 +36,6 @@ pub fn run<R: Threads + Wait + Sync, S: Source, K: Sink, G: Gate + Sync>(
     requires workers { (1 ≤ workers) × (workers ≤ 16) }
     ensures ends { EndsServing (Command.Run workers) result (record { octets = S.left input.old; faults = S.faults input.old }) (record { octets = S.left input.new; faults = S.faults input.new })
         (record { octets = K.held out.old; faults = K.faults out.old }) (record { octets = K.held out.new; faults = K.faults out.new }) }
-    ensures reads { S.faults input.old ≤ S.faults input.new }
-    ensures writes { K.faults out.old ≤ K.faults out.new }
 {
     let mut recording = match Recording::open(alloc, input) {
         Ok(recording) => recording,
@@ -75,8 +73,8 @@ fn run_phases<R: Threads + Wait + Sync, S: Source, K: Sink, G: Gate + Sync>(
     ensures stop { (command : CommandOf) → IsRun command → result ≡ Status.ReadFault
         → WritesToStop command recording.old.config (rest_in recording.old) recording.old.held (place_of recording.old) (S.left input.old) (S.left input.new) (K.held out.old) (K.held out.new) }
     ensures write { result ≡ Status.WriteFault → Rose (K.faults out.old) (K.faults out.new) }
-    ensures reads { S.faults input.old ≤ S.faults input.new }
-    ensures writes { K.faults out.old ≤ K.faults out.new }
+    ensures unfailed { result ≢ Status.ReadFault → S.faults input.new ≡ S.faults input.old }
+    ensures accepted { result ≢ Status.WriteFault → K.faults out.new ≡ K.faults out.old }
     ensures left { IsLaterPart (S.left input.old) (S.left input.new) }
     ensures known { result ≢ Status.Usage }
 {

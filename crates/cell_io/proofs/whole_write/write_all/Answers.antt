@@ -1,4 +1,4 @@
-use Rattle.std.proofs.Common.{arith}
+use Rattle.std.proofs.Common.{arith, ◌∙◌}
 use Rattle.cell_io.proofs.Prefixes.{took_more, front, on_err}
 use Rattle.cell_io.proofs.whole_write.write_all.Goals as goal
 
@@ -6,7 +6,7 @@ pub loop-done-preserved : goal.loop-done-preserved
 loop-done-preserved g c = record {
   within = omega (arith, c.in_ok-done.ensures.bound);
   written = took_more _ _ _ _ _ _ c.loop-done.invariant.written c.in_ok-done.ensures.bytes;
-  faults = omega (arith, c.write.ensures.cause.later);
+  faults = c.in_ok-done.ensures.cause.steady ∙ c.loop-done.invariant.faults;
 }
 
 pub returns-in_err-done-clause-part : goal.returns-in_err-done-clause-part

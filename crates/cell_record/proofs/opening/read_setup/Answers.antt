@@ -1,4 +1,4 @@
-use Rattle.std.proofs.Common.{arith, length, ap}
+use Rattle.std.proofs.Common.{arith, length, ap, refl, ◌∙◌}
 use Rattle.cell_record.proofs.Readings.{same_same, same_is, still, part_same, part_then}
 use Rattle.std.proofs.lemmas.Result.{err_from_is_err_and}
 use Rattle.cell_record.proofs.Stopping.{leads_same, opening_then}
@@ -19,7 +19,7 @@ loop-turn-preserved g c = record {
   turns = omega (arith, c.loop-turn.invariant.turns, c.in_ok-read_setup_line.ensures.grows);
   most = c.read_setup_line.ensures.most;
   left = part_then _ _ _ c.loop-turn.invariant.left c.read_setup_line.ensures.left;
-  faults = omega (arith, c.loop-turn.invariant.faults, c.read_setup_line.ensures.later);
+  faults = c.in_ok-read_setup_line.ensures.steady ∙ c.loop-turn.invariant.faults;
 }
 
 pub returns-then-branch-clause-leads : goal.returns-then-branch-clause-leads
@@ -39,7 +39,7 @@ loop-turn-init g c = record {
   turns = omega arith;
   most = omega (arith, c.given-given.ensures.given, c.given-given.ensures.most);
   left = part_same _;
-  faults = omega arith;
+  faults = refl;
 }
 
 pub returns-then-branch-clause-text : goal.returns-then-branch-clause-text

@@ -1,4 +1,4 @@
-use Rattle.std.proofs.Common.{◌+◌, ◌≤◌, [], length}
+use Rattle.std.proofs.Common.{◌≡◌, ◌+◌, ◌≤◌, [], length}
 use Rattle.mms_types.specs.declared.identifier.Edition.{Edition}
 use Rattle.cell_record.specs.Numbered.{IsPart, at, place_at, setup}
 use Rattle.cell_io.specs.Held.{IsEndSeen}
@@ -15,5 +15,5 @@ invariant-loop-turn g l = record {
   turns : l._turn + l.initial.lines.held.given ≤ l.lines.held.given;
   most : l.lines.held.given ≤ 4294967296;
   left : IsPart (g.S.Source.left l.initial.input) (g.S.Source.left l.input);
-  faults : g.S.Source.faults l.initial.input ≤ g.S.Source.faults l.input;
+  faults : g.S.Source.faults l.input ≡ g.S.Source.faults l.initial.input;
 }

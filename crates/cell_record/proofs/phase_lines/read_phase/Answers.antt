@@ -19,7 +19,7 @@ loop-turn-preserved-in-Some-Nothing g c = record {
   lines = omega (arith, c.loop-turn.invariant.lines, (rw c.in-Some-Nothing.is at c.in_ok-next_said.ensures.grows));
   most = c.next_said.ensures.most;
   left = part_then _ _ _ c.loop-turn.invariant.left c.next_said.ensures.left;
-  faults = omega (arith, c.loop-turn.invariant.faults, c.next_said.ensures.later);
+  faults = c.in_ok-next_said.ensures.steady ∙ c.loop-turn.invariant.faults;
 }
 
 pub loop-turn-preserved : goal.loop-turn-preserved
@@ -36,7 +36,7 @@ loop-turn-preserved g c = record {
   lines = one_line c.loop-turn.events _ c.in-Some-Happens.event _ _ _ c.in_ok-push-in-Some-Happens.ensures.appended c.loop-turn.invariant.lines (rw c.in-Some-Happens.is at c.in_ok-next_said.ensures.grows);
   most = c.next_said.ensures.most;
   left = part_then _ _ _ c.loop-turn.invariant.left c.next_said.ensures.left;
-  faults = omega (arith, c.loop-turn.invariant.faults, c.next_said.ensures.later);
+  faults = c.in_ok-next_said.ensures.steady ∙ c.loop-turn.invariant.faults;
 }
 
 pub returns-in-Some-Phase-clause-left : goal.returns-in-Some-Phase-clause-left

@@ -23,5 +23,5 @@ invariant-loop-turn g l = record {
   lines : l.initial.lines.held.given + length l.events ≤ l.lines.held.given;
   most : l.lines.held.given ≤ 4294967296;
   left : IsPart (g.S.Source.left l.initial.input) (g.S.Source.left l.input);
-  faults : g.S.Source.faults l.initial.input ≤ g.S.Source.faults l.input;
+  faults : g.S.Source.faults l.input ≡ g.S.Source.faults l.initial.input;
 }

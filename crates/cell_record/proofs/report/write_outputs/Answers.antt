@@ -1,4 +1,4 @@
-use Rattle.std.proofs.Common.{◌+◌, ◌++◌, take, drop, ap, sym, ◌∙◌, arith}
+use Rattle.std.proofs.Common.{◌+◌, ◌++◌, take, drop, ap, sym, ◌∙◌}
 use Rattle.std.specs.List.{flat_map}
 use Rattle.mms_types.specs.declared.event.What.{What}
 use Rattle.cell_record.specs.Report.{output_text}
@@ -31,5 +31,5 @@ loop-output-preserved g c =
       text = wrote_more (g.K.Sink.held c.args.out.now) (g.K.Sink.held c.loop-output.out) (g.K.Sink.held c.pass.new.out) c.loop-output.text c.put_output.new.text c.pass.new.self c.args.text.now
           (flat_map output_text (take i os)) (flat_map output_text (take (i + 1) os)) (output_text c.output-item.result) c.loop-output.invariant.text c.in_ok-put_output.ensures c.in_ok-pass.ensures.whole
           (flat_more output_text os i c.output-item.result c.loop-output-test.true ∙ ap (λ (o : What). flat_map output_text (take i os) ++ output_text o) (sym c.output-item.is));
-      faults = omega (arith, c.loop-output.invariant.faults, c.pass.ensures.cause.later);
+      faults = c.in_ok-pass.ensures.cause.steady ∙ c.loop-output.invariant.faults;
     }

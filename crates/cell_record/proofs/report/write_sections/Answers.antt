@@ -25,5 +25,5 @@ loop-place-preserved g c =
     record {
       text = wrote_pieces (g.K.Sink.held c.args.out.now) (g.K.Sink.held c.loop-place.out) (g.K.Sink.held c.write_section.new.out) c.loop-place.text c.write_section.new.text c.args.text.now
           (sections 1 (take i os)) (section (i + 1) c.at.result.now) (sections 1 (take (i + 1) os)) c.loop-place.invariant.text c.in_ok-write_section.ensures.whole more;
-      faults = omega (arith, c.loop-place.invariant.faults, c.write_section.ensures.later);
+      faults = c.in_ok-write_section.ensures.steady ∙ c.loop-place.invariant.faults;
     }

@@ -35,5 +35,5 @@ loop-index-preserved g c =
       text = wrote_more (g.K.Sink.held c.args.out.now) (g.K.Sink.held c.loop-index.out) (g.K.Sink.held c.pass.new.out) c.loop-index.text c.put_placed.new.text c.pass.new.self c.args.text.now
           (flat_map served_line (take i os)) (flat_map served_line (take (i + 1) os)) (served_line one) c.loop-index.invariant.text c.in_ok-put_placed.ensures c.in_ok-pass.ensures.whole
           (flat_more served_line os i one (omega (arith, c.loop-index-test.true, c.len-index-end.ensures)) ∙ ap (λ (o : ℕ × CellEvent). flat_map served_line (take i os) ++ served_line o) (get_or_from_slice_get os i one one c.at-place.ensures));
-      faults = omega (arith, c.loop-index.invariant.faults, c.pass.ensures.cause.later);
+      faults = c.in_ok-pass.ensures.cause.steady ∙ c.loop-index.invariant.faults;
     }

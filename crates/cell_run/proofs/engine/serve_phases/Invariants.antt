@@ -1,4 +1,4 @@
-use Rattle.std.proofs.Common.{◌≡◌, ◌+◌, ◌≤◌, ◌<◌, ◌^◌, true, List, length, None}
+use Rattle.std.proofs.Common.{◌≡◌, ◌+◌, ◌<◌, ◌^◌, true, List, length, None}
 use Rattle.std.specs.Io.KnownBytes.{Appends}
 use Rattle.cell_io.specs.Held.{IsEndSeen, IsLaterPart}
 use Rattle.mms_types.specs.declared.event.CellEvent.{CellEvent}
@@ -23,6 +23,6 @@ invariant-loop-turn g l = record {
   left : IsLaterPart (g.S.Source.left l.initial.input) (g.S.Source.left l.input);
   number : l.recording.number ≡ l._turn;
   few : l._turn < 2 ^ 32;
-  reads : g.S.Source.faults l.initial.input ≤ g.S.Source.faults l.input;
-  writes : g.K.Sink.faults l.initial.out ≤ g.K.Sink.faults l.out;
+  reads : g.S.Source.faults l.input ≡ g.S.Source.faults l.initial.input;
+  writes : g.K.Sink.faults l.out ≡ g.K.Sink.faults l.initial.out;
 }

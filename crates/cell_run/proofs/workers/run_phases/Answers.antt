@@ -8,6 +8,7 @@ use Rattle.cell_run.specs.Running.{run_interleaves, run_serves}
 use Rattle.cell_run.specs.Bodies.{Serves}
 use Rattle.cell_run.proofs.Fronts.{with_phases, phases-then, later_then, leads_phases}
 use Rattle.cell_run.proofs.Phases.{some_of, refusal_all, refusal_of, whole_report, body_whole, body_part, interleaves_length, all_ms-append, size-append}
+use Rattle.cell_run.proofs.Endings.{told_fault}
 use Rattle.cell_run.proofs.workers.run_phases.Goals as goal
 
 pub returns-in-Ok-None-clause-part : goal.returns-in-Ok-None-clause-part
@@ -99,6 +100,9 @@ returns-in-Err-Memory-clause-part g c = λ command asked.
     (then _ _ _ (with_phases d.0) (with_phase es) (with_phases (d.0 ++ es ∷ [])) (phases-then d.0 es) d.5 phase) serves
     (body_part config d.1 c.in-Ok-Some.phase.number t.body _ _ _ _ t.text many d.4 c.in-Err-Memory.ensures.part)
 
+pub returns-in-Err-clause-unfailed : goal.returns-in-Err-clause-unfailed
+returns-in-Err-clause-unfailed g c = λ n. c.in-Err.ensures.steady (λ is. n (told_fault c.refuse.result c.in-Err.refusal _ c.refuse.ensures.unstated is)) ∙ c.loop-turn.invariant.reads
+
 pub loop-turn-preserved : goal.loop-turn-preserved
 loop-turn-preserved g c =
     let d = c.loop-turn.invariant.done in
@@ -135,6 +139,6 @@ loop-turn-preserved g c =
       left = later_then _ _ _ c.loop-turn.invariant.left c.next_phase.ensures.left;
       number = omega (arith, number.1, number.0, c.loop-turn.invariant.number);
       few = omega (arith, number.0, number.2, c.loop-turn.invariant.number);
-      reads = omega (arith, c.loop-turn.invariant.reads, c.next_phase.ensures.later);
-      writes = omega (arith, c.loop-turn.invariant.writes, c.write_phase.ensures.later);
+      reads = c.in-Ok-Some.ensures.steady ∙ c.loop-turn.invariant.reads;
+      writes = c.in-Ok-write_phase.ensures.steady ∙ c.loop-turn.invariant.writes;
     }

@@ -25,6 +25,6 @@ invariant-loop-turn g l = record {
   left : IsLaterPart (g.S.Source.left l.initial.input) (g.S.Source.left l.input);
   number : l.recording.number ≡ l._turn;
   few : l._turn < 2 ^ 32;
-  reads : g.S.Source.faults l.initial.input ≤ g.S.Source.faults l.input;
-  writes : g.K.Sink.faults l.initial.out ≤ g.K.Sink.faults l.out;
+  reads : g.S.Source.faults l.input ≡ g.S.Source.faults l.initial.input;
+  writes : g.K.Sink.faults l.out ≡ g.K.Sink.faults l.initial.out;
 }

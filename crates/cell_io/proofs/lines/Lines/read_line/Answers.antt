@@ -2,8 +2,9 @@ use Rattle.std.proofs.Common.{arith, ap, length, ◌∙◌}
 use Rattle.std.proofs.lemmas.Result.{err_from_is_err_and}
 use Rattle.std.proofs.lemmas.Bool.Decides.{nat_tests}
 use Rattle.cell_io.proofs.Kept.{kept_length}
+use Rattle.cell_io.proofs.Prefixes.{on_err}
 use Rattle.cell_io.proofs.Texts.{first_all}
-use Rattle.cell_io.proofs.Reading.{goes_on, given_some, line_ended, rest_ended, size_ended, text_there, line_open, rest_open, size_open, text_some, text_none, held_end, past, later_held, feed_there, fails}
+use Rattle.cell_io.proofs.Reading.{goes_on, given_some, line_ended, rest_ended, size_ended, text_there, line_open, rest_open, size_open, text_some, text_none, held_end, past, later_held, feed_there, fails, stops, stops_empty}
 use Rattle.cell_io.proofs.lines.Lines.read_line.Goals as goal
 
 pub give_part-requires : goal.give_part-requires
@@ -81,6 +82,18 @@ returns-in_err-fill-clause-before_end g c =
     let p = goes_on _ _ _ _ _ _ _ _ _ c.loop-turn.invariant.passed (c.in_ok-give_part.ensures.ended ∙ c.if-branch.false) c.in_ok-give_part.ensures.line (c.fill.ensures.given ∙ c.in_ok-give_part.ensures.size) c.in_err-fill.ensures.kept in
     rw (r.1, r.2) (λ _. fails c.args.self.now (g.S.Source.left c.args.input.now) (g.S.Source.left c.fill.new.input) c.fill.new.self.given _ c.requires.unended p)
 
+pub returns-in_err-give_part-clause-stops : goal.returns-in_err-give_part-clause-stops
+returns-in_err-give_part-clause-stops g c =
+    let i = c.loop-turn.invariant in
+    on_err c.from_residual.result (rw c.in_err-give_part.ensures.stays (stops c.args.self.now c.loop-turn.self (g.S.Source.left c.args.input.now) (g.S.Source.left c.loop-turn.input) _ c.requires.unended i.unended i.passed))
+
+pub returns-in_err-fill-clause-stops : goal.returns-in_err-fill-clause-stops
+returns-in_err-fill-clause-stops g c =
+    let i = c.loop-turn.invariant in
+    let p = goes_on _ _ _ _ _ _ _ _ _ i.passed (c.in_ok-give_part.ensures.ended ∙ c.if-branch.false) c.in_ok-give_part.ensures.line (c.fill.ensures.given ∙ c.in_ok-give_part.ensures.size) c.in_err-fill.ensures.kept in
+    on_err c.from_residual-in_err-fill.result (stops_empty c.args.self.now c.fill.new.self (g.S.Source.left c.args.input.now) (g.S.Source.left c.fill.new.input) _ c.requires.unended
+    (c.in_err-fill.ensures.same ∙ c.give_part.ensures.same ∙ i.unended) c.in_err-fill.ensures.emptied p)
+
 pub returns-then-branch-clause-feed : goal.returns-then-branch-clause-feed
 returns-then-branch-clause-feed g c =
     λ _ _. feed_there _ _ _ _ _ _ c.loop-turn.invariant.passed (c.in_ok-give_part.ensures.ended ∙ c.if-branch.true)
@@ -98,7 +111,7 @@ loop-turn-preserved g c =
       order = omega (arith, i.order, c.give_part.ensures.order, c.fill.ensures.given);
       most = omega (arith, c.give_part.ensures.most, c.fill.ensures.given);
       left = later_held _ _ _ _ i.left c.in_ok-fill.ensures.moved;
-      faults = omega (arith, i.faults, c.fill.ensures.cause.later);
+      faults = c.in_ok-fill.ensures.cause.steady ∙ i.faults;
     }
 
 pub returns-then-branch-clause-kept : goal.returns-then-branch-clause-kept

@@ -13,5 +13,5 @@ invariant-loop-turn g l = record {
   order : l.initial.self.given ≤ l.self.given;
   most : l.self.given ≤ 4294967296;
   left : IsLaterPart (g.S.Source.left l.initial.input) (g.S.Source.left l.input);
-  faults : g.S.Source.faults l.initial.input ≤ g.S.Source.faults l.input;
+  faults : g.S.Source.faults l.input ≡ g.S.Source.faults l.initial.input;
 }
