@@ -39,11 +39,11 @@ all_done t told = record { tables = t; told = effects_told told }
 abbrev pub plan_done : Tables → Change → List (ℕ × Told) → Done Tables Effect
 plan_done t change told = all_done (changed change t) told
 
--- A request is refused for its cause, or it has none, and this holds of what it comes to; want of memory tells nothing.
+-- A request is refused for its cause, or it has none, and this holds of what it comes to, or memory is wanting.
 abbrev pub Settles : {X : Type 0} → Result X Refuse → Option ServiceError → (X → Type 0) → Type 0
 Settles (Ok x) cause Is = (cause ≡ None) × Is x
 Settles (Err (refuse.Service error)) cause Is = cause ≡ Some error
-Settles (Err refuse.Memory) cause Is = Unit {0}
+Settles (Err refuse.Memory) cause Is = cause ≡ None
 
 -- what a request does, as code carries it
 abbrev pub outcome_of : Tables → Change → Option Answer → List (ℕ × Told) → Outcome

@@ -1,5 +1,5 @@
 -- How tables change (this profile's choice).
-use Rattle.std.specs.Prelude.{◌≡◌, ℕ, ◌+◌, ◌≤◌, Bool, None}
+use Rattle.std.specs.Prelude.{◌≡◌, ℕ, ◌+◌, ◌≤◌, Bool, true, false, None}
 use Rattle.object_names.specs.Selected.{selected}
 use Rattle.variables.specs.Definitions as variables
 use Rattle.variable_lists.specs.Lists as lists
@@ -7,8 +7,8 @@ use Rattle.variable_services.specs.declared.tables.VariableTables.{VariableTable
 use Rattle.variable_services.specs.Services.{write_cause, write_after, define_cause, define_after, define_list_cause, define_list_after}
 use Rattle.cell_services.specs.declared.tables.Change.{Change}
 use Rattle.cell_services.specs.declared.tables.Change.TheVariants.{Nothing, Passes, Ticks, Writes, Defines, DefinesList, Deletes, DeletesLists, Takes, Relinquishes, Cancels, DefinesSemaphore, DeletesSemaphore, Loses}
-use Rattle.mms_time.specs.Semaphores.{Rows}
-use Rattle.mms_time.specs.Services.{take_after, relinquished, cancelled, deleted}
+use Rattle.mms_time.specs.Semaphores.{Rows, semaphore}
+use Rattle.mms_time.specs.Services.{take_after, makes_entry_of, relinquished, cancelled, deleted}
 use Rattle.mms_time.specs.Services as semaphores
 use Rattle.cell_services.specs.Tables.{Tables, last_moment, moment_of}
 use Rattle.cell_services.specs.Serving.{without_client, without_clients}
@@ -34,6 +34,15 @@ changed (Cancels key entry) t = with_semaphores t (cancelled key entry t.semapho
 changed (DefinesSemaphore client asked) t = with_semaphores t (semaphores.define_after client asked.now t.semaphores)
 changed (DeletesSemaphore key) t = with_semaphores t (deleted key t.semaphores)
 changed (Loses client) t = without_client client t
+
+-- what may want memory: a name that is defined, an entry that is made, a client that is lost
+abbrev pub may_want : Change → Tables → Bool
+may_want (Defines client asked) t = true
+may_want (DefinesList client asked) t = true
+may_want (Takes client invoke asked) t = makes_entry_of client invoke asked.now (moment_of t) (semaphore client asked.now.name t.semaphores)
+may_want (DefinesSemaphore client asked) t = true
+may_want (Loses client) t = true
+may_want other t = false
 
 -- the moment stays one that six octets name, and nothing stands against a write or a definition
 abbrev pub MayChange : Change → Tables → Type 0

@@ -1,8 +1,9 @@
 //! The guards of variables: semaphores of the VMD, of which a client has to own a token that writes.
 
-ghost use Rattle.std.specs.Prelude.{◌≡◌, IfOk};
+ghost use Rattle.std.specs.Prelude.{◌≡◌, IfOk, OnErr, true};
 ghost use Rattle.std.specs.Option.{option_copied};
 ghost use Rattle.mms_time.specs.Guards.{owns_guard};
+ghost use Rattle.variable_services.specs.Services.{is_guarded};
 ghost use Rattle.variables.specs.Access.{is_owned};
 ghost use Rattle.cell_services.specs.Services.{AreFlags, owned_guards};
 
@@ -41,7 +42,8 @@ fn flags(
     Ok(flags)
 }
 
-/// Flags by which a write does what it does by the guards that the client owns: none where no variable has a guard.
+/// Flags by which a write does what it does by the guards that the client owns: none where no variable has a guard, and
+/// then no memory is taken.
 pub(crate) fn owned_guards(
     alloc: Global,
     variables: &VariableTables,
@@ -49,8 +51,9 @@ pub(crate) fn owned_guards(
     client: u32,
     asked: &Write,
 ) -> Result<Vec<bool>, Memory>
-    ensures { IfOk result (λ owned.
+    ensures flags { IfOk result (λ owned.
         AreFlags client asked.now variables.now semaphores.now owned.items) }
+    ensures wants { OnErr result (is_guarded client asked.now variables.now ≡ true) }
 {
     if variables.is_guarded(client, asked) {
         flags(alloc, variables, semaphores, client, asked)

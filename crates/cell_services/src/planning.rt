@@ -1,12 +1,13 @@
 //! What is done on the tables is planned first: all is read and made that may want memory, and nothing changes.
 
-ghost use Rattle.std.specs.Prelude.{◌≡◌, ◌≤◌, ◌+◌, ◌++◌, ◌∷◌, [], nat_le, true, false, length, IfOk, OnOk, MatchOption, None, Some};
+ghost use Rattle.std.specs.Prelude.{◌≡◌, ◌≢◌, ◌≤◌, ◌+◌, ◌++◌, ◌∷◌, [], nat_le, true, false, length, IfOk, OnErr, OnOk, MatchOption, None, Some};
 ghost use Rattle.std.specs.Option.{option_map};
 ghost use Rattle.mms_pdu.specs.Pdus.{pdu_octets};
 ghost use Rattle.mms_types.specs.declared.pdu.Pdu.TheVariants as pdu;
 ghost use Rattle.cell_services.specs.Acts.{act_done, outcome_of, plan_done, request_done};
 ghost use Rattle.sem_ticks.specs.Meant.{state_of};
-ghost use Rattle.cell_services.specs.Tables.{Tables as Rows, last_moment};
+ghost use Rattle.mms_time.specs.Deadlines.{next_due};
+ghost use Rattle.cell_services.specs.Tables.{Tables as Rows, last_moment, moment_after};
 ghost use Rattle.cell_services.specs.Changes.{changed, MayChange};
 ghost use Rattle.cell_services.specs.Effects.{tell, Sends};
 ghost use Rattle.cell_services.specs.Association.{abort_told, cancel_told, conclusion_told, sends, Takes};
@@ -22,7 +23,6 @@ use association::{ClientPart, Waiting};
 use mms_pdu::{
     Writer, put_answer, put_cancel_response, put_conclude_response, put_confirmed_error,
 };
-use mms_time::next_due;
 use mms_types::{
     Answer, ConfirmedError, Memory, Moment, Octets, Refuse, Request, ServiceError, What,
 };
@@ -408,15 +408,17 @@ pub fn time_planned<'a>(alloc: Global, tables: &Tables, ms: u32) -> Result<Plan<
     ensures done { IfOk result (λ plan.
         plan_done tables.now plan.change plan.told.items ≡ passes ms tables.now) }
     ensures may { IfOk result (λ plan. MayChange plan.change tables.now) }
+    ensures wants { OnErr result
+        (next_due (moment_after ms tables.now) tables.now.semaphores ≢ None) }
 {
     let until = Moment(tables.clock.now().0 + u64::from(ms));
-    if next_due(&tables.semaphores, until).is_none() {
-        return Ok(Plan {
+    match tick(alloc, &tables.semaphores, until)? {
+        None => Ok(Plan {
             change: Change::Passes(ms),
             told: Vec::new(alloc),
-        });
+        }),
+        Some(ticked) => ticked_plan(alloc, ms, ticked),
     }
-    ticked_plan(alloc, ms, tick(alloc, &tables.semaphores, until)?)
 }
 
 /// Plans what a client with that part does on the tables. Nothing changes here.

@@ -196,8 +196,10 @@ pub(crate) fn semaphore_status<'a>(
         ≡ outcome_of tables.now o.change o.answer o.also.items) }
     ensures may { IfOk result (λ o. MayChange o.change tables.now) }
 {
-    let told = report_semaphore_status(&tables.semaphores, client, name)?;
-    Ok(answers(alloc, Answer::ReportSemaphoreStatus(told)))
+    match report_semaphore_status(&tables.semaphores, client, name) {
+        Err(error) => Err(Refuse::Service(error)),
+        Ok(told) => Ok(answers(alloc, Answer::ReportSemaphoreStatus(told))),
+    }
 }
 
 /// The tokens of a pool are told.

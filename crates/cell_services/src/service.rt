@@ -140,6 +140,9 @@ fn write<'a>(
     ensures may { IfOk result (λ o. MayChange o.change tables.now) }
 {
     let variables = &tables.variables;
+    if let Some(error) = variables.write_cause(client, asked) {
+        return Err(Refuse::Service(error));
+    }
     let owned = owned_guards(alloc, variables, &tables.semaphores, client, asked)?;
     let results = variables.write_results(alloc, client, &owned, asked)?;
     let values = asked.values.copy(alloc)?;

@@ -1,8 +1,8 @@
 //! The tables of the device, and how they change.
 
-ghost use Rattle.std.specs.Prelude.{◌≡◌, OnErr, OnOk};
+ghost use Rattle.std.specs.Prelude.{◌≡◌, OnErr, OnOk, true};
 ghost use Rattle.mms_types.specs.Moments.{IsDated};
-ghost use Rattle.cell_services.specs.Changes.{changed, MayChange};
+ghost use Rattle.cell_services.specs.Changes.{changed, may_want, MayChange};
 ghost use Rattle.cell_services.specs.Meant.{no_tables};
 ghost use Rattle.cell_services.specs.Serving.{without_client, without_clients};
 ghost use Rattle.cell_services.specs.Tables.{moment_of};
@@ -151,20 +151,16 @@ impl Tables {
         Ok(())
     }
 
-    /// Lets the semaphores change by a request. Without memory all is as before.
-    fn take(
-        &mut self,
-        alloc: Global,
-        client: u32,
-        invoke: u32,
-        asked: &TakeControl,
-    ) -> Result<(), Memory>
+    /// Lets the semaphores change by a request. Without memory all is as before; an entry alone wants any.
+    fn take(&mut self, client: u32, invoke: u32, asked: &TakeControl) -> Result<(), Memory>
         ensures done { OnOk result (self.new
             ≡ changed (Change.Takes client invoke asked.entry) self.old) }
         ensures kept { OnErr result (self.new ≡ self.old) }
+        ensures wants { OnErr result
+            (may_want (Change.Takes client invoke asked.entry) self.old ≡ true) }
     {
         let now = self.moment();
-        take_control(alloc, &mut self.semaphores, client, invoke, now, asked)
+        take_control(&mut self.semaphores, client, invoke, now, asked)
     }
 
     /// Lets the tables change. Without memory they are as before; what makes a row or an entry, and a loss, alone want
@@ -173,6 +169,7 @@ impl Tables {
         requires may { MayChange change self.old }
         ensures done { OnOk result (self.new ≡ changed change.entry self.old) }
         ensures kept { OnErr result (self.new ≡ self.old) }
+        ensures wants { OnErr result (may_want change.entry self.old ≡ true) }
     {
         change.make(alloc, self)
     }
@@ -184,6 +181,7 @@ impl Change<'_> {
         requires may { MayChange self tables.old }
         ensures done { OnOk result (tables.new ≡ changed self.entry tables.old) }
         ensures kept { OnErr result (tables.new ≡ tables.old) }
+        ensures wants { OnErr result (may_want self.entry tables.old ≡ true) }
     {
         match self {
             Change::Nothing => {}
@@ -213,7 +211,7 @@ impl Change<'_> {
                 client,
                 invoke,
                 asked,
-            } => tables.take(alloc, client, invoke, asked)?,
+            } => tables.take(client, invoke, asked)?,
             Change::Relinquishes { client, key, asked } => {
                 let now = tables.moment();
                 let token = asked.token.as_ref();

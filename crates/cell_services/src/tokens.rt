@@ -194,8 +194,7 @@ impl Client {
         ensures same { OnErr result (row.new ≡ row.old) }
     {
         match row.relinquish_told(self.part().client(), asked) {
-            Err(Refuse::Memory) => Err(Memory),
-            Err(Refuse::Service(error)) => {
+            Err(error) => {
                 self.refuse(alloc, invoke, error)?;
                 Ok(true)
             }

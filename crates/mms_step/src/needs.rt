@@ -30,7 +30,7 @@ use cell_services::{
     Found, Reading, also_told, happened_to, is_lossy, loss_told, read, verdict_of,
 };
 use mms_pdu::{Read, Refusal};
-use mms_time::{SemaphoreRow, next_due};
+use mms_time::SemaphoreRow;
 use mms_types::{CellEvent, Memory, Moment};
 use object_names::Named;
 use part_table::Hand;
@@ -353,10 +353,10 @@ fn happening_until(
     requires { IsDated until }
     ensures { IfOk result (λ happened. happened.items ≡ (ticked until semaphores.now).happened) }
 {
-    if next_due(semaphores, until).is_none() {
-        return Ok(Vec::new(alloc));
+    match tick(alloc, semaphores, until)? {
+        None => Ok(Vec::new(alloc)),
+        Some(ticked) => Ok(ticked.happened),
     }
-    Ok(tick(alloc, semaphores, until)?.happened)
 }
 
 /// What is needed by so many milliseconds that go by, once the clock and the semaphores are held.

@@ -10,5 +10,6 @@ pub mod Told
 pub mod TokenNames
 pub mod TwoSteps
 pub mod Unowned
+pub mod Untaken
 pub mod Unopposed
 mod Worked

@@ -1,5 +1,5 @@
 -- The names of a pool's tokens in order, and pools under names of their own.
-use Rattle.std.proofs.Common.{◌≡◌, ◌≢◌, ℕ, zero, suc, ◌+◌, ◌<◌, ◌≤◌, Bool, true, false, cond, nat_eq, List, [], ◌∷◌, ◌++◌, map, take, length, slice_get, if◌then◌else◌, Option, None, Some, refl, ap, sym, subst, ◌∙◌, arith, add-one}
+use Rattle.std.proofs.Common.{◌≡◌, ◌≢◌, ℕ, zero, suc, ◌≤◌, Bool, true, false, cond, nat_eq, List, [], ◌∷◌, ◌++◌, map, take, length, if◌then◌else◌, None, Some, refl, ap, sym, subst, ◌∙◌, arith, add-one}
 use Rattle.std.specs.List.{All, AllByRecursion, IsDistinct, AllAdjacentBelow}
 use Rattle.std.specs.List.Sorted.{IsPermutation, IsSorted}
 use Rattle.std.specs.Map.{lookup, keys_of, values_of}
@@ -13,8 +13,8 @@ use Rattle.mms_types.specs.declared.key.Scope.TheVariants.{Vmd}
 use Rattle.mms_types.specs.Order.{key_eq, name_order}
 use Rattle.object_names.specs.Listing.{insert_name, sorted_names}
 use Rattle.object_names.proofs.NameOrder.{count_sorted, sort_taken}
-use Rattle.pool_sem.specs.Pools.{IsPool, NamesRise}
-use Rattle.mms_time.specs.Opening.{ArePools, HasTokens, configured, pool_row}
+use Rattle.pool_sem.specs.Pools.{NamesRise}
+use Rattle.mms_time.specs.Opening.{HasTokens, configured, pool_row}
 use Rattle.mms_time.specs.Semaphores.{IsSound}
 use Rattle.mms_time.specs.declared.row.SemaphoreRow.{SemaphoreRow}
 

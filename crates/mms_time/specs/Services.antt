@@ -15,7 +15,7 @@ use Rattle.mms_types.specs.declared.semaphore.TakeControlAnswer.TheVariants.{NoR
 use Rattle.mms_types.specs.declared.service_error.ServiceError.{ServiceError}
 use Rattle.object_names.specs.NewName.{new_name}
 use Rattle.pool_sem.specs.Pools as pool
-use Rattle.token_sem.specs.Semaphore.{after_cancel, after_relinquish, after_take, has_claim, has_token, heir_of, owned_by, owner_of}
+use Rattle.token_sem.specs.Semaphore.{after_cancel, after_relinquish, after_take, has_claim, has_token, heir_of, makes_entry, outcome, owned_by, owner_of}
 use Rattle.token_sem.specs.declared.entry.Ask.{Ask}
 use Rattle.token_sem.specs.declared.entry.Grant.{Grant}
 use Rattle.mms_time.specs.Semaphores.{Rows, changed, entries_of, entry_in, entry_waits, names_in, semaphore}
@@ -101,6 +101,16 @@ take_told_of asked (Some row) = Some (take_told_in asked row.semaphore)
 abbrev pub take_told : ℕ → TakeControl → Rows → Option TakeDone
 take_told client asked rows = take_told_of asked (semaphore client asked.name rows)
 
+-- the answer names a token
+abbrev pub is_named : TakeControlAnswer → Bool
+is_named NoResult = false
+is_named (NamedToken name) = true
+
+-- the client is told the name of its token
+abbrev pub names_token : TakeDone → Bool
+names_token (Answered answer) = is_named answer
+names_token (Waits entry) = false
+
 -- the request on one semaphore, with the place of the token that it names
 abbrev pub ask_of : ℕ → ℕ → Option ℕ → TakeControl → Ask
 ask_of client invoke token asked = record {
@@ -121,6 +131,16 @@ with_take client invoke asked now (Pool p) = Pool (pool.after_take p (ask_of cli
 
 abbrev pub take_after : ℕ → ℕ → Moment → TakeControl → Rows → Rows
 take_after client invoke now asked rows = changed (with_take client invoke asked now) (key_of client asked.name) rows
+
+-- the request makes an entry of a semaphore: the client gets a token, or waits
+abbrev pub makes_entry_in : ℕ → ℕ → TakeControl → Moment → Semaphore → Bool
+makes_entry_in client invoke asked now (Token s) = makes_entry (outcome s (ask_of client invoke None asked) now)
+makes_entry_in client invoke asked now (Pool p) =
+    pool.makes_entry (pool.outcome p (ask_of client invoke (place_asked asked.token p.tokens) asked) now)
+
+abbrev pub makes_entry_of : ℕ → ℕ → TakeControl → Moment → Option SemaphoreRow → Bool
+makes_entry_of client invoke asked now None = false
+makes_entry_of client invoke asked now (Some row) = makes_entry_in client invoke asked now row.semaphore
 
 -- ---- RelinquishControl
 

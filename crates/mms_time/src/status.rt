@@ -2,7 +2,7 @@
 
 ghost use Rattle.std.specs.Prelude.{◌≡◌, ◌<◌, [], All, IfOk};
 ghost use Rattle.std.specs.Option.{option_copied};
-ghost use Rattle.mms_types.specs.Serves.{Serves};
+ghost use Rattle.mms_types.specs.Serves.{Serves, ServesAlways};
 ghost use Rattle.mms_time.specs.Semaphores.{entries_of, names_in, semaphore};
 ghost use Rattle.mms_time.specs.Statuses.{entry_status, entry_status_answer, entry_status_cause, entry_statuses, is_in_state, is_listed, left_until, name_follows, pool_status, pool_status_answer, pool_status_cause, status, status_cause, status_in, token_status};
 
@@ -68,17 +68,18 @@ impl SemaphoreRow {
     }
 }
 
-/// What a semaphore is and has (ISO 9506-2, ReportSemaphoreStatus). Object-non-existent where it is missing.
+/// What a semaphore is and has (ISO 9506-2, ReportSemaphoreStatus). Object-non-existent where it is missing. It takes
+/// no memory.
 pub fn report_semaphore_status(
     semaphores: &Named<SemaphoreRow>,
     client: u32,
     name: &ObjectName,
-) -> Result<SemaphoreStatus, Refuse>
-    ensures { Serves result (status_cause client name.now semaphores.now)
+) -> Result<SemaphoreStatus, ServiceError>
+    ensures { ServesAlways result (status_cause client name.now semaphores.now)
         (status client name.now semaphores.now) }
 {
     match semaphores.named(client, name) {
-        None => Err(Refuse::Service(ServiceError::OBJECT_NON_EXISTENT)),
+        None => Err(ServiceError::OBJECT_NON_EXISTENT),
         Some(row) => Ok(row.status()),
     }
 }

@@ -1,14 +1,16 @@
 //! TakeControl, RelinquishControl, and Cancel of a TakeControl.
 
-ghost use Rattle.std.specs.Prelude.{◌≡◌, ◌+◌, IfOk, OnErr, OnOk, Some, option_map, true};
+ghost use Rattle.std.specs.Prelude.{◌≡◌, ◌+◌, ◌<◌, ◌^◌, Err, IfOk, IsOk, OnErr, OnOk, Some, length, option_map, true};
 ghost use Rattle.std.specs.Option.{option_copied};
 ghost use Rattle.mms_types.specs.Errors.{first_of};
 ghost use Rattle.mms_types.specs.Moments.{IsDated};
-ghost use Rattle.mms_types.specs.Serves.{Serves};
-ghost use Rattle.pool_sem.specs.Pools.{token_told};
-ghost use Rattle.token_sem.specs.Semaphore.{is_queued, numbered};
-ghost use Rattle.mms_time.specs.Semaphores.{changed_row, entries_of, entry_in, entry_waits};
-ghost use Rattle.mms_time.specs.Services.{ask_of, cancel_after, cancelled, pool_answer, relinquish_cause, relinquish_conditions_in, relinquish_grant, relinquish_grant_in, relinquished, take_after, take_cause, take_conditions_in, take_told, take_told_in, with_take, with_token_back, without_entry};
+ghost use Rattle.mms_types.specs.declared.refuse.Refuse.TheVariants.{Memory as OutOfMemory};
+ghost use Rattle.mms_types.specs.Serves.{Serves, ServesAlways};
+ghost use Rattle.pool_sem.specs.Pools as pool;
+ghost use Rattle.pool_sem.specs.Pools.{is_place, token_told};
+ghost use Rattle.token_sem.specs.Semaphore.{after_take, is_queued, makes_entry, numbered, outcome};
+ghost use Rattle.mms_time.specs.Semaphores.{changed_row, entries_of, entry_in, entry_waits, made_in, semaphore};
+ghost use Rattle.mms_time.specs.Services.{ask_of, cancel_after, cancelled, is_named, makes_entry_in, makes_entry_of, names_token, pool_answer, relinquish_cause, relinquish_conditions_in, relinquish_grant, relinquish_grant_in, relinquished, take_after, take_cause, take_conditions_in, take_told, take_told_in, with_take, with_token_back, without_entry};
 ghost use Rattle.mms_time.specs.declared.row.Semaphore.TheVariants.{Token, Pool};
 
 use crate::tokens::{name_at, named_answer, place_asked};
@@ -80,7 +82,8 @@ const MOST_MADE: u64 = 1 << 63;
 
 /// The number of the next entry.
 fn next_number(made: u64) -> Result<u64, Memory>
-    ensures { IfOk result (λ number. number ≡ made + 1) }
+    ensures number { IfOk result (λ number. number ≡ made + 1) }
+    ensures left { made < 2 ^ 63 → IsOk result }
 {
     if made < MOST_MADE {
         Ok(made + 1)
@@ -103,7 +106,8 @@ fn pool_answer(
     preempt: Option<u32>,
     place: Option<u32>,
 ) -> Result<TakeControlAnswer, Memory>
-    ensures { IfOk result (λ answer. answer ≡ pool_answer preempt place pool.now) }
+    ensures told { IfOk result (λ answer. answer ≡ pool_answer preempt place pool.now) }
+    ensures wants { OnErr result (is_named (pool_answer preempt place pool.now) ≡ true) }
 {
     let told = token_told(place, pool.token_got(preempt, place));
     Ok(named_answer(name_at(alloc, told, pool.tokens())?))
@@ -111,7 +115,9 @@ fn pool_answer(
 
 /// Whether the client has a token of a pool or waits.
 fn pool_take_told(alloc: Global, pool: &PoolSem, asked: &TakeControl) -> Result<TakeDone, Memory>
-    ensures { IfOk result (λ done. done ≡ take_told_in asked.now (Pool pool.now)) }
+    ensures told { IfOk result (λ done. done ≡ take_told_in asked.now (Pool pool.now)) }
+    ensures wants { pool.now.made < 2 ^ 63
+        → OnErr result (names_token (take_told_in asked.now (Pool pool.now)) ≡ true) }
 {
     let place = place_asked(pool, asked.token.as_ref());
     if pool.has_token(asked.preempt, place) {
@@ -123,16 +129,16 @@ fn pool_take_told(alloc: Global, pool: &PoolSem, asked: &TakeControl) -> Result<
 
 /// Whether the client has a token or waits.
 fn take_told(alloc: Global, semaphore: &Semaphore, asked: &TakeControl) -> Result<TakeDone, Memory>
-    ensures { IfOk result (λ done. done ≡ take_told_in asked.now semaphore.now) }
+    ensures told { IfOk result (λ done. done ≡ take_told_in asked.now semaphore.now) }
+    ensures wants { made_in semaphore.now < 2 ^ 63
+        → OnErr result (names_token (take_told_in asked.now semaphore.now) ≡ true) }
 {
     match semaphore {
         Semaphore::Token(tokens) => {
             if tokens.has_token(asked.preempt) {
                 Ok(TakeDone::Answered(TakeControlAnswer::NoResult))
-            } else if tokens.made() < MOST_MADE {
-                Ok(TakeDone::Waits(tokens.made() + 1))
             } else {
-                Err(Memory)
+                Ok(TakeDone::Waits(next_number(tokens.made())?))
             }
         }
         Semaphore::Pool(pool) => pool_take_told(alloc, pool, asked),
@@ -176,17 +182,66 @@ fn ask_of(client: u32, invoke: u32, token: Option<u32>, asked: &TakeControl) -> 
     }
 }
 
+/// Asks for a token of a token semaphore. The one refusal is want of memory, and only where an entry is made; then all
+/// is as before.
+#[tactic(auto, using(crate::proofs::Untaken::none_taken))]
+fn take_token(tokens: &mut TokenSem, ask: &Ask, now: Moment) -> Result<(), Memory>
+    requires unnamed { ask.now.token ≡ None }
+    requires now { IsDated now }
+    ensures taken { OnOk result (tokens.new ≡ after_take tokens.old ask.now now) }
+    ensures kept { OnErr result (tokens.new ≡ tokens.old) }
+    ensures wants { OnErr result (makes_entry (outcome tokens.old ask.now now) ≡ true) }
+{
+    if tokens.made() >= MOST_MADE {
+        return if tokens.makes_entry(ask, now) {
+            Err(Memory)
+        } else {
+            Ok(())
+        };
+    }
+    match tokens.take(ask, now) {
+        Err(TakeRefused::Memory) => Err(Memory),
+        _ => Ok(()),
+    }
+}
+
+/// The same of a pool.
+#[tactic(auto, using(crate::proofs::Untaken::none_taken_of))]
+fn take_of_pool(named: &mut PoolSem, ask: &Ask, now: Moment) -> Result<(), Memory>
+    requires place { is_place (length named.old.tokens) ask.now.token ≡ true }
+    requires now { IsDated now }
+    ensures taken { OnOk result (named.new ≡ pool.after_take named.old ask.now now) }
+    ensures kept { OnErr result (named.new ≡ named.old) }
+    ensures wants { OnErr result (pool.makes_entry (pool.outcome named.old ask.now now) ≡ true) }
+{
+    if named.made() >= MOST_MADE {
+        return if named.makes_entry(ask, now) {
+            Err(Memory)
+        } else {
+            Ok(())
+        };
+    }
+    match named.take(ask, now) {
+        Err(TakeRefused::Memory) => Err(Memory),
+        _ => Ok(()),
+    }
+}
+
 impl SemaphoreRow {
     /// What a client is told that asks for a token of this semaphore, as `take_control_told` tells it of the one that is
-    /// named. Nothing is taken yet.
+    /// named. Nothing is taken yet. Want of memory is told of no request that is refused, and while the semaphore made
+    /// fewer than 2^63 entries only where the client is told the name of its token.
     pub fn take_told(
         &self,
         alloc: Global,
         client: u32,
         asked: &TakeControl,
     ) -> Result<TakeDone, Refuse>
-        ensures { Serves result (first_of (take_conditions_in client asked.now self.now.semaphore))
+        ensures told { Serves result
+            (first_of (take_conditions_in client asked.now self.now.semaphore))
             (Some (take_told_in asked.now self.now.semaphore)) }
+        ensures wants { made_in self.now.semaphore < 2 ^ 63 → result ≡ Err OutOfMemory
+            → names_token (take_told_in asked.now self.now.semaphore) ≡ true }
     {
         match take_cause(&self.semaphore, client, asked) {
             Some(error) => Err(Refuse::Service(error)),
@@ -195,24 +250,24 @@ impl SemaphoreRow {
     }
 
     /// Who is granted the token of this semaphore that the client gives back, as `relinquish_control_told` tells it of
-    /// the one that is named. Nothing is given back yet.
+    /// the one that is named. Nothing is given back yet, and no memory is taken.
     pub fn relinquish_told(
         &self,
         client: u32,
         asked: &RelinquishControl,
-    ) -> Result<Option<Grant>, Refuse>
-        ensures { Serves result
+    ) -> Result<Option<Grant>, ServiceError>
+        ensures { ServesAlways result
             (first_of (relinquish_conditions_in client asked.now self.now.semaphore))
             (Some (relinquish_grant_in client asked.now self.now.semaphore)) }
     {
         match relinquish_cause(&self.semaphore, client, asked) {
-            Some(error) => Err(Refuse::Service(error)),
+            Some(error) => Err(error),
             None => Ok(relinquish_grant(&self.semaphore, client, asked)),
         }
     }
 
-    /// Asks for a token of this semaphore: the client has it, or waits. The one refusal is want of memory; then all is as
-    /// before.
+    /// Asks for a token of this semaphore: the client has it, or waits. The one refusal is want of memory, and only where
+    /// an entry is made; then all is as before.
     pub fn take(
         &mut self,
         client: u32,
@@ -224,26 +279,16 @@ impl SemaphoreRow {
         ensures taken { OnOk result
             (self.new ≡ changed_row (with_take client invoke asked.now now) self.old) }
         ensures kept { OnErr result (self.new ≡ self.old) }
+        ensures wants { OnErr result
+            (makes_entry_in client invoke asked.now now self.old.semaphore ≡ true) }
     {
         match &mut self.semaphore {
             Semaphore::Token(tokens) => {
-                if tokens.made() >= MOST_MADE {
-                    return Err(Memory);
-                }
-                match tokens.take(&ask_of(client, invoke, None, asked), now) {
-                    Err(TakeRefused::Memory) => Err(Memory),
-                    _ => Ok(()),
-                }
+                take_token(tokens, &ask_of(client, invoke, None, asked), now)
             }
             Semaphore::Pool(pool) => {
-                if pool.made() >= MOST_MADE {
-                    return Err(Memory);
-                }
                 let place = place_asked(pool, asked.token.as_ref());
-                match pool.take(&ask_of(client, invoke, place, asked), now) {
-                    Err(TakeRefused::Memory) => Err(Memory),
-                    _ => Ok(()),
-                }
+                take_of_pool(pool, &ask_of(client, invoke, place, asked), now)
             }
         }
     }
@@ -278,10 +323,9 @@ impl SemaphoreRow {
     }
 }
 
-/// Asks for a token (ISO 9506-1, TakeControl): the client has it, or waits. The one refusal is want of memory; then all
-/// is as before.
+/// Asks for a token (ISO 9506-1, TakeControl): the client has it, or waits. The one refusal is want of memory, and only
+/// where an entry is made; then all is as before.
 pub fn take_control(
-    alloc: Global,
     semaphores: &mut Named<SemaphoreRow>,
     client: u32,
     invoke: u32,
@@ -292,9 +336,10 @@ pub fn take_control(
     ensures taken { OnOk result
         (semaphores.new ≡ take_after client invoke now asked.now semaphores.old) }
     ensures kept { OnErr result (semaphores.new ≡ semaphores.old) }
+    ensures wants { OnErr result (makes_entry_of client invoke asked.now now
+        (semaphore client asked.now.name semaphores.old) ≡ true) }
 {
-    let key = asked.name.key(alloc, client)?;
-    match semaphores.get_mut(&key) {
+    match semaphores.named_mut(client, &asked.name) {
         None => Ok(()),
         Some(row) => row.take(client, invoke, asked, now),
     }
@@ -365,17 +410,18 @@ fn relinquish_grant(semaphore: &Semaphore, client: u32, asked: &RelinquishContro
 /// Who is granted the token that a client gives back (ISO 9506-2, RelinquishControl), if anyone is; the client itself
 /// is answered at once. Object-non-existent where the semaphore is missing; type-inconsistent where a token of a token
 /// semaphore is named, or none of a pool; object-non-existent where the pool has no token of that name;
-/// object-state-conflict where the client owns none, or not that one. Nothing is given back yet.
+/// object-state-conflict where the client owns none, or not that one. Nothing is given back yet, and no memory is
+/// taken.
 pub fn relinquish_control_told(
     semaphores: &Named<SemaphoreRow>,
     client: u32,
     asked: &RelinquishControl,
-) -> Result<Option<Grant>, Refuse>
-    ensures { Serves result (relinquish_cause client asked.now semaphores.now)
+) -> Result<Option<Grant>, ServiceError>
+    ensures { ServesAlways result (relinquish_cause client asked.now semaphores.now)
         (relinquish_grant client asked.now semaphores.now) }
 {
     match semaphores.named(client, &asked.name) {
-        None => Err(Refuse::Service(ServiceError::OBJECT_NON_EXISTENT)),
+        None => Err(ServiceError::OBJECT_NON_EXISTENT),
         Some(row) => row.relinquish_told(client, asked),
     }
 }

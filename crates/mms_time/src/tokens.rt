@@ -1,10 +1,10 @@
 //! Tokens of a pool by their names.
 
-ghost use Rattle.std.specs.Prelude.{◌≡◌, IfOk, length, true};
+ghost use Rattle.std.specs.Prelude.{◌≡◌, ◌≢◌, IfOk, None, OnErr, length, true};
 ghost use Rattle.std.specs.Option.{option_copied};
 ghost use Rattle.pool_sem.specs.Pools.{is_place};
 ghost use Rattle.mms_time.specs.Semaphores.{names_in};
-ghost use Rattle.mms_time.specs.Services.{grant_answer, grant_answer_in, name_at, named_answer, place_asked};
+ghost use Rattle.mms_time.specs.Services.{grant_answer, grant_answer_in, is_named, name_at, named_answer, place_asked};
 
 use crate::{Semaphore, SemaphoreRow};
 use mms_types::{Identifier, Key, Memory, TakeControlAnswer};
@@ -24,13 +24,14 @@ pub(crate) fn place_asked(pool: &PoolSem, asked: Option<&Identifier>) -> Option<
     }
 }
 
-/// The name of the token at that place, copied.
+/// The name of the token at that place, copied. Memory is wanted only for a name that is there.
 pub(crate) fn name_at(
     alloc: Global,
     token: Option<u32>,
     names: &[Identifier],
 ) -> Result<Option<Identifier>, Memory>
-    ensures { IfOk result (λ name. name ≡ name_at token names.now) }
+    ensures name { IfOk result (λ name. name ≡ name_at token names.now) }
+    ensures wants { OnErr result (name_at token names.now ≢ None) }
 {
     match token {
         None => Ok(None),
@@ -54,7 +55,10 @@ pub(crate) fn named_answer(name: Option<Identifier>) -> TakeControlAnswer
 impl SemaphoreRow {
     /// What is answered to whom a token was granted.
     fn grant_answer(&self, alloc: Global, grant: &Grant) -> Result<TakeControlAnswer, Memory>
-        ensures { IfOk result (λ answer. answer ≡ grant_answer_in grant.now self.now.semaphore) }
+        ensures told { IfOk result (λ answer.
+            answer ≡ grant_answer_in grant.now self.now.semaphore) }
+        ensures wants { OnErr result
+            (is_named (grant_answer_in grant.now self.now.semaphore) ≡ true) }
     {
         match &self.semaphore {
             Semaphore::Token(_) => Ok(TakeControlAnswer::NoResult),
@@ -65,14 +69,17 @@ impl SemaphoreRow {
 
 /// What the client is answered that was granted a token of the semaphore of that name (ISO 9506-2, TakeControl): its
 /// name, where a pool was asked for any, and no result else. The names of a pool's tokens never change. The one refusal
-/// is want of memory.
+/// is want of memory, and only where a name is told.
 pub fn grant_answer(
     alloc: Global,
     semaphores: &Named<SemaphoreRow>,
     key: &Key,
     grant: &Grant,
 ) -> Result<TakeControlAnswer, Memory>
-    ensures { IfOk result (λ answer. answer ≡ grant_answer key.now grant.now semaphores.now) }
+    ensures told { IfOk result (λ answer.
+        answer ≡ grant_answer key.now grant.now semaphores.now) }
+    ensures wants { OnErr result
+        (is_named (grant_answer key.now grant.now semaphores.now) ≡ true) }
 {
     match semaphores.get(key) {
         None => Ok(TakeControlAnswer::NoResult),

@@ -102,6 +102,20 @@ impl PoolSem {
         }
     }
 
+    /// Whether a request for a token makes an entry: the client gets a token, or waits.
+    pub fn makes_entry(&self, ask: &Ask, now: Moment) -> bool
+        requires { IsDated now }
+        ensures { result ≡ makes_entry (outcome self.now ask.now now) }
+    {
+        match self.outcome(ask, now) {
+            PoolOutcome::Refused | PoolOutcome::TimesOut => false,
+            PoolOutcome::Preempts(_, _)
+            | PoolOutcome::Gets(_)
+            | PoolOutcome::WaitsUntil(_)
+            | PoolOutcome::WaitsForEver => true,
+        }
+    }
+
     /// Asks for a token, by its place or any (ISO 9506-1, TakeControl). A client that waits for a token of the pool, or
     /// that owns the token that it names, is refused, `Twice`, and all stays as it was; that it owns other tokens
     /// refuses nothing. Where the client that is to be preempted has hung entries whose tokens suit, the one with the

@@ -1,9 +1,10 @@
 //! Who is granted a token.
 
-ghost use Rattle.std.specs.Prelude.{◌≡◌, IfOk};
+ghost use Rattle.std.specs.Prelude.{◌≡◌, ◌≢◌, Err, IfOk, None, OnErr, Some, true};
 ghost use Rattle.mms_types.specs.Moments.{IsDated};
 ghost use Rattle.mms_types.specs.Serves.{Serves};
-ghost use Rattle.mms_time.specs.Services.{relinquish_cause};
+ghost use Rattle.mms_types.specs.declared.refuse.Refuse.TheVariants.{Memory as OutOfMemory};
+ghost use Rattle.mms_time.specs.Services.{is_named, relinquish_cause, relinquish_grant};
 ghost use Rattle.sem_ticks.specs.Granted.{all_granted, granted, lost_granted, relinquish_granted};
 
 use mms_time::{SemaphoreRow, grant_answer, relinquish_control_told};
@@ -23,14 +24,16 @@ pub struct Granted {
     pub answer: TakeControlAnswer,
 }
 
-/// A grant in the semaphore of that name, with what is answered.
+/// A grant in the semaphore of that name, with what is answered. Memory is wanted only where a name is told.
 pub(crate) fn with_answer(
     alloc: Global,
     semaphores: &Named<SemaphoreRow>,
     key: &Key,
     grant: &Grant,
 ) -> Result<Granted, Memory>
-    ensures { IfOk result (λ told. told ≡ granted semaphores.now (key.now, grant.now)) }
+    ensures told { IfOk result (λ told. told ≡ granted semaphores.now (key.now, grant.now)) }
+    ensures wants { OnErr result
+        (is_named (granted semaphores.now (key.now, grant.now)).answer ≡ true) }
 {
     Ok(Granted {
         client: grant.client,
@@ -55,19 +58,23 @@ fn all_granted(
 }
 
 /// Who is granted the token that a client gives back, if anyone is, or why it isn't given back (ISO 9506-1,
-/// RelinquishControl), as `mms_time` has it. Nothing changes.
+/// RelinquishControl), as `mms_time` has it. Nothing changes. Want of memory is told of no request that is refused, nor
+/// where nobody is granted the token.
 pub fn relinquish_told(
     alloc: Global,
     semaphores: &Named<SemaphoreRow>,
     client: u32,
     asked: &RelinquishControl,
 ) -> Result<Option<Granted>, Refuse>
-    ensures { Serves result (relinquish_cause client asked.now semaphores.now)
+    ensures told { Serves result (relinquish_cause client asked.now semaphores.now)
         (relinquish_granted client asked.now semaphores.now) }
+    ensures wants { result ≡ Err OutOfMemory
+        → relinquish_grant client asked.now semaphores.now ≢ Some None }
 {
-    match relinquish_control_told(semaphores, client, asked)? {
-        None => Ok(None),
-        Some(grant) => {
+    match relinquish_control_told(semaphores, client, asked) {
+        Err(error) => Err(Refuse::Service(error)),
+        Ok(None) => Ok(None),
+        Ok(Some(grant)) => {
             let key = asked.name.key(alloc, client)?;
             Ok(Some(with_answer(alloc, semaphores, &key, &grant)?))
         }

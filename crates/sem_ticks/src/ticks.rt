@@ -1,6 +1,6 @@
 //! Deadlines are met, one after the other.
 
-ghost use Rattle.std.specs.Prelude.{◌≡◌, ◌++◌, ◌∷◌, ◌≤◌, [], map, option_map, IfOk, IfSome, OnOk, Some};
+ghost use Rattle.std.specs.Prelude.{◌≡◌, ◌≢◌, ◌++◌, ◌∷◌, ◌≤◌, [], map, option_map, IfNone, IfOk, IfSome, None, OnErr, OnOk, OnSome, Some};
 ghost use Rattle.mms_types.specs.Moments.{IsDated};
 ghost use Rattle.mms_time.specs.Deadlines.{NamedDeadline, deadline_in, next_due};
 ghost use Rattle.mms_time.specs.Loss.{lost};
@@ -147,11 +147,8 @@ fn meet(alloc: Global, ticked: &mut Ticked, next: &Next) -> Result<(), Memory>
     )
 }
 
-/// Lets time go by up to a moment (ISO 9506-1, TakeControl, acceptableDelay, controlTimeOut and abortOnTimeOut): every
-/// deadline that is at most that moment is met at its own moment, one after the other, also those that arise meanwhile;
-/// of one moment control time-outs come before acceptable delays, then they come by name, then by the entry's number.
-/// The semaphores given stay as they are; the one refusal is want of memory.
-pub fn tick(
+/// Meets each deadline that is at most that moment, on a copy of the semaphores.
+fn met_until(
     alloc: Global,
     semaphores: &Named<SemaphoreRow>,
     until: Moment,
@@ -167,4 +164,26 @@ pub fn tick(
         meet(alloc, &mut ticked, &next)?;
     }
     Ok(ticked)
+}
+
+/// Lets time go by up to a moment (ISO 9506-1, TakeControl, acceptableDelay, controlTimeOut and abortOnTimeOut): every
+/// deadline that is at most that moment is met at its own moment, one after the other, also those that arise meanwhile;
+/// of one moment control time-outs come before acceptable delays, then they come by name, then by the entry's number.
+/// The semaphores given stay as they are. None exactly where no deadline is at most that moment, so that nothing
+/// happens; then no memory is taken. The one refusal is want of memory.
+pub fn tick(
+    alloc: Global,
+    semaphores: &Named<SemaphoreRow>,
+    until: Moment,
+) -> Result<Option<Ticked>, Memory>
+    requires { IsDated until }
+    ensures met { IfOk result (λ met. IfSome met (λ t. state_of t ≡ ticked until semaphores.now)) }
+    ensures some { IfOk result (λ met. OnSome met (next_due until semaphores.now ≢ None)) }
+    ensures none { IfOk result (λ met. IfNone met (next_due until semaphores.now ≡ None)) }
+    ensures wants { OnErr result (next_due until semaphores.now ≢ None) }
+{
+    if next_due(semaphores, until).is_none() {
+        return Ok(None);
+    }
+    Ok(Some(met_until(alloc, semaphores, until)?))
 }

@@ -1,6 +1,6 @@
 //! What is done on the entries of a semaphore, of equal tokens or of a pool.
 
-ghost use Rattle.std.specs.Prelude.{◌≡◌, ◌+◌, ◌≤◌, ◌<◌, [], ◌∷◌, ◌++◌, Err, IfOk, OnErr, OnOk, count_by, filter, fold, length, map, not, option_map, vec_capacity, vec_len};
+ghost use Rattle.std.specs.Prelude.{◌≡◌, ◌+◌, ◌≤◌, ◌<◌, [], ◌∷◌, ◌++◌, Err, IfOk, IsOk, OnErr, OnOk, count_by, filter, fold, length, map, not, option_map, vec_capacity, vec_len};
 ghost use Rattle.mms_types.specs.Moments.{IsDated};
 ghost use Rattle.token_sem.specs.Semaphore.{aborts, after, after_freeing, before, deadline_after, earlier, entry_of, first_deadline, grant_of, grant_to, granted_entry, has_claim, hung_entry, hung_of, hung_to_preempt, is_hung, is_owner, loss_of_one, next, numbered, outcome_later, owned_by, owner_of, sooner, tokens_held, waits_for, without};
 ghost use Rattle.token_sem.specs.declared.entry.SemState.TheVariants.{Owner, Queued};
@@ -245,11 +245,13 @@ pub fn grant_to(number: u64, ask: &Ask) -> Grant
     }
 }
 
-/// Appends an entry. The one refusal is want of memory; then the entries are as before.
+/// Appends an entry. It takes no memory where there is room. The one refusal is want of memory; then the entries are as
+/// before.
 pub fn add(entries: &mut Vec<SemEntry>, entry: SemEntry) -> Result<(), TakeRefused>
     ensures ok { OnOk result (entries.new.items ≡ entries.old.items ++ entry ∷ []) }
     ensures err { OnErr result (entries.new.items ≡ entries.old.items) }
     ensures memory { OnErr result (result ≡ Err OutOfMemory) }
+    ensures enough { vec_len entries.old < vec_capacity entries.old → IsOk result }
 {
     match entries.push(entry) {
         Ok(()) => Ok(()),

@@ -1,4 +1,4 @@
-ghost use Rattle.std.specs.Prelude.{◌≡◌, ◌==◌, [], Bool, IfOk, None, OnErr, OnOk, length, nat_lt, take};
+ghost use Rattle.std.specs.Prelude.{◌≡◌, ◌≢◌, ◌==◌, [], Bool, IfOk, None, OnErr, OnOk, length, nat_lt, take};
 ghost use Rattle.std.specs.Option.{option_copied};
 ghost use Rattle.object_names.specs.Listing.{names_after};
 ghost use Rattle.object_names.specs.Selected.{selected};
@@ -66,15 +66,16 @@ impl Lists {
         Some(list.variables.as_slice())
     }
 
-    /// What the list is that a client names so, with its variables copied: None exactly where it is missing (ISO
-    /// 9506-2, GetNamedVariableListAttributes-Response).
+    /// What the list is that a client names so, with its variables copied: None exactly where it is missing; then no
+    /// memory is taken (ISO 9506-2, GetNamedVariableListAttributes-Response).
     pub fn attributes(
         &self,
         alloc: Global,
         client: u32,
         name: &ObjectName,
     ) -> Result<Option<ListAttributes>, Memory>
-        ensures { IfOk result (λ told. told ≡ attributes client name.now self.now) }
+        ensures told { IfOk result (λ told. told ≡ attributes client name.now self.now) }
+        ensures wants { OnErr result (attributes client name.now self.now ≢ None) }
     {
         match self.rows.named(client, name) {
             None => Ok(None),

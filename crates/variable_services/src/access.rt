@@ -1,9 +1,9 @@
 //! Read, Write, GetVariableAccessAttributes and DefineNamedVariable.
 
-ghost use Rattle.std.specs.Prelude.{◌≡◌, Bool, IfOk, None, OnErr, OnOk, Some, map};
+ghost use Rattle.std.specs.Prelude.{◌≡◌, ◌≢◌, Bool, IfErr, IfOk, None, OnErr, OnOk, Some, map};
 ghost use Rattle.mms_types.specs.Serves.{Serves};
 ghost use Rattle.std.specs.Option.{option_copied};
-ghost use Rattle.variable_services.specs.Services.{attributes_answer, attributes_cause, define_after, define_cause, guards, is_guarded, read_answer, read_cause, write_after, write_answer, write_cause};
+ghost use Rattle.variable_services.specs.Services.{accessed, attributes_answer, attributes_cause, define_after, define_cause, guards, is_guarded, read_answer, read_cause, write_after, write_answer, write_cause};
 
 use crate::VariableTables;
 use crate::tables::accessed;
@@ -16,7 +16,8 @@ use std::alloc::Global;
 impl VariableTables {
     /// What a client reads (ISO 9506-2, Read). Object-non-existent where the list that it names is missing.
     pub fn read(&self, alloc: Global, client: u32, asked: &Read) -> Result<ReadAnswer, Refuse>
-        ensures { Serves result (read_cause client asked.now self.now) (Some (read_answer client asked.now self.now)) }
+        ensures { Serves result (read_cause client asked.now self.now)
+            (Some (read_answer client asked.now self.now)) }
     {
         let Some(variables) = accessed(&self.lists, client, &asked.access) else {
             return Err(Refuse::Service(ServiceError::OBJECT_NON_EXISTENT));
@@ -43,15 +44,16 @@ impl VariableTables {
     }
 
     /// The guard of each variable that a client's write names, in order: there are none where the list that it names
-    /// is missing. The one refusal is want of memory.
+    /// is missing, and then no memory is taken. The one refusal is want of memory.
     pub fn guards(
         &self,
         alloc: Global,
         client: u32,
         asked: &Write,
     ) -> Result<Vec<Option<&Identifier>>, Memory>
-        ensures { IfOk result (λ found. map option_copied found.items
+        ensures found { IfOk result (λ found. map option_copied found.items
             ≡ guards client asked.now self.now) }
+        ensures wants { OnErr result (accessed client asked.now.access self.now ≢ None) }
     {
         match accessed(&self.lists, client, &asked.access) {
             None => Ok(Vec::new(alloc)),
@@ -59,10 +61,37 @@ impl VariableTables {
         }
     }
 
+    /// The variables that a client writes, or why none is written.
+    fn to_write<'a>(&'a self, client: u32, asked: &'a Write) -> Result<&'a [Spec], ServiceError>
+        ensures variables { IfOk result (λ variables.
+            accessed client asked.now.access self.now ≡ Some variables.now) }
+        ensures written { OnOk result (write_cause client asked.now self.now ≡ None) }
+        ensures refused { IfErr result (λ error.
+            write_cause client asked.now self.now ≡ Some error) }
+    {
+        let Some(variables) = accessed(&self.lists, client, &asked.access) else {
+            return Err(ServiceError::OBJECT_NON_EXISTENT);
+        };
+        if asked.values.as_slice().len() != variables.len() {
+            return Err(ServiceError::TYPE_INCONSISTENT);
+        }
+        Ok(variables)
+    }
+
+    /// Why variables are not written (ISO 9506-2, Write): object-non-existent where the list that the write names is
+    /// missing, and then type-inconsistent where there are more or fewer data than variables.
+    pub fn write_cause(&self, client: u32, asked: &Write) -> Option<ServiceError>
+        ensures { result ≡ write_cause client asked.now self.now }
+    {
+        match self.to_write(client, asked) {
+            Ok(_) => None,
+            Err(error) => Some(error),
+        }
+    }
+
     /// What becomes of the variables that a client writes (ISO 9506-2, Write); nothing is written yet. `owns` tells of
     /// them in order whether the client owns a token of the guard; where it ends before them, of the others it owns
-    /// none. Object-non-existent where the list that it names is missing, and then type-inconsistent where there are
-    /// more or fewer data than variables.
+    /// none. Refused for its cause, as `write_cause` has it.
     pub fn write_results(
         &self,
         alloc: Global,
@@ -73,14 +102,13 @@ impl VariableTables {
         ensures { Serves result (write_cause client asked.now self.now)
             (Some (write_answer owns.now client asked.now self.now)) }
     {
-        let Some(variables) = accessed(&self.lists, client, &asked.access) else {
-            return Err(Refuse::Service(ServiceError::OBJECT_NON_EXISTENT));
-        };
-        let values = asked.values.as_slice();
-        if values.len() != variables.len() {
-            return Err(Refuse::Service(ServiceError::TYPE_INCONSISTENT));
+        match self.to_write(client, asked) {
+            Err(error) => Err(Refuse::Service(error)),
+            Ok(variables) => {
+                let values = asked.values.as_slice();
+                Ok(self.vars.results(alloc, client, owns, variables, values)?)
+            }
         }
-        Ok(self.vars.results(alloc, client, owns, variables, values)?)
     }
 
     /// Writes variables, whose data, copied, are given. `owns` tells of them in order whether the client owns a token
@@ -104,7 +132,8 @@ impl VariableTables {
         client: u32,
         asked: &Spec,
     ) -> Result<VariableAttributes, Refuse>
-        ensures { Serves result (attributes_cause client asked.now self.now) (attributes_answer client asked.now self.now) }
+        ensures { Serves result (attributes_cause client asked.now self.now)
+            (attributes_answer client asked.now self.now) }
     {
         match self.vars.attributes(alloc, client, asked)? {
             Some(told) => Ok(told),

@@ -18,7 +18,8 @@ impl VariableTables {
         client: u32,
         asked: &ObjectName,
     ) -> Result<ListAttributes, Refuse>
-        ensures { Serves result (list_attributes_cause client asked.now self.now) (list_attributes_answer client asked.now self.now) }
+        ensures { Serves result (list_attributes_cause client asked.now self.now)
+            (list_attributes_answer client asked.now self.now) }
     {
         match self.lists.attributes(alloc, client, asked)? {
             Some(told) => Ok(told),

@@ -1,6 +1,6 @@
 //! What variables are, and the names that they are given: GetVariableAccessAttributes, DefineNamedVariable.
 
-ghost use Rattle.std.specs.Prelude.{◌≡◌, Bool, IfOk, None, OnErr, OnOk, is_none, is_some, length, nat_lt, take};
+ghost use Rattle.std.specs.Prelude.{◌≡◌, ◌≢◌, Bool, IfOk, None, OnErr, OnOk, is_none, is_some, length, nat_lt, take};
 ghost use Rattle.std.specs.Option.{option_copied};
 ghost use Rattle.object_names.specs.Listing.{names_after};
 ghost use Rattle.object_names.specs.NewName.{is_of_domain};
@@ -31,14 +31,15 @@ fn has_other_type(given: &Option<TypeSpec>, cell: Option<&Cell>) -> bool
 
 impl Vars {
     /// What the variable is that a client's specification names, with its type copied: None exactly where the name or
-    /// the cell is missing (ISO 9506-2, GetVariableAccessAttributes-Response).
+    /// the cell is missing; then no memory is taken (ISO 9506-2, GetVariableAccessAttributes-Response).
     pub fn attributes(
         &self,
         alloc: Global,
         client: u32,
         spec: &Spec,
     ) -> Result<Option<VariableAttributes>, Memory>
-        ensures { IfOk result (λ told. told ≡ attributes client spec.now self.now) }
+        ensures told { IfOk result (λ told. told ≡ attributes client spec.now self.now) }
+        ensures wants { OnErr result (attributes client spec.now self.now ≢ None) }
     {
         let (deletable, address) = match spec {
             Spec::Address(_) => (false, None),

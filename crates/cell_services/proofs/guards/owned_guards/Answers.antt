@@ -3,10 +3,10 @@ use Rattle.std.proofs.lemmas.Result.{IfOk-weaker}
 use Rattle.cell_services.proofs.GuardLaws.{all_flags, no_flags}
 use Rattle.cell_services.proofs.guards.owned_guards.Goals as goal
 
-pub returns-then-is_guarded : goal.returns-then-is_guarded
-returns-then-is_guarded c =
+pub returns-then-is_guarded-clause-flags : goal.returns-then-is_guarded-clause-flags
+returns-then-is_guarded-clause-flags c =
     IfOk-weaker c.flags.result _ _ (λ owned is. all_flags c.args.client c.args.asked.now c.args.variables.now c.args.semaphores.now owned.items is) c.flags.ensures
 
-pub returns-else-is_guarded : goal.returns-else-is_guarded
-returns-else-is_guarded c =
+pub returns-else-is_guarded-clause-flags : goal.returns-else-is_guarded-clause-flags
+returns-else-is_guarded-clause-flags c =
     no_flags c.args.client c.args.asked.now c.args.variables.now c.args.semaphores.now _ (sym c.is_guarded.ensures ∙ c.if-is_guarded.false) c.new.ensures.items

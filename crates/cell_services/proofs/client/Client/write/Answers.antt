@@ -10,7 +10,7 @@ pub returns-clause-told : goal.returns-clause-told
 returns-clause-told c =
     let flags : AreFlags c.args.self.now.row.client c.args.asked.now c.args.variables.now c.args.semaphores.now c.deref.result.now =
     subst (λ (owned : List Bool). AreFlags c.args.self.now.row.client c.args.asked.now c.args.variables.now c.args.semaphores.now owned) (sym c.deref.ensures.value)
-    (subst (λ (k : ℕ). AreFlags k c.args.asked.now c.args.variables.now c.args.semaphores.now c.in_ok-owned.owned.items) (c.client-client.ensures ∙ ap (λ (p : RoomyRow). p.row.client) c.self.view_is) c.in_ok-owned.ensures) in
+    (subst (λ (k : ℕ). AreFlags k c.args.asked.now c.args.variables.now c.args.semaphores.now c.in_ok-owned.owned.items) (c.client-client.ensures ∙ ap (λ (p : RoomyRow). p.row.client) c.self.view_is) c.in_ok-owned.ensures.flags) in
     on_ok_weaker c.write_owned.result
     (λ told. told
     ∙ told_by_flags c.args.self.now.row.client c.args.asked.now c.args.variables.now c.args.semaphores.now c.deref.result.now flags (size_of c.args.self.now.row.association) c.args.invoke c.args.self.now.row)
@@ -20,7 +20,7 @@ pub returns-clause-written : goal.returns-clause-written
 returns-clause-written c =
     let flags : AreFlags c.args.self.now.row.client c.args.asked.now c.args.variables.now c.args.semaphores.now c.deref.result.now =
     subst (λ (owned : List Bool). AreFlags c.args.self.now.row.client c.args.asked.now c.args.variables.now c.args.semaphores.now owned) (sym c.deref.ensures.value)
-    (subst (λ (k : ℕ). AreFlags k c.args.asked.now c.args.variables.now c.args.semaphores.now c.in_ok-owned.owned.items) (c.client-client.ensures ∙ ap (λ (p : RoomyRow). p.row.client) c.self.view_is) c.in_ok-owned.ensures) in
+    (subst (λ (k : ℕ). AreFlags k c.args.asked.now c.args.variables.now c.args.semaphores.now c.in_ok-owned.owned.items) (c.client-client.ensures ∙ ap (λ (p : RoomyRow). p.row.client) c.self.view_is) c.in_ok-owned.ensures.flags) in
     on_ok_weaker c.write_owned.result
     (λ written. written
     ∙ written_by_flags c.args.self.now.row.client c.args.asked.now c.args.variables.now c.args.semaphores.now c.deref.result.now flags (size_of c.args.self.now.row.association) c.args.invoke)

@@ -5,7 +5,7 @@ use Rattle.sem_ticks.specs.Ticks.{met, next_met}
 use Rattle.sem_ticks.specs.declared.ticks.Next.{Next}
 use Rattle.sem_ticks.proofs.Fewer.{falls}
 use Rattle.sem_ticks.proofs.Twice.{tick_meets, tick_rests}
-use Rattle.sem_ticks.proofs.ticks.tick.Goals as goal
+use Rattle.sem_ticks.proofs.ticks.met_until.Goals as goal
 
 pub loop-ticked-smaller : goal.loop-ticked-smaller
 loop-ticked-smaller c =

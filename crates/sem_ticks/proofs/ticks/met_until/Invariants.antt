@@ -1,7 +1,7 @@
 use Rattle.std.proofs.Common.{◌≡◌}
 use Rattle.sem_ticks.specs.Meant.{state_of}
 use Rattle.sem_ticks.specs.Ticks.{entries_left, ticked, ticked_on}
-use Rattle.sem_ticks.proofs.ticks.tick.Given as goal
+use Rattle.sem_ticks.proofs.ticks.met_until.Given as goal
 
 abbrev pub invariant-loop-ticked : goal.invariant-loop-ticked
 invariant-loop-ticked l = ticked_on l.until (state_of l.ticked) ≡ ticked l.until l.semaphores
