@@ -4,7 +4,7 @@ ghost use Rattle.std.specs.Prelude.{◌≡◌, ◌+◌, ◌<◌, ◌≤◌, leng
 ghost use Rattle.part_table.specs.Amounts.{AreInOrder};
 ghost use Rattle.part_table.specs.Known.{HoldsNothing};
 
-use part_table::example::{Amounts, serve, table_of};
+use part_table::example::{Amounts, serve, table_of, take};
 use part_table::{PartTable, Pass};
 use std::alloc::Global;
 use std::test::Fail;
@@ -60,6 +60,24 @@ fn opened_and_closed(alloc: Global, numbers: &[u64], callers: u32) -> Option<(u6
 {
     let (table, passes) = table_of(alloc, numbers, callers, 1_000).ok()?;
     finish(alloc, table, passes)
+}
+
+/// Takes three of five parts, one after the other: which one was taken last, after each of them.
+fn last_of_each(alloc: Global) -> Option<(u32, u32, u32)> {
+    let (table, mut passes) = table_of(alloc, &[1, 2, 3, 4, 5], 1, 10).ok()?;
+    let mut pass = passes.pop()?;
+    take(&table, &mut pass, 3).ok()?;
+    let first = pass.last_taken()?;
+    take(&table, &mut pass, 0).ok()?;
+    let second = pass.last_taken()?;
+    take(&table, &mut pass, 4).ok()?;
+    let third = pass.last_taken()?;
+    Some((first, second, third))
+}
+
+#[test]
+fn the_part_taken_last_is_told(rt: HostRuntime) {
+    assert!(rt; last_of_each(rt.alloc()) == Some((3, 0, 4)));
 }
 
 #[test]

@@ -58,6 +58,22 @@ impl Meeting {
     }
 }
 
+/// A gate that notes which of two callers got on, one behind the other, as digits to the base 3.
+#[derive(Drop)]
+struct Noting {
+    callers: AtomicU64,
+}
+
+impl Gate for Noting {
+    fn pass(&self, caller: u32, point: Point) {
+        if point == Point::Committed {
+            let known = self.callers.load(Ordering::SeqCst);
+            let now = known.wrapping_mul(3).wrapping_add(u64::from(caller) + 1);
+            self.callers.store(now, Ordering::SeqCst);
+        }
+    }
+}
+
 /// The count of a caller to a goal.
 fn count_to(by: u32, goal: u16, is_short: bool) -> Count
     ensures { IsFit result }
@@ -146,5 +162,28 @@ fn two_workers_are_at_work_at_once(rt: HostRuntime) -> Result<(), Fail> {
     let steps = gate.steps.load(Ordering::SeqCst);
     let late = gate.late.load(Ordering::SeqCst);
     assert_eq!(rt; (found, steps, late), (Some((true, true, 2)), 50, 0));
+    Ok(())
+}
+
+/// The first count takes two turns before the second is no longer held up, and then they take turns.
+#[test]
+fn a_worker_turns_a_count_once_and_puts_it_back(rt: HostRuntime) -> Result<(), Fail> {
+    let gate = Noting {
+        callers: AtomicU64::new(0),
+    };
+    let found = served(&rt, rt.alloc(), &[3, 3], 1, NONE, &gate);
+    let callers = gate.callers.load(Ordering::SeqCst);
+    assert_eq!(rt; (found, callers), (Some((true, true, 2)), 395));
+    Ok(())
+}
+
+#[test]
+fn no_count_is_begun_once_memory_was_wanting(rt: HostRuntime) -> Result<(), Fail> {
+    let gate = Noting {
+        callers: AtomicU64::new(0),
+    };
+    let found = served(&rt, rt.alloc(), &[0, 3], 1, 0, &gate);
+    let callers = gate.callers.load(Ordering::SeqCst);
+    assert_eq!(rt; (found, callers), (Some((false, true, 1)), 0));
     Ok(())
 }

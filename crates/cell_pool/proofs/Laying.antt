@@ -1,17 +1,17 @@
 -- Items are laid in their places.
 use Rattle.std.proofs.Common.{◌≡◌, ◌⊎◌, ℕ, zero, suc, ◌+◌, ◌<◌, ◌≤◌, List, [], ◌∷◌, ◌++◌, length, Option, Some, None, is_some, unwrap_or, slice_get, slice_set, take, subst, inl, inr, true≢false, sym, refl, ap, ◌∙◌, arith, ⊎_elim}
 use Rattle.std.specs.List.{range_with_len}
-use Rattle.cell_pool.specs.Rule.{weigh, weigh_all, is, IsLaid, HoldsEach}
+use Rattle.cell_pool.specs.Rule.{weigh, weigh_all, is, pick, IsLaid, HoldsEach, Lies, LiesOnce, LiesOnceIn}
 use Rattle.cell_pool.proofs.Lists.{at_seam}
 use Rattle.cell_pool.proofs.Rules.{weigh-append}
 
-is_cases : (p q : ℕ) → (p ≡ q) ⊎ (is p q ≡ 0)
+pub is_cases : (p q : ℕ) → (p ≡ q) ⊎ (is p q ≡ 0)
 is_cases zero zero = inl refl
 is_cases zero (suc q) = inr refl
 is_cases (suc p) zero = inr refl
 is_cases (suc p) (suc q) = ⊎_elim (λ e. inl (ap suc e)) (λ z. inr z) (is_cases p q)
 
-is_self : (p : ℕ) → is p p ≡ 1
+pub is_self : (p : ℕ) → is p p ≡ 1
 is_self zero = refl
 is_self (suc p) = is_self p
 
@@ -32,7 +32,7 @@ module _ {A : Type 0} where
   set_else (x ∷ xs) (suc i) zero y other = refl
   set_else (x ∷ xs) (suc i) (suc p) y other = set_else xs i p y other
 
-  un_some : (a b : A) → Some a ≡ Some b → a ≡ b
+  pub un_some : (a b : A) → Some a ≡ Some b → a ≡ b
   un_some a b e = ap (λ o. unwrap_or o a) e
 
 module _ {I : Type 0} (at : I → ℕ) where
@@ -86,7 +86,7 @@ in_range n p lt = by n p 0 (omega arith) (omega arith)
 pub covered : {I L : Type 0} (at : I → ℕ) (inside : L → List I) (n p : ℕ) (lists : List L) → HoldsEach at inside n lists → p < n → 0 < weigh_all inside (λ i. is p (at i)) lists
 covered at inside n p lists holds lt = let h = in_range n p lt in let e = holds (is p) in omega arith
 
-take_front : {A : Type 0} (n : ℕ) (xs zs : List A) → length xs ≡ n → take n (xs ++ zs) ≡ xs
+pub take_front : {A : Type 0} (n : ℕ) (xs zs : List A) → length xs ≡ n → take n (xs ++ zs) ≡ xs
 take_front zero [] zs len = none zs
   where
     none : {A : Type 0} (ys : List A) → take 0 ys ≡ []
@@ -98,3 +98,86 @@ take_front (suc n) (x ∷ xs) zs len = ap (λ l. x ∷ l) (take_front n xs zs (o
 
 pub laid_kept : {I : Type 0} (at : I → ℕ) (slots zs : List (Option I)) (n p : ℕ) → length slots ≡ n → IsLaid at slots p → IsLaid at (take n (slots ++ zs)) p
 laid_kept {I = I} at slots zs n p len l = subst (λ (s : List (Option I)). IsLaid at s p) (sym (take_front n slots zs len)) l
+
+pub pick_else : (n x : ℕ) → n ≡ 0 → pick n x ≡ 0
+pick_else zero x none = refl
+pick_else (suc n) x none = absurd (omega arith)
+
+pub pick_here : (p q x : ℕ) → p ≡ q → pick (is p q) x ≡ x
+pick_here p q x here = ap (λ n. pick n x) (ap (is p) (sym here) ∙ is_self p)
+
+pub below : {A : Type 0} (xs : List A) (p : ℕ) (x : A) → slice_get xs p ≡ Some x → p < length xs
+below [] p x there = absurd (true≢false (sym (ap (λ q. is_some q) there)))
+below (y ∷ xs) zero x there = omega arith
+below (y ∷ xs) (suc p) x there = let h = below xs p x there in omega arith
+
+-- each of the first n numbers is there once
+pub in_range_once : (n p a : ℕ) → weigh (is p) (range_with_len a n) ≤ 1
+in_range_once zero p a = omega arith
+in_range_once (suc n) p a = ⊎_elim (λ (here : p ≡ a). let e = ap (is p) (sym here) ∙ is_self p in let h = behind n p (a + 1) (omega arith) in omega arith)
+    (λ (other : is p a ≡ 0). let h = in_range_once n p (a + 1) in omega arith) (is_cases p a)
+  where
+    behind : (m q b : ℕ) → q < b → weigh (is q) (range_with_len b m) ≡ 0
+    behind zero q b lt = refl
+    behind (suc m) q b lt = ⊎_elim (λ (here : q ≡ b). absurd (omega arith)) (λ (other : is q b ≡ 0). let h = behind m q (b + 1) (omega arith) in omega arith) (is_cases q b)
+
+pub once : {I L : Type 0} (at : I → ℕ) (inside : L → List I) (n p : ℕ) (lists : List L) → HoldsEach at inside n lists → weigh_all inside (λ i. is p (at i)) lists ≤ 1
+once at inside n p lists holds = let h = in_range_once n p 0 in let e = holds (is p) in omega arith
+
+abbrev pub StillLie : {I : Type 0} → (I → ℕ) → List (Option I) → List I → List (Option I) → List I → Type 0
+StillLie {I} at old all now left = (f : I → ℕ) (p : ℕ) → LiesOnce at f old all p → LiesOnce at f now left p
+
+abbrev pub StillLieIn : {I L : Type 0} → (I → ℕ) → (L → List I) → List (Option I) → List L → List (Option I) → List L → Type 0
+StillLieIn {I} at inside old all now left = (f : I → ℕ) (p : ℕ) → LiesOnceIn at inside f old all p → LiesOnceIn at inside f now left p
+
+module _ {I : Type 0} (at : I → ℕ) (f : I → ℕ) where
+  none_picked : (p : ℕ) (xs : List I) → weigh (λ i. is p (at i)) xs ≡ 0 → weigh (λ i. pick (is p (at i)) (f i)) xs ≡ 0
+  none_picked p [] none = refl
+  none_picked p (x ∷ xs) none = let h = none_picked p xs (omega arith) in let e = pick_else (is p (at x)) (f x) (omega arith) in omega arith
+
+  pub once_next : (slots : List (Option I)) (list rest : List I) (x : I) (p : ℕ) → list ≡ rest ++ x ∷ [] → at x < length slots → LiesOnce at f slots list p
+      → LiesOnce at f (slice_set slots (at x) (Some x)) rest p
+  once_next slots list rest x p less inside before =
+      let e = ap (weigh (λ i. is p (at i))) less ∙ weigh-append (λ i. is p (at i)) rest (x ∷ []) in
+      let g = ap (weigh (λ i. pick (is p (at i)) (f i))) less ∙ weigh-append (λ i. pick (is p (at i)) (f i)) rest (x ∷ []) in
+      ⊎_elim
+      (λ (here : p ≡ at x).
+      let me = ap (is p) (sym here) ∙ is_self p in
+      let mine = pick_here p (at x) (f x) here in
+      ⊎_elim (λ (l : Lies at f slots p × (weigh (λ i. is p (at i)) list ≡ 0)). absurd (let z = l.1 in omega arith))
+      (λ (w : (0 < weigh (λ i. pick (is p (at i)) (f i)) list) × (weigh (λ i. is p (at i)) list ≤ 1)).
+      let none : weigh (λ i. is p (at i)) rest ≡ 0 = (let o = w.1 in omega arith) in
+      let z = none_picked p rest none in
+      inl ((x, ap (slice_get (slice_set slots (at x) (Some x))) here ∙ set_at slots (at x) (Some x) inside, sym here, (let s = w.0 in omega arith)), none)) before)
+      (λ (other : is p (at x) ≡ 0).
+      let mine = pick_else (is p (at x)) (f x) other in
+      ⊎_elim (λ (l : Lies at f slots p × (weigh (λ i. is p (at i)) list ≡ 0)). inl ((l.0.0, set_else slots (at x) p (Some x) other ∙ l.0.1, l.0.2, l.0.3), (let z = l.1 in omega arith)))
+      (λ (w : (0 < weigh (λ i. pick (is p (at i)) (f i)) list) × (weigh (λ i. is p (at i)) list ≤ 1)). inr ((let s = w.0 in omega arith), (let o = w.1 in omega arith))) before) (is_cases p (at x))
+
+  pub once_end : (slots : List (Option I)) (list : List I) (p : ℕ) → length list ≡ 0 → LiesOnce at f slots list p → Lies at f slots p
+  once_end slots [] p none before = ⊎_elim (λ (l : Lies at f slots p × (weigh (λ i. is p (at i)) [] ≡ 0)). l.0) (λ w. absurd (let s = w.0 in omega arith)) before
+  once_end slots (x ∷ list) p none before = absurd (omega arith)
+
+  module _ {L : Type 0} (inside : L → List I) where
+    none_picked_in : (p : ℕ) (lists : List L) → weigh_all inside (λ i. is p (at i)) lists ≡ 0 → weigh_all inside (λ i. pick (is p (at i)) (f i)) lists ≡ 0
+    none_picked_in p [] none = refl
+    none_picked_in p (k ∷ lists) none = let h = none_picked_in p lists (omega arith) in let g = none_picked p (inside k) (omega arith) in omega arith
+
+    pub once_all_next : (slots now : List (Option I)) (lists rest : List L) (k : L) (p : ℕ) → lists ≡ rest ++ k ∷ [] → LiesOnceIn at inside f slots lists p
+        → (LiesOnce at f slots (inside k) p → Lies at f now p) → LiesOnceIn at inside f now rest p
+    once_all_next slots now lists rest k p less before lays =
+        let e = ap (weigh_all inside (λ i. is p (at i))) less ∙ weigh-append (λ l. weigh (λ i. is p (at i)) (inside l)) rest (k ∷ []) in
+        let g = ap (weigh_all inside (λ i. pick (is p (at i)) (f i))) less ∙ weigh-append (λ l. weigh (λ i. pick (is p (at i)) (f i)) (inside l)) rest (k ∷ []) in
+        ⊎_elim
+        (λ (l : Lies at f slots p × (weigh_all inside (λ i. is p (at i)) lists ≡ 0)). inl (lays (inl (l.0, (let z = l.1 in omega arith))), (let z = l.1 in omega arith)))
+        (λ (w : (0 < weigh_all inside (λ i. pick (is p (at i)) (f i)) lists) × (weigh_all inside (λ i. is p (at i)) lists ≤ 1)).
+        ⊎_elim
+        (λ (none : weigh (λ i. is p (at i)) (inside k) ≡ 0). let z = none_picked p (inside k) none in inr ((let s = w.0 in omega arith), (let o = w.1 in omega arith)))
+        (λ (some : 0 < weigh (λ i. is p (at i)) (inside k)).
+        let none : weigh_all inside (λ i. is p (at i)) rest ≡ 0 = (let o = w.1 in omega arith) in
+        let z = none_picked_in p rest none in
+        inl (lays (inr ((let s = w.0 in omega arith), (let o = w.1 in omega arith))), none)) (some_or_none (weigh (λ i. is p (at i)) (inside k)))) before
+
+    pub once_all_end : (slots : List (Option I)) (lists : List L) (p : ℕ) → length lists ≡ 0 → LiesOnceIn at inside f slots lists p → Lies at f slots p
+    once_all_end slots [] p none before = ⊎_elim (λ (l : Lies at f slots p × (weigh_all inside (λ i. is p (at i)) [] ≡ 0)). l.0) (λ w. absurd (let s = w.0 in omega arith)) before
+    once_all_end slots (x ∷ lists) p none before = absurd (omega arith)

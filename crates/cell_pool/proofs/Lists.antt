@@ -19,6 +19,12 @@ module _ {A : Type 0} where
   pub All_last : (P : A → Type 0) (all ys : List A) (x : A) → all ≡ ys ++ x ∷ [] → All P all → P x
   All_last P all ys x is h = subst P (get_or-append_seam ys x [] x) (subst (All P) is h (length ys) x (omega (arith, length-append ys (x ∷ []))))
 
+  pub All_first : (P : A → Type 0) (x : A) (xs : List A) → All P (x ∷ xs) → P x
+  All_first P x xs h = h 0 x (omega arith)
+
+  pub All_rest : (P : A → Type 0) (x : A) (xs : List A) → All P (x ∷ xs) → All P xs
+  All_rest P x xs h k d lt = h (suc k) d (omega arith)
+
   pub All_snoc : (P : A → Type 0) (all ys : List A) (x : A) → all ≡ ys ++ x ∷ [] → All P ys → P x → All P all
   All_snoc P all ys x is h p = subst (All P) (sym is) (by ys h)
     where

@@ -4,7 +4,9 @@ use mathlib.Core.Option.{some, some-injective, some-ne-none}
 use lib.ListN.{get_elem?}
 use Rattle.crossbeam_queue.specs.Fifo.{Pushes, Pops, Forks, Merges, Learns}
 use Rattle.crossbeam_queue.proofs.Lists.{at_set, at_snoc}
+use Rattle.std.proofs.lemmas.List.Elements.{All-nil}
 use Rattle.cell_pool.specs.declared.rule.Hand.{Hand}
+use Rattle.cell_pool.proofs.Lists.{All_first, All_rest, All_snoc}
 use Rattle.cell_pool.specs.Rule.{weigh, hand, IdleIsEmpty, Balanced, Keeps}
 
 module _ {A : Type 0} where
@@ -52,16 +54,16 @@ idle_set views port w mine idle j u e none = ⊎_elim (λ (x : (j ≡ port) × (
 idle_snoc : (views : List Hand) (w : Hand) → 0 < w.parts → IdleIsEmpty views → IdleIsEmpty (views ++ w ∷ [])
 idle_snoc views w some_part idle j u e none = ⊎_elim (λ x. idle j u x none) (λ (is : w ≡ u). absurd (let p = ap (λ (y : Hand). y.parts) is in omega arith)) (at_snoc views w u j e)
 
-module _ {I : Type 0} (at : I → ℕ) where
-  pub begins : Balanced at [] (hand 64 [] [] ∷ [])
-  begins = (refl, (λ h. refl), idle_set (hand 64 [] [] ∷ []) 0 (hand 64 [] []) (λ none. absurd (omega (arith, none))) only)
+module _ {I : Type 0} (at : I → ℕ) (waits : I → Type 0) where
+  pub begins : Balanced at waits [] (hand 64 [] [] ∷ [])
+  begins = (refl, (λ h. refl), idle_set (hand 64 [] [] ∷ []) 0 (hand 64 [] []) (λ none. absurd (omega (arith, none))) only, All-nil waits)
     where
       only : IdleIsEmpty (hand 64 [] [] ∷ [])
       only zero v e none = absurd (let p = ap (λ (y : Hand). y.parts) (some-injective _ v e) in omega arith)
       only (suc j) v e none = absurd (some-ne-none v (sym e))
 
-  pub puts : (n port : ℕ) (v : Hand) (x : I) → 0 < v.parts → Pushes (Balanced at) n port v x (λ w. w ≡ hand v.parts (v.put ++ at x ∷ []) v.taken)
-  puts n port v x some_part items views room b here =
+  pub puts : (n port : ℕ) (v : Hand) (x : I) → 0 < v.parts → waits x → Pushes (Balanced at waits) n port v x (λ w. w ≡ hand v.parts (v.put ++ at x ∷ []) v.taken)
+  puts n port v x some_part idle items views room b here =
       let w = hand v.parts (v.put ++ at x ∷ []) v.taken in (
         w,
         (
@@ -72,11 +74,12 @@ module _ {I : Type 0} (at : I → ℕ) where
               let p = b.1 h in
               omega (arith, weigh-append h v.put (at x ∷ []), weigh-append (λ i. h (at i)) items (x ∷ []))),
           idle_set views port w (λ none. absurd (omega arith)) b.2,
+          All_snoc waits (items ++ x ∷ []) items x refl b.3 idle,
         ),
         refl,
       )
 
-  pub takes : (port : ℕ) (v : Hand) → 0 < v.parts → Pops (Balanced at) port v (λ x w. w ≡ hand v.parts v.put (v.taken ++ at x ∷ []))
+  pub takes : (port : ℕ) (v : Hand) → 0 < v.parts → Pops (Balanced at waits) port v (λ x w. w ≡ hand v.parts v.put (v.taken ++ at x ∷ []))
   takes port v some_part x items views b here =
       let w = hand v.parts v.put (v.taken ++ at x ∷ []) in (
         w,
@@ -88,24 +91,25 @@ module _ {I : Type 0} (at : I → ℕ) where
               let p = b.1 h in
               omega (arith, weigh-append h v.taken (at x ∷ []))),
           idle_set views port w (λ none. absurd (omega arith)) b.2,
+          All_rest waits x items b.3,
         ),
         refl,
       )
 
-  pub learns : (port : ℕ) (v : Hand) → v.parts ≡ 64 → Learns (Balanced at) port v (λ items. (h : ℕ → ℕ) → weigh h v.put ≡ weigh h v.taken + weigh (λ i. h (at i)) items)
+  pub learns : (port : ℕ) (v : Hand) → v.parts ≡ 64 → Learns (Balanced at waits) port v (λ items. (h : ℕ → ℕ) → weigh h v.put ≡ weigh h v.taken + weigh (λ i. h (at i)) items)
   learns port v all items views b here h =
       let put = alone (λ u. weigh h u.put) (λ u. u.parts) views port v here (b.0 ∙ sym all) (λ j u e none. ap (weigh h) (b.2 j u e none).0) in
       let taken = alone (λ u. weigh h u.taken) (λ u. u.parts) views port v here (b.0 ∙ sym all) (λ j u e none. ap (weigh h) (b.2 j u e none).1) in
       let p = b.1 h in
       omega arith
 
-  pub takes_all : (port : ℕ) (v : Hand) → v.parts ≡ 64 → Pops (Balanced at) port v (λ x w. (w ≡ hand v.parts v.put (v.taken ++ at x ∷ [])) × ((h : ℕ → ℕ) → weigh h w.taken ≤ weigh h w.put))
+  pub takes_all : (port : ℕ) (v : Hand) → v.parts ≡ 64 → Pops (Balanced at waits) port v (λ x w. (w ≡ hand v.parts v.put (v.taken ++ at x ∷ [])) × ((h : ℕ → ℕ) → weigh h w.taken ≤ weigh h w.put) × waits x)
   unfolding takes
   takes_all port v all x items views b here =
       let t = takes port v (omega arith) x items views b here in
-      (t.0, t.1, (refl, λ h. let l = learns port v all (x ∷ items) views b here h in omega (arith, weigh-append h v.taken (at x ∷ []))))
+      (t.0, t.1, (refl, (λ h. let l = learns port v all (x ∷ items) views b here h in omega (arith, weigh-append h v.taken (at x ∷ []))), All_first waits x items b.3))
 
-  pub forks : (port : ℕ) (v : Hand) → 1 < v.parts → Forks (Balanced at) port v (hand (v.parts - 1) v.put v.taken) (hand 1 [] [])
+  pub forks : (port : ℕ) (v : Hand) → 1 < v.parts → Forks (Balanced at waits) port v (hand (v.parts - 1) v.put v.taken) (hand 1 [] [])
   forks port v some_parts items views b here =
       let l = hand (v.parts - 1) v.put v.taken in
       let r = hand 1 [] [] in (
@@ -116,10 +120,11 @@ module _ {I : Type 0} (at : I → ℕ) where
             let p = b.1 h in
             omega (arith, weigh-append (λ (u : Hand). weigh h u.put) (set views port l) (r ∷ []), weigh-append (λ (u : Hand). weigh h u.taken) (set views port l) (r ∷ []))),
         idle_snoc (set views port l) r (omega arith) (idle_set views port l (λ none. absurd (omega arith)) b.2),
+        b.3,
       )
 
   pub merges : (port : ℕ) (v : Hand) (other : ℕ) (u : Hand) → 0 < v.parts
-      → Merges (Balanced at) port v other u (hand (v.parts + u.parts) (v.put ++ u.put) (v.taken ++ u.taken)) (hand 0 [] [])
+      → Merges (Balanced at waits) port v other u (hand (v.parts + u.parts) (v.put ++ u.put) (v.taken ++ u.taken)) (hand 0 [] [])
   merges port v other u some_part items views b here two there =
       let w = hand (v.parts + u.parts) (v.put ++ u.put) (v.taken ++ u.taken) in
       let z = hand 0 [] [] in
@@ -133,8 +138,10 @@ module _ {I : Type 0} (at : I → ℕ) where
             let p = b.1 h in
             omega (arith, weigh-append h v.put u.put, weigh-append h v.taken u.taken)),
         idle_set vs other z (λ none. (refl, refl)) (idle_set views port w (λ none. absurd (omega arith)) b.2),
+        b.3,
       )
 
+module _ {I : Type 0} (at : I → ℕ) where
   -- one is taken and kept
   pub kept : (v w : Hand) (items now : List I) (x y : I) → w ≡ hand v.parts v.put (v.taken ++ at x ∷ []) → now ≡ items ++ y ∷ [] → at y ≡ at x → Keeps at v items → Keeps at w now
   kept v w items now x y took grew same keeps h =

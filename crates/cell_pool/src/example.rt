@@ -1,5 +1,6 @@
 //! An example of jobs: counts that go up one by one to their goals.
-ghost use Rattle.std.specs.Prelude.{◌≡◌, ◌+◌, ◌-◌, ◌<◌, ◌^◌};
+ghost use Rattle.std.specs.Prelude.{◌≡◌, ◌≢◌, ◌+◌, ◌-◌, ◌<◌, ◌^◌, IsTrue};
+ghost use Rattle.cell_pool.specs.declared.turn.Step.TheVariants.{Busy, Memory, Moved};
 
 use crate::turn::{Step, Turn};
 use cell_io::{Gate, Point};
@@ -23,7 +24,7 @@ pub struct Count {
 pub struct Counting;
 
 impl Turn for Counting {
-    ghost use Rattle.std.specs.Prelude.{◌≡◌};
+    ghost use Rattle.std.specs.Prelude.{◌≡◌, IsTrue};
     ghost use Rattle.cell_pool.specs.Counting.{IsFit, MadeOf, made_of_itself, made_of_made};
 
     type Job = Count;
@@ -31,6 +32,8 @@ impl Turn for Counting {
     ghost fit = { λ turns count. IsFit count };
 
     ghost done = { λ count. count.rest ≡ 0 };
+
+    ghost short = { λ count. (count.rest ≡ 0) × IsTrue count.is_short };
 
     ghost same_work = { λ a b. (b.at ≡ a.at) × (b.rest ≡ a.rest) };
 
@@ -65,6 +68,9 @@ fn go_on(count: &mut Count)
 }
 
 /// How the turn of a count ends that has nothing more to go.
-fn ended(is_short: bool) -> Step {
+fn ended(is_short: bool) -> Step
+    ensures memory { result ≡ Memory → IsTrue is_short }
+    ensures others { (result ≢ Moved) × (result ≢ Busy) }
+{
     if is_short { Step::Memory } else { Step::Done }
 }

@@ -1,7 +1,7 @@
 //! A job at its place.
 ghost use Rattle.std.specs.Prelude.{◌≡◌, ◌<◌, ◌⊎◌, length, IfSome, slice_get, IsTrue, IsFalse};
-ghost use Rattle.cell_pool.specs.Rule.{Same};
-ghost use Rattle.cell_pool.specs.declared.turn.Step.TheVariants.{Done, Memory};
+ghost use Rattle.cell_pool.specs.Rule.{Same, Waits};
+ghost use Rattle.cell_pool.specs.declared.turn.Step.TheVariants.{Moved, Busy, Done, Memory};
 
 use crate::given::Given;
 use crate::turn::{Step, Turn};
@@ -10,18 +10,20 @@ use cell_io::Gate;
 use std::marker::PhantomData;
 use std::sync::Wait;
 
-/// A job with its place in the order in which the jobs were given: it is fit, made of the job that was given there, and
-/// done where it has ended.
+/// A job with its place in the order in which the jobs were given: it is fit, made of the job that was given there,
+/// done where it has ended, and short where its last turn found memory wanting.
 #[derive(Drop)]
 pub(crate) struct Item<T: Turn, C: Given<T::Job>> {
     pub(crate) place: usize,
     pub(crate) job: T::Job,
     pub(crate) ended: bool,
+    pub(crate) short: bool,
     pub(crate) of: PhantomData<C>,
     pub ghost is_place: { place < length C.given },
     pub ghost is_fit: { ∥ C.fit job ∥₁ },
     pub ghost is_made: { ∥ IfSome (slice_get C.given place) (λ from. T.made from job) ∥₁ },
     pub ghost is_done: { IsTrue ended → ∥ T.done job ∥₁ },
+    pub ghost is_short: { IsTrue short → ∥ T.short job ∥₁ },
 }
 
 /// One turn of a job.
@@ -32,16 +34,20 @@ pub(crate) fn turned<T: Turn, C: Given<T::Job>, G: Gate>(
 ) -> (Item<T, C>, Step)
     requires same { Same (T.fit turns.now) C.fit }
     ensures place { result.0.place ≡ item.place }
-    ensures ended { result.1 ≡ Done → IsTrue result.0.ended }
+    ensures done { result.1 ≡ Done → IsTrue result.0.ended × IsFalse result.0.short }
+    ensures memory { result.1 ≡ Memory → IsFalse result.0.ended × IsTrue result.0.short }
+    ensures waits { (result.1 ≡ Moved) ⊎ (result.1 ≡ Busy) → Waits result.0.ended result.0.short }
 {
     let Item { place, mut job, .. } = item;
     let step = turns.turn(&mut job, gate);
     let ended = matches!(step, Step::Done);
+    let short = matches!(step, Step::Memory);
     (
         Item {
             place,
             job,
             ended,
+            short,
             of: PhantomData,
         },
         step,
@@ -57,6 +63,7 @@ pub(crate) fn turned_out<T: Turn, C: Given<T::Job>, G: Gate, R: Wait>(
 ) -> Item<T, C>
     requires same { Same (T.fit turns.now) C.fit }
     ensures place { result.place ≡ item.place }
+    ensures rests { IsTrue result.ended ⊎ IsTrue result.short }
 {
     let mut item = item;
     for _turn in rt.forever() {

@@ -1,8 +1,8 @@
 //! A phase: its jobs go through the queue, and come back in their order.
-ghost use Rattle.std.specs.Prelude.{◌≡◌, ◌<◌, ◌≤◌, ◌+◌, ◌-◌, length, [], slice_get, IfSome, IfOk, IfErr, IsTrue, vec_len, vec_capacity};
+ghost use Rattle.std.specs.Prelude.{◌≡◌, ◌<◌, ◌≤◌, ◌+◌, ◌-◌, false, length, [], slice_get, IfSome, IfOk, IfErr, IsTrue, IsFalse, vec_len, vec_capacity};
 ghost use Rattle.std.specs.List.{All, range_with_len};
 ghost use Rattle.crossbeam_queue.specs.Passes.{view, IsPassOf, ruled_capacity};
-ghost use Rattle.cell_pool.specs.Rule.{hand, EachAt, IsReady, IsServed, Owes, HoldsEach, Same};
+ghost use Rattle.cell_pool.specs.Rule.{hand, EachAt, EndsWith, Flagged, InTurn, IsForWant, IsReady, IsServed, MayRest, OneIs, Owes, HoldsEach, Same, Settled, Waits};
 
 use crate::given::Given;
 use crate::item::{Item, turned_out};
@@ -50,6 +50,7 @@ fn fill<T: Turn, C: Given<T::Job>, R: Wait>(
             place,
             job,
             ended: false,
+            short: false,
             of: PhantomData,
         };
         match queue.push_as::<Fills, R>(rt, pass, item) {
@@ -74,7 +75,7 @@ fn enlist<T: Turn, C: Given<T::Job>>(
     ensures queue { IsPassOf queue.now pass.new }
     ensures view { view pass.new ≡ hand (64 - length rooms.items) (view pass.old).put (view pass.old).taken }
     ensures count { length result.items ≡ length rooms.items }
-    ensures crew { All (λ worker. IsReady (λ i. i.place) queue.now worker.pass worker.kept.items) result.items }
+    ensures crew { All (λ worker. IsReady (λ i. i.place) (λ i. i.ended) (λ i. i.short) queue.now worker.pass false worker.kept.items × IsFalse worker.is_short) result.items }
 {
     let mut rooms = rooms;
     while let Some(kept) = rooms.pop() {
@@ -97,8 +98,8 @@ fn serve_all<
 >(rt: &R, turns: &T, queue: &Queue<T, C>, crew: &mut [Worker<T, C>], gate: &G)
     requires same { Same (T.fit turns.now) C.fit }
     requires some { 0 < length crew.old }
-    requires crew { All (λ worker. IsReady (λ i. i.place) queue.now worker.pass worker.kept.items) crew.old }
-    ensures crew { All (λ worker. IsReady (λ i. i.place) queue.now worker.pass worker.kept.items) crew.new }
+    requires crew { All (λ worker. IsReady (λ i. i.place) (λ i. i.ended) (λ i. i.short) queue.now worker.pass false worker.kept.items × IsFalse worker.is_short) crew.old }
+    ensures crew { All (λ worker. IsReady (λ i. i.place) (λ i. i.ended) (λ i. i.short) queue.now worker.pass worker.is_short worker.kept.items) crew.new }
 {
     let threads = crew.len();
     thread::for_each_mut(
@@ -106,8 +107,8 @@ fn serve_all<
         crew,
         threads,
         &|_place, worker: &mut Worker<T, C>|
-            requires { Same (T.fit turns.now) C.fit × IsReady (λ i. i.place) queue.now worker.old.pass worker.old.kept.items }
-            ensures { IsReady (λ i. i.place) queue.entry.now worker.new.pass worker.new.kept.items }
+            requires { Same (T.fit turns.now) C.fit × IsReady (λ i. i.place) (λ i. i.ended) (λ i. i.short) queue.now worker.old.pass false worker.old.kept.items × IsFalse worker.old.is_short }
+            ensures { IsReady (λ i. i.place) (λ i. i.ended) (λ i. i.short) queue.entry.now worker.new.pass worker.new.is_short worker.new.kept.items }
         { work(rt, turns, queue, worker, gate) },
     );
 }
@@ -121,12 +122,14 @@ fn join_all<T: Turn, C: Given<T::Job>>(
 ) -> (Vec<Vec<Item<T, C>>>, bool)
     requires queue { IsPassOf queue.now pass.old }
     requires parts { ((view pass.old).parts + length crew.items ≡ 64) × (0 < (view pass.old).parts) }
-    requires crew { All (λ worker. IsReady (λ i. i.place) queue.now worker.pass worker.kept.items) crew.items }
+    requires crew { All (λ worker. IsReady (λ i. i.place) (λ i. i.ended) (λ i. i.short) queue.now worker.pass worker.is_short worker.kept.items) crew.items }
     requires owes { Owes (λ i. i.place) (λ list. list.items) (length C.given) (view pass.old) lists.items }
+    requires flagged { Flagged (λ list. list.items) (λ i. i.ended) (λ i. i.short) false lists.items }
     requires room { length lists.items + length crew.items + 1 ≤ vec_capacity lists }
     ensures queue { IsPassOf queue.now pass.new }
     ensures parts { (view pass.new).parts ≡ 64 }
     ensures owes { Owes (λ i. i.place) (λ list. list.items) (length C.given) (view pass.new) result.0.items }
+    ensures flagged { Flagged (λ list. list.items) (λ i. i.ended) (λ i. i.short) result.1 result.0.items }
     ensures room { length result.0.items + 1 ≤ vec_capacity result.0 }
 {
     let mut any_short = false;
@@ -152,7 +155,9 @@ fn unless<T: Turn, C: Given<T::Job>, G: Gate, R: Wait>(
     gate: &G,
 ) -> Item<T, C>
     requires same { Same (T.fit turns.now) C.fit }
-    ensures { result.place ≡ item.place }
+    requires waits { Waits item.ended item.short }
+    ensures place { result.place ≡ item.place }
+    ensures rests { MayRest stopped result.ended result.short }
 {
     if stopped {
         return item;
@@ -175,16 +180,20 @@ fn serve_left<T: Turn, C: Given<T::Job>, G: Gate, R: Wait>(
     requires same { Same (T.fit turns.now) C.fit }
     requires parts { (view pass.old).parts ≡ 64 }
     requires owes { Owes (λ i. i.place) (λ list. list.items) (length C.given) (view pass.old) lists.items }
+    requires flagged { Flagged (λ list. list.items) (λ i. i.ended) (λ i. i.short) any_short lists.items }
     requires room { length lists.items < vec_capacity lists }
     requires left { (left.items ≡ []) × (length C.given ≤ vec_capacity left) }
-    ensures { HoldsEach (λ i. i.place) (λ list. list.items) (length C.given) result.items }
+    ensures each { HoldsEach (λ i. i.place) (λ list. list.items) (length C.given) result.items }
+    // The jobs are served in turn, and once a turn found memory wanting, no further one is begun.
+    ensures left { EndsWith (λ list. InTurn (λ i. i.ended) (λ i. i.short) any_short list.items) lists.items result.items }
+    ensures settled { Settled (λ list. list.items) (λ i. i.ended) (λ i. i.short) result.items }
 {
     let mut stopped = any_short;
     for _turn in rt.forever() {
         match queue.pop_as::<Whole, R>(rt, pass) {
             Some(item) => {
                 let item = unless(rt, turns, item, stopped, gate);
-                stopped = !item.ended;
+                stopped |= item.short;
                 left.push_reserved(item);
             }
             None => {
@@ -281,6 +290,7 @@ fn serve_with<
     ensures fit { EachAt (λ p job. ∥ C.fit job ∥₁) result.0.items }
     ensures made { EachAt (λ p job. ∥ IfSome (slice_get jobs.items p) (λ from. T.made from job) ∥₁) result.0.items }
     ensures done { IsTrue result.1 → EachAt (λ p job. ∥ T.done job ∥₁) result.0.items }
+    ensures short { IsFalse result.1 → OneIs (λ job. ∥ T.short job ∥₁) result.0.items }
 {
     let Means {
         rooms,
@@ -306,7 +316,8 @@ fn serve_with<
 /// All jobs as they were given.
 fn handed_back<T: Turn, C: Given<T::Job>>(jobs: Vec<T::Job>) -> PhaseStopped<T::Job>
     requires fit { All (λ job. ∥ C.fit job ∥₁) jobs.items }
-    ensures { IsServed (λ j. ∥ C.fit j ∥₁) (λ a b. ∥ T.made a b ∥₁) jobs.items result.jobs.items }
+    ensures served { IsServed (λ j. ∥ C.fit j ∥₁) (λ a b. ∥ T.made a b ∥₁) jobs.items result.jobs.items }
+    ensures same { result.jobs.items ≡ jobs.items }
 {
     PhaseStopped { jobs }
 }
@@ -330,6 +341,7 @@ fn serve_given<
     requires workers { (1 ≤ workers) × (workers ≤ 16) }
     ensures ok { IfOk result (λ back. IsServed (λ j. ∥ C.fit j ∥₁) (λ a b. ∥ T.made a b ∥₁) jobs.items back.items × EachAt (λ p job. ∥ T.done job ∥₁) back.items) }
     ensures stopped { IfErr result (λ e. IsServed (λ j. ∥ C.fit j ∥₁) (λ a b. ∥ T.made a b ∥₁) jobs.items e.jobs.items) }
+    ensures short { IfErr result (λ e. IsForWant (λ j. ∥ T.short j ∥₁) jobs.items e.jobs.items) }
 {
     let size = jobs.len();
     if size == 0 {
@@ -353,8 +365,9 @@ fn serve_given<
 /// who called.
 ///
 /// The jobs come back in their order, each fit, and made of the job that was given at its place: none is lost, and none
-/// comes back twice. With `Ok` each is done. The error is want of memory, before the first turn or in one; then no
-/// further job is begun by the worker that met it, nor by who called.
+/// comes back twice. With `Ok` each is done. The error is want of memory, before the first turn, and then the jobs are
+/// as they were given, or in a turn, which left one of them short. Then no further job is begun by the worker that met
+/// it, nor by who called.
 ///
 /// It may wait, and where jobs hold one another up for ever, it never returns.
 pub fn serve_phase<R: Threads + Wait + Sync, T: Turn + Sync, G: Gate + Sync>(
@@ -368,6 +381,7 @@ pub fn serve_phase<R: Threads + Wait + Sync, T: Turn + Sync, G: Gate + Sync>(
     requires workers { (1 ≤ workers) × (workers ≤ 16) }
     ensures ok { IfOk result (λ back. IsServed (λ j. ∥ T.fit turns.now j ∥₁) (λ a b. ∥ T.made a b ∥₁) jobs.items back.items × EachAt (λ p job. ∥ T.done job ∥₁) back.items) }
     ensures stopped { IfErr result (λ e. IsServed (λ j. ∥ T.fit turns.now j ∥₁) (λ a b. ∥ T.made a b ∥₁) jobs.items e.jobs.items) }
+    ensures short { IfErr result (λ e. IsForWant (λ j. ∥ T.short j ∥₁) jobs.items e.jobs.items) }
 {
     serve_given::<T, Brand, G, R>(rt, turns, jobs, workers, gate)
 }

@@ -22,9 +22,9 @@ pub(crate) struct Fair;
 
 impl<T: Turn, C: Given<T::Job>> Protocol<Item<T, C>, Hand> for Fair {
     ghost use Rattle.std.specs.Prelude.{[]};
-    ghost use Rattle.cell_pool.specs.Rule.{Balanced, hand};
+    ghost use Rattle.cell_pool.specs.Rule.{Balanced, Waits, hand};
 
-    ghost holds = { Balanced (λ i. i.place) };
+    ghost holds = { Balanced (λ i. i.place) (λ i. Waits i.ended i.short) };
 
     ghost first = { hand 64 [] [] };
 }
@@ -84,9 +84,9 @@ pub(crate) struct All;
 
 impl<T: Turn, C: Given<T::Job>> Outcome<Item<T, C>, Hand> for All {
     ghost use Rattle.std.specs.Prelude.{◌≡◌, ◌≤◌, ℕ, [], ◌∷◌, ◌++◌};
-    ghost use Rattle.cell_pool.specs.Rule.{hand, weigh};
+    ghost use Rattle.cell_pool.specs.Rule.{Waits, hand, weigh};
 
-    ghost then = { λ v x w. (w ≡ hand v.parts v.put (v.taken ++ x.place ∷ [])) × ((h : ℕ → ℕ) → weigh h w.taken ≤ weigh h w.put) };
+    ghost then = { λ v x w. (w ≡ hand v.parts v.put (v.taken ++ x.place ∷ [])) × ((h : ℕ → ℕ) → weigh h w.taken ≤ weigh h w.put) × Waits x.ended x.short };
 }
 
 impl<T: Turn, C: Given<T::Job>> Lesson<Item<T, C>, Hand> for All {

@@ -31,6 +31,9 @@ pub trait Turn {
     /// Two jobs have the same work before them and behind them.
     ghost same_work: { Self.Job → Self.Job → Type 0 };
 
+    /// A job is one that a turn may leave for want of memory.
+    ghost short: { Self.Job → Type 0 };
+
     /// What turns may make of a job: the job as it was, and as it is then.
     ghost made: { Self.Job → Self.Job → Type 0 };
 
@@ -40,6 +43,7 @@ pub trait Turn {
         ensures fit { ∥ fit self.now job.new ∥₁ }
         ensures made { ∥ made job.old job.new ∥₁ }
         ensures done { result ≡ Done → ∥ done job.new ∥₁ }
+        ensures short { result ≡ Memory → ∥ short job.new ∥₁ }
         ensures same { (result ≡ Busy) ⊎ (result ≡ Memory) → ∥ same_work job.old job.new ∥₁ };
 
     /// A job is made of itself.

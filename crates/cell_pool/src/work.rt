@@ -1,7 +1,7 @@
 //! A worker: it takes a job from the queue, turns it once, and puts it back at the end.
-ghost use Rattle.std.specs.Prelude.{◌≡◌};
+ghost use Rattle.std.specs.Prelude.{◌≡◌, false, IsFalse};
 ghost use Rattle.crossbeam_queue.specs.Passes.{view, IsPassOf};
-ghost use Rattle.cell_pool.specs.Rule.{Keeps, Same};
+ghost use Rattle.cell_pool.specs.Rule.{Keeps, Rests, Same};
 
 use crate::given::Given;
 use crate::item::{Item, turned, turned_out};
@@ -38,9 +38,13 @@ pub(crate) fn work<T: Turn, C: Given<T::Job>, G: Gate, R: Wait>(
     requires queue { IsPassOf queue.now worker.old.pass }
     requires parts { (view worker.old.pass).parts ≡ 1 }
     requires keeps { Keeps (λ i. i.place) (view worker.old.pass) worker.old.kept.items }
+    requires rests { Rests (λ i. i.ended) (λ i. i.short) false false worker.old.kept.items }
+    requires short { IsFalse worker.old.is_short }
     ensures queue { IsPassOf queue.now worker.new.pass }
     ensures parts { (view worker.new.pass).parts ≡ 1 }
     ensures keeps { Keeps (λ i. i.place) (view worker.new.pass) worker.new.kept.items }
+    // Once a turn found memory wanting, no further job is begun.
+    ensures rests { Rests (λ i. i.ended) (λ i. i.short) false worker.new.is_short worker.new.kept.items }
 {
     for _turn in rt.forever() {
         if worker.kept.len() >= worker.kept.capacity() {
@@ -63,9 +67,9 @@ pub(crate) fn work<T: Turn, C: Given<T::Job>, G: Gate, R: Wait>(
                     Ok(()) => {}
                     Err(item) => {
                         let item = turned_out(rt, turns, item, gate);
-                        let ended = item.ended;
+                        let is_short = item.short;
                         worker.kept.push_reserved(item);
-                        if !ended {
+                        if is_short {
                             worker.is_short = true;
                             return;
                         }

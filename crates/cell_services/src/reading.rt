@@ -1,6 +1,6 @@
 //! What is read of the octets of an event.
 
-ghost use Rattle.std.specs.Prelude.{◌≡◌, None, Some, IfOk, IfSome};
+ghost use Rattle.std.specs.Prelude.{◌≡◌, ◌≢◌, None, Some, IfNone, IfOk, IfSome};
 ghost use Rattle.mms_pdu.specs.Heard.{pdu_heard};
 ghost use Rattle.cell_services.specs.Reads.{IsRead, IsReadingOf, edition_of, edition_read, wants_memory};
 
@@ -56,7 +56,8 @@ impl Reading {
 
     /// What was read by that edition, and None where nothing was, or by another edition.
     pub fn by(&self, edition: Edition) -> Option<&Result<Read, Refusal>>
-        ensures { IfSome result (λ read. self.now ≡ Some (edition, read.now)) }
+        ensures some { IfSome result (λ read. self.now ≡ Some (edition, read.now)) }
+        ensures none { IfNone result (edition_of self.now ≢ Some edition) }
     {
         let (of, read) = self.kept.as_ref()?;
         if *of == edition { Some(read) } else { None }

@@ -30,6 +30,8 @@ struct Holding<'a, R> {
     held: AtomicU64,
     /// Whether an event of the second client was committed.
     committed: AtomicU64,
+    /// How often the second client was about to answer that the variables are held.
+    busy: AtomicU64,
 }
 
 /// Waits until a word isn't 0, but not for long. Whether it is then.
@@ -51,6 +53,9 @@ impl<R: Clock> Gate for Holding<'_, R> {
                 let _ = is_raised(self.rt, &self.committed);
             }
             (2, Point::Committed) => self.committed.store(1, Ordering::SeqCst),
+            (2, Point::Busy(VARIABLES)) => {
+                self.busy.fetch_add(1, Ordering::SeqCst);
+            }
             _ => {}
         }
     }
@@ -118,7 +123,7 @@ fn ask_meanwhile<R: Wait + Clock, G: Gate>(
     if commits_left(&pass) == 0 || !is_raised(rt, held) {
         return None;
     }
-    let busy = match try_octets(alloc, device, &mut pass, 2, READ, &Open) {
+    let busy = match try_octets(alloc, device, &mut pass, 2, READ, gate) {
         Err(Refused::Busy(busy)) => Some(busy),
         _ => None,
     };
@@ -172,14 +177,20 @@ fn serve_through<R: Threads + Wait + Clock + Sync, G: Gate + Sync>(
     met_at_last(alloc, device, made.cell, first, second)
 }
 
-/// Lets both clients be served, and the first be held until an event of the second is committed.
-fn serve_both<R: Threads + Wait + Clock + Sync>(rt: &R, alloc: Global) -> Option<(Met, u64, u64)> {
+/// Lets both clients be served, and the first be held until an event of the second is committed: what `serve_through`
+/// tells, and how often the gate was told that the variables are held.
+fn serve_both<R: Threads + Wait + Clock + Sync>(
+    rt: &R,
+    alloc: Global,
+) -> Option<(Met, u64, u64, u64)> {
     let gate = Holding {
         rt,
         held: AtomicU64::new(0),
         committed: AtomicU64::new(0),
+        busy: AtomicU64::new(0),
     };
-    serve_through(rt, alloc, &gate.held, &gate)
+    let (met, read, events) = serve_through(rt, alloc, &gate.held, &gate)?;
+    Some((met, read, events, gate.busy.load(Ordering::SeqCst)))
 }
 
 #[test]
@@ -187,11 +198,12 @@ fn a_caller_is_served_while_another_holds_what_it_does_not_want(rt: HostRuntime)
     let found = serve_both(&rt, rt.alloc());
     assert!(rt;
         match found {
-            Some((met, read, events)) => {
+            Some((met, read, events, busy)) => {
                 met.busy == Some(Busy { part: 1, by: 1 })
                     && read == 5
                     && met.place == read - 1
                     && events == 5
+                    && busy == 1
             }
             None => false,
         }

@@ -9,4 +9,6 @@ mod callers;
 #[cfg(test)]
 mod contention;
 #[cfg(test)]
+mod gates;
+#[cfg(test)]
 mod holding;

@@ -1,6 +1,6 @@
 //! Turns of jobs on the device: in each an actor has its next event served.
 
-ghost use Rattle.std.specs.Prelude.{◌≡◌, ◌↔◌, ◌⊎◌, []};
+ghost use Rattle.std.specs.Prelude.{◌≡◌, ◌≢◌, ◌↔◌, ◌⊎◌, []};
 ghost use Rattle.mms_device.specs.Shared.{IsAsBefore};
 ghost use Rattle.mms_device.specs.Turns.{HasMoved, IsFit, IsHeldUp, MadeOf, SameWork};
 ghost use Rattle.cell_pool.specs.declared.turn.Step.TheVariants as step;
@@ -49,6 +49,7 @@ fn serve_next<G: Gate>(device: &Device, alloc: Global, job: &mut CellJob, gate: 
     ensures moved { (result ≡ step.Moved) ↔ HasMoved job.old job.new }
     ensures held_up { (result ≡ step.Busy) ↔ IsHeldUp device.now job.old job.new }
     ensures short { result ≡ step.Memory → IsAsBefore job.old.pass job.new.pass }
+    ensures some { result ≡ step.Memory → job.new.rest ≢ [] }
     ensures same { (result ≡ step.Busy) ⊎ (result ≡ step.Memory) → SameWork job.old job.new }
 {
     let Some(event) = job.rest.first() else {
@@ -68,7 +69,7 @@ fn serve_next<G: Gate>(device: &Device, alloc: Global, job: &mut CellJob, gate: 
 }
 
 impl<'a> Turn for CellTurns<'a> {
-    ghost use Rattle.std.specs.Prelude.{◌≡◌, []};
+    ghost use Rattle.std.specs.Prelude.{◌≡◌, ◌≢◌, []};
     ghost use Rattle.mms_device.specs.Turns.{IsFit, MadeOf, SameWork, made_of_itself, made_of_made};
 
     type Job = CellJob;
@@ -76,6 +77,8 @@ impl<'a> Turn for CellTurns<'a> {
     ghost fit = { λ turns job. IsFit turns.device.now job };
 
     ghost done = { λ job. job.rest ≡ [] };
+
+    ghost short = { λ job. job.rest ≢ [] };
 
     ghost same_work = { SameWork };
 
@@ -88,13 +91,17 @@ impl<'a> Turn for CellTurns<'a> {
     /// One turn of a job that is fit. `Done` is answered exactly where no event was left, `Moved` exactly where the
     /// first one was served, and `Busy` exactly where a claim was lost on a part that it wants, which another caller
     /// held. `Memory` may be answered where an event is left. After `Busy` and `Memory` the job's work is as before.
+    /// After `Memory` the pass is as before too, but for what it knows of others, and after `Done` the whole job is.
     fn turn<G: Gate>(&self, job: &mut CellJob, gate: &G) -> Step
         requires fit { ∥ IsFit self.now.device.now job.old ∥₁ }
         ensures fit { ∥ IsFit self.now.device.now job.new ∥₁ }
         ensures made { ∥ MadeOf job.old job.new ∥₁ }
         ensures done { result ≡ step.Done → ∥ job.new.rest ≡ [] ∥₁ }
+        ensures short { result ≡ step.Memory → ∥ job.new.rest ≢ [] ∥₁ }
         ensures same { (result ≡ step.Busy) ⊎ (result ≡ step.Memory) → ∥ SameWork job.old job.new ∥₁ }
         ensures ended { (result ≡ step.Done) ↔ (job.old.rest ≡ []) }
+        ensures kept { result ≡ step.Done → job.new ≡ job.old }
+        ensures as_before { result ≡ step.Memory → IsAsBefore job.old.pass job.new.pass }
         ensures moved { (result ≡ step.Moved) ↔ HasMoved job.old job.new }
         ensures held_up { (result ≡ step.Busy) ↔ IsHeldUp self.now.device.now job.old job.new }
     {

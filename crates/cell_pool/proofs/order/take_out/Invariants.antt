@@ -1,6 +1,7 @@
-use Rattle.std.proofs.Common.{◌≡◌, ◌≤◌, ◌+◌, ◌++◌, length, IfSome, IsTrue, slice_get, vec_capacity}
+use Rattle.std.proofs.Common.{◌≡◌, ◌≤◌, ◌+◌, ◌++◌, length, IfSome, IsTrue, IsFalse, slice_get, vec_capacity}
 use Rattle.std.specs.Vec.Iter.{into_iter_items, into_iter_len}
 use Rattle.cell_pool.specs.Rule.{EachAt}
+use Rattle.cell_pool.proofs.Taking.{IsOpen, LiesShort}
 use Rattle.cell_pool.proofs.order.take_out.Given as goal
 
 abbrev pub invariant-loop-slot : goal.invariant-loop-slot
@@ -12,4 +13,6 @@ invariant-loop-slot g l = record {
   fit : EachAt (λ p job. ∥ g.C.Given.fit job ∥₁) l.jobs.items;
   made : EachAt (λ p job. ∥ IfSome (slice_get g.C.Given.given p) (λ from. g.T.Turn.made from job) ∥₁) l.jobs.items;
   done : IsTrue l.all → EachAt (λ p job. ∥ g.T.Turn.done job ∥₁) l.jobs.items;
+  unended : IsFalse l.all → IsOpen (λ i. i.ended) l.fn.slots.items;
+  short : EachAt (λ p job. LiesShort (λ i. i.short) l.fn.slots.items p → ∥ g.T.Turn.short job ∥₁) l.jobs.items;
 }

@@ -1,4 +1,4 @@
-use Rattle.std.proofs.Common.{◌≡◌, ◌≤◌, ◌+◌, ◌-◌, length, [], vec_capacity}
+use Rattle.std.proofs.Common.{false, IsFalse, ◌≡◌, ◌≤◌, ◌+◌, ◌-◌, length, [], vec_capacity}
 use Rattle.std.specs.List.{All}
 use Rattle.crossbeam_queue.specs.Passes.{view, IsPassOf}
 use Rattle.cell_pool.specs.Rule.{hand, IsReady}
@@ -11,7 +11,7 @@ invariant-loop-kept g l = record {
   count : length l.crew.items + length l.rooms.items ≡ length l.fn.rooms.items;
   empty : All (λ room. room.items ≡ []) l.rooms.items;
   room : length l.crew.items + length l.rooms.items ≤ vec_capacity l.crew;
-  crew : All (λ worker. IsReady (λ i. i.place) l.queue worker.pass worker.kept.items) l.crew.items;
+  crew : All (λ worker. IsReady (λ i. i.place) (λ i. i.ended) (λ i. i.short) l.queue worker.pass false worker.kept.items × IsFalse worker.is_short) l.crew.items;
 }
 
 abbrev pub decreases-loop-kept : goal.decreases-loop-kept

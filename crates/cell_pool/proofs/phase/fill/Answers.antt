@@ -1,5 +1,5 @@
-use Rattle.std.proofs.Common.{◌++◌, [], ◌∷◌, slice_get, length, rules, arith, sym, ap, ◌∙◌, append_assoc, length-append}
-use Rattle.cell_pool.specs.Rule.{hand}
+use Rattle.std.proofs.Common.{refl, ◌++◌, [], ◌∷◌, slice_get, length, rules, arith, sym, ap, ◌∙◌, append_assoc, length-append}
+use Rattle.cell_pool.specs.Rule.{Waits, hand}
 use Rattle.cell_pool.proofs.Facts.{if_here}
 use Rattle.cell_pool.proofs.Lists.{at_seam, All_seam, range_next}
 use Rattle.cell_pool.proofs.Owing.{not_full}
@@ -29,7 +29,7 @@ invariant_of-item-clause-is_made g c =
 pub push_as-requires-clause-rule : goal.push_as-requires-clause-rule
 push_as-requires-clause-rule g c =
     let p = ap (λ v. v.parts) c.loop-job.invariant.view in
-    (puts (λ i. i.place) _ _ _ _ (omega arith), learns (λ i. i.place) _ _ p)
+    (puts (λ i. i.place) (λ i. Waits i.ended i.short) _ _ _ _ (omega arith) (refl, refl), learns (λ i. i.place) (λ i. Waits i.ended i.short) _ _ p)
 
 pub unreachable-requires : goal.unreachable-requires
 unreachable-requires g c =
