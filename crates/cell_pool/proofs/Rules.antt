@@ -79,7 +79,7 @@ module _ {I : Type 0} (at : I → ℕ) (waits : I → Type 0) where
         refl,
       )
 
-  pub takes : (port : ℕ) (v : Hand) → 0 < v.parts → Pops (Balanced at waits) port v (λ x w. w ≡ hand v.parts v.put (v.taken ++ at x ∷ []))
+  pub takes : (port : ℕ) (v : Hand) → 0 < v.parts → Pops (Balanced at waits) port v (λ x w. (w ≡ hand v.parts v.put (v.taken ++ at x ∷ [])) × waits x)
   takes port v some_part x items views b here =
       let w = hand v.parts v.put (v.taken ++ at x ∷ []) in (
         w,
@@ -93,7 +93,7 @@ module _ {I : Type 0} (at : I → ℕ) (waits : I → Type 0) where
           idle_set views port w (λ none. absurd (omega arith)) b.2,
           All_rest waits x items b.3,
         ),
-        refl,
+        (refl, All_first waits x items b.3),
       )
 
   pub learns : (port : ℕ) (v : Hand) → v.parts ≡ 64 → Learns (Balanced at waits) port v (λ items. (h : ℕ → ℕ) → weigh h v.put ≡ weigh h v.taken + weigh (λ i. h (at i)) items)

@@ -33,6 +33,8 @@ pub(crate) fn turned<T: Turn, C: Given<T::Job>, G: Gate>(
     gate: &G,
 ) -> (Item<T, C>, Step)
     requires same { Same (T.fit turns.now) C.fit }
+    // A job that is done, or found memory wanting, isn't turned again.
+    requires waits { Waits item.ended item.short }
     ensures place { result.0.place ≡ item.place }
     ensures done { result.1 ≡ Done → IsTrue result.0.ended × IsFalse result.0.short }
     ensures memory { result.1 ≡ Memory → IsFalse result.0.ended × IsTrue result.0.short }
@@ -62,6 +64,7 @@ pub(crate) fn turned_out<T: Turn, C: Given<T::Job>, G: Gate, R: Wait>(
     gate: &G,
 ) -> Item<T, C>
     requires same { Same (T.fit turns.now) C.fit }
+    requires waits { Waits item.ended item.short }
     ensures place { result.place ≡ item.place }
     ensures rests { IsTrue result.ended ⊎ IsTrue result.short }
 {

@@ -68,9 +68,9 @@ pub(crate) struct Takes;
 
 impl<T: Turn, C: Given<T::Job>> Outcome<Item<T, C>, Hand> for Takes {
     ghost use Rattle.std.specs.Prelude.{◌≡◌, [], ◌∷◌, ◌++◌};
-    ghost use Rattle.cell_pool.specs.Rule.{hand};
+    ghost use Rattle.cell_pool.specs.Rule.{Waits, hand};
 
-    ghost then = { λ v x w. w ≡ hand v.parts v.put (v.taken ++ x.place ∷ []) };
+    ghost then = { λ v x w. (w ≡ hand v.parts v.put (v.taken ++ x.place ∷ [])) × Waits x.ended x.short };
 }
 
 impl<T: Turn, C: Given<T::Job>> Lesson<Item<T, C>, Hand> for Takes {

@@ -266,8 +266,8 @@ impl SemaphoreRow {
         }
     }
 
-    /// Asks for a token of this semaphore: the client has it, or waits. The one refusal is want of memory, and only where
-    /// an entry is made; then all is as before.
+    /// Asks for a token of this semaphore: the client has it, or waits. The one refusal is want of memory, and only
+    /// where an entry is made; then all is as before.
     pub fn take(
         &mut self,
         client: u32,
