@@ -66,6 +66,9 @@ fn a_gate_is_told_of_each_part_and_of_each_commit(rt: HostRuntime) -> Result<(),
     let took = gate.took.load(Ordering::SeqCst);
     let committed = gate.committed.load(Ordering::SeqCst);
     let others = gate.others.load(Ordering::SeqCst);
-    assert_eq!(rt; (outputs, took, committed, others), (Some(2), 6_06_01_06, 3, 0));
+    assert_eq!(rt;
+        (outputs, took, committed, others),
+        (Some(2), 6_06_01_06, 3, 0)
+    );
     Ok(())
 }
