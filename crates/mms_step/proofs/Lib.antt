@@ -16,4 +16,5 @@ pub mod TokenLaws
 pub mod Answering
 pub mod Asked
 mod Configured
+mod Worked
 pub mod Waiters
