@@ -50,7 +50,7 @@ def about(pid):
     if "--crate-name" not in words:
         return None
     kind = "edits" if "/rt-edit" in folder else "tests" if "--test" in words else "proof"
-    return words[words.index("--crate-name") + 1].removesuffix("_tests"), kind
+    return words[words.index("--crate-name") + 1], kind
 
 
 def peak(pid):
