@@ -8,9 +8,9 @@ NAME.md this script alone. The script copies the checkout's crates/, crates.txt 
 each NAME.md the ending of an edit there, and has `rt ci CRATE..` try them: so the crates and those below them have to be
 proved, and what was proved and tried earlier on this machine isn't done again.
 
-Prints a line for each wrong body: its crate and name, and where it was refused, or why that shows nothing. The end is a
-line that counts them. Ends with status 1 where one isn't refused, or only since the prover met a limit of its own, or a
-proof names what the edit took away.
+Prints a line for each wrong body: its crate and name, and the goal at which it was refused, or why that shows nothing.
+The end is a line that counts them. Ends with status 1 where one isn't refused, or only since the prover met a limit of
+its own, or a proof names what the edit took away.
 """
 
 import argparse
@@ -48,11 +48,11 @@ def copied(room, names):
 
 
 def said(line):
-    """What the gate says of a wrong body, and whether that is a refusal at a clause."""
+    """What the gate says of a wrong body, and whether it's refused by what the prover shows, not by a limit or a name."""
     if not line.startswith(REFUSED):
         return line, False
-    goal = re.search(r"`([\w-]*(?:clause|requires|returns|invariant|preserved)[\w-]*)`", line)
-    return goal[1] if goal else line.removeprefix(REFUSED), True
+    goal = re.search(r"`([\w-]*(?:clause|requires|returns|invariant|preserved|init)[\w-]*)`", line)
+    return goal[1] if goal else "refused, and the gate names no goal (a loop without a measure, say)", True
 
 
 def main():
