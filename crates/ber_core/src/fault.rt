@@ -20,19 +20,21 @@ pub enum BerError {
     BadContents = 4,
 }
 
-/// Want of memory.
+/// Want of memory. Its field is private: one comes from an allocator's refusal alone, by `?`.
 #[derive(Clone, Copy, Debug, PartialEq, Eq, Error)]
 #[error("out of memory")]
-pub struct Memory;
+pub struct Memory {
+    told: (),
+}
 
 impl From<AllocError> for Memory {
     fn from(_e: AllocError) -> Memory {
-        Memory
+        Memory { told: () }
     }
 }
 
 impl<T: Drop> From<AllocFailed<T>> for Memory {
     fn from(_e: AllocFailed<T>) -> Memory {
-        Memory
+        Memory { told: () }
     }
 }

@@ -49,7 +49,7 @@ fn lengthen(buffer: &mut Vec<u8>, end: usize, more: usize) -> Result<usize, Memo
     ensures kept { take end buffer.new.items ≡ take end buffer.old.items }
 {
     let Some(new) = end.checked_add(more) else {
-        return Err(Memory);
+        return Err(Memory::wanting());
     };
     if buffer.len() < new {
         buffer.resize(new, 0)?;

@@ -5,16 +5,25 @@ use crate::Failed;
 use std::alloc::{AllocError, AllocFailed};
 use thiserror::Error;
 
-/// Want of memory.
+/// Want of memory. Its field is private: outside this crate one comes from an allocator's refusal alone, by `?`.
 #[derive(Clone, Copy, Debug, PartialEq, Eq, Drop, Error)]
 #[error("out of memory")]
-pub struct Memory;
+pub struct Memory {
+    told: (),
+}
+
+impl Memory {
+    /// Want of memory, where no buffer can be so long.
+    pub(crate) fn wanting() -> Memory {
+        Memory { told: () }
+    }
+}
 
 impl From<AllocError> for Memory {
     ghost from_gives = { λ _ _. ⊤ };
 
     fn from(_error: AllocError) -> Memory {
-        Memory
+        Memory::wanting()
     }
 }
 
@@ -22,7 +31,7 @@ impl<T: Drop> From<AllocFailed<T>> for Memory {
     ghost from_gives = { λ _ _. ⊤ };
 
     fn from(_failed: AllocFailed<T>) -> Memory {
-        Memory
+        Memory::wanting()
     }
 }
 

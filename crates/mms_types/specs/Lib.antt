@@ -11,6 +11,7 @@ pub mod Semaphores
 pub mod Errors
 pub mod FirstCause
 pub mod Serves
+pub mod Wanting
 pub mod Datum
 pub mod DatumCode
 pub mod DataFalls

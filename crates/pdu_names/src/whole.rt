@@ -34,7 +34,7 @@ pub fn as_memory(written: Result<(), Full>) -> Result<(), Memory>
 {
     match written {
         Ok(()) => Ok(()),
-        Err(_) => Err(Memory),
+        Err(_) => Err(Memory::wanting()),
     }
 }
 
