@@ -6,4 +6,4 @@ use Rattle.part_table.specs.Known.{Opened, newcomer}
 
 pub newcomers : (E : Type 0) (table : Opened ℕ) (from n : ℕ) → AreInOrder {E = E} table from (map (newcomer table) (range_with_len from n))
 newcomers E table from zero = tt
-newcomers E table from (suc n) = (refl, refl, (refl, refl), newcomers E table (from + 1) n)
+newcomers E table from (suc n) = (refl, refl, (refl, refl, refl), newcomers E table (from + 1) n)

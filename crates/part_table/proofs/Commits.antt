@@ -13,10 +13,12 @@ use Rattle.part_table.specs.History.{replayed, places_of}
 use Rattle.part_table.specs.Held.{held_at, places_held, laid_over, IsHandOf}
 use Rattle.part_table.specs.HeldLaws.{hand_of, laid_over-held, laid_over-free, length-laid_over, free_by_places, length-by_places}
 use Rattle.part_table.specs.Known.{IsTrueOf}
+use Rattle.part_table.specs.Lines.{owner_word}
 use Rattle.part_table.specs.Passes.{known, number_of}
 use Rattle.part_table.specs.Plays.{SeesTo, Sees, Commits, committed, noted}
 use Rattle.part_table.specs.Rule.{IsIn, lefts, Keeps, Holds, parts_after, IsAccount, Fits, Kept, KeptAt}
 use Rattle.part_table.proofs.Histories.{starts_refl, starts_more, each_more, replayed_more, places_more, places_same, made_more}
+use Rattle.part_table.proofs.Apart.{no_commit_word}
 use Rattle.part_table.proofs.Views.{total_set, total_at, still_once, each_set, somewhere_set, here}
 use Rattle.part_table.proofs.Moves.{quiet}
 
@@ -50,7 +52,7 @@ module _ {B T E : Type 0} (value : B → T) (step : E → List T → List T) (ma
 
     -- what the view holds is as the parts replayed have it
     hand : IsHandOf v.held parts
-    hand = hand_of v.held parts (account.places ∙ k.opened ∙ sym k.parts) (λ i x h. ((k.fits id v at).rows i x h).0)
+    hand = hand_of v.held parts (account.places ∙ sym k.parts) (λ i x h. ((k.fits id v at).rows i x h).0)
 
     pub sees_to : SeesTo step may_make history v
     sees_to =
@@ -124,14 +126,14 @@ module _ {B T E : Type 0} (value : B → T) (step : E → List T → List T) (ma
       parts_size : length new_parts ≡ length old_parts
       parts_size = ap length laid ∙ length-laid_over (after e v.held) old_parts
 
-      else : (j : ℕ) → get_or words (j + 1) 0 ≡ get_or s.words (j + 1) 0
-      else j = get_or-set_other s.words 0 (j + 1) _ 0 (λ q. omega arith)
+      else : (j : ℕ) → get_or words (owner_word j) 0 ≡ get_or s.words (owner_word j) 0
+      else j = get_or-set_other s.words 0 (owner_word j) _ 0 (no_commit_word j)
 
       -- a part that the caller doesn't hold stays as it is
       free_value : (j : ℕ) → held_at v.held j ≡ None → slice_get new_parts j ≡ slice_get old_parts j
       free_value j free = ap (λ (l : List T). slice_get l j) laid ∙ laid_over-free (after e v.held) old_parts j (free_by_places v.held (after e v.held) j (sym same) free)
 
-      kept_value : (j : ℕ) → ((b : ℕ) → Keeps v b → get_or s.words (j + 1) 0 ≢ b + 1) → slice_get new_parts j ≡ slice_get old_parts j
+      kept_value : (j : ℕ) → ((b : ℕ) → Keeps v b → get_or s.words (owner_word j) 0 ≢ b + 1) → slice_get new_parts j ≡ slice_get old_parts j
       kept_value j strange = by (held_at v.held j) refl
         where
           by : (o : Option T) → held_at v.held j ≡ o → slice_get new_parts j ≡ slice_get old_parts j
@@ -152,7 +154,7 @@ module _ {B T E : Type 0} (value : B → T) (step : E → List T → List T) (ma
           ]
 
       -- what the caller holds is as the parts replayed have it then
-      row_of : (j : ℕ) (y : T) → held_at (after e v.held) j ≡ Some y → (slice_get new_parts j ≡ Some y) × ((b : ℕ) × Keeps w b × (get_or words (j + 1) 0 ≡ b + 1))
+      row_of : (j : ℕ) (y : T) → held_at (after e v.held) j ≡ Some y → (slice_get new_parts j ≡ Some y) × ((b : ℕ) × Keeps w b × (get_or words (owner_word j) 0 ≡ b + 1))
       row_of j y h =
           let was = held_by_places (after e v.held) v.held j y same h in
           let r = (k.fits id v at).rows j was.0 was.1 in
@@ -191,7 +193,7 @@ module _ {B T E : Type 0} (value : B → T) (step : E → List T → List T) (ma
                 record { table = q.table; places = q.places; number = q.number; own = q.own ∙ sym (places_same 1 b.number history made strange); quota = q.quota };
             rows = λ j x h.
                 let r = f.rows j x h in
-                let strange : (b : ℕ) → Keeps v b → get_or s.words (j + 1) 0 ≢ b + 1 = λ b q z.
+                let strange : (b : ℕ) → Keeps v b → get_or s.words (owner_word j) 0 ≢ b + 1 = λ b q z.
                 (let one_number : b ≡ r.1.0 = (let y = sym r.1.2 ∙ z in omega arith) in
                 ne (k.one p id u v r.1.0 there at r.1.1 (subst (λ n. Keeps v n) one_number q))) in
                 (kept_value j strange ∙ r.0, (r.1.0, r.1.1, else j ∙ r.1.2));
@@ -219,7 +221,7 @@ module _ {B T E : Type 0} (value : B → T) (step : E → List T → List T) (ma
         whole = here s.views id v w at (λ u. (u.seen ≡ longer_history) × ((b : Account) × IsIn u.callers b)) (refl, (account_after, inl refl));
         one = still_once s.views id v w at kept_before k.one;
         home = λ j lt z.
-            let free : get_or s.words (j + 1) 0 ≡ 0 = sym (else j) ∙ z in
+            let free : get_or s.words (owner_word j) 0 ≡ 0 = sym (else j) ∙ z in
             let t = k.home j lt free in
             (t.0, t.1, kept_value j (λ b q y. (let n = sym free ∙ y in omega arith)) ∙ t.2);
         owned = λ j b lt z. somewhere_set s.views id v w at (λ u. Keeps u b × Holds u j) (λ u. Keeps u b × Holds u j)

@@ -1,7 +1,7 @@
 -- The table at the end: who keeps all numbers is alone, and each part is at home.
-use Rattle.std.proofs.Common.{option_to_list, append_assoc, ◌≡◌, ◌⊎◌, ℕ, zero, suc, ◌+◌, ◌-◌, ◌<◌, Bool, true, false, List, [], ◌∷◌, ◌++◌, length, map, take, get_or, slice_get, nat_lt, if◌then◌else◌, Option, None, Some, inl, inr, refl, sym, ◌∙◌, ap, ap₂, subst, arith}
+use Rattle.std.proofs.Common.{option_to_list, append_assoc, length-append, ◌≡◌, ◌⊎◌, ℕ, zero, suc, ◌+◌, ◌-◌, ◌<◌, Bool, true, false, List, [], ◌∷◌, ◌++◌, length, map, get_or, slice_get, nat_lt, if◌then◌else◌, Option, None, Some, inl, inr, refl, sym, ◌∙◌, ap, ap₂, subst, arith}
 use native.Mathlib.Decide.{ℕ_discrete}
-use mathlib.Core.Option.{Option as Maybe, some, some-injective, some-ne-none}
+use mathlib.Core.Option.{Option as Maybe, some, some-injective}
 use lib.ListN.{get_elem?}
 use Rattle.atomic_table.specs.Table.{State, Me, Final, Seen}
 use Rattle.part_table.specs.declared.view.Setting.{Setting}
@@ -10,13 +10,14 @@ use Rattle.part_table.specs.declared.view.View.{View}
 use Rattle.part_table.specs.History.{StartsWith, BeginsEach, replayed}
 use Rattle.part_table.specs.Held.{held_at}
 use Rattle.part_table.specs.Known.{Known, Opened}
-use Rattle.part_table.specs.Closing.{AreFull, IsLongest, account_of, IsSeatOf, IsTold, KnowsAll, OneSaw, HasJoined}
+use Rattle.part_table.specs.Lines.{owner_word, slot_of}
+use Rattle.part_table.specs.Closing.{AreFull, AreOfSlots, IsLongest, account_of, IsSeatOf, IsTold, KnowsAll, OneSaw, HasJoined}
 use Rattle.atomic_table.specs.Seated.{TableId}
-use Rattle.part_table.specs.Passes.{IsPass, known, empties, number_of, own_of, left_of, held_count, one_if_held}
+use Rattle.part_table.specs.Passes.{IsPass, known_with, empties, number_of, own_of, left_of, held_count, one_if_held}
 use Rattle.part_table.specs.Plays.{joined}
 use Rattle.part_table.specs.Rule.{IsIn, Keeps, parts_after, Kept, KeptAt}
 use Rattle.part_table.proofs.Histories.{starts_refl}
-use Rattle.part_table.proofs.Order.{take_next}
+use Rattle.part_table.proofs.Order.{at_within, as_slice}
 use Rattle.part_table.proofs.Views.{in_left, in_right}
 
 module _ {T E : Type 0} where
@@ -95,13 +96,13 @@ module _ {B T E : Type 0} (value : B → T) (step : E → List T → List T) (ma
         let same : o.1 ≡ v = alone o.0 o.1 o.3.1.0.number o.2 (o.3.1.0, o.3.1.1, refl) in
         sym (ap (λ (u : View T E). u.seen) same) ∙ o.3.0
 
-    at_home : (i : ℕ) → i < length s.homes → (x : B) × (get_elem? s.homes i ≡ some (some (Some x))) × (slice_get (parts_after value step may_make setting history) i ≡ Some (value x))
-    at_home i lt = by (ℕ_discrete (get_or s.words (i + 1) 0) 0)
+    at_home : (i : ℕ) → i < length setting.opening → (x : B) × (get_elem? s.homes (slot_of i) ≡ some (some (Some x))) × (slice_get (parts_after value step may_make setting history) i ≡ Some (value x))
+    at_home i lt = by (ℕ_discrete (get_or s.words (owner_word i) 0) 0)
       where
-        by : Dec (get_or s.words (i + 1) 0 ≡ 0) → (x : B) × (get_elem? s.homes i ≡ some (some (Some x))) × (slice_get (parts_after value step may_make setting history) i ≡ Some (value x))
+        by : Dec (get_or s.words (owner_word i) 0 ≡ 0) → (x : B) × (get_elem? s.homes (slot_of i) ≡ some (some (Some x))) × (slice_get (parts_after value step may_make setting history) i ≡ Some (value x))
         by (yes e) = k.home i lt e
         by (no ne) =
-            let o = k.owned i (get_or s.words (i + 1) 0 - 1) lt (omega arith) in
+            let o = k.owned i (get_or s.words (owner_word i) 0 - 1) lt (omega arith) in
             let same : o.1 ≡ v = alone o.0 o.1 _ o.2 o.3.0 in
             let held : held_at v.held i ≡ Some o.3.1.0 = subst (λ (u : View T E). held_at u.held i ≡ Some o.3.1.0) same o.3.1.1 in
             absurd (let none = empty i in cc (none, held))
@@ -135,23 +136,29 @@ module _ {B T E : Type 0} (value : B → T) (step : E → List T → List T) (ma
       let here : x ≡ y = cc first in
       ap₂ (λ (z : T) (l : List T). z ∷ l) here (same_list xs ys (omega arith) (λ i lt. h (suc i) (omega arith)))
 
-  length_of : (xs : List B) → length (map Some xs) ≡ length xs
-  length_of [] = refl
-  length_of (x ∷ xs) = let h = length_of xs in omega arith
-
   length_values : (xs : List B) → length (map value xs) ≡ length xs
   length_values [] = refl
   length_values (x ∷ xs) = let h = length_values xs in omega arith
 
-  value_at : (xs : List B) (i : ℕ) (x : B) → get_elem? (map Some xs) i ≡ some (Some x) → slice_get (map value xs) i ≡ Some (value x)
-  value_at [] i x e = absurd (some-ne-none (Some x) (sym e))
-  value_at (y ∷ xs) zero x e = let same : y ≡ x = (let z = some-injective (Some y) (Some x) e in cc z) in ap (λ (b : B). Some (value b)) same
-  value_at (y ∷ xs) (suc i) x e = value_at xs i x e
+  value_at : (ys : List B) (i : ℕ) (y : B) → slice_get ys i ≡ Some y → slice_get (map value ys) i ≡ Some (value y)
+  value_at [] i y e = absurd (cc e)
+  value_at (z ∷ ys) zero y e = let same : z ≡ y = cc e in ap (λ (b : B). Some (value b)) same
+  value_at (z ∷ ys) (suc i) y e = value_at ys i y e
+
+  -- the value of a part, by what its slot has
+  value_of_slot : (n : ℕ) (xs : List (Option B)) (ys : List B) (i : ℕ) (x : B) → AreOfSlots n xs ys → i < n → get_elem? xs (slot_of i) ≡ some (Some x) → slice_get (map value ys) i ≡ Some (value x)
+  value_of_slot n xs ys i x of lt there =
+      let count = of.count in
+      let t = at_within ys i (omega arith) in
+      let at = as_slice ys i t.0 t.1 in
+      let both : Some t.0 ≡ Some x = some-injective (Some t.0) (Some x) (sym (of.each i t.0 at) ∙ there) in
+      let same : t.0 ≡ x = cc both in
+      value_at ys i t.0 at ∙ ap (λ (b : B). Some (value b)) same
 
   -- what a closed table has
   pub record Closes (passes : List (Known T E)) (xs : List (Option B)) : Type 0 where
-    pub full : AreFull xs
-    pub parts : (history : List (ℕ × E)) × IsLongest may_make setting.callers passes history × ((ys : List B) → map Some ys ≡ xs → map value ys ≡ replayed step setting.opening history)
+    pub full : AreFull (length setting.opening) xs
+    pub parts : (history : List (ℕ × E)) × IsLongest may_make setting.callers passes history × ((ys : List B) → AreOfSlots (length setting.opening) xs ys → map value ys ≡ replayed step setting.opening history)
 
   pub closes : (id : ℕ) (m : Me (Option B) (View T E)) (ws : List ℕ) (xs : List (Option B)) (passes : List (Known T E)) → Final (Seen (Kept value step may_make setting) id m.0) ws xs
       → ((c : ℕ) → c < setting.callers → (i : ℕ) × (p : Known T E) × (slice_get passes i ≡ Some p) × (p.by ≡ c)) → HasJoined m passes → Closes passes xs
@@ -160,21 +167,22 @@ module _ {B T E : Type 0} (value : B → T) (step : E → List T → List T) (ma
       let H = f.1.0.0 in
       let k = f.1.0.1 in
       let home = at_home H s k id m.0 f.1.1 passes every j.empty j.all in
-      let size : length s.homes ≡ length xs = f.3 in
-      let slot : (i : ℕ) → i < length xs → (x : B) × (get_elem? xs i ≡ some (Some x)) × (slice_get (parts_after value step may_make setting H) i ≡ Some (value x)) = λ i lt. (let t = home i (omega arith) in (t.0, f.4 i (Some t.0) t.1, t.2)) in
+      let slot : (i : ℕ) → i < length setting.opening → (x : B) × (get_elem? xs (slot_of i) ≡ some (Some x)) × (slice_get (parts_after value step may_make setting H) i ≡ Some (value x)) =
+      λ i lt. (let t = home i lt in (t.0, f.4 (slot_of i) (Some t.0) t.1, t.2)) in
       record {
         full = λ i lt. (let t = slot i lt in (t.0, t.1));
         parts = (
           H,
           longest H s k id m.0 f.1.1 passes every j.empty j.all j.longest,
-          λ ys same.
-              let long : length ys ≡ length xs = sym (length_of ys) ∙ ap length same in
+          λ ys of.
+              let long = of.count in
               let values = length_values ys in
               let parts_size = k.parts in
-              same_list (map value ys) (replayed step setting.opening H) (omega arith)
+              same_list (map value ys) (replayed step setting.opening H) (values ∙ long ∙ sym parts_size)
               (λ i lt.
-              let t = slot i (omega arith) in
-              value_at ys i t.0 (ap (λ l. get_elem? l i) same ∙ t.1) ∙ sym t.2),
+              let below : i < length setting.opening = omega arith in
+              let t = slot i below in
+              value_of_slot (length setting.opening) xs ys i t.0 of below t.1 ∙ sym t.2),
         );
       }
 
@@ -211,12 +219,12 @@ module _ {T : Type 0} where
 module _ {B T E : Type 0} where
   -- the seat of a pass that holds nothing
   pub seat_idle : (may_make : ℕ → E → Type 0) (id : TableId) (m : Me (Option B) (View T E)) (order : List ℕ) (capacity by left : ℕ) (hand : List (Option T)) (p : Known T E) → IsPass may_make id m order capacity by left
-      → known id m.0 hand ≡ p → ((part : ℕ) → held_at p.taken part ≡ None) → IsSeatOf p m
+      → known_with id m.0 hand order ≡ p → ((part : ℕ) → held_at p.taken part ≡ None) → IsSeatOf p m
   seat_idle may_make id m order capacity by left hand p i is idle =
       let empty : (part : ℕ) → held_at m.0.held part ≡ None = λ part. ap (λ (q : Known T E). held_at q.taken part) is ∙ idle part in
       let count = i.count in
       let none = nothing_in m.0.held empty in
-      let base : IsSeatOf (known id m.0 hand) m = record {
+      let base : IsSeatOf (known_with id m.0 hand order) m = record {
         slots = i.slots ∙ no_order order (omega arith);
         account = one_account by left m.0.callers i.account;
         seen = refl;
@@ -233,12 +241,26 @@ module _ {B T E : Type 0} where
 pub not_none : {B : Type 0} (o : Maybe (Option B)) (x : B) → o ≡ some None → o ≡ some (Some x) → ⊥
 not_none o x none there = let e : None ≡ Some x = some-injective None (Some x) (sym none ∙ there) in absurd (cc e)
 
-pub one_taken : {B : Type 0} (xs new : List B) (ys : List (Option B)) (x : B) (i : ℕ) → map Some xs ≡ take i ys → new ≡ xs ++ x ∷ [] → get_elem? ys i ≡ some (Some x) → map Some new ≡ take (i + 1) ys
-one_taken {B} xs new ys x i so_far more at = ap (map Some) more ∙ snoc xs ∙ ap (λ l. l ++ Some x ∷ []) so_far ∙ sym (take_next ys i (Some x) at)
-  where
-    snoc : (l : List B) → map Some (l ++ x ∷ []) ≡ map Some l ++ Some x ∷ []
-    snoc [] = refl
-    snoc (y ∷ l) = ap (λ (q : List (Option B)). Some y ∷ q) (snoc l)
+module _ {B : Type 0} where
+  pub none_taken : (xs : List (Option B)) (ys : List B) → ys ≡ [] → AreOfSlots 0 xs ys
+  none_taken xs ys e = subst (λ l. AreOfSlots 0 xs l) (sym e) (record { count = refl; each = λ i y none. absurd (cc none) })
+
+  -- what stands in a list with one more at its end
+  at_end : (ys : List B) (x : B) (i : ℕ) (y : B) → slice_get (ys ++ x ∷ []) i ≡ Some y → (slice_get ys i ≡ Some y) ⊎ ((i ≡ length ys) × (x ≡ y))
+  at_end [] x zero y e = inr (refl, cc e)
+  at_end [] x (suc i) y e = absurd (cc e)
+  at_end (z ∷ ys) x zero y e = inl e
+  at_end (z ∷ ys) x (suc i) y e = elim (at_end ys x i y e) [ inl h ↦ inl h | inr h ↦ inr (ap suc h.0, h.1) ]
+
+  pub one_taken : (n : ℕ) (xs : List (Option B)) (ys new : List B) (x : B) → AreOfSlots n xs ys → new ≡ ys ++ x ∷ [] → get_elem? xs (slot_of n) ≡ some (Some x) → AreOfSlots (n + 1) xs new
+  one_taken n xs ys new x so_far more at =
+      subst (λ l. AreOfSlots (n + 1) xs l) (sym more) (record {
+        count = length-append ys (x ∷ []) ∙ ap (λ q. q + 1) so_far.count;
+        each = λ i y there. elim (at_end ys x i y there) [
+          | inl h ↦ so_far.each i y h
+          | inr h ↦ ap (λ q. get_elem? xs (slot_of q)) (h.0 ∙ so_far.count) ∙ at ∙ ap (λ q. some (Some q)) h.1
+        ];
+      })
 
 in_length : (l : List Account) (a : Account) → IsIn l a → 0 < length l
 in_length [] a h = absurd h
@@ -264,7 +286,7 @@ module _ {S T E : Type 0} where
 
 -- what a closed table has, as its value tells
 pub closes_as : {B T E : Type 0} (value : B → T) (step : E → List T → List T) (may_make : ℕ → E → Type 0) (setting : Setting T) (xs : List (Option B)) (table : Opened T) (passes : List (Known T E))
-    → setting.callers ≡ table.callers → setting.opening ≡ table.opening → Closes value step may_make setting passes xs → (ys : List B) → map Some ys ≡ xs
+    → setting.callers ≡ table.callers → setting.opening ≡ table.opening → Closes value step may_make setting passes xs → (ys : List B) → AreOfSlots (length setting.opening) xs ys
     → (history : List (ℕ × E)) × IsLongest may_make table.callers passes history × (map value ys ≡ replayed step table.opening history)
 closes_as value step may_make setting xs table passes callers opening c ys all =
     let p = c.parts in

@@ -10,7 +10,9 @@ use Rattle.part_table.specs.declared.view.Account.{Account}
 use Rattle.part_table.specs.declared.view.View.{View}
 use Rattle.part_table.specs.History.{StartsWith, BeginsEach}
 use Rattle.part_table.specs.Held.{held_at}
+use Rattle.part_table.specs.Lines.{owner_word, slot_of}
 use Rattle.part_table.specs.Rule.{Keeps, Holds, Somewhere, parts_after, IsAccount, Fits, KeptAt}
+use Rattle.part_table.proofs.Apart.{another_word, no_commit_word, another_slot}
 use Rattle.part_table.proofs.Views.{get_at, total_set, still_once, each_set, somewhere_set}
 
 module _ {B T E : Type 0} (value : B → T) (step : E → List T → List T) (may_make : ℕ → E → Type 0) (setting : Setting T)
@@ -24,13 +26,13 @@ module _ {B T E : Type 0} (value : B → T) (step : E → List T → List T) (ma
       → IsAccount value step may_make setting history w a
   same_account w same size a h = record { table = same ∙ h.table; places = size ∙ h.places; number = h.number; own = h.own; quota = h.quota }
 
-  module _ (i : ℕ) (lt : i < length s.homes) where
+  module _ (i : ℕ) (lt : i < length setting.opening) where
     -- what the step does to the word of i, to the homes and to the hand
     pub record Moves (n : ℕ) (homes : List (Maybe (Option B))) (hand : List (Option T)) : Type 0 where
       pub places : length hand ≡ length v.held
       pub size : length homes ≡ length s.homes
-      pub other_homes : (j : ℕ) → j ≢ i → get_elem? homes j ≡ get_elem? s.homes j
-      pub home_here : n ≡ 0 → (x : B) × (get_elem? homes i ≡ some (some (Some x))) × (slice_get parts i ≡ Some (value x))
+      pub other_homes : (j : ℕ) → j ≢ slot_of i → get_elem? homes j ≡ get_elem? s.homes j
+      pub home_here : n ≡ 0 → (x : B) × (get_elem? homes (slot_of i) ≡ some (some (Some x))) × (slice_get parts i ≡ Some (value x))
       pub row_here : (x : T) → held_at hand i ≡ Some x → (slice_get parts i ≡ Some x) × ((b : ℕ) × Keeps v b × (n ≡ b + 1))
       pub other_rows : (j : ℕ) → j ≢ i → held_at hand j ≡ held_at v.held j
       pub owned_here : (b : ℕ) → n ≡ b + 1 → Keeps v b × ((x : T) × (held_at hand i ≡ Some x))
@@ -41,34 +43,34 @@ module _ {B T E : Type 0} (value : B → T) (step : E → List T → List T) (ma
       w = record v { held = hand }
 
       words : List ℕ
-      words = set s.words (i + 1) n
+      words = set s.words (owner_word i) n
 
-      here : get_or words (i + 1) 0 ≡ n
+      here : get_or words (owner_word i) 0 ≡ n
       unfolding words
-      here = get_or-set_same s.words (i + 1) n 0 (omega (arith, k.sized))
+      here = get_or-set_same s.words (owner_word i) n 0 (omega (arith, k.sized))
 
-      else : (j : ℕ) → j ≢ i + 1 → get_or words j 0 ≡ get_or s.words j 0
+      else : (j : ℕ) → j ≢ owner_word i → get_or words j 0 ≡ get_or s.words j 0
       unfolding words
-      else j ne = get_or-set_other s.words (i + 1) j n 0 ne
+      else j ne = get_or-set_other s.words (owner_word i) j n 0 ne
 
       Row : View T E → ℕ → T → Type 0
-      Row u j x = (slice_get parts j ≡ Some x) × ((b : ℕ) × Keeps u b × (get_or words (j + 1) 0 ≡ b + 1))
+      Row u j x = (slice_get parts j ≡ Some x) × ((b : ℕ) × Keeps u b × (get_or words (owner_word j) 0 ≡ b + 1))
 
       row_of : (j : ℕ) (x : T) → Dec (j ≡ i) → held_at hand j ≡ Some x → Row w j x
       unfolding Row
       row_of j x (yes e) h =
           let t = m.row_here x (ap (λ q. held_at hand q) (sym e) ∙ h) in
-          (ap (λ q. slice_get parts q) e ∙ t.0, (t.1.0, t.1.1, ap (λ q. get_or words (q + 1) 0) e ∙ here ∙ t.1.2))
+          (ap (λ q. slice_get parts q) e ∙ t.0, (t.1.0, t.1.1, ap (λ q. get_or words (owner_word q) 0) e ∙ here ∙ t.1.2))
       row_of j x (no ne) h =
           let t = (k.fits id v at).rows j x (sym (m.other_rows j ne) ∙ h) in
-          (t.0, (t.1.0, t.1.1, else (j + 1) (λ q. ne (omega arith)) ∙ t.1.2))
+          (t.0, (t.1.0, t.1.1, else (owner_word j) (another_word j i ne) ∙ t.1.2))
 
       row_else : (a : ℕ) (u : View T E) → a ≢ id → get_elem? s.views a ≡ some u → (j : ℕ) (x : T) → held_at u.held j ≡ Some x → Row u j x
       unfolding Row
       row_else a u ne e j x h =
           let t = (k.fits a u e).rows j x h in
           let other : j ≢ i = λ q. m.alone a u ne e (x, ap (λ p. held_at u.held p) (sym q) ∙ h) in
-          (t.0, (t.1.0, t.1.1, else (j + 1) (λ q. other (omega arith)) ∙ t.1.2))
+          (t.0, (t.1.0, t.1.1, else (owner_word j) (another_word j i other) ∙ t.1.2))
 
       fits : (a : ℕ) (u : View T E) → get_elem? (set s.views id w) a ≡ some u → Fits value step may_make setting words history u
       unfolding Row
@@ -76,31 +78,31 @@ module _ {B T E : Type 0} (value : B → T) (step : E → List T → List T) (ma
           (let f = k.fits id v at in record { seen = f.seen; told = f.told; accounts = λ a h. same_account w refl m.places a (f.accounts a h); rows = λ j x h. row_of j x (ℕ_discrete j i) h })
           (λ a u ne e. (let f = k.fits a u e in record { seen = f.seen; told = f.told; accounts = f.accounts; rows = row_else a u ne e }))
 
-      home : (j : ℕ) → Dec (j ≡ i) → j < length homes → get_or words (j + 1) 0 ≡ 0 → (x : B) × (get_elem? homes j ≡ some (some (Some x))) × (slice_get parts j ≡ Some (value x))
+      home : (j : ℕ) → Dec (j ≡ i) → j < length setting.opening → get_or words (owner_word j) 0 ≡ 0 → (x : B) × (get_elem? homes (slot_of j) ≡ some (some (Some x))) × (slice_get parts j ≡ Some (value x))
       home j (yes e) l z =
-          subst (λ q. (x : B) × (get_elem? homes q ≡ some (some (Some x))) × (slice_get parts q ≡ Some (value x))) (sym e)
-          (m.home_here (sym here ∙ ap (λ q. get_or words (q + 1) 0) (sym e) ∙ z))
+          subst (λ q. (x : B) × (get_elem? homes (slot_of q) ≡ some (some (Some x))) × (slice_get parts q ≡ Some (value x))) (sym e)
+          (m.home_here (sym here ∙ ap (λ q. get_or words (owner_word q) 0) (sym e) ∙ z))
       home j (no ne) l z =
-          let t = k.home j (omega (arith, m.size)) (sym (else (j + 1) (λ q. ne (omega arith))) ∙ z) in
-          (t.0, m.other_homes j ne ∙ t.1, t.2)
+          let t = k.home j l (sym (else (owner_word j) (another_word j i ne)) ∙ z) in
+          (t.0, m.other_homes (slot_of j) (another_slot j i ne) ∙ t.1, t.2)
 
-      owned : (j b : ℕ) → Dec (j ≡ i) → j < length homes → get_or words (j + 1) 0 ≡ b + 1 → Somewhere (λ u. Keeps u b × Holds u j) (set s.views id w)
+      owned : (j b : ℕ) → Dec (j ≡ i) → j < length setting.opening → get_or words (owner_word j) 0 ≡ b + 1 → Somewhere (λ u. Keeps u b × Holds u j) (set s.views id w)
       owned j b (yes e) l z =
-          let t = m.owned_here b (sym here ∙ ap (λ q. get_or words (q + 1) 0) (sym e) ∙ z) in
+          let t = m.owned_here b (sym here ∙ ap (λ q. get_or words (owner_word q) 0) (sym e) ∙ z) in
           (id, w, set_here s.views id w (get_at s.views id v at), (t.0, (t.1.0, ap (λ q. held_at hand q) e ∙ t.1.1)))
       owned j b (no ne) l z =
           somewhere_set s.views id v w at (λ u. Keeps u b × Holds u j) (λ u. Keeps u b × Holds u j) (λ h. (h.0, (h.1.0, m.other_rows j ne ∙ h.1.1))) (λ u h. h)
-          (k.owned j b (omega (arith, m.size)) (sym (else (j + 1) (λ q. ne (omega arith))) ∙ z))
+          (k.owned j b l (sym (else (owner_word j) (another_word j i ne)) ∙ z))
 
       -- the rule is kept
-      pub moved : KeptAt value step may_make setting history (record { words = set s.words (i + 1) n; homes = homes; views = set s.views id (record v { held = hand }) })
+      pub moved : KeptAt value step may_make setting history (record { words = set s.words (owner_word i) n; homes = homes; views = set s.views id (record v { held = hand }) })
       unfolding words
       moved = record {
-        sized = omega (arith, k.sized, length-set s.words (i + 1) n, m.size);
-        opened = k.opened ∙ sym m.size;
-        parts = k.parts ∙ sym m.size;
+        sized = length-set s.words (owner_word i) n ∙ k.sized;
+        opened = m.size ∙ k.opened;
+        parts = k.parts;
         limit = k.limit;
-        count = else 0 (λ e. omega arith) ∙ k.count;
+        count = else 0 (λ e. no_commit_word i (sym e)) ∙ k.count;
         room = (let t = total_set s.views id v w at in omega (arith, k.room));
         made = k.made;
         fits = fits;

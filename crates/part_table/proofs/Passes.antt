@@ -1,5 +1,5 @@
 -- What is inside a pass after each call.
-use Rattle.std.proofs.Common.{◌-◌, ◌^◌, ◌≡◌, ℕ, zero, suc, ◌+◌, ◌*◌, ◌<◌, ◌≤◌, List, [], ◌∷◌, ◌++◌, length, set, drop, take, slice_get, eqb, eq-eqb, ne_eqb, cond, Option, None, Some, refl, sym, ◌∙◌, ap, subst, arith, length-set, length-append}
+use Rattle.std.proofs.Common.{◌-◌, ◌^◌, ◌≡◌, ℕ, zero, suc, ◌+◌, ◌*◌, ◌<◌, ◌≤◌, List, [], ◌∷◌, ◌++◌, length, set, drop, take, slice_get, eqb, eq-eqb, ne_eqb, cond, Option, None, Some, refl, sym, ◌∙◌, ap, ap₂, subst, arith, length-set, length-append}
 use native.Mathlib.Decide.{ℕ_discrete}
 use Rattle.atomic_table.specs.Seated.{TableId}
 use Rattle.atomic_table.specs.Table.{Me, rest}
@@ -8,8 +8,9 @@ use Rattle.part_table.specs.declared.view.Account.{Account}
 use Rattle.part_table.specs.declared.view.View.{View}
 use Rattle.part_table.specs.Held.{held_at, places_held}
 use Rattle.part_table.specs.HeldLaws.{held_set_here, held_set_else, held_within, length-by_places}
-use Rattle.part_table.specs.Known.{IsTrueOf, nothing}
-use Rattle.part_table.specs.Passes.{own_of, held_count, IsPass, known, empties, times, one_if_held}
+use Rattle.part_table.specs.Known.{IsTrueOf, Known, nothing, without}
+use Rattle.part_table.specs.Lines.{slot_of}
+use Rattle.part_table.specs.Passes.{own_of, held_count, IsPass, known, known_with, empties, times, one_if_held}
 use Rattle.part_table.specs.Plays.{starting, committed, noted}
 use Rattle.part_table.proofs.Hands.{nothing_held, nothing_counted, nothing_long, count_put, count_taken, count_lt, count_by_places, one_by_places}
 use Rattle.part_table.proofs.Order.{times_turned, drop_next}
@@ -126,6 +127,30 @@ module _ {B T E : Type 0} (may_make : ℕ → E → Type 0) where
         } in
         subst (λ (q : Me (Option B) (View T E)). IsPass may_make other q order capacity by less) (sym is) (subst P (sym fewer) base)
 
+    -- the slots were turned
+    pub turned_pass : (k : ℕ) (new : List ℕ) (room : ℕ) → w.0 ≡ m.0 → w.1 ≡ empties new → new ≡ drop k order ++ take k order → room ≡ capacity
+        → IsPass may_make other w new room by left
+    turned_pass k new room same slots turned as_before =
+        let behind = drop k order ++ take k order in
+        let few = p.few in
+        let fits = p.room in
+        let count = p.count in
+        let size = length_turned k order in
+        let given : Me (Option B) (View T E) = (m.0, empties behind) in
+        let P : Me (Option B) (View T E) → List ℕ → ℕ → Type 0 = λ q l n. IsPass may_make other q l n by left in
+        let base : P given behind capacity = record {
+          account = p.account;
+          slots = refl;
+          turns = λ j. times_turned j k order ∙ p.turns j;
+          count = omega arith;
+          room = p.room;
+          places = p.places;
+          few = p.few;
+          true_of = same_truth may_make id other m.0 m.0 refl refl refl p.true_of;
+        } in
+        let seat_is : w ≡ given = ap₂ {A = View T E} {B = List (ℕ × Option B)} {C = Me (Option B) (View T E)} (λ v l. (v, l)) same (slots ∙ ap (λ (l : List ℕ). empties l) turned) in
+        subst (λ q. P q new room) (sym seat_is) (subst (λ l. P given l room) (sym turned) (subst (λ n. P given behind n) (sym as_before) base))
+
     turns_put : (i : ℕ) (x : T) → i < length m.0.held → held_at m.0.held i ≡ None → (j : ℕ) → Dec (j ≡ i) → times j (i ∷ order) ≡ one_if_held (held_at (set m.0.held i (Some x)) j)
     turns_put i x lt free j (yes e) =
         let one : cond (eqb j i) 1 0 ≡ 1 = ap (λ b. cond b 1 0) (eq-eqb j i e) in
@@ -141,7 +166,7 @@ module _ {B T E : Type 0} (may_make : ℕ → E → Type 0) where
         plus e = omega arith
 
     -- a part was taken
-    pub took_pass : (i : ℕ) (x : T) (longer : List ℕ) (room : ℕ) → w ≡ (record m.0 { held = set m.0.held i (Some x) }, (i, None) ∷ m.1) → i < length m.0.setting.opening
+    pub took_pass : (i : ℕ) (x : T) (longer : List ℕ) (room : ℕ) → w ≡ (record m.0 { held = set m.0.held i (Some x) }, (slot_of i, None) ∷ m.1) → i < length m.0.setting.opening
         → held_at m.0.held i ≡ None → longer ≡ i ∷ order → room ≡ capacity → IsPass may_make other w longer room by left
     took_pass i x longer room is lt free more same =
         let places = p.places in
@@ -153,9 +178,9 @@ module _ {B T E : Type 0} (may_make : ℕ → E → Type 0) where
         let count = p.count in
         let more_held = count_put m.0.held i x within free in
         let P : Me (Option B) (View T E) → List ℕ → ℕ → Type 0 = λ q l n. IsPass may_make other q l n by left in
-        let base : P (record m.0 { held = hand }, (i, None) ∷ m.1) (i ∷ order) capacity = record {
+        let base : P (record m.0 { held = hand }, (slot_of i, None) ∷ m.1) (i ∷ order) capacity = record {
           account = p.account;
-          slots = ap (λ (l : List (ℕ × Option B)). (i, None) ∷ l) p.slots;
+          slots = ap (λ (l : List (ℕ × Option B)). (slot_of i, None) ∷ l) p.slots;
           turns = λ j. turns_put i x within free j (ℕ_discrete j i);
           count = omega arith;
           room = omega arith;
@@ -163,7 +188,7 @@ module _ {B T E : Type 0} (may_make : ℕ → E → Type 0) where
           few = (let f = few.0 in omega arith, few.1);
           true_of = same_truth may_make id other m.0 (record m.0 { held = hand }) refl refl refl p.true_of;
         } in
-        let taken : Me (Option B) (View T E) = (record m.0 { held = hand }, (i, None) ∷ m.1) in
+        let taken : Me (Option B) (View T E) = (record m.0 { held = hand }, (slot_of i, None) ∷ m.1) in
         subst (λ q. P q longer room) (sym is) (subst (λ l. P taken l room) (sym more) (subst (λ n. P taken (i ∷ order) n) (sym same) base))
 
     -- the slots that stay out after one was brought to the front and given back
@@ -233,3 +258,19 @@ module _ {B T E : Type 0} (may_make : ℕ → E → Type 0) where
             true_of = same_truth may_make id other m.0 (record m.0 { held = hand }) refl refl refl p.true_of;
           } in
           subst (λ q. P q others room) (sym seat_is) (subst (λ l. P given l room) (sym rest_is) (subst (λ n. P given behind n) (sym as_before) base))
+
+-- what is known once a part was given back
+module _ {T E : Type 0} where
+  pub gave_known : (id other : TableId) (v w : View T E) (before after : List (Option T)) (order later : List ℕ) (part : ℕ) (old : Known T E)
+      → known_with id v before order ≡ old → other ≡ id → w ≡ record v { held = set v.held part None } → after ≡ set before part None → later ≡ without part order
+      → known_with other w after later ≡ record old { taken = set old.taken part None; hand = set old.hand part None; order = without part old.order }
+  gave_known id other v w before after order later part old is same held hand less =
+      ap (λ (i : TableId). known_with i w after later) same
+      ∙ ap (λ (x : View T E). known_with id x after later) held
+      ∙ ap (λ (h : List (Option T)). known_with id (record v { held = set v.held part None }) h later) hand
+      ∙ ap (λ (o : List ℕ). known_with id (record v { held = set v.held part None }) (set before part None) o) less
+      ∙ ap (λ (k : Known T E). record k { taken = set k.taken part None; hand = set k.hand part None; order = without part k.order }) is
+
+  -- what is true of what is known is true whatever is held
+  pub true_with : (may_make : ℕ → E → Type 0) (id : TableId) (v : View T E) (held : List (Option T)) (order : List ℕ) → IsTrueOf may_make (known id v held) → IsTrueOf may_make (known_with id v held order)
+  true_with may_make id v held order t = record { number = t.number; own = t.own; quota = t.quota; made = t.made; size = t.size }

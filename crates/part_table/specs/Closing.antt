@@ -8,6 +8,7 @@ use Rattle.part_table.specs.declared.view.View.{View}
 use Rattle.part_table.specs.History.{StartsWith, places_of, IsMade}
 use Rattle.part_table.specs.Held.{held_at}
 use Rattle.part_table.specs.Known.{Known, Opened}
+use Rattle.part_table.specs.Lines.{slot_of}
 use Rattle.part_table.specs.Rule.{IsIn}
 
 -- it is one of these
@@ -58,6 +59,11 @@ module _ {T E : Type 0} where
     pub all : KnowsAll m.0 passes
     pub longest : OneSaw m.0.seen passes
 
--- every slot has its part
-abbrev pub AreFull : {B : Type 0} → List (Option B) → Type 0
-AreFull {B} xs = (i : ℕ) → i < length xs → (x : B) × (get_elem? xs i ≡ some (Some x))
+-- the slot of each of so many parts has its part
+abbrev pub AreFull : {B : Type 0} → ℕ → List (Option B) → Type 0
+AreFull {B} parts xs = (i : ℕ) → i < parts → (x : B) × (get_elem? xs (slot_of i) ≡ some (Some x))
+
+-- these are the parts of so many slots
+pub record AreOfSlots {B : Type 0} (parts : ℕ) (xs : List (Option B)) (ys : List B) : Type 0 where
+  pub count : length ys ≡ parts
+  pub each : (i : ℕ) (y : B) → slice_get ys i ≡ Some y → get_elem? xs (slot_of i) ≡ some (Some y)

@@ -1,5 +1,5 @@
 -- A table of parts and the passes of its callers, as contracts see them (this profile's choice).
-use Rattle.std.specs.Prelude.{◌≡◌, ℕ, ◌+◌, ◌*◌, ◌^◌, ◌<◌, ◌≤◌, List, [], Option, None, length, replicate}
+use Rattle.std.specs.Prelude.{◌≡◌, ℕ, ◌+◌, ◌*◌, ◌^◌, ◌<◌, ◌≤◌, List, [], Option, None, filter, length, not, replicate, ◌==◌}
 use Rattle.atomic_table.specs.Seated.{TableId}
 use Rattle.part_table.specs.History.{places_of, IsMade}
 use Rattle.part_table.specs.Held.{places_held}
@@ -12,7 +12,7 @@ pub record Opened (T : Type 0) : Type 0 where
   pub quota : ℕ
 
 -- a pass: its table, its caller's number, the history seen, the places of its own events, the commits left, the claims lost as parts and owners,
--- and the parts held, as taken or committed and as the hand has them now
+-- the parts held, as taken or committed and as the hand has them now, and their numbers, the one that was taken last first
 pub record Known (T E : Type 0) : Type 0 where
   pub table : Opened T
   pub by : ℕ
@@ -22,6 +22,11 @@ pub record Known (T E : Type 0) : Type 0 where
   pub lost : List (ℕ × ℕ)
   pub taken : List (Option T)
   pub hand : List (Option T)
+  pub order : List ℕ
+
+-- the numbers of parts but that one
+abbrev pub without : ℕ → List ℕ → List ℕ
+without part parts = filter (λ other. not (other == part)) parts
 
 -- nothing is held, of that many parts
 abbrev pub nothing : {T : Type 0} → ℕ → List (Option T)
@@ -39,11 +44,12 @@ module _ {T E : Type 0} where
     lost = [];
     taken = nothing (length table.opening);
     hand = nothing (length table.opening);
+    order = [];
   }
 
   -- the pass holds no part
   abbrev pub HoldsNothing : Known T E → Type 0
-  HoldsNothing pass = (pass.taken ≡ nothing (length pass.table.opening)) × (pass.hand ≡ nothing (length pass.table.opening))
+  HoldsNothing pass = (pass.taken ≡ nothing (length pass.table.opening)) × (pass.hand ≡ nothing (length pass.table.opening)) × (pass.order ≡ [])
 
   -- the hand holds exactly the parts that were taken, and has a place for each part
   abbrev pub IsInHand : Known T E → Type 0

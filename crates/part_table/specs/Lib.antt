@@ -5,6 +5,7 @@ pub mod Held
 pub mod HeldLaws
 pub mod History
 pub mod Known
+pub mod Lines
 pub mod Numbers
 pub mod Passes
 pub mod Plays

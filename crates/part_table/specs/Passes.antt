@@ -6,6 +6,7 @@ use Rattle.part_table.specs.declared.view.Account.{Account}
 use Rattle.part_table.specs.declared.view.View.{View}
 use Rattle.part_table.specs.Held.{held_at}
 use Rattle.part_table.specs.Known.{Known, IsTrueOf}
+use Rattle.part_table.specs.Lines.{slot_of}
 
 -- the number, the own places and the commits left of the first account
 abbrev pub number_of : List Account → ℕ
@@ -23,7 +24,7 @@ left_of (a ∷ accounts) = a.left
 -- the slots of these parts, each empty
 abbrev pub empties : {S : Type 0} → List ℕ → List (ℕ × Option S)
 empties [] = []
-empties (i ∷ parts) = (i, None) ∷ empties parts
+empties (i ∷ parts) = (slot_of i, None) ∷ empties parts
 
 -- how often a number stands in a list
 abbrev pub times : ℕ → List ℕ → ℕ
@@ -41,7 +42,7 @@ module _ {T : Type 0} where
   held_count (held ∷ hand) = one_if_held held + held_count hand
 
 module _ {T E : Type 0} where
-  -- the pass of a seat, as contracts see it
+  -- the pass of a seat that holds nothing, as contracts see it
   abbrev pub known : TableId → View T E → List (Option T) → Known T E
   known id v hand = record {
     table = record { id = id; opening = v.setting.opening; callers = v.setting.callers; quota = v.setting.quota };
@@ -52,7 +53,12 @@ module _ {T E : Type 0} where
     lost = v.lost;
     taken = v.held;
     hand = hand;
+    order = [];
   }
+
+  -- the same with the parts that it holds, in their order
+  abbrev pub known_with : TableId → View T E → List (Option T) → List ℕ → Known T E
+  known_with id v hand order = record (known id v hand) { order = order }
 
   -- a pass keeps one number; the slots that are out with it are those of the parts that it holds, in the order kept beside it, which has room for all; and what it
   -- knows is true

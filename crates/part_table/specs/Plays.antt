@@ -8,6 +8,7 @@ use Rattle.part_table.specs.declared.view.View.{View}
 use Rattle.part_table.specs.History.{StartsWith, BeginsEach, replayed}
 use Rattle.part_table.specs.Held.{IsHandOf}
 use Rattle.part_table.specs.Known.{IsTrueOf, nothing}
+use Rattle.part_table.specs.Lines.{owner_word, slot_of}
 use Rattle.part_table.specs.Passes.{number_of, known}
 use Rattle.part_table.specs.Rule.{setting_of}
 use Rattle.part_table.specs.declared.view.Key.{Key}
@@ -70,18 +71,18 @@ module _ {B T E : Type 0} where
   abbrev pub Loses : ℕ → ℕ → Me (Option B) (View T E) → Me (Option B) (View T E) → Type 0
   Loses i b m w = (b ≢ number_of m.0.callers) × (b < m.0.setting.callers) × (w ≡ (record m.0 { lost = m.0.lost ++ (i, b) ∷ [] }, m.1))
 
-  -- the part went back, and with it its slot
+  -- the part of the word went back, and with it its slot
   abbrev pub Gives : Step (Option B) → Me (Option B) (View T E) → ℕ → Me (Option B) (View T E) → Type 0
-  Gives st m found w = w ≡ (record m.0 { held = slice_set m.0.held (st.word - 1) None }, rest m.1)
+  Gives st m found w = (i : ℕ) → st.word ≡ owner_word i → w ≡ (record m.0 { held = slice_set m.0.held i None }, rest m.1)
 
 module _ {B T E : Type 0} (value : B → T) where
   -- the part was taken, and with it its slot
   abbrev pub Takes : ℕ → Me (Option B) (View T E) → Me (Option B) (View T E) → Type 0
-  Takes i m w = (x : B) × (w ≡ (record m.0 { held = slice_set m.0.held i (Some (value x)) }, (i, Some x) ∷ m.1))
+  Takes i m w = (x : B) × (w ≡ (record m.0 { held = slice_set m.0.held i (Some (value x)) }, (slot_of i, Some x) ∷ m.1))
 
-  -- the word showed nobody, or another owner
+  -- the word of the part showed nobody, or another owner
   abbrev pub Claims : Step (Option B) → Me (Option B) (View T E) → ℕ → Me (Option B) (View T E) → Type 0
-  Claims st m found w = (found ≡ 0 → Takes (st.word - 1) m w) × (found ≢ 0 → Loses (st.word - 1) (found - 1) m w)
+  Claims st m found w = (i : ℕ) → st.word ≡ owner_word i → (found ≡ 0 → Takes i m w) × (found ≢ 0 → Loses i (found - 1) m w)
 
 module _ {T E : Type 0} (step : E → List T → List T) (may_make : ℕ → E → Type 0) where
   -- of a seat at which the history h was seen: it begins with what was seen before, and what is held is as the parts replayed have it

@@ -1,4 +1,4 @@
--- The rule of the table, which holds between any two atomic steps. Word 0 counts the one history, and word 1 + i says who owns the part i: 0 is nobody, and b + 1 the caller b.
+-- The rule of the table, which holds between any two atomic steps. Word 0 counts the one history, and the owner word of the part i says who owns it: 0 is nobody, and b + 1 the caller b.
 -- The history exists in proofs alone.
 use Rattle.std.specs.Prelude.{◌≡◌, ℕ, ◌+◌, ◌*◌, ◌^◌, ◌<◌, ◌≤◌, ◌⊎◌, List, [], ◌∷◌, length, slice_index, slice_get, Option, Some, map}
 use mathlib.Core.Option.{some}
@@ -11,6 +11,7 @@ use Rattle.part_table.specs.declared.view.Account.{Account}
 use Rattle.part_table.specs.declared.view.View.{View}
 use Rattle.part_table.specs.History.{StartsWith, BeginsEach, replayed, places_of, IsMade}
 use Rattle.part_table.specs.Held.{held_at}
+use Rattle.part_table.specs.Lines.{owner_word, slot_of}
 
 -- what callers know of what a table is told
 abbrev pub setting_of : {T : Type 0} → Key T → Setting T
@@ -65,13 +66,13 @@ module _ {B T E : Type 0} (value : B → T) (step : E → List T → List T) (ma
     pub told : BeginsEach history v.told
     pub accounts : (a : Account) → IsIn v.callers a → IsAccount history v a
     pub rows : (i : ℕ) (x : T) → held_at v.held i ≡ Some x
-        → (slice_get (parts_after history) i ≡ Some x) × ((b : ℕ) × Keeps v b × (slice_index words (i + 1) ≡ b + 1))
+        → (slice_get (parts_after history) i ≡ Some x) × ((b : ℕ) × Keeps v b × (slice_index words (owner_word i) ≡ b + 1))
 
   pub record KeptAt (history : List (ℕ × E)) (s : State (Option B) (View T E)) : Type 0 where
-    -- a word for each slot and one more, a slot for each opening part, and as many parts after the history
-    pub sized : length s.words ≡ length s.homes + 1
-    pub opened : length setting.opening ≡ length s.homes
-    pub parts : length (parts_after history) ≡ length s.homes
+    -- the commit word and an owner word for each opening part, a slot for each, and as many parts after the history
+    pub sized : length s.words ≡ owner_word (length setting.opening)
+    pub opened : length s.homes ≡ slot_of (length setting.opening)
+    pub parts : length (parts_after history) ≡ length setting.opening
     -- the quotas together fit the commit word
     pub limit : setting.callers * setting.quota ≤ 65 * 2 ^ 40
     -- the commit word is the history's length, which with all commits left is at most the quotas together
@@ -85,10 +86,10 @@ module _ {B T E : Type 0} (value : B → T) (step : E → List T → List T) (ma
     -- a number is kept by one view
     pub one : (p q : ℕ) (v w : View T E) (b : ℕ) → get_elem? s.views p ≡ some v → get_elem? s.views q ≡ some w → Keeps v b → Keeps w b → p ≡ q
     -- a part that nobody owns is at home, and is that of the parts replayed
-    pub home : (i : ℕ) → i < length s.homes → slice_index s.words (i + 1) ≡ 0
-        → (x : B) × (get_elem? s.homes i ≡ some (some (Some x))) × (slice_get (parts_after history) i ≡ Some (value x))
+    pub home : (i : ℕ) → i < length setting.opening → slice_index s.words (owner_word i) ≡ 0
+        → (x : B) × (get_elem? s.homes (slot_of i) ≡ some (some (Some x))) × (slice_get (parts_after history) i ≡ Some (value x))
     -- where the owner word shows a caller, the view that keeps its number holds the part
-    pub owned : (i b : ℕ) → i < length s.homes → slice_index s.words (i + 1) ≡ b + 1 → Somewhere (λ v. Keeps v b × Holds v i) s.views
+    pub owned : (i b : ℕ) → i < length setting.opening → slice_index s.words (owner_word i) ≡ b + 1 → Somewhere (λ v. Keeps v b × Holds v i) s.views
 
   -- there is one history
   abbrev pub Kept : State (Option B) (View T E) → Type 0

@@ -1,11 +1,14 @@
-ghost use Rattle.std.specs.Prelude.{◌≡◌, ◌<◌, ◌≤◌, [], ◌∷◌, ℕ, List, None, Some, IfOk, IfErr, length, map, slice_get, vec_capacity};
+ghost use Rattle.std.specs.Prelude.{◌≡◌, ◌<◌, ◌≤◌, [], ◌∷◌, ℕ, List, None, Some, IfOk, IfErr, false, length, map, slice_get, slice_index_or, vec_capacity};
 ghost use Rattle.std.specs.Box.{box_value};
-ghost use Rattle.std.specs.Mem.Slots.{IsFull, slots_items, slots_len};
-ghost use Rattle.part_table.specs.Closing.{AreAllIdle, AreFull, HasJoined, IsLongest, IsSeatOf};
+ghost use Rattle.std.specs.Mem.Slots.{IsFull, slots_filled, slots_items, slots_len};
+ghost use Rattle.std.specs.Mem.Slots.Ownership.{Filled};
+ghost use Rattle.part_table.specs.Closing.{AreAllIdle, AreFull, AreOfSlots, HasJoined, IsLongest, IsSeatOf};
 ghost use Rattle.part_table.specs.Held.{held_at};
 ghost use Rattle.part_table.specs.History.{replayed};
 ghost use Rattle.part_table.specs.Known.{Known};
+ghost use Rattle.part_table.specs.Lines.{slot_of};
 
+use crate::lines::{SLOTS_APART, slot_at};
 use crate::object::Object;
 use crate::pass::{PartSeat, Pass};
 use crate::steps::{Slots, take_in};
@@ -51,22 +54,44 @@ fn join_all<O: Object>(table: &Slots<O>, mut passes: Vec<Pass<O>>) -> PartSeat<O
     seat
 }
 
+/// Empties the slots from one on and below another, where those before are empty already.
+fn empty_slots<T: Drop>(closed: &mut Closed<Option<Box<T>>, Global>, from: usize, to: usize)
+    requires within { (from ≤ to) × (to ≤ slots_len closed.old.slots) }
+    requires filled { Filled (slots_filled closed.old.slots) from (slots_len closed.old.slots) }
+    requires emptied { (k : ℕ) → k < from
+        → slice_index_or (slots_filled closed.old.slots) k false ≡ false }
+    ensures filled { Filled (slots_filled closed.new.slots) to (slots_len closed.old.slots) }
+    ensures emptied { (k : ℕ) → k < to
+        → slice_index_or (slots_filled closed.new.slots) k false ≡ false }
+    ensures same { (slots_items closed.new.slots ≡ slots_items closed.old.slots)
+        × (slots_len closed.new.slots ≡ slots_len closed.old.slots) }
+{
+    for slot in from..to {
+        drop(closed.take(slot));
+    }
+}
+
 /// The parts of a table that was closed, in order.
 fn take_parts<T: Drop>(
     mut closed: Closed<Option<Box<T>>, Global>,
+    count: usize,
     mut parts: Vec<Box<T>>,
 ) -> Vec<Box<T>>
+    requires few { count ≤ 256 }
+    requires size { slots_len closed.slots ≡ slot_of count }
     requires filled { IsFull closed.slots }
-    requires full { AreFull (slots_items closed.slots) }
+    requires full { AreFull count (slots_items closed.slots) }
     requires none { parts.items ≡ [] }
-    requires room { slots_len closed.slots ≤ vec_capacity parts }
-    ensures { map Some result.items ≡ slots_items closed.slots }
+    requires room { count ≤ vec_capacity parts }
+    ensures { AreOfSlots count (slots_items closed.slots) result.items }
 {
-    for place in 0..closed.slot_count() {
-        let Some(part) = closed.take(place) else {
+    for place in 0..count {
+        let slot = slot_at(place);
+        let Some(part) = closed.take(slot) else {
             unreachable!()
         };
         parts.push_reserved(part);
+        empty_slots(&mut closed, slot + 1, slot + SLOTS_APART);
     }
     closed.free();
     parts
@@ -89,7 +114,8 @@ impl<O: Object> PartTable<O> {
         ensures back { IfErr result (λ back. (back.table ≡ self)
             × (back.passes.items ≡ passes.items)) }
     {
-        let Ok(parts) = Vec::with_capacity(alloc, self.table.slot_count()) else {
+        let count = self.table.slot_count() / SLOTS_APART;
+        let Ok(parts) = Vec::with_capacity(alloc, count) else {
             return Err(Unclosed {
                 table: self,
                 passes,
@@ -97,6 +123,6 @@ impl<O: Object> PartTable<O> {
         };
         let PartTable { table } = self;
         let seat = join_all::<O>(&table, passes);
-        Ok(take_parts(table.close_with(seat), parts))
+        Ok(take_parts(table.close_with(seat), count, parts))
     }
 }

@@ -8,7 +8,10 @@ ghost use Rattle.part_table.specs.Held.{held_at};
 ghost use Rattle.part_table.specs.History.{StartsWith, replayed};
 ghost use Rattle.part_table.specs.Known.{HoldsNothing, newcomer, nothing};
 
-use crate::{Hand, Held, Memory, Object, PartTable, Pass, a_pass_has_a_place_for_each_part};
+use crate::{
+    Hand, Held, Memory, Object, PartTable, Pass, a_pass_has_a_place_for_each_part,
+    a_pass_has_its_parts_in_order,
+};
 use std::alloc::Global;
 
 /// An example of an object: numbers of 64 bits, each of them a part. An event moves an amount.
@@ -94,6 +97,7 @@ pub fn visit(table: &PartTable<Amounts>, pass: &mut Pass<Amounts>, part: u32) ->
         × (pass.new ≡ record pass.old { lost = pass.old.lost ++ (part, held.by) ∷ [] })) }
 {
     a_pass_has_a_place_for_each_part(pass);
+    a_pass_has_its_parts_in_order(pass);
     table.try_take(pass, part)?;
     let Some(number) = pass.hand().get(part).copied() else {
         unreachable!()
@@ -119,7 +123,7 @@ pub fn take(table: &PartTable<Amounts>, pass: &mut Pass<Amounts>, part: u32) -> 
         → held_at pass.new.taken i ≡ Some x }
     ensures hand { pass.new.hand ≡ pass.new.taken }
     ensures kept { pass.new ≡ record pass.old
-        { lost = pass.new.lost; taken = pass.new.taken; hand = pass.new.hand } }
+        { lost = pass.new.lost; taken = pass.new.taken; hand = pass.new.hand; order = pass.new.order } }
 {
     if pass.hand().holds(part) {
         return Ok(());
@@ -134,7 +138,8 @@ pub fn give_all(table: &PartTable<Amounts>, pass: &mut Pass<Amounts>, parts: u32
     requires table { pass.old.table ≡ table.now }
     requires hand { pass.old.hand ≡ pass.old.taken }
     requires parts { parts ≡ length table.now.opening }
-    ensures { pass.new ≡ record pass.old { taken = nothing parts; hand = nothing parts } }
+    ensures { pass.new ≡ record pass.old
+        { taken = nothing parts; hand = nothing parts; order = [] } }
 {
     for part in 0..parts {
         if pass.hand().holds(part) {
@@ -142,6 +147,7 @@ pub fn give_all(table: &PartTable<Amounts>, pass: &mut Pass<Amounts>, parts: u32
         }
     }
     a_pass_has_a_place_for_each_part(pass);
+    a_pass_has_its_parts_in_order(pass);
 }
 
 /// Where an amount goes from a part with the number a, that was to go to one with the number b.
@@ -211,7 +217,7 @@ fn take_target(
         → held_at pass.new.taken i ≡ Some x }
     ensures hand { pass.new.hand ≡ pass.new.taken }
     ensures kept { pass.new ≡ record pass.old
-        { lost = pass.new.lost; taken = pass.new.taken; hand = pass.new.hand } }
+        { lost = pass.new.lost; taken = pass.new.taken; hand = pass.new.hand; order = pass.new.order } }
 {
     let Some(a) = pass.hand().get(event.from).copied() else {
         unreachable!()
@@ -245,7 +251,7 @@ pub fn take_touched(
         → held_at pass.new.taken i ≡ Some x }
     ensures hand { pass.new.hand ≡ pass.new.taken }
     ensures kept { pass.new ≡ record pass.old
-        { lost = pass.new.lost; taken = pass.new.taken; hand = pass.new.hand } }
+        { lost = pass.new.lost; taken = pass.new.taken; hand = pass.new.hand; order = pass.new.order } }
 {
     take(table, pass, event.from)?;
     take(table, pass, event.to)?;

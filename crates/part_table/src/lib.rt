@@ -7,6 +7,7 @@ pub mod example;
 mod hand;
 mod laws;
 mod lends;
+mod lines;
 mod meeting;
 mod memory;
 mod object;
@@ -21,5 +22,8 @@ pub use hand::Hand;
 pub use laws::{a_caller_knows_its_own_events, a_step_changes_held_parts_alone};
 pub use memory::{Held, Memory};
 pub use object::Object;
-pub use pass::{Pass, a_pass_has_a_place_for_each_part, a_pass_knows_its_own_places};
+pub use pass::{
+    Pass, a_pass_has_a_place_for_each_part, a_pass_has_its_parts_in_order,
+    a_pass_knows_its_own_places,
+};
 pub use table::PartTable;

@@ -1,8 +1,8 @@
-ghost use Rattle.std.specs.Prelude.{◌≡◌, ◌++◌, ◌∷◌, [], ℕ, true, length, take, drop, is_some, slice_get, None, Some, vec_len, vec_capacity, ◌<◌, ◌≤◌, IfNone, IfOk, IfSome};
+ghost use Rattle.std.specs.Prelude.{◌≡◌, ◌++◌, ◌∷◌, ◌-◌, [], ℕ, true, length, take, drop, is_some, slice_get, None, Some, vec_len, vec_capacity, ◌<◌, ◌≤◌, IfNone, IfOk, IfSome};
 ghost use Rattle.part_table.specs.Held.{held_at, unboxed};
 ghost use Rattle.part_table.specs.Known.{IsTrueOf, newcomer, nothing};
 ghost use Rattle.part_table.specs.Plays.{starting};
-ghost use Rattle.part_table.specs.Passes.{empties, times};
+ghost use Rattle.part_table.specs.Passes.{empties, one_if_held, times};
 
 use crate::hand::Hand;
 use crate::memory::Memory;
@@ -20,12 +20,13 @@ pub(crate) type PartSeat<O> = Seat<
 
 /// What a caller of a table knows and holds. Contracts see its table, the caller's number, the
 /// history seen, the places of the caller's own events, the commits left, the claims lost, and the
-/// parts held, each with its value as taken and its value as it is now.
+/// parts held, each with its value as taken and its value as it is now, and their numbers, that of the
+/// part taken last first.
 #[derive(Drop)]
 pub struct Pass<O: Object> {
     pub(crate) seat: PartSeat<O>,
     pub(crate) hand: Hand<O>,
-    /// The parts held, in the order of the slots that are out with the seat.
+    /// The parts held, the one taken last first: the order of the slots that are out with the seat.
     pub(crate) order: Vec<u32>,
     pub(crate) by: u32,
     pub(crate) left: u64,
@@ -37,9 +38,9 @@ impl<O: Object> Model for Pass<O> {
 
     ghost Value = { Known O.Part O.Event };
 
-    ghost use Rattle.part_table.specs.Passes.{known, IsPass};
+    ghost use Rattle.part_table.specs.Passes.{IsPass, known_with};
 
-    ghost view = { λ p. known p.seat.table_id p.seat.me.0 p.hand };
+    ghost view = { λ p. known_with p.seat.table_id p.seat.me.0 p.hand p.order.items };
 
     ghost invariant = { λ p. IsPass O.may_make p.seat.table_id p.seat.me p.order.items (vec_capacity p.order) p.by p.left };
 }
@@ -108,6 +109,7 @@ impl<O: Object> Pass<O> {
 
     /// The part that the caller took last of those that it holds, and None exactly where it holds none.
     pub fn last_taken(&self) -> Option<u32>
+        ensures last { result ≡ slice_get self.now.order 0 }
         ensures held { IfSome result (λ part. is_some (held_at self.now.taken part) ≡ true) }
         ensures none { IfNone result ((part : ℕ) → held_at self.now.taken part ≡ None) }
     {
@@ -126,6 +128,14 @@ impl<O: Object> Pass<O> {
 /// exactly its own, and each place names a caller of the table who may make its event.
 pub fn a_pass_knows_its_own_places<O: Object>(pass: &Pass<O>)
     ensures { IsTrueOf O.may_make pass.now }
+{
+    let _ = &pass.by;
+}
+
+/// What is true of each pass: each part that it holds stands once among those in the order in which they were taken,
+/// and no other does.
+pub fn a_pass_has_its_parts_in_order<O: Object>(pass: &Pass<O>)
+    ensures { (part : ℕ) → times part pass.now.order ≡ one_if_held (held_at pass.now.taken part) }
 {
     let _ = &pass.by;
 }
@@ -151,6 +161,23 @@ pub(crate) fn bring<O: Object>(seat: &mut PartSeat<O>, order: &mut Vec<u32>, pla
         seat.turn();
     }
     order.rotate_left(place);
+}
+
+/// Turns the slots that are out as many places back, where they were brought forward by so many.
+pub(crate) fn turn_back<O: Object>(seat: &mut PartSeat<O>, order: &mut Vec<u32>, place: usize)
+    requires slots { seat.old.me.1 ≡ empties order.old.items }
+    requires place { place ≤ length order.old.items }
+    ensures seat { (seat.new.table_id ≡ seat.old.table_id) × (seat.new.id ≡ seat.old.id)
+        × (seat.new.me.0 ≡ seat.old.me.0) }
+    ensures slots { seat.new.me.1 ≡ empties order.new.items }
+    ensures order { order.new.items ≡ drop (length order.old.items - place) order.old.items
+        ++ take (length order.old.items - place) order.old.items }
+    ensures room { vec_capacity order.new ≡ vec_capacity order.old }
+{
+    if place > 0 {
+        let behind = order.len() - place;
+        bring::<O>(seat, order, behind);
+    }
 }
 
 /// Where the part stands in the order.

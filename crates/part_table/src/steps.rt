@@ -6,10 +6,14 @@ ghost use Rattle.atomic_table.specs.Table.{rest};
 ghost use Rattle.part_table.specs.Held.{held_at};
 ghost use Rattle.part_table.specs.History.{BeginsEach};
 ghost use Rattle.part_table.specs.Known.{IsTrueOf};
+ghost use Rattle.part_table.specs.Lines.{slot_of};
 ghost use Rattle.part_table.specs.Passes.{known, number_of, own_of, left_of};
 ghost use Rattle.part_table.specs.Plays.{Informed, SeesTo, committed, joined, note_of};
+ghost use Rattle.part_table.specs.Rule.{setting_of};
+ghost use Rattle.part_table.specs.Tables.{IsTable};
 ghost use Rattle.atomic_table.specs.Seated.{TableId};
 
+use crate::lines::{owner_word_at, slot_at};
 use crate::memory::Held;
 use crate::object::Object;
 use crate::pass::PartSeat;
@@ -19,8 +23,7 @@ use atomic_table::Table;
 use std::alloc::Global;
 use std::marker::Brand;
 
-/// Parts in slots, under the rule. Word 0 is the commit word, and word 1 + i the owner word of the
-/// part i.
+/// Parts in slots, under the rule. Word 0 is the commit word, and each part has an owner word.
 pub(crate) type Slots<O> = Table<
     Option<Box<<O as Object>::Part>>,
     View<<O as Object>::Part, <O as Object>::Event>,
@@ -37,9 +40,8 @@ pub(crate) fn claim<O: Object>(
     part: u32,
 ) -> Result<Box<O::Part>, Held>
     requires table { seat.old.table_id ≡ table.now.shared.table_id }
-    requires words { (table.now.shared.table_id.words ≡ table.now.shared.table_id.slots + 1)
-        × (table.now.shared.table_id.slots ≤ 256) }
-    requires part { part < table.now.shared.table_id.slots }
+    requires sizes { IsTable table.now.shared.table_id table.now.shared.key }
+    requires part { part < length (setting_of table.now.shared.key).opening }
     requires number { seat.old.me.0.callers
         ≡ record {
           number = by;
@@ -54,7 +56,7 @@ pub(crate) fn claim<O: Object>(
     ensures taken { IfOk result (λ held. seat.new.me
         ≡ (
           record seat.old.me.0 { held = slice_set seat.old.me.0.held part (Some held.value) },
-          (part, None) ∷ seat.old.me.1,
+          (slot_of part, None) ∷ seat.old.me.1,
         )) }
     ensures lost { IfErr result (λ held. (held.by ≢ by) × (held.by < seat.old.me.0.setting.callers)
         × (seat.new.me ≡ (
@@ -64,9 +66,10 @@ pub(crate) fn claim<O: Object>(
         ))) }
 {
     let shared = &table.shared;
-    let slot = part as usize;
+    let word = owner_word_at(part as usize);
+    let slot = slot_at(part as usize);
     let owner = u64::from(by) + 1;
-    let found = shared.compare_exchange::<Claim>(seat, slot + 1, 0, owner);
+    let found = shared.compare_exchange::<Claim>(seat, word, 0, owner);
     if found != 0 {
         let by = (found - 1) as u32;
         return Err(Held { by });
@@ -85,10 +88,9 @@ pub(crate) fn release<O: Object>(
     held: Box<O::Part>,
 )
     requires table { seat.old.table_id ≡ table.now.shared.table_id }
-    requires words { (table.now.shared.table_id.words ≡ table.now.shared.table_id.slots + 1)
-        × (table.now.shared.table_id.slots ≤ 256) }
-    requires part { part < table.now.shared.table_id.slots }
-    requires slot { seat.old.me.1 ≡ (part, None) ∷ rest seat.old.me.1 }
+    requires sizes { IsTable table.now.shared.table_id table.now.shared.key }
+    requires part { part < length (setting_of table.now.shared.key).opening }
+    requires slot { seat.old.me.1 ≡ (slot_of part, None) ∷ rest seat.old.me.1 }
     requires held { held_at seat.old.me.0.held part ≡ Some held.value }
     ensures same { (seat.new.table_id ≡ seat.old.table_id) × (seat.new.id ≡ seat.old.id) }
     ensures given { seat.new.me ≡ (
@@ -98,9 +100,10 @@ pub(crate) fn release<O: Object>(
     ) }
 {
     let shared = &table.shared;
-    let slot = part as usize;
+    let word = owner_word_at(part as usize);
+    let slot = slot_at(part as usize);
     drop(shared.exchange(seat, slot, Some(held)));
-    shared.store::<Give>(seat, slot + 1, 0);
+    shared.store::<Give>(seat, word, 0);
 }
 
 /// Sees the history so far, and answers its length.

@@ -1,15 +1,17 @@
-ghost use Rattle.std.specs.Prelude.{◌≡◌, ◌≢◌, ◌+◌, ◌^◌, ◌<◌, ◌≤◌, true, ◌∷◌, [], ◌++◌, List, Some, None, IfOk, IfErr, is_some, length, map, replicate, slice_set, vec_len};
+ghost use Rattle.std.specs.Prelude.{◌≡◌, ◌≢◌, ◌+◌, ◌-◌, ◌^◌, ◌<◌, ◌≤◌, true, ◌∷◌, [], ◌++◌, List, Some, None, IfOk, IfErr, is_some, length, map, replicate, slice_set, vec_capacity, vec_len};
 ghost use Rattle.std.specs.Box.{box_value};
 ghost use Rattle.std.specs.List.{range_with_len};
 ghost use Rattle.part_table.specs.Held.{held_at};
-ghost use Rattle.part_table.specs.Known.{IsInHand, newcomer};
+ghost use Rattle.part_table.specs.Known.{IsInHand, newcomer, without};
+ghost use Rattle.part_table.specs.Lines.{laid_apart, owner_word};
 ghost use Rattle.part_table.specs.Plays.{founder};
 ghost use Rattle.part_table.specs.Rule.{setting_of};
 ghost use Rattle.part_table.specs.Tables.{opened};
 
+use crate::lines::{SLOTS_APART, owner_word_at, slot_at};
 use crate::memory::{Held, Memory};
 use crate::object::Object;
-use crate::pass::{PartSeat, Pass, bring, place_of, put_first};
+use crate::pass::{PartSeat, Pass, bring, place_of, put_first, turn_back};
 use crate::plays::First;
 use crate::steps::{Slots, claim, release};
 use crate::view::Key;
@@ -40,18 +42,31 @@ impl<O: Object> Model for PartTable<O> {
 /// The words of a table: the commit word and an owner word for each part.
 fn free_words(alloc: Global, parts: usize) -> Result<Vec<u64>, Memory>
     requires { parts ≤ 256 }
-    ensures { IfOk result (λ words. words.items ≡ replicate (parts + 1) 0) }
+    ensures { IfOk result (λ words. words.items ≡ replicate (owner_word parts) 0) }
 {
-    Ok(vec![in alloc; 0u64; parts + 1]?)
+    Ok(vec![in alloc; 0u64; owner_word_at(parts)]?)
+}
+
+/// Puts as many empty slots behind the others as lie between two parts.
+fn leave_room<T: Drop>(slots: &mut Vec<Option<Box<T>>>)
+    requires room { vec_len slots.old + SLOTS_APART - 1 ≤ vec_capacity slots.old }
+    ensures slots { slots.new.items ≡ slots.old.items ++ replicate (SLOTS_APART - 1) None }
+    ensures room { vec_capacity slots.new ≡ vec_capacity slots.old }
+{
+    for _slot in 1..SLOTS_APART {
+        slots.push_reserved(None);
+    }
 }
 
 /// The slots of a table whose parts are all at home.
 fn at_home<T: Drop>(alloc: Global, parts: Vec<Box<T>>) -> Result<Vec<Option<Box<T>>>, Memory>
-    ensures { IfOk result (λ slots. slots.items ≡ map Some parts.items) }
+    requires { vec_len parts ≤ 256 }
+    ensures { IfOk result (λ slots. slots.items ≡ laid_apart parts.items) }
 {
-    let mut slots = Vec::with_capacity(alloc, parts.len())?;
+    let mut slots = Vec::with_capacity(alloc, slot_at(parts.len()))?;
     for part in parts {
         slots.push_reserved(Some(part));
+        leave_room(&mut slots);
     }
     Ok(slots)
 }
@@ -112,7 +127,7 @@ impl<O: Object> PartTable<O> {
         };
         let slots = at_home(alloc, parts)?;
         let Ok((table, seat)) = Table::new(alloc, &words, slots, &key) else {
-            return Err(Memory);
+            return Err(Memory::wanting());
         };
         let passes = seat_callers(&table, alloc, seat, count, callers, quota)?;
         Ok((PartTable { table }, passes))
@@ -132,6 +147,7 @@ impl<O: Object> PartTable<O> {
               taken = slice_set pass.old.taken part
                   (Some value);
               hand = slice_set pass.old.hand part (Some value);
+              order = part ∷ pass.old.order;
             })) }
         ensures lost { IfErr result (λ held. (held.by ≢ pass.old.by) × (held.by < self.now.callers)
             × (pass.new ≡ record pass.old { lost = pass.old.lost ++ (part, held.by) ∷ [] })) }
@@ -142,7 +158,8 @@ impl<O: Object> PartTable<O> {
         Ok(())
     }
 
-    /// Gives back a part that the pass holds, as it was taken or committed.
+    /// Gives back a part that the pass holds, as it was taken or committed. It takes least time where that part was
+    /// taken last.
     pub fn give(&self, pass: &mut Pass<O>, part: u32)
         requires table { pass.old.table ≡ self.now }
         requires hand { IsInHand pass.old }
@@ -152,6 +169,7 @@ impl<O: Object> PartTable<O> {
           taken = slice_set pass.old.taken part None;
           hand = slice_set pass.old.hand part
               None;
+          order = without part pass.old.order;
         } }
     {
         let Some(value) = pass.hand.take(part) else {
@@ -161,5 +179,6 @@ impl<O: Object> PartTable<O> {
         bring::<O>(&mut pass.seat, &mut pass.order, place);
         pass.order.remove(0);
         release::<O>(&self.table, &mut pass.seat, part, value);
+        turn_back::<O>(&mut pass.seat, &mut pass.order, place);
     }
 }

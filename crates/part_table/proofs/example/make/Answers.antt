@@ -25,6 +25,6 @@ returns-in-Err-clause-lost c =
       (
         part,
         touched,
-        given_after_loss c.args.pass.now c.take_touched.new.pass saw given c.args.parts _ c.take_touched.ensures.kept c.see.ensures.kept c.give_all.ensures free free_hand lost.1.2,
+        given_after_loss c.args.pass.now c.take_touched.new.pass saw given c.args.parts _ c.take_touched.ensures.kept c.see.ensures.kept c.give_all.ensures free free_hand c.requires.idle.2 lost.1.2,
       ),
     )

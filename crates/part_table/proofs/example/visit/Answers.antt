@@ -3,6 +3,7 @@ use Rattle.part_table.specs.Amounts.{moved}
 use Rattle.part_table.specs.Held.{held_at}
 use Rattle.part_table.specs.HeldLaws.{held_of_list, held_set_here}
 use Rattle.part_table.specs.History.{replayed}
+use Rattle.part_table.specs.Passes.{one_if_held}
 use Rattle.part_table.proofs.Callers.{seen_with, seen_without}
 use Rattle.part_table.proofs.example.visit.Goals as goal
 
@@ -31,4 +32,4 @@ returns-clause-number c =
 pub returns-clause-seen : goal.returns-clause-seen
 returns-clause-seen c =
     let t = c.in_ok-try_take.ensures.taken in
-    seen_without c.args.pass.now c.try_take.new.pass c.see.new.pass c.give.new.pass c.args.part t.0 t.1 c.see.ensures.kept c.give.ensures.given c.requires.hand c.requires.free c.see.ensures.seen
+    seen_without c.args.pass.now c.try_take.new.pass c.see.new.pass c.give.new.pass c.args.part t.0 t.1 c.see.ensures.kept c.give.ensures.given c.requires.hand c.requires.free (c.a_pass_has_its_parts_in_order.ensures c.args.part ∙ ap one_if_held c.requires.free) c.see.ensures.seen
