@@ -4,3 +4,5 @@ pub mod Listed
 pub mod NameOrder
 pub mod Scopes
 mod Worked
+pub mod Counted
+pub mod FirstNames

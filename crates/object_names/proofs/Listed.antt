@@ -13,7 +13,7 @@ use Rattle.object_names.specs.BorrowedHash.{borrowed_eq, equal_alike}
 use Rattle.object_names.specs.Deletion.{is_listed_by}
 use Rattle.object_names.specs.Selected.{is_among}
 
-any_more : {A : Type 0} (f : A → Bool) (xs : List A) (y : A) → list_any f (xs ++ y ∷ []) ≡ (list_any f xs || f y)
+pub any_more : {A : Type 0} (f : A → Bool) (xs : List A) (y : A) → list_any f (xs ++ y ∷ []) ≡ (list_any f xs || f y)
 any_more f [] y = or_false (f y)
   where
     or_false : (b : Bool) → (b || false) ≡ b

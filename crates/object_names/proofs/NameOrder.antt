@@ -1,6 +1,5 @@
 -- Names in order of octets: there is one list of them.
-use Rattle.std.proofs.Common.{◌≡◌, ◌∙◌, ap, sym, refl, ℕ, ◌+◌, ◌<◌, ◌⊎◌, inl, inr, Bool, true, false, if◌then◌else◌, List, [], ◌∷◌, map, take, length, get_or, sum_by, zero, suc, add-one, arith}
-use Rattle.std.specs.Bool.{⊤}
+use Rattle.std.proofs.Common.{◌≡◌, ◌∙◌, ap, sym, refl, ℕ, ◌+◌, ◌<◌, ◌⊎◌, inl, inr, Bool, true, false, List, [], ◌∷◌, get_or, length, map, take, sum_by, zero, suc, add-one, arith}
 use Rattle.std.specs.declared.cmp.Ordering.{Ordering}
 use Rattle.std.specs.declared.cmp.Ordering.TheVariants.{Less, Equal, Greater}
 use Rattle.std.specs.Ordering.{is_lt, is_gt, ordering_reverse}
@@ -14,17 +13,9 @@ use Rattle.std.proofs.lemmas.List.Sorted.{sum_by-IsPermutation, IsPermutation-ma
 use Rattle.mms_types.specs.Order.{name_order}
 use Rattle.std.proofs.lemmas.Map.Lookups.{exact_bytes}
 use Rattle.object_names.specs.Listing.{insert_name, sorted_names}
+use Rattle.object_names.specs.Ordered.{IsOrdered, before}
 
--- how many times the second name comes before the first: once or not at all
-abbrev before : List ℕ → List ℕ → ℕ
-before a b = if is_gt (name_order a b) then 1 else 0
-
--- none of the names behind one comes before it
-abbrev Ordered : List (List ℕ) → Type 0
-Ordered [] = ⊤
-Ordered (a ∷ rest) = (sum_by (before a) rest ≡ 0) × Ordered rest
-
-cases : (b : Bool) → (b ≡ true) ⊎ (b ≡ false)
+pub cases : (b : Bool) → (b ≡ true) ⊎ (b ≡ false)
 cases true = inl refl
 cases false = inr refl
 
@@ -39,20 +30,20 @@ reverse_lt o Equal e = rw e
 reverse_lt o Greater e = rw e
 
 -- what comes before a name is what it comes after
-gt_lt : (a b : List ℕ) → is_gt (name_order a b) ≡ is_lt (name_order b a)
+pub gt_lt : (a b : List ℕ) → is_gt (name_order a b) ≡ is_lt (name_order b a)
 gt_lt a b = reverse_gt (name_order a b) (name_order b a) (nat_list_cmp_total.antisymm a b)
 
-not_before : (a b : List ℕ) → is_lt (name_order b a) ≡ false → before a b ≡ 0
+pub not_before : (a b : List ℕ) → is_lt (name_order b a) ≡ false → before a b ≡ 0
 not_before a b h = rw (gt_lt a b ∙ h)
 
-was_false : (a b : List ℕ) → before a b ≡ 0 → is_gt (name_order a b) ≡ false
+pub was_false : (a b : List ℕ) → before a b ≡ 0 → is_gt (name_order a b) ≡ false
 was_false a b h = elim (cases (is_gt (name_order a b))) [
   | inl is ↦ absurd (let one : 1 ≡ 0 = rw is at h in omega arith)
   | inr not ↦ not
 ]
 
 -- what comes before none of some names comes before none of the names in front of which it stands
-further : (a b : List ℕ) (others : List (List ℕ)) → before a b ≡ 0 → sum_by (before b) others ≡ 0 → sum_by (before a) others ≡ 0
+pub further : (a b : List ℕ) (others : List (List ℕ)) → before a b ≡ 0 → sum_by (before b) others ≡ 0 → sum_by (before a) others ≡ 0
 further a b [] h rest = refl
 further a b (c ∷ others) h rest =
     let parts = sum_by-cons (before b) c others in
@@ -63,7 +54,7 @@ further a b (c ∷ others) h rest =
     let there = further a b others h more in
     sum_by-cons (before a) c others ∙ omega arith
 
-sum_inserted : (f : List ℕ → ℕ) (name : List ℕ) (names : List (List ℕ)) → sum_by f (insert_name name names) ≡ f name + sum_by f names
+pub sum_inserted : (f : List ℕ → ℕ) (name : List ℕ) (names : List (List ℕ)) → sum_by f (insert_name name names) ≡ f name + sum_by f names
 sum_inserted f name [] = sum_by-cons f name []
 sum_inserted f name (other ∷ others) = elim (cases (is_lt (name_order other name))) [
   | inl first ↦
@@ -83,7 +74,7 @@ lt_not_gt Greater h = cc
 less_back : (a b : List ℕ) → is_lt (name_order a b) ≡ true → is_lt (name_order b a) ≡ false
 less_back a b h = reverse_lt (name_order b a) (name_order a b) (nat_list_cmp_total.antisymm b a) ∙ lt_not_gt (name_order a b) h
 
-ordered_inserted : (name : List ℕ) (names : List (List ℕ)) → Ordered names → Ordered (insert_name name names)
+pub ordered_inserted : (name : List ℕ) (names : List (List ℕ)) → IsOrdered names → IsOrdered (insert_name name names)
 ordered_inserted name [] h = (refl, tt)
 ordered_inserted name (other ∷ others) h =
     let rest = ordered_inserted name others h.1 in
@@ -101,11 +92,11 @@ ordered_inserted name (other ∷ others) h =
           rw last (all, h)
     ]
 
-sorted_ordered : (names : List (List ℕ)) → Ordered (sorted_names names)
+pub sorted_ordered : (names : List (List ℕ)) → IsOrdered (sorted_names names)
 sorted_ordered [] = tt
 sorted_ordered (name ∷ names) = ordered_inserted name (sorted_names names) (sorted_ordered names)
 
-sum_sorted : (f : List ℕ → ℕ) (names : List (List ℕ)) → sum_by f (sorted_names names) ≡ sum_by f names
+pub sum_sorted : (f : List ℕ → ℕ) (names : List (List ℕ)) → sum_by f (sorted_names names) ≡ sum_by f names
 sum_sorted f [] = refl
 sum_sorted f (name ∷ names) =
     let rest = sum_sorted f names in
@@ -123,7 +114,7 @@ same_name a b h g =
     exact_bytes a b (level (name_order a b) not_after (was_false a b h))
 
 -- two lists in order that have each name as often are one
-unique : (ys zs : List (List ℕ)) → Ordered ys → Ordered zs → ((f : List ℕ → ℕ) → sum_by f ys ≡ sum_by f zs) → ys ≡ zs
+pub unique : (ys zs : List (List ℕ)) → IsOrdered ys → IsOrdered zs → ((f : List ℕ → ℕ) → sum_by f ys ≡ sum_by f zs) → ys ≡ zs
 unique [] [] p q same = refl
 unique [] (z ∷ zs) p q same =
     let one : sum_by (λ x. 1) (z ∷ zs) ≡ 1 + sum_by (λ x. 1) zs = sum_by-cons (λ x. 1) z zs in
@@ -164,7 +155,7 @@ none_far f a (b ∷ bs) h =
     let there = none_far f a bs (λ j d small. h (suc j) d (omega arith)) in
     sum_by-cons (before (f a)) (f b) (map f bs) ∙ omega arith
 
-ordered_from_sorted : {P : Type 0} (f : P → List ℕ) (xs : List P) → IsSorted (λ x y. name_order (f x) (f y)) xs → Ordered (map f xs)
+ordered_from_sorted : {P : Type 0} (f : P → List ℕ) (xs : List P) → IsSorted (λ x y. name_order (f x) (f y)) xs → IsOrdered (map f xs)
 ordered_from_sorted f [] h = tt
 ordered_from_sorted f (a ∷ rest) h = (
   none_far f a rest (λ j d small. sorted_far _ (ranks_by nat_list_cmp_total f) (a ∷ rest) h 0 (suc j) d (omega arith) (omega arith)),
@@ -207,7 +198,7 @@ stand_in_order names = sorted_from_ordered (sorted_names names) (sorted_ordered 
         let here : before a b ≡ 0 = omega arith in
         sym (gt_lt a b) ∙ was_false a b here
 
-    sorted_from_ordered : (xs : List (List ℕ)) → Ordered xs → IsSorted name_order xs
+    sorted_from_ordered : (xs : List (List ℕ)) → IsOrdered xs → IsSorted name_order xs
     sorted_from_ordered [] h k d low high = absurd (omega arith)
     sorted_from_ordered (a ∷ []) h k d low high = absurd (omega arith)
     sorted_from_ordered (a ∷ b ∷ rest) h zero d low high = first_two a b rest h.0

@@ -5,3 +5,4 @@ pub mod Listing
 pub mod NewName
 pub mod Scopes
 pub mod Selected
+pub mod Ordered

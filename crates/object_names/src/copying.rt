@@ -33,7 +33,7 @@ impl<T: Copied> Named<T> {
             let key = key.copy(alloc)?;
             let value = value.copied(alloc)?;
             let Ok(()) = table.insert(key, value) else {
-                return Err(Memory);
+                return Err(Memory::wanting());
             };
         }
         Ok(table)

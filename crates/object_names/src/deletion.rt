@@ -1,10 +1,14 @@
 //! Deletion of names: which a request selects, and how many rows of a table have them.
-ghost use Rattle.std.specs.Prelude.{◌≡◌, ◌≤◌, Bool, not, IfOk, length};
+ghost use Rattle.std.specs.Prelude.{◌≡◌, ◌≤◌, Bool, not, true, IfOk, length};
 ghost use Rattle.object_names.specs.Deletion.{deleted, goes, is_listed_by, left, matched, selects};
-ghost use Rattle.object_names.specs.Selected.{is_among, selected};
+ghost use Rattle.std.specs.Map.{lookup};
+ghost use Rattle.mms_types.specs.Order.{key_eq};
+ghost use Rattle.object_names.specs.Borrowed.{key_meant};
+ghost use Rattle.object_names.specs.Selected.{deleted_by, is_among, matched_by, selected};
 
 use crate::Named;
 use crate::borrowed::{KeyRef, ScopeRef};
+use crate::copying::each_name_stands_once;
 use indexmap::IndexSet;
 use mms_types::{DeleteNames, DeleteScope, Deleted, Key, Memory, ObjectName};
 use std::alloc::Global;
@@ -77,12 +81,56 @@ pub trait Deletable: Drop {
 }
 
 impl<T: Deletable> Named<T> {
-    /// How many rows have a name of the selection, and how many of them can be deleted.
+    /// How many rows have the name, which is one at most, and how many of them can be deleted.
+    fn count_one(&self, name: KeyRef<'_>) -> Deleted
+        ensures matched { result.matched ≡ matched_by (lookup (key_eq (key_meant name.entry)) self.now) }
+        ensures deleted { result.deleted ≡ deleted_by T.is_fixed (lookup (key_eq (key_meant name.entry)) self.now) }
+    {
+        match self.rows.get(name) {
+            None => Deleted {
+                matched: 0,
+                deleted: 0,
+            },
+            Some(value) => Deleted {
+                matched: 1,
+                deleted: if value.is_fixed() { 0 } else { 1 },
+            },
+        }
+    }
+
+    /// How many rows have one of the names, and how many of them can be deleted: each name is looked up, so the time does
+    /// not grow with the table.
+    fn count_named(&self, names: &IndexSet<KeyRef<'_>>) -> Deleted
+        requires { length self.now ≤ 4294967295 }
+        ensures matched { result.matched ≡ matched (is_among names.now.keys) self.now }
+        ensures deleted { result.deleted ≡ deleted T.is_fixed (is_among names.now.keys) self.now }
+    {
+        each_name_stands_once(self);
+        let mut counts = Deleted {
+            matched: 0,
+            deleted: 0,
+        };
+        for place in 0..names.len() {
+            let Some(name) = names.get_index(place) else {
+                unreachable!()
+            };
+            let here = self.count_one(*name);
+            counts.matched += here.matched;
+            counts.deleted += here.deleted;
+        }
+        counts
+    }
+
+    /// How many rows have a name of the selection, and how many of them can be deleted. Where names are listed each is
+    /// looked up, and else the table is gone through.
     pub fn count(&self, selection: &Selection<'_>) -> Deleted
         requires { length self.now ≤ 4294967295 }
         ensures matched { result.matched ≡ matched (selected selection.entry.now) self.now }
         ensures deleted { result.deleted ≡ deleted T.is_fixed (selected selection.entry.now) self.now }
     {
+        if let Selection::Names(names) = selection {
+            return self.count_named(names);
+        }
         let mut counts = Deleted {
             matched: 0,
             deleted: 0,
@@ -98,9 +146,37 @@ impl<T: Deletable> Named<T> {
         counts
     }
 
+    /// Whether no row with one of the names can be deleted: each name is looked up.
+    fn keeps_named(&self, names: &IndexSet<KeyRef<'_>>) -> bool
+        ensures { result ≡ true → deleted T.is_fixed (is_among names.now.keys) self.now ≡ 0 }
+    {
+        each_name_stands_once(self);
+        for place in 0..names.len() {
+            let Some(name) = names.get_index(place) else {
+                unreachable!()
+            };
+            if self.count_one(*name).deleted > 0 {
+                return false;
+            }
+        }
+        true
+    }
+
     /// Takes the rows out that have a name of the selection and can be deleted. All others stay as they are, in their
-    /// order. It takes no memory.
+    /// order. Where names are listed of which none can be deleted, the table isn't gone through. It takes no memory.
     pub fn delete(&mut self, selection: &Selection<'_>)
+        ensures { self.new ≡ left T.is_fixed (selected selection.entry.now) self.old }
+    {
+        if let Selection::Names(names) = selection {
+            if self.keeps_named(names) {
+                return;
+            }
+        }
+        self.take_out(selection);
+    }
+
+    /// The same, where the table is gone through.
+    fn take_out(&mut self, selection: &Selection<'_>)
         ensures { self.new ≡ left T.is_fixed (selected selection.entry.now) self.old }
     {
         self.rows.retain(

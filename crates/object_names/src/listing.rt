@@ -1,7 +1,8 @@
-ghost use Rattle.std.specs.Prelude.{◌≡◌, map, take, length, nat_lt, IfOk, IsPermutation, IsSorted};
+ghost use Rattle.std.specs.Prelude.{◌≡◌, ◌≤◌, ◌∷◌, ◌++◌, map, take, drop, length, nat_lt, IfOk, OnOk, IsPermutation, IsSorted};
 ghost use Rattle.std.specs.Option.{option_copied};
 ghost use Rattle.mms_types.specs.Order.{name_order};
-ghost use Rattle.object_names.specs.Listing.{is_listed, sorted_names, listed_names, names_after};
+ghost use Rattle.object_names.specs.Listing.{insert_name, is_listed, listed_names, names_after, sorted_names};
+ghost use Rattle.object_names.specs.Ordered.{IsOrdered};
 
 use crate::Named;
 use mms_types::{Identifier, Identifiers, Key, Memory, Scope};
@@ -47,21 +48,40 @@ fn copies(alloc: Global, names: &[&Identifier]) -> Result<Identifiers, Memory>
     Ok(list)
 }
 
-/// The first so many of the names in order of octets, and whether there are more.
-#[tactic(auto, using(crate::proofs::NameOrder::sort_taken, crate::proofs::NameOrder::count_sorted))]
-fn first_in_order(alloc: Global, mut names: Vec<&Identifier>, most: usize) -> Result<Names, Memory>
-    ensures list { IfOk result (λ first. first.list
-        ≡ take most (sorted_names (map (λ name. name.now) names.entry.items))) }
-    ensures more { IfOk result (λ first. first.more
-        ≡ nat_lt most (length (sorted_names (map (λ name. name.now) names.entry.items)))) }
+/// Where a name belongs among names in order: behind the last that comes before it.
+fn place_in(names: &[&Identifier], name: &Identifier) -> usize
+    requires { IsOrdered (map (λ name. name.now) names.now) }
+    ensures within { result ≤ length names.now }
+    ensures place { insert_name name.now (map (λ name. name.now) names.now)
+        ≡ take result (map (λ name. name.now) names.now)
+        ++ name.now ∷ drop result (map (λ name. name.now) names.now) }
 {
-    let more = names.len() > most;
-    names.sort_unstable();
-    names.truncate(most);
-    Ok(Names {
-        list: copies(alloc, &names)?,
-        more,
-    })
+    for behind in 0..names.len() {
+        let place = names.len() - behind;
+        if *names[place - 1] < *name {
+            return place;
+        }
+    }
+    0
+}
+
+/// Puts a name at its place among the first so many in order, and drops the last where there is one more then.
+fn keep_first<'a>(
+    kept: &mut Vec<&'a Identifier>,
+    most: usize,
+    name: &'a Identifier,
+) -> Result<(), Memory>
+    requires ordered { IsOrdered (map (λ name. name.now) kept.old.items) }
+    requires few { length kept.old.items ≤ most }
+    ensures kept { OnOk result (map (λ name. name.now) kept.new.items
+        ≡ take most (insert_name name.now (map (λ name. name.now) kept.old.items))) }
+{
+    let place = place_in(kept, name);
+    if place < most {
+        kept.insert(place, name)?;
+        kept.truncate(most);
+    }
+    Ok(())
 }
 
 impl<T: Drop> Named<T> {
@@ -80,12 +100,17 @@ impl<T: Drop> Named<T> {
             ≡ nat_lt most (length (names_after scope.now
             (option_copied after.entry) self.now))) }
     {
-        let mut listed = Vec::new(alloc);
+        let mut kept = Vec::new(alloc);
+        let mut listed = 0usize;
         for (key, _) in self.rows.iter() {
             if is_listed(key, scope, after) {
-                listed.push(&key.item)?;
+                keep_first(&mut kept, most, &key.item)?;
+                listed += 1;
             }
         }
-        first_in_order(alloc, listed, most)
+        Ok(Names {
+            list: copies(alloc, &kept)?,
+            more: listed > most,
+        })
     }
 }

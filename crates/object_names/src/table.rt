@@ -40,7 +40,7 @@ impl<T: Drop> From<Unplaced<T>> for Memory {
     ghost from_gives = { λ _ _. ⊤ };
 
     fn from(_unplaced: Unplaced<T>) -> Memory {
-        Memory
+        Memory::wanting()
     }
 }
 

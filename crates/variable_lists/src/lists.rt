@@ -1,4 +1,4 @@
-ghost use Rattle.std.specs.Prelude.{◌≡◌, ◌≢◌, ◌==◌, [], Bool, IfOk, None, OnErr, OnOk, length, nat_lt, take};
+ghost use Rattle.std.specs.Prelude.{◌≡◌, ◌≢◌, ◌==◌, ◌<◌, ◌↔◌, [], Bool, IfOk, IfSome, IsSome, None, OnErr, OnOk, Some, length, nat_lt, slice_get, take};
 ghost use Rattle.std.specs.Option.{option_copied};
 ghost use Rattle.object_names.specs.Listing.{names_after};
 ghost use Rattle.object_names.specs.Selected.{selected};
@@ -6,7 +6,7 @@ ghost use Rattle.variable_lists.specs.Lists.{attributes, define_cause, defined, 
 
 use crate::VariableList;
 use mms_types::{
-    DefineNamedVariableList, Deleted, Identifier, ListAttributes, Memory, ObjectName, Scope,
+    DefineNamedVariableList, Deleted, Identifier, Key, ListAttributes, Memory, ObjectName, Scope,
     ServiceError, Spec,
 };
 use object_names::{Named, Names, Selection};
@@ -56,6 +56,16 @@ impl Lists {
         ensures { result ≡ (length self.now == 0) }
     {
         self.rows.is_empty()
+    }
+
+    /// The name and the list at a place, counted from 0 in the order in which lists were defined. None exactly where
+    /// there are not as many. It takes no memory.
+    pub fn at(&self, place: usize) -> Option<(&Key, &VariableList)>
+        ensures row { IfSome result (λ row. slice_get self.now place
+            ≡ Some (row.0.now, row.1.now)) }
+        ensures found { IsSome result ↔ (place < length self.now) }
+    {
+        self.rows.at(place)
     }
 
     /// The variables of the list that a client names so, as they were given: None exactly where it is missing.
