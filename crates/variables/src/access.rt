@@ -1,6 +1,6 @@
 //! Read and Write.
 
-ghost use Rattle.std.specs.Prelude.{◌≡◌, IfOk, Some, map};
+ghost use Rattle.std.specs.Prelude.{◌≡◌, ◌≢◌, IfOk, OnErr, Some, [], map};
 ghost use Rattle.std.specs.List.{zip};
 ghost use Rattle.std.specs.Option.{option_copied};
 ghost use Rattle.variables.specs.Bounds.{AreSmall, has_guard};
@@ -25,14 +25,16 @@ impl Vars {
         }
     }
 
-    /// What a client reads of variables, in their order: the data of each, copied, or that it is missing.
+    /// What a client reads of variables, in their order: the data of each, copied, or that it is missing. The one
+    /// refusal is want of memory, only where there are variables.
     pub fn reads(
         &self,
         alloc: Global,
         client: u32,
         variables: &[Spec],
     ) -> Result<AccessResults, Memory>
-        ensures { IfOk result (λ answers. answers ≡ reads client variables.now self.now) }
+        ensures told { IfOk result (λ answers. answers ≡ reads client variables.now self.now) }
+        ensures wants { OnErr result (variables.now ≢ []) }
     {
         let mut answers = Listed::new(alloc);
         for spec in variables {
@@ -138,15 +140,17 @@ impl Vars {
             .any(|spec| self.guard_of(client, spec).is_some())
     }
 
-    /// The guard of each variable that a client specifies, in order. The one refusal is want of memory.
+    /// The guard of each variable that a client specifies, in order. The one refusal is want of memory, only where
+    /// there are variables.
     pub fn guards(
         &self,
         alloc: Global,
         client: u32,
         variables: &[Spec],
     ) -> Result<Vec<Option<&Identifier>>, Memory>
-        ensures { IfOk result (λ found. map option_copied found.items
+        ensures told { IfOk result (λ found. map option_copied found.items
             ≡ guards client variables.now self.now) }
+        ensures wants { OnErr result (variables.now ≢ []) }
     {
         let mut found = Vec::new(alloc);
         for spec in variables {
@@ -179,7 +183,8 @@ impl Vars {
     /// What becomes of variables, each beside its data, where a client writes them one after the other: a variable
     /// that is missing is told so, then one that has a guard of which the client owns no token, then data that are not
     /// of its type. `owns` tells of the variables in order whether the client owns a token of the guard; where it ends
-    /// before them, of the others it owns none. Nothing is written yet.
+    /// before them, of the others it owns none. Nothing is written yet. The one refusal is want of memory, only where
+    /// there are variables.
     pub fn results(
         &self,
         alloc: Global,
@@ -188,8 +193,9 @@ impl Vars {
         variables: &[Spec],
         values: &[Data],
     ) -> Result<WriteResults, Memory>
-        ensures { IfOk result (λ results. results
+        ensures told { IfOk result (λ results. results
             ≡ (writes client (flagged owns.now (zip variables.now values.now)) self.now).1) }
+        ensures wants { OnErr result (variables.now ≢ []) }
     {
         let mut results = Listed::new(alloc);
         let mut flags = owns;

@@ -22,7 +22,7 @@ fn add(cells: &mut IndexMap<u16, Cell>, number: u16, cell: Cell) -> Result<(), M
     match cells.insert(number, cell) {
         Ok(None) => Ok(()),
         Ok(Some(_)) => unreachable!(),
-        Err(_) => Err(Memory),
+        Err(_) => Err(Memory::wanting()),
     }
 }
 

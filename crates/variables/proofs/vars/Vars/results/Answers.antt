@@ -6,8 +6,8 @@ use Rattle.variables.specs.Access.{flagged, result_of}
 use Rattle.variables.proofs.Writing.{no_first, no_second, results_are}
 use Rattle.variables.proofs.vars.Vars.results.Goals as goal
 
-pub returns : goal.returns
-returns c =
+pub returns-clause-told : goal.returns-clause-told
+returns-clause-told c =
     let a = c.loop-spec.spec-iterator.a.rest.now in
     let b = c.loop-spec.spec-iterator.b.rest.now in
     let none : zip a b ≡ [] = elim c.in-None.ensures.steps [ inl h ↦ no_first a b h.1.0 | inr h ↦ no_second a b h.1.0 ] in
