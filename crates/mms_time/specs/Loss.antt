@@ -1,6 +1,6 @@
 -- The loss of a client in all semaphores (ISO 9506-1, TakeControl, relinquishIfConnectionLost).
-use Rattle.std.specs.Prelude.{ℕ, not, List, [], ◌∷◌, map, filter, fold, Option, None, Some, if◌then◌else◌}
-use Rattle.std.specs.List.{flat_map}
+use Rattle.std.specs.Prelude.{ℕ, Bool, not, List, [], ◌∷◌, map, filter, fold, Option, None, Some, if◌then◌else◌}
+use Rattle.std.specs.List.{flat_map, list_any}
 use Rattle.std.specs.Map.{keys_of, lookup}
 use Rattle.std.specs.Ordering.{is_lt}
 use Rattle.mms_types.specs.Order.{key_eq, key_order}
@@ -12,13 +12,17 @@ use Rattle.pool_sem.specs.Pools as pool
 use Rattle.token_sem.specs.Semaphore.{Loss, after_lose, loss_of, loss_of_one, owned_by, waits_for}
 use Rattle.token_sem.specs.declared.entry.Grant.{Grant}
 use Rattle.token_sem.specs.declared.entry.SemEntry.{SemEntry}
-use Rattle.mms_time.specs.Semaphores.{Rows, changed_row}
+use Rattle.mms_time.specs.Semaphores.{Rows, changed_row, entries_of}
 use Rattle.mms_time.specs.declared.row.Semaphore.{Semaphore}
 use Rattle.mms_time.specs.declared.row.Semaphore.TheVariants.{Token, Pool}
 use Rattle.mms_time.specs.declared.row.SemaphoreRow.{SemaphoreRow}
 
 abbrev pub all_changed : (Semaphore → Semaphore) → Rows → Rows
 all_changed change rows = map (λ row. (row.0, changed_row change row.1)) rows
+
+-- the client has an owner entry of one of them
+abbrev pub owns_any : ℕ → Rows → Bool
+owns_any client rows = list_any (λ row. list_any (owned_by client) (entries_of row.1)) rows
 
 -- ---- the steps: first the client's queued entries go, in all semaphores
 

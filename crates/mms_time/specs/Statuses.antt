@@ -1,5 +1,5 @@
 -- What a semaphore tells of itself and of its entries (ISO 9506-2, ReportSemaphoreStatus, ReportPoolSemaphoreStatus, ReportSemaphoreEntryStatus).
-use Rattle.std.specs.Prelude.{ℕ, ◌+◌, ◌-◌, Bool, true, not, ◌&&◌, nat_le, nat_lt, List, [], ◌∷◌, take, map, filter, count_by, length, Option, None, Some, is_none, option_map, if◌then◌else◌}
+use Rattle.std.specs.Prelude.{ℕ, ◌+◌, ◌-◌, Bool, true, not, ◌&&◌, nat_lt, List, [], ◌∷◌, take, map, filter, count_by, length, Option, None, Some, is_none, option_map}
 use Rattle.std.specs.Int.{w64, to_be_bytes, from_be_bytes}
 use Rattle.std.specs.Ordering.{is_lt}
 use Rattle.mms_types.specs.Errors.{first_of, object_non_existent, type_inconsistent}
@@ -130,13 +130,9 @@ comes_after (Some number) e = nat_lt (from_be_bytes w64 number.octets) e.number
 abbrev pub is_listed : EntryState → Option EntryNumber → SemEntry → Bool
 is_listed state after e = is_in_state state e && comes_after after e
 
--- the most milliseconds that an answer tells, in 32 bits
-abbrev pub most_left : ℕ
-most_left = 4294967295
-
 -- what is left until a deadline, in milliseconds
 abbrev pub left_until : Moment → Moment → ℕ
-left_until now at = if nat_le (at.0 - now.0) most_left then at.0 - now.0 else most_left
+left_until now at = at.0 - now.0
 
 -- The token of a pool is told by its name, where the entry has one or wants a named one; a token of a token semaphore has no name.
 abbrev pub entry_status : List (List ℕ) → Moment → SemEntry → EntryStatus

@@ -12,7 +12,7 @@ use object_names::Named;
 
 impl SemaphoreRow {
     /// Whether the client has an owner entry.
-    fn owns(&self, client: u32) -> bool
+    pub(crate) fn owns(&self, client: u32) -> bool
         ensures { result ≡ list_any (owned_by client) (entries_of self.now) }
     {
         match &self.semaphore {

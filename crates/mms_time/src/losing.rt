@@ -1,11 +1,13 @@
 //! The loss of a client.
 
-ghost use Rattle.std.specs.Prelude.{◌≡◌, IfOk, OnErr, OnOk, Some, map};
+ghost use Rattle.std.specs.Prelude.{◌≡◌, IfOk, OnErr, OnOk, Some, false, map, true};
+ghost use Rattle.std.specs.List.{list_any};
 ghost use Rattle.std.specs.Map.{keys_of, lookup};
 ghost use Rattle.mms_types.specs.Moments.{IsDated};
 ghost use Rattle.mms_types.specs.Order.{key_eq};
-ghost use Rattle.mms_time.specs.Semaphores.{changed_row};
-ghost use Rattle.mms_time.specs.Loss.{all_changed, grants_of, grants_of_each, keyed, lost, lost_grants, sorted_keys, without_client};
+ghost use Rattle.token_sem.specs.Semaphore.{owned_by};
+ghost use Rattle.mms_time.specs.Semaphores.{changed_row, entries_of};
+ghost use Rattle.mms_time.specs.Loss.{all_changed, grants_of, grants_of_each, keyed, lost, lost_grants, owns_any, sorted_keys, without_client};
 
 use crate::{Semaphore, SemaphoreRow};
 use mms_types::{Key, Memory, Moment, Scope};
@@ -69,7 +71,8 @@ impl SemaphoreRow {
     /// A client is lost. What is left where there is no memory isn't said.
     fn lose(&mut self, alloc: Global, client: u32, now: Moment) -> Result<(), Memory>
         requires { IsDated now }
-        ensures { OnOk result (self.new ≡ changed_row (without_client client now) self.old) }
+        ensures lost { OnOk result (self.new ≡ changed_row (without_client client now) self.old) }
+        ensures wants { OnErr result (list_any (owned_by client) (entries_of self.old) ≡ true) }
     {
         match &mut self.semaphore {
             Semaphore::Token(tokens) => {
@@ -81,6 +84,21 @@ impl SemaphoreRow {
         }
         Ok(())
     }
+}
+
+/// Whether the client owns a token of any of the semaphores.
+fn owns_any(semaphores: &Named<SemaphoreRow>, client: u32) -> bool
+    ensures { result ≡ owns_any client semaphores.now }
+{
+    for place in 0..semaphores.len() {
+        let Some((_, row)) = semaphores.at(place) else {
+            unreachable!()
+        };
+        if row.owns(client) {
+            return true;
+        }
+    }
+    false
 }
 
 /// Who is granted a token in the semaphore of that name where a client is lost.
@@ -133,7 +151,8 @@ fn grants_of_each(
 }
 
 /// Who is granted a token where a client is lost, each with the name of the semaphore, by that name and the number of
-/// the client's entry. Nothing changes yet.
+/// the client's entry. Nothing changes yet. Memory is wanted only where the client owns a token.
+#[tactic(auto, using(crate::proofs::Unowned::none_told))]
 pub fn lose_told(
     alloc: Global,
     semaphores: &Named<SemaphoreRow>,
@@ -141,13 +160,18 @@ pub fn lose_told(
     now: Moment,
 ) -> Result<Vec<(Key, Grant)>, Memory>
     requires { IsDated now }
-    ensures { IfOk result (λ grants. grants.items ≡ lost_grants client now semaphores.now) }
+    ensures told { IfOk result (λ grants. grants.items ≡ lost_grants client now semaphores.now) }
+    ensures wants { OnErr result (owns_any client semaphores.now ≡ true) }
 {
+    if !owns_any(semaphores, client) {
+        return Ok(Vec::new(alloc));
+    }
     let grants = grants_of_each(alloc, semaphores, client, now)?;
     Ok(grants)
 }
 
-/// Each semaphore loses a client. What is left where there is no memory isn't said.
+/// Each semaphore loses a client. What is left where there is no memory isn't said; it is wanted only where the client
+/// owns a token.
 fn lose_each(
     alloc: Global,
     semaphores: &mut Named<SemaphoreRow>,
@@ -155,8 +179,9 @@ fn lose_each(
     now: Moment,
 ) -> Result<(), Memory>
     requires { IsDated now }
-    ensures { OnOk result
+    ensures lost { OnOk result
         (semaphores.new ≡ all_changed (without_client client now) semaphores.old) }
+    ensures wants { OnErr result (owns_any client semaphores.old ≡ true) }
 {
     for place in 0..semaphores.len() {
         let Some(row) = semaphores.at_mut(place) else {
@@ -167,11 +192,24 @@ fn lose_each(
     Ok(())
 }
 
+/// A client that owns no token is lost. It takes no memory.
+fn lose_waiter(alloc: Global, semaphores: &mut Named<SemaphoreRow>, client: u32, now: Moment)
+    requires now { IsDated now }
+    requires unowned { owns_any client semaphores.old ≡ false }
+    ensures { semaphores.new ≡ lost client now semaphores.old }
+{
+    let Ok(()) = lose_each(alloc, semaphores, client, now) else {
+        unreachable!()
+    };
+    semaphores.remove_all_of(&Scope::Association(client));
+}
+
+#[tactic(auto, using(crate::proofs::Unowned::none_told))]
 /// A client is lost (ISO 9506-1, TakeControl, relinquishIfConnectionLost): its queued entries go; then each of its
 /// owner entries becomes hung where its token is kept, and else goes, and its token is granted to the entry that is
 /// served next, or is free; then the semaphores of its association go. Who is granted a token is told with the name of
-/// its semaphore, by that name and the number of the client's entry. The one refusal is want of memory; then all is as
-/// before.
+/// its semaphore, by that name and the number of the client's entry. The one refusal is want of memory, only where the
+/// client owns a token; then all is as before.
 pub fn lose(
     alloc: Global,
     semaphores: &mut Named<SemaphoreRow>,
@@ -182,7 +220,12 @@ pub fn lose(
     ensures grants { IfOk result (λ grants. grants.items ≡ lost_grants client now semaphores.old) }
     ensures lost { OnOk result (semaphores.new ≡ lost client now semaphores.old) }
     ensures kept { OnErr result (semaphores.new ≡ semaphores.old) }
+    ensures wants { OnErr result (owns_any client semaphores.old ≡ true) }
 {
+    if !owns_any(semaphores, client) {
+        lose_waiter(alloc, semaphores, client, now);
+        return Ok(Vec::new(alloc));
+    }
     let grants = grants_of_each(alloc, semaphores, client, now)?;
     let mut left = semaphores.copy(alloc)?;
     lose_each(alloc, &mut left, client, now)?;

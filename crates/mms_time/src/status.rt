@@ -1,6 +1,6 @@
 //! ReportSemaphoreStatus, ReportPoolSemaphoreStatus and ReportSemaphoreEntryStatus.
 
-ghost use Rattle.std.specs.Prelude.{◌≡◌, ◌<◌, [], All, IfOk};
+ghost use Rattle.std.specs.Prelude.{◌≡◌, ◌<◌, ◌≤◌, [], All, IfOk, IfSome, IsOk};
 ghost use Rattle.std.specs.Option.{option_copied};
 ghost use Rattle.mms_types.specs.Serves.{Serves, ServesAlways};
 ghost use Rattle.mms_time.specs.Semaphores.{entries_of, names_in, semaphore};
@@ -187,25 +187,28 @@ fn is_listed(entry: &SemEntry, state: EntryState, after: Option<EntryNumber>) ->
     }
 }
 
-/// How many milliseconds are left until that moment, and at most as many as 32 bits tell.
-fn left_until(now: Moment, at: Moment) -> u32
-    ensures { result ≡ left_until now at }
+/// How many milliseconds are left until that moment. More than 32 bits tell are told by no answer, and count as want of
+/// memory; no request names so many.
+fn left_until(now: Moment, at: Moment) -> Result<u32, Memory>
+    ensures left { IfOk result (λ left. left ≡ left_until now at) }
+    ensures near { left_until now at ≤ 4294967295 → IsOk result }
 {
     let left = at.0.saturating_sub(now.0);
     if left <= u64::from(u32::MAX) {
-        left as u32
+        Ok(left as u32)
     } else {
-        u32::MAX
+        Err(Memory::wanting())
     }
 }
 
 /// How many milliseconds are left until the deadline.
-fn remaining(entry: &SemEntry, now: Moment) -> Option<u32>
-    ensures { result ≡ (entry_status [] now entry.now).remaining }
+fn remaining(entry: &SemEntry, now: Moment) -> Result<Option<u32>, Memory>
+    ensures left { IfOk result (λ left. left ≡ (entry_status [] now entry.now).remaining) }
+    ensures near { IfSome entry.now.deadline (λ at. left_until now at ≤ 4294967295) → IsOk result }
 {
     match entry.deadline {
-        None => None,
-        Some(at) => Some(left_until(now, at)),
+        None => Ok(None),
+        Some(at) => Ok(Some(left_until(now, at)?)),
     }
 }
 
@@ -224,7 +227,7 @@ fn entry_status(
         client: entry.client,
         token: name_at(alloc, entry.token, names)?,
         priority: entry.priority,
-        remaining: remaining(entry, now),
+        remaining: remaining(entry, now)?,
         abort: entry.abort,
         relinquish: !entry.keep,
     })
@@ -262,7 +265,8 @@ fn entry_statuses(
 
 /// The entries of a semaphore that have a state (ISO 9506-2, ReportSemaphoreEntryStatus), in order of number after the
 /// one that is given, which need not be there: the first 6 of them, and whether there are more. Object-non-existent
-/// where the semaphore is missing.
+/// where the semaphore is missing. Want of memory also where a deadline is further away than 2^32 - 1 milliseconds, which
+/// an answer can't tell, and which none of a device is.
 pub fn report_semaphore_entry_status(
     alloc: Global,
     semaphores: &Named<SemaphoreRow>,

@@ -88,7 +88,7 @@ fn next_number(made: u64) -> Result<u64, Memory>
     if made < MOST_MADE {
         Ok(made + 1)
     } else {
-        Err(Memory)
+        Err(Memory::wanting())
     }
 }
 
@@ -149,15 +149,20 @@ fn take_told(alloc: Global, semaphore: &Semaphore, asked: &TakeControl) -> Resul
 /// was asked for any, or nothing yet, where it waits. Object-non-existent where the semaphore is missing;
 /// type-inconsistent where a token of a token semaphore is named; object-non-existent where the pool has no token of
 /// that name; object-state-conflict where the client waits for a token of it, or owns one of a token semaphore or the
-/// one that it names; timeout where no token is to be had and the client does not wait. Nothing is taken yet.
+/// one that it names; timeout where no token is to be had and the client does not wait. Nothing is taken yet. Want of
+/// memory is told of no request that is refused, and while the semaphore made fewer than 2^63 entries only where the
+/// client is told the name of its token.
 pub fn take_control_told(
     alloc: Global,
     semaphores: &Named<SemaphoreRow>,
     client: u32,
     asked: &TakeControl,
 ) -> Result<TakeDone, Refuse>
-    ensures { Serves result (take_cause client asked.now semaphores.now)
+    ensures told { Serves result (take_cause client asked.now semaphores.now)
         (take_told client asked.now semaphores.now) }
+    ensures wants { (row : SemaphoreRow) → semaphore client asked.now.name semaphores.now ≡ Some row
+        → made_in row.semaphore < 2 ^ 63 → result ≡ Err OutOfMemory
+        → names_token (take_told_in asked.now row.semaphore) ≡ true }
 {
     match semaphores.named(client, &asked.name) {
         None => Err(Refuse::Service(ServiceError::OBJECT_NON_EXISTENT)),
@@ -194,13 +199,13 @@ fn take_token(tokens: &mut TokenSem, ask: &Ask, now: Moment) -> Result<(), Memor
 {
     if tokens.made() >= MOST_MADE {
         return if tokens.makes_entry(ask, now) {
-            Err(Memory)
+            Err(Memory::wanting())
         } else {
             Ok(())
         };
     }
     match tokens.take(ask, now) {
-        Err(TakeRefused::Memory) => Err(Memory),
+        Err(TakeRefused::Memory) => Err(Memory::wanting()),
         _ => Ok(()),
     }
 }
@@ -216,13 +221,13 @@ fn take_of_pool(named: &mut PoolSem, ask: &Ask, now: Moment) -> Result<(), Memor
 {
     if named.made() >= MOST_MADE {
         return if named.makes_entry(ask, now) {
-            Err(Memory)
+            Err(Memory::wanting())
         } else {
             Ok(())
         };
     }
     match named.take(ask, now) {
-        Err(TakeRefused::Memory) => Err(Memory),
+        Err(TakeRefused::Memory) => Err(Memory::wanting()),
         _ => Ok(()),
     }
 }

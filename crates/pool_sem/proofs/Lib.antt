@@ -5,4 +5,5 @@ pub mod Taking
 pub mod Losing
 pub mod Serving
 pub mod Bounding
+pub mod Unowned
 mod Worked

@@ -235,16 +235,22 @@ impl PoolSem {
         }
     }
 
+    #[tactic(auto, using(crate::proofs::Unowned::none_lost))]
     /// A client is lost: its queued entries go. Then each of its owner entries, in order of number, becomes hung where
     /// its token is kept, and else goes, and its token is freed. Who is granted a token is told in that order. The one
-    /// refusal is want of memory; then all is as before.
+    /// refusal is want of memory, only where the client has an owner entry; then all is as before.
     pub fn lose(&mut self, alloc: Global, client: u32, now: Moment) -> Result<Vec<Grant>, Memory>
         requires { IsDated now }
         ensures grants { IfOk result (λ grants.
             grants.items ≡ (loss_of client now self.old.entries).grants) }
         ensures state { OnOk result (self.new ≡ after_lose self.old client now) }
         ensures err { OnErr result (self.new ≡ self.old) }
+        ensures wants { OnErr result (list_any (owned_by client) self.old.entries ≡ true) }
     {
+        if !self.owns(client) {
+            lose_waiters(&mut self.entries, client);
+            return Ok(Vec::new(alloc));
+        }
         let owners = owners_of(alloc, client, &self.entries)?;
         let mut grants = Vec::with_capacity(alloc, owners.len())?;
         lose_waiters(&mut self.entries, client);

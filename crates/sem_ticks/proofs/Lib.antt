@@ -6,3 +6,4 @@ pub mod Requests
 pub mod Settling
 pub mod Twice
 mod Worked
+pub mod Unowned

@@ -1,9 +1,10 @@
 //! Who is granted a token.
 
-ghost use Rattle.std.specs.Prelude.{◌≡◌, ◌≢◌, Err, IfOk, None, OnErr, Some, true};
+ghost use Rattle.std.specs.Prelude.{◌≡◌, ◌≢◌, Err, IfOk, None, OnErr, Some, [], true};
 ghost use Rattle.mms_types.specs.Moments.{IsDated};
 ghost use Rattle.mms_types.specs.Serves.{Serves};
 ghost use Rattle.mms_types.specs.declared.refuse.Refuse.TheVariants.{Memory as OutOfMemory};
+ghost use Rattle.mms_time.specs.Loss.{owns_any};
 ghost use Rattle.mms_time.specs.Services.{is_named, relinquish_cause, relinquish_grant};
 ghost use Rattle.sem_ticks.specs.Granted.{all_granted, granted, lost_granted, relinquish_granted};
 
@@ -48,7 +49,8 @@ fn all_granted(
     semaphores: &Named<SemaphoreRow>,
     grants: &[(Key, Grant)],
 ) -> Result<Vec<Granted>, Memory>
-    ensures { IfOk result (λ told. told.items ≡ all_granted semaphores.now grants.now) }
+    ensures told { IfOk result (λ told. told.items ≡ all_granted semaphores.now grants.now) }
+    ensures wants { OnErr result (grants.now ≢ []) }
 {
     let mut told = Vec::with_capacity(alloc, grants.len())?;
     for named in grants {
@@ -82,7 +84,7 @@ pub fn relinquish_told(
 }
 
 /// Who is granted a token where a client is lost, by name of semaphore and number of the client's entry. Nothing
-/// changes.
+/// changes. Memory is wanted only where the client owns a token.
 pub fn lose_told(
     alloc: Global,
     semaphores: &Named<SemaphoreRow>,
@@ -90,7 +92,8 @@ pub fn lose_told(
     now: Moment,
 ) -> Result<Vec<Granted>, Memory>
     requires { IsDated now }
-    ensures { IfOk result (λ grants. grants.items ≡ lost_granted client now semaphores.now) }
+    ensures told { IfOk result (λ grants. grants.items ≡ lost_granted client now semaphores.now) }
+    ensures wants { OnErr result (owns_any client semaphores.now ≡ true) }
 {
     let grants = mms_time::lose_told(alloc, semaphores, client, now)?;
     all_granted(alloc, semaphores, &grants)

@@ -13,5 +13,5 @@ returns-clause-grants c =
 
 pub returns-clause-lost : goal.returns-clause-lost
 returns-clause-lost c =
-    let each = c.in_ok-lose_each.ensures ∙ ap (all_changed (without_client c.args.client c.args.now)) c.in_ok-left.ensures ∙ each_semaphore c.args.client c.args.now c.args.semaphores.now in
+    let each = c.in_ok-lose_each.ensures.lost ∙ ap (all_changed (without_client c.args.client c.args.now)) c.in_ok-left.ensures ∙ each_semaphore c.args.client c.args.now c.args.semaphores.now in
     c.remove_all_of.ensures ∙ ap (without_all_of (Association c.args.client)) each
