@@ -1,6 +1,6 @@
 -- The refusal that is told is that of the first cause that holds.
 use Rattle.std.proofs.Common.{◌≡◌, ◌≢◌, ℕ, inl, inr, Bool, true, false, cond, eqb, List, Option, Some, None, Result, Ok, Err, refl, sym, ap, subst, ◌∙◌}
-use Rattle.std.specs.Prelude.{[]}
+use Rattle.std.specs.Prelude.{[], ◌↔◌}
 use Rattle.ber_core.specs.declared.element.Lengths.{Lengths}
 use Rattle.ber_core.specs.Part.{Part}
 use Rattle.ber_core.specs.Element.{IsElement}
@@ -16,12 +16,15 @@ use Rattle.ber_forms.proofs.Sound.{fine_is, alternatives_sound}
 use Rattle.ber_forms.proofs.Numbered.{tag_class, sound_distinct, by_number}
 use Rattle.mms_types.specs.declared.identifier.Edition.{Edition}
 use Rattle.mms_types.specs.FirstCause.{◌else◌, told, Tells, now, later}
+use Rattle.mms_types.specs.declared.pdu.Pdu.{Pdu}
+use Rattle.pdu_names.specs.Editions.{lengths_of}
 use Rattle.pdu_assoc.specs.Heard.{heard_error, heard_reject_form, answered}
 use Rattle.mms_pdu.specs.declared.refusal.Refusal.{Refusal}
 use Rattle.mms_pdu.specs.declared.refusal.Refusal.TheVariants as refusal
 use Rattle.mms_pdu.specs.Services.{requests, requests_sound}
 use Rattle.mms_pdu.specs.Pdus.{heard_reject}
 use Rattle.mms_pdu.specs.Hearing.{Asked, is_pdu, kept_pdus, noted_pdus, noted_and, valid, and_then, argued, asked_value, served, sole_part, asked_at, reject_told, request_told, part_told, heard, Hears}
+use Rattle.mms_pdu.specs.Heard.{as_pdu, pdu_heard}
 use Rattle.mms_pdu.specs.Refused.{Asks, other_pdus, IsNoElement, HasUnknownTag, IsNoPdu, HasModifiers, IsNotOffered, NestsTooDeep, HasBadArgument, of_request, IsRefused, RefusesFirst}
 use Rattle.mms_pdu.proofs.Whole.{alternative_tag}
 use Rattle.mms_pdu.proofs.Causes.{AskedSo, sole_is, sole_only, one_only, one_deep, one_deep_only, asked_is, asks_part}
@@ -296,3 +299,38 @@ refuses_first {X} lengths edition octets view (Err e) fits h = by_memory e h
     by_memory (refusal.Service n) h = answers (refusal.Service n) h
     by_memory (refusal.Recursion n) h = answers (refusal.Recursion n) h
     by_memory (refusal.Argument n) h = answers (refusal.Argument n) h
+
+-- ---- what octets are heard as
+
+pub heard_refused : (edition : Edition) (octets : List ℕ) (e : Refusal) → IsBytes octets → (pdu_heard edition octets ≡ Err e) ↔ IsRefused (lengths_of edition) edition octets e
+heard_refused edition octets e fits = by_result (heard (lengths_of edition) edition octets) (heard_tells (lengths_of edition) edition octets fits)
+  where
+    by_result : (r : Result Value Refusal) → Tells (IsRefused (lengths_of edition) edition octets) (refusal_in r) → (as_pdu r ≡ Err e) ↔ IsRefused (lengths_of edition) edition octets e
+    by_result (Ok v) tells = (λ is. absurd (cc is), λ c. absurd (tells e c))
+    by_result (Err r) tells = (
+      λ is. subst (λ (t : Refusal). IsRefused (lengths_of edition) edition octets t) (err_is {X = Pdu} r e is) tells.0,
+      λ c. ap (λ (t : Refusal). Err t) (sym (tells.1 e c)),
+    )
+
+abbrev Never : (Refusal → Type 0) → Type 0
+Never Cause = Cause refusal.Memory → ⊥
+
+neither : (C D : Refusal → Type 0) → Never C → Never D → Never (C else D)
+neither C D c d (inl h) = c h
+neither C D c d (inr h) = d h.1
+
+module _ (lengths : Lengths) (edition : Edition) (octets : List ℕ) where
+  of_none : (told : ℕ → Refusal) (Cause : Asked → Type 0) → ((n : ℕ) → refusal.Memory ≢ told n) → Never (of_request lengths octets told Cause)
+  of_none told Cause other c = other c.0.invoke c.3
+
+  -- want of memory is no cause
+  pub memory_no_cause : Never (IsRefused lengths edition octets)
+  memory_no_cause =
+      neither (NoElement lengths edition octets) (UnknownTag lengths edition octets else NoPdu lengths edition octets else FromRequests lengths edition octets) (λ c. cc c.0)
+      (neither (UnknownTag lengths edition octets) (NoPdu lengths edition octets else FromRequests lengths edition octets) (λ c. cc c.0)
+      (neither (NoPdu lengths edition octets) (FromRequests lengths edition octets) (λ c. cc c.0)
+      (neither (Modified lengths edition octets) (NotOffered lengths edition octets else TooDeep lengths edition octets else BadArgument lengths edition octets)
+      (of_none refusal.Modifier (HasModifiers lengths edition) (λ n e. cc e))
+      (neither (NotOffered lengths edition octets) (TooDeep lengths edition octets else BadArgument lengths edition octets) (of_none refusal.Service (IsNotOffered lengths edition) (λ n e. cc e))
+      (neither (TooDeep lengths edition octets) (BadArgument lengths edition octets) (of_none refusal.Recursion (NestsTooDeep lengths edition) (λ n e. cc e))
+      (of_none refusal.Argument (HasBadArgument lengths edition) (λ n e. cc e)))))))

@@ -1,5 +1,8 @@
 pub mod Whole
 pub mod AskedAgain
+pub mod AnswerTold
+pub mod SentAgain
+pub mod Invokes
 pub mod FormOf
 pub mod HeardAgain
 pub mod Causes

@@ -1,6 +1,6 @@
 -- Worked examples of PDUs that no service sends yet, with octets typed from ITU-T X.690 and ISO 9506-2, and of how deep requests nest.
 use Rattle.std.specs.Prelude.{◌≡◌, pos, true, false, List, [], ◌∷◌, map, Option, Some, None}
-use Rattle.std.proofs.Common.{refl}
+use Rattle.std.proofs.Common.{refl, inl, inr, arith}
 use Rattle.mms_types.specs.Datum.{Datum, row}
 use Rattle.mms_types.specs.Datum as datum
 use Rattle.mms_types.specs.Shape.{Shape, no_field, field}
@@ -18,6 +18,7 @@ use Rattle.pdu_assoc.specs.ServiceErrors.{numbered}
 use Rattle.mms_pdu.specs.Services.{requests, answers}
 use Rattle.mms_pdu.specs.Pdus.{pdu_octets}
 use Rattle.mms_pdu.specs.Hearing.{depth_of}
+use Rattle.mms_pdu.specs.Answering.{IsAnswer}
 
 -- a function answers each row of a table with its second column
 abbrev Answers : {A B : Type 0} → (A → B) → List (A × B) → Type 0
@@ -38,6 +39,17 @@ sent : Answers pdu_octets (
     [])
 unfolding requests answers numbered element_octets identifier_octets length_octets digits
 sent = refl
+
+-- ---- which octets answer a request
+
+-- that a semaphore is defined, and that a request is cancelled
+answers_five : IsAnswer 5 (161 ∷ 5 ∷ 2 ∷ 1 ∷ 5 ∷ 149 ∷ 0 ∷ [])
+unfolding digits element_octets identifier_octets length_octets
+answers_five = (omega arith, inl (149 ∷ 0 ∷ [], refl))
+
+answers_two : IsAnswer 2 (162 ∷ 10 ∷ 128 ∷ 1 ∷ 2 ∷ 162 ∷ 5 ∷ 160 ∷ 3 ∷ 133 ∷ 1 ∷ 3 ∷ [])
+unfolding digits element_octets identifier_octets length_octets
+answers_two = (omega arith, inr (162 ∷ 5 ∷ 160 ∷ 3 ∷ 133 ∷ 1 ∷ 3 ∷ [], refl))
 
 -- ---- how deep requests nest
 

@@ -68,6 +68,12 @@ invalid_of unread.Memory = refusal.Memory
 invalid_of unread.Malformed = refusal.InvalidPdu
 invalid_of unread.TooDeep = refusal.InvalidPdu
 
+-- the refusal of a request whose argument could not be read
+abbrev pub refusal_of_argument : ℕ → Unread → Refusal
+refusal_of_argument invoke unread.Memory = refusal.Memory
+refusal_of_argument invoke unread.Malformed = refusal.Argument invoke
+refusal_of_argument invoke unread.TooDeep = refusal.Recursion invoke
+
 -- go on, or stop at the first refusal
 abbrev pub and_then : {A B : Type 0} → Result A Refusal → (A → Result B Refusal) → Result B Refusal
 and_then (Ok x) f = f x

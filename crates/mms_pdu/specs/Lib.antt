@@ -4,4 +4,5 @@ pub mod Hearing
 pub mod Refused
 pub mod Rejects
 pub mod Asking
+pub mod Answering
 pub mod Heard

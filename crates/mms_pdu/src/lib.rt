@@ -10,7 +10,10 @@ mod response;
 mod writing;
 
 pub use ber_core::Writer;
-pub use laws::{hears_each_form, spells_each_asking};
+pub use laws::{
+    an_answer_is_told_by_its_octets, hears_each_form, refusals_have_the_first_cause,
+    spells_each_asking, spells_each_sent,
+};
 pub use mms_types::{Edition, Memory, Pdu};
 pub use reading::{Read, read_pdu, read_pdu_to};
 pub use refusal::{Refusal, reject_for};

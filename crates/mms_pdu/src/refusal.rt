@@ -1,6 +1,7 @@
 //! Why what a client sends is refused.
 
 ghost use Rattle.std.specs.Prelude.{◌≡◌};
+ghost use Rattle.mms_pdu.specs.declared.refusal.Refusal.TheVariants as refusal;
 ghost use Rattle.mms_pdu.specs.Rejects.{reject_of};
 
 use mms_types::{Memory, Reject, RejectReason};
@@ -32,6 +33,14 @@ pub enum Refusal {
     Memory,
 }
 
+impl From<Memory> for Refusal {
+    ghost from_gives = { λ _ e. e ≡ refusal.Memory };
+
+    fn from(_wanting: Memory) -> Refusal {
+        Refusal::Memory
+    }
+}
+
 /// The reject that tells the refusal to the client (ISO 9506-2, RejectPDU), with the invokeID of a request that is
 /// refused. Want of memory is told to nobody, and answered as such.
 pub fn reject_for(refusal: Refusal) -> Result<Reject, Memory>
@@ -44,7 +53,7 @@ pub fn reject_for(refusal: Refusal) -> Result<Reject, Memory>
         Refusal::Service { invoke } => (Some(invoke), RejectReason::UnrecognizedService),
         Refusal::Recursion { invoke } => (Some(invoke), RejectReason::MaxRecursionExceeded),
         Refusal::Argument { invoke } => (Some(invoke), RejectReason::InvalidArgument),
-        Refusal::Memory => return Err(Memory),
+        Refusal::Memory => return Err(Memory::wanting()),
     };
     Ok(Reject { invoke, reason })
 }

@@ -1,6 +1,6 @@
 //! confirmed-Request: what is asked for, and its argument.
 
-ghost use Rattle.std.specs.Prelude.{◌≡◌, ◌++◌, false, Ok, Err, Some, OnOk, OnErr, IfOk, IsErr};
+ghost use Rattle.std.specs.Prelude.{◌≡◌, ◌≢◌, ◌++◌, false, Ok, Err, Some, OnOk, OnErr, IfOk, IfErr, IsErr, IsTrue};
 ghost use Rattle.ber_core.specs.Part.{part};
 ghost use Rattle.ber_forms.specs.ByNumber.{form_at, read_as};
 ghost use Rattle.ber_forms.specs.Reading.{Gives};
@@ -9,10 +9,11 @@ ghost use Rattle.ber_forms.specs.Spelling.{alternative_octets};
 ghost use Rattle.ber_forms.specs.Value.{chosen};
 ghost use Rattle.mms_types.specs.Spelling.{widest};
 ghost use Rattle.pdu_names.specs.Editions.{lengths_of};
+ghost use Rattle.mms_pdu.specs.declared.refusal.Refusal.TheVariants.{Memory};
 ghost use Rattle.mms_pdu.specs.Services.{requests};
 ghost use Rattle.mms_pdu.specs.Pdus.{pdu_value};
 ghost use Rattle.mms_pdu.specs.Heard.{IsHeard};
-ghost use Rattle.mms_pdu.specs.Hearing.{Hears, sole_part, service_of, asked_at, asking, argued, served, request_told, request_depth, depth_of};
+ghost use Rattle.mms_pdu.specs.Hearing.{Hears, sole_part, service_of, asked_at, asking, refusal_of_argument, argued, served, request_told, request_depth, depth_of};
 
 use crate::depth::request_depth;
 use crate::reading::{Read, tell};
@@ -77,6 +78,17 @@ pub(crate) fn asked(contents: &[u8], edition: Edition) -> Result<(u32, bool, Ele
     Ok((invoke, modifiers.is_some(), element))
 }
 
+/// The refusal of a request whose argument could not be read.
+fn refusal_of_argument(invoke: u32, unread: Unread) -> Refusal
+    ensures { result ≡ refusal_of_argument invoke unread }
+{
+    match unread {
+        Unread::Malformed => Refusal::Argument { invoke },
+        Unread::TooDeep => Refusal::Recursion { invoke },
+        Unread::Memory => Refusal::Memory,
+    }
+}
+
 /// The argument of a service that is offered, or why it is refused.
 fn argument<F: Formed>(
     alloc: Global,
@@ -84,15 +96,14 @@ fn argument<F: Formed>(
     service: Element<'_>,
     edition: Edition,
 ) -> Result<F::Item, Refusal>
-    ensures { Hears (λ x. chosen service.entry.tag.number (F.kind.value x)) result
+    ensures told { Hears (λ x. chosen service.entry.tag.number (F.kind.value x)) result
         (argued invoke (read_as (lengths_of edition) (part service.entry)
         (Some (F.kind.form edition)))) }
+    ensures no_memory { IsTrue F.needs_no_memory → IfErr result (λ e. e ≢ Memory) }
 {
     match read_as::<F>(alloc, service, edition) {
         Ok(found) => Ok(found),
-        Err(Unread::TooDeep) => Err(Refusal::Recursion { invoke }),
-        Err(Unread::Malformed) => Err(Refusal::Argument { invoke }),
-        Err(Unread::Memory) => Err(Refusal::Memory),
+        Err(unread) => Err(refusal_of_argument(invoke, unread)),
     }
 }
 
@@ -108,10 +119,7 @@ fn argument_apart<F: Formed>(
         (Some (F.kind.form edition)))) }
 {
     let found = argument::<F>(alloc, invoke, service, edition)?;
-    match Boxed::new(alloc, found) {
-        Ok(kept) => Ok(kept),
-        Err(_) => Err(Refusal::Memory),
-    }
+    Ok(Boxed::new(alloc, found)?)
 }
 
 /// The request for the service of that number, or why it is refused: a service that isn't listed here is not offered.
