@@ -98,7 +98,7 @@ fn octets(alloc: Global, hex: &str) -> Result<Option<Vec<u8>>, Memory>
 {
     match hex::decode(alloc, hex.as_bytes()) {
         Ok(octets) => Ok(Some(octets)),
-        Err(FromHexError::OutOfMemory) => Err(Memory),
+        Err(FromHexError::OutOfMemory) => Err(Memory::wanting()),
         Err(_) => Ok(None),
     }
 }
@@ -117,7 +117,7 @@ fn hex_says<F: Formed>(
     };
     match read_form::<F>(alloc, &octets, edition) {
         Ok(item) => Ok(Some(item)),
-        Err(Unread::Memory) => Err(Memory),
+        Err(Unread::Memory) => Err(Memory::wanting()),
         Err(_) => Ok(None),
     }
 }

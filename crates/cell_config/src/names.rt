@@ -11,7 +11,7 @@ pub(crate) fn identifier(alloc: Global, text: &str, edition: Edition) -> Result<
 {
     match Identifier::read(alloc, text.as_bytes(), edition) {
         Ok(name) => Ok(name),
-        Err(Unnamed::Memory) => Err(Memory),
+        Err(Unnamed::Memory) => Err(Memory::wanting()),
         Err(Unnamed::Bad(_)) => unreachable!(),
     }
 }

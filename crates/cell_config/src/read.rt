@@ -1,8 +1,11 @@
-ghost use Rattle.std.specs.Prelude.{◌≡◌, Some, Err, IfOk, IfErr, map, option_map};
+ghost use Rattle.std.specs.Prelude.{◌≡◌, ◌&&◌, true, not, if◌then◌else◌, None, Some, Ok, Err, IfOk, IfErr, map, option_map};
+ghost use Rattle.toml.specs.Errors.{IsMemory};
 ghost use Rattle.toml.specs.View.{table_view};
 ghost use Rattle.cell_config.specs.Rows.{cells_told, variables_told, pools_told};
 ghost use Rattle.mms_types.specs.Moments.{milliseconds};
-ghost use Rattle.cell_config.specs.Cells.{number_of, cell_row, named_cell, pool_row};
+ghost use Rattle.toml.specs.Data.{Members};
+ghost use Rattle.cell_config.specs.Seen.{cell_seen, variable_seen, pool_seen};
+ghost use Rattle.cell_config.specs.Cells.{number_of, are_named, are_guarded, are_named_pools, are_variables, are_pools, are_few, cell_row, named_cell, pool_row};
 ghost use Rattle.cell_config.specs.Rules.{document_of, clients_of, day_of, ms_of, vendor_of, model_of, revision_of, least_of_keys, least_of_rows, least_broken_of, least_broken};
 ghost use Rattle.cell_config.specs.Said.{config_of, IsConfig, TellsBad, TellsRule};
 
@@ -10,21 +13,22 @@ use crate::cells::{are_guarded, numbers, read_cells};
 use crate::keys::breaks_keys;
 use crate::numbers::{Numbers, read_numbers};
 use crate::pools::{are_few, are_named_pools, are_pools, read_pools};
-use crate::rows::{cell_rows, pool_rows, variable_rows};
+use crate::rows::{CellText, PoolText, VariableText, cell_rows, pool_rows, variable_rows};
 use crate::texts::{Texts, read_texts};
 use crate::variables::{are_named, are_variables, named_cells};
 use crate::{BadConfig, Config};
-use mms_types::{Cells, Edition, NamedCells, Octets, Pools};
+use indexmap::IndexSet;
+use mms_types::{Cells, Edition, Memory, NamedCells, Octets, Pools};
 use std::alloc::Global;
 use toml::Table;
 
-/// The TOML document that the text is.
-#[tactic(auto, using(crate::proofs::Documents::read, crate::proofs::Documents::refused))]
-fn document(alloc: Global, text: &[u8], edition: Edition) -> Result<Table, BadConfig>
-    ensures document { IfOk result (λ table. document_of text.now ≡ Some (table_view table)) }
-    ensures rule { IfErr result (λ bad. TellsBad bad (least_broken edition text.now)) }
+/// What is told of a text as TOML's reader answers: its document, or else that it is none, unless memory was wanting.
+fn told(read: Result<Table, toml::de::Error>) -> Result<Table, BadConfig>
+    ensures document { IfOk read (λ table. result ≡ Ok table) }
+    ensures rule { IfErr read (λ error. (IsMemory error → ⊥) → result ≡ Err (BadConfig.Rule 0)) }
+    ensures memory { IfErr read (λ error. IsMemory error → result ≡ Err BadConfig.Memory) }
 {
-    match toml::table_from_slice(alloc, text) {
+    match read {
         Ok(table) => Ok(table),
         Err(error) => {
             if error.is_memory() {
@@ -36,12 +40,109 @@ fn document(alloc: Global, text: &[u8], edition: Edition) -> Result<Table, BadCo
     }
 }
 
+/// The TOML document that the text is.
+#[tactic(auto, using(crate::proofs::Documents::read, crate::proofs::Documents::refused))]
+fn document(alloc: Global, text: &[u8], edition: Edition) -> Result<Table, BadConfig>
+    ensures document { IfOk result (λ table. document_of text.now ≡ Some (table_view table)) }
+    ensures rule { IfErr result (λ bad. TellsBad bad (least_broken edition text.now)) }
+{
+    told(toml::table_from_slice(alloc, text))
+}
+
 /// The cells, the variables and the pools of a document.
 #[derive(Drop)]
 struct Rows {
     cells: Cells,
     variables: NamedCells,
     pools: Pools,
+}
+
+/// What is told of a document that breaks a rule.
+fn broken(rule: u8) -> BadConfig
+    ensures { result ≡ BadConfig.Rule rule }
+{
+    BadConfig::Rule(rule)
+}
+
+/// Whether the name of each variable, guard, pool and token is an identifier.
+fn are_all_named(
+    cells: &[CellText<'_>],
+    variables: &[VariableText<'_>],
+    pools: &[PoolText<'_>],
+    edition: Edition,
+) -> bool
+    ensures { result ≡ (are_named edition (map variable_seen variables.now)
+        && are_guarded edition (map cell_seen cells.now)
+        && are_named_pools edition (map pool_seen pools.now)) }
+{
+    are_named(variables, edition) && are_guarded(cells, edition) && are_named_pools(pools, edition)
+}
+
+/// The least of the rules 7 to 9 that variables and pools break, where the cells have these numbers.
+fn last_broken(
+    alloc: Global,
+    numbers: &IndexSet<u16>,
+    variables: &[VariableText<'_>],
+    pools: &[PoolText<'_>],
+) -> Result<Option<u8>, Memory>
+    ensures rule { IfOk result (λ rule. rule
+        ≡ (if not (are_variables numbers.now.keys (map variable_seen variables.now)) then Some 7
+        else if not (are_pools (map pool_seen pools.now)) then Some 8
+        else if not (are_few (map variable_seen variables.now) (map pool_seen pools.now))
+        then Some 9 else None)) }
+    ensures kept { IfOk result (λ rule. rule ≡ None →
+        are_variables numbers.now.keys (map variable_seen variables.now) ≡ true) }
+{
+    if !are_variables(alloc, numbers, variables)? {
+        return Ok(Some(7));
+    }
+    if !are_pools(alloc, pools)? {
+        return Ok(Some(8));
+    }
+    if !are_few(variables, pools) {
+        return Ok(Some(9));
+    }
+    Ok(None)
+}
+
+/// What cells, variables and pools are that stand so in a document, or the least rule of theirs that it breaks.
+fn rows_in(
+    alloc: Global,
+    cells: &[CellText<'_>],
+    variables: &[VariableText<'_>],
+    pools: &[PoolText<'_>],
+    edition: Edition,
+) -> Result<Rows, BadConfig>
+    ensures cells { IfOk result (λ rows. rows.cells
+        ≡ map (cell_row edition) (map cell_seen cells.now)) }
+    ensures variables { IfOk result (λ rows. rows.variables
+        ≡ map named_cell (map variable_seen variables.now)) }
+    ensures pools { IfOk result (λ rows. rows.pools ≡ map pool_row (map pool_seen pools.now)) }
+    ensures rule { (document : Members) → map cell_seen cells.now ≡ cells_told document
+        → map variable_seen variables.now ≡ variables_told document
+        → map pool_seen pools.now ≡ pools_told document
+        → TellsRule result (least_of_rows edition document) }
+{
+    if !are_all_named(cells, variables, pools, edition) {
+        return Err(broken(4));
+    }
+    let Some(numbers) = numbers(alloc, cells)? else {
+        return Err(broken(5));
+    };
+    let Some(cells) = read_cells(alloc, cells, edition)? else {
+        return Err(broken(6));
+    };
+    match last_broken(alloc, &numbers, variables, pools)? {
+        None => {}
+        Some(rule) => return Err(broken(rule)),
+    }
+    let variables = named_cells(alloc, variables, edition)?;
+    let pools = read_pools(alloc, pools, edition)?;
+    Ok(Rows {
+        cells,
+        variables,
+        pools,
+    })
 }
 
 /// The cells, the variables and the pools that a document tells, or the least rule of theirs that it breaks.
@@ -56,34 +157,8 @@ fn read_rows(alloc: Global, document: &Table, edition: Edition) -> Result<Rows, 
 {
     let cells = cell_rows(alloc, document)?;
     let variables = variable_rows(alloc, document)?;
-    let variables = variables.as_slice();
     let pools = pool_rows(alloc, document)?;
-    let named = are_named(variables, edition);
-    if !(named && are_guarded(&cells, edition) && are_named_pools(&pools, edition)) {
-        return Err(BadConfig::Rule(4));
-    }
-    let Some(numbers) = numbers(alloc, &cells)? else {
-        return Err(BadConfig::Rule(5));
-    };
-    let Some(cells) = read_cells(alloc, &cells, edition)? else {
-        return Err(BadConfig::Rule(6));
-    };
-    if !are_variables(alloc, &numbers, variables)? {
-        return Err(BadConfig::Rule(7));
-    }
-    if !are_pools(alloc, &pools)? {
-        return Err(BadConfig::Rule(8));
-    }
-    if !are_few(variables, &pools) {
-        return Err(BadConfig::Rule(9));
-    }
-    let variables = named_cells(alloc, variables, edition)?;
-    let pools = read_pools(alloc, &pools, edition)?;
-    Ok(Rows {
-        cells,
-        variables,
-        pools,
-    })
+    rows_in(alloc, &cells, &variables, &pools, edition)
 }
 
 /// The numbers and the texts of a document.
@@ -93,8 +168,8 @@ struct Own<'a> {
 }
 
 /// The numbers and the texts that a document tells, or the least rule that it breaks by its own
-/// keys.
-fn read_own(document: &Table) -> Result<Own<'_>, BadConfig>
+/// keys. It takes no memory.
+fn read_own(document: &Table) -> Result<Own<'_>, u8>
     ensures clients { IfOk result (λ own. own.numbers.clients
         ≡ number_of (clients_of (table_view document.now))) }
     ensures start { IfOk result (λ own. own.numbers.start.0
@@ -106,16 +181,17 @@ fn read_own(document: &Table) -> Result<Own<'_>, BadConfig>
         ≡ model_of (table_view document.now)) }
     ensures revision { IfOk result (λ own. own.texts.revision.now
         ≡ revision_of (table_view document.now)) }
-    ensures rule { TellsRule result (least_of_keys (table_view document.now)) }
+    ensures kept { IfOk result (λ own. least_of_keys (table_view document.now) ≡ None) }
+    ensures rule { IfErr result (λ rule. least_of_keys (table_view document.now) ≡ Some rule) }
 {
     if breaks_keys(document) {
-        return Err(BadConfig::Rule(1));
+        return Err(1);
     }
     let Some(numbers) = read_numbers(document) else {
-        return Err(BadConfig::Rule(2));
+        return Err(2);
     };
     let Some(texts) = read_texts(document) else {
-        return Err(BadConfig::Rule(3));
+        return Err(3);
     };
     Ok(Own { numbers, texts })
 }
@@ -125,7 +201,10 @@ fn config(alloc: Global, document: &Table, edition: Edition) -> Result<Config, B
     ensures config { IfOk result (λ config. config ≡ config_of edition (table_view document.now)) }
     ensures rule { TellsRule result (least_broken_of edition (table_view document.now)) }
 {
-    let Own { numbers, texts } = read_own(document)?;
+    let Own { numbers, texts } = match read_own(document) {
+        Ok(own) => own,
+        Err(rule) => return Err(broken(rule)),
+    };
     let Rows {
         cells,
         variables,

@@ -16,17 +16,22 @@ use Rattle.mms_types.specs.declared.event.What.{What}
 use Rattle.mms_types.specs.declared.event.CellEvent.{CellEvent}
 use Rattle.mms_types.specs.declared.event.CellEvent.TheVariants.{Heard, Lost, Tick, Ends, Drain}
 use Rattle.cell_config.specs.declared.config.Config.{Config}
+use Rattle.cell_config.specs.Said.{IsConfig}
 use Rattle.cell_config.proofs.Holding.{configuration_holds}
 use Rattle.cell_record.specs.Words.{between, content, trim, word_of, argument_of, is_remark, begins_with_digit, number_of, pairs_of}
 use Rattle.cell_record.specs.EventLine.{IsRecorded, MayHappen, same, heard_of, lost_of, tick_of, worded, said_of}
-use Rattle.cell_record.specs.Recording.{onto}
+use Rattle.cell_record.specs.Recording.{Place, Reading, Opened, Opening, behind, fits, refused, onto, fresh, unless, moved, refusal_of, makes, with_said, reading_of, config_in, config_of_text, after_opening, opening_of_text, reading_of_text}
 use Rattle.cell_record.specs.Grammar.{text_of, Says, phases_of, ReadsRecording}
 use Rattle.mms_types.specs.Actors.{clients_to}
 use Rattle.cell_record.specs.History.{drains, Interleaves}
 use Rattle.cell_record.specs.Report.{event_text, placed_line, served_line, sections, phase_head, placed_from, taken, report_from, report}
 use Rattle.cell_record.specs.declared.said.Said.{Said}
 use Rattle.cell_record.specs.declared.said.Said.TheVariants.{Nothing, Phase, Happens}
+use Rattle.cell_record.specs.declared.counts.Counts.{Counts}
 use Rattle.cell_record.specs.declared.refusal.BadWord.{BadWord}
+use Rattle.cell_record.specs.declared.refusal.RecordError.{RecordError}
+use Rattle.cell_record.specs.declared.refusal.RecordError.TheVariants.{TooMuch}
+use Rattle.cell_record.proofs.Valid.{opened_holds}
 use Rattle.cell_record.proofs.Bodies.{Each, same_length, each_of_body}
 
 -- ---- texts that lack an octet, up to where it stands
@@ -259,3 +264,49 @@ one_history said text configured phases bodies others r i j e =
     let n = configured.clients in
     let few = (configuration_holds configured.edition (text_of r.setup) configured r.rules r.says).few_clients in
     from_one said n configured 1 [] phases bodies others (omega (arith, few)) (subst (Each (Each (IsRecorded configured))) (sym r.split) (phases_recorded configured r.body r.said r.each)) i j e
+
+-- ---- what any text says, also one that is refused or cut
+
+makes_recorded : (n : Config) (s : Said) (r : Reading) → MayHappen n s → Each (Each (IsRecorded n)) r.phases → Each (Each (IsRecorded n)) (makes s r).phases
+makes_recorded n Nothing r h g = g
+makes_recorded n Phase r h g = (tt, g)
+makes_recorded n (Happens e) r h g = onto_recorded n e r.phases h g
+
+unless_recorded : (n : Config) (o : Option RecordError) (r : Reading) → Each (Each (IsRecorded n)) r.phases → Each (Each (IsRecorded n)) (unless o r).phases
+unless_recorded n None r g = g
+unless_recorded n (Some e) r g = tt
+
+with_recorded : (n : Config) (line : ℕ) (c : Counts) (s : Result Said BadWord) (rest : Counts → Reading) → IsSaid n s → ((d : Counts) → Each (Each (IsRecorded n)) (rest d).phases) → Each (Each (IsRecorded n)) (with_said line c s rest).phases
+with_recorded n line c (Err word) rest h g = tt
+with_recorded n line c (Ok s) rest h g = unless_recorded n (refusal_of line (moved c s) s) (makes s (rest (moved c s))) (makes_recorded n s (rest (moved c s)) h (g (moved c s)))
+
+if_recorded : (n : Config) (b : Bool) (r : Reading) (e : RecordError) → Each (Each (IsRecorded n)) r.phases → Each (Each (IsRecorded n)) (if b then r else refused e).phases
+if_recorded n true r e g = g
+if_recorded n false r e g = tt
+
+reading_recorded : (n : Config) (lines : List (List ℕ)) (p : Place) (c : Counts) → Each (Each (IsRecorded n)) (reading_of n lines p c).phases
+reading_recorded n [] p c = (tt, tt)
+reading_recorded n (l ∷ ls) p c =
+    let rest : Counts → Reading = λ d. reading_of n ls (behind p l) d in
+    if_recorded n (fits p l) (with_said (p.lines + 1) c (said_of n (content l)) rest) (TooMuch (p.lines + 1))
+    (with_recorded n (p.lines + 1) c (said_of n (content l)) rest (line_said n (content l)) (λ d. reading_recorded n ls (behind p l) d))
+
+front_each : (P : List CellEvent → Type 0) (done rest : List (List CellEvent)) → Each P (done ++ rest) → Each P done
+front_each P [] rest h = tt
+front_each P (x ∷ xs) rest h = (h.0, front_each P xs rest h.1)
+
+opened_as : (x : Opening) (config : Config) → config_in x ≡ Some config → (o : Opened) × (x ≡ Ok o) × (o.config ≡ config)
+opened_as (Err e) config c = cc
+opened_as (Ok o) config c = (o, refl, cc)
+
+pub one_history_so_far : (said : List CellEvent → ℕ → List What) (text : List ℕ) (configured : Config) (done rest bodies others : List (List CellEvent)) → config_of_text text ≡ Some configured → (reading_of_text text).phases ≡ done ++ rest
+    → Interleaves bodies done → Interleaves others done → report said configured.clients bodies ≡ report said configured.clients others → bodies ≡ others
+one_history_so_far said text configured done rest bodies others c f i j e =
+    let x = opened_as (opening_of_text text) configured c in
+    let o = x.0 in
+    let holds : IsConfig configured = subst IsConfig x.2 (opened_holds text o x.1) in
+    let all : Each (Each (IsRecorded o.config)) (reading_of_text text).phases =
+    subst (λ (y : Opening). Each (Each (IsRecorded o.config)) (after_opening y).phases) (sym x.1) (reading_recorded o.config o.rest o.place (fresh o.config.start.0)) in
+    let of_text : Each (Each (IsRecorded configured)) (reading_of_text text).phases = subst (λ (n : Config). Each (Each (IsRecorded n)) (reading_of_text text).phases) x.2 all in
+    let recorded = front_each (Each (IsRecorded configured)) done rest (subst (Each (Each (IsRecorded configured))) f of_text) in
+    from_one said configured.clients configured 1 [] done bodies others (omega (arith, holds.few_clients)) recorded i j e

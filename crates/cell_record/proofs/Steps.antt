@@ -9,11 +9,14 @@ use Rattle.std.specs.declared.option.Option.{Option}
 use Rattle.cell_io.specs.Lines.{lines_of, first_line, after_line, kept_of}
 use Rattle.cell_io.proofs.Texts.{lines_first}
 use Rattle.cell_record.specs.Words.{content}
-use Rattle.cell_record.specs.EventLine.{same, said_of}
+use Rattle.cell_record.specs.EventLine.{same, said_of, IsCause}
 use Rattle.cell_record.specs.Recording.{Place, Opening, behind, fits, header_of, headed, under, expected, in_text, size_by, size_in_text, setup_word, configured, refusal_of, moved, makes, refused}
 use Rattle.cell_record.specs.Numbered.{Gives, EndsThere, setup, phases}
-use Rattle.cell_record.specs.Progress.{Becomes}
+use Rattle.cell_record.specs.Progress.{Becomes, IsStated}
+use Rattle.cell_record.specs.Turned.{line_told}
 use Rattle.cell_record.specs.declared.said.Said.{Said}
+use Rattle.cell_record.specs.declared.said.LineError.{LineError}
+use Rattle.cell_record.specs.declared.said.LineError.TheVariants as unsaid
 use Rattle.cell_record.specs.declared.counts.Counts.{Counts}
 use Rattle.cell_record.specs.declared.refusal.BadWord.{BadWord}
 use Rattle.cell_record.specs.declared.refusal.RecordError.{RecordError}
@@ -172,6 +175,12 @@ pub says_bad : (config : Config) (c : Counts) (p : Place) (line l : List ℕ) (r
 says_bad config c p line l rest word e k f =
     let is : said_of config (content l) ≡ Err word = sym (kept_said config l) ∙ ap (λ (x : List ℕ). said_of config (content x)) (sym k) ∙ e in
     rw (f, is) refl
+
+-- a line that says nothing refuses the text, unless memory was wanting for it
+pub says_nothing : (config : Config) (c : Counts) (p : Place) (line l : List ℕ) (rest : List (List ℕ)) (error : LineError) → IsCause (said_of config (content line)) error → IsStated (line_told (p.lines + 1) error)
+    → line ≡ kept_of l → fits p l ≡ true → phases config c (l ∷ rest) p ≡ refused (line_told (p.lines + 1) error)
+says_nothing config c p line l rest (unsaid.Bad word) e s k f = says_bad config c p line l rest word e k f
+says_nothing config c p line l rest unsaid.Memory e s k f = absurd s
 
 pub much_says : (config : Config) (c : Counts) (p : Place) (l : List ℕ) (rest : List (List ℕ)) → fits p l ≡ false → phases config c (l ∷ rest) p ≡ refused (TooMuch (p.lines + 1))
 much_says config c p l rest f = rw f refl

@@ -10,7 +10,7 @@ use Rattle.std.specs.Option.{option_map}
 use Rattle.cell_config.specs.declared.config.Config.{Config}
 use Rattle.mms_types.specs.declared.identifier.Edition.{Edition}
 use Rattle.cell_config.specs.Rules.{document_of, least_broken}
-use Rattle.cell_config.specs.Said.{config_of}
+use Rattle.cell_config.specs.Said.{config_of, IsConfig}
 use Rattle.cell_config.proofs.Holding.{configuration_holds, edition_of}
 use Rattle.cell_record.specs.Words.{content}
 use Rattle.cell_record.specs.EventLine.{same, said_of}
@@ -371,6 +371,15 @@ read_headed next (l ∷ ls) p o h =
     by_edition : (edition : Option Edition) → header_of (content l) ≡ edition → under edition next ls (p.lines + 1) (behind p l) ≡ Ok o → IsHeaded next (l ∷ ls) p o
     by_edition None e k = cc
     by_edition (Some edition) e k = record { line = l; rest = ls; edition = edition; lines_are = refl; is = e; next_is = k }
+
+-- what a text that was opened tells is a configuration
+pub opened_holds : (text : List ℕ) (o : Opened) → opening_of_text text ≡ Ok o → IsConfig o.config
+opened_holds text o x =
+    let p = front in
+    let a = read_headed setup_in (lines_of text) p o x in
+    let b = read_expected (codes "config") bad.Config (λ rest q. setup_of a.edition rest q []) a.rest (behind p a.line) o a.next_is in
+    let s = read_setup a.edition b.rest (behind (behind p a.line) b.line) [] o (omega arith) b.next_is in
+    configuration_holds a.edition (text_of s.setup) o.config s.rules s.says
 
 was_opened : (x : Opening) (config : Config) (phases : List (List CellEvent)) → config_in x ≡ Some config → after_opening x ≡ record { phases = phases; refusal = None }
     → (o : Opened) × (x ≡ Ok o) × (o.config ≡ config) × (reading_of o.config o.rest o.place (fresh o.config.start.0) ≡ record { phases = phases; refusal = None })

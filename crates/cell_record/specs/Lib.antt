@@ -9,3 +9,4 @@ pub mod Report
 pub mod Grammar
 pub mod Placed
 pub mod Refused
+pub mod Turned

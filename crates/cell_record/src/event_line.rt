@@ -1,7 +1,8 @@
 //! What an event line says.
 
-ghost use Rattle.std.specs.Prelude.{◌≡◌, IfOk, IfErr, Ok, nat_eq, codes};
+ghost use Rattle.std.specs.Prelude.{◌≡◌, IfOk, IfErr, Ok, Err, nat_eq, codes};
 ghost use Rattle.cell_record.specs.Words.{number_of, pairs_of, trim as trimmed, word_of, argument_of};
+ghost use Rattle.cell_record.specs.Turned.{name_told};
 ghost use Rattle.cell_record.specs.EventLine.{said_of, trimmed_says, worded, heard_of, lost_of, tick_of, ends_of, IsCause, MayHappen};
 
 use crate::BadWord;
@@ -18,54 +19,68 @@ const MOST_IN_PDU: usize = 65_000;
 
 const MOST_IN_TICK: u32 = 3_600_000;
 
+/// What is told where a rule decides, which takes no memory.
+fn told(said: Result<Said, BadWord>) -> Result<Said, LineError>
+    ensures says { IfOk said (λ s. result ≡ Ok s) }
+    ensures bad { IfErr said (λ word. result ≡ Err (LineError.Bad word)) }
+{
+    match said {
+        Ok(said) => Ok(said),
+        Err(word) => Err(LineError::Bad(word)),
+    }
+}
+
+/// What is told where no name was made.
+fn unnamed(error: Unnamed) -> LineError
+    ensures { result ≡ name_told error }
+{
+    match error {
+        Unnamed::Bad(_) => LineError::Bad(BadWord::Event),
+        Unnamed::Memory => LineError::Memory,
+    }
+}
+
 /// That a client sent octets.
-pub fn heard(
-    config: &Config,
-    client: Option<u32>,
-    octets: Option<Octets>,
-) -> Result<Said, LineError>
-    ensures says { IfOk result (λ s. heard_of config.now client octets ≡ Ok s) }
-    ensures bad { IfErr result (λ e. IsCause (heard_of config.now client octets) e) }
+pub fn heard(config: &Config, client: Option<u32>, octets: Option<Octets>) -> Result<Said, BadWord>
+    ensures says { result ≡ heard_of config.now client octets }
     ensures may { IfOk result (MayHappen config.now) }
 {
     let (Some(client), Some(octets)) = (client, octets) else {
-        return Err(LineError::Bad(BadWord::Hex));
+        return Err(BadWord::Hex);
     };
     if octets.is_empty() || octets.len() > MOST_IN_PDU {
-        return Err(LineError::Bad(BadWord::Hex));
+        return Err(BadWord::Hex);
     }
     if client < 1 || client > config.clients {
-        return Err(LineError::Bad(BadWord::Client));
+        return Err(BadWord::Client);
     }
     Ok(Said::Happens(CellEvent::Heard { client, octets }))
 }
 
 /// That a client's association was lost.
-fn lost(config: &Config, client: Option<u32>) -> Result<Said, LineError>
-    ensures says { IfOk result (λ s. lost_of config.now client ≡ Ok s) }
-    ensures bad { IfErr result (λ e. IsCause (lost_of config.now client) e) }
+fn lost(config: &Config, client: Option<u32>) -> Result<Said, BadWord>
+    ensures says { result ≡ lost_of config.now client }
     ensures may { IfOk result (MayHappen config.now) }
 {
     let Some(client) = client else {
-        return Err(LineError::Bad(BadWord::Event));
+        return Err(BadWord::Event);
     };
     if client < 1 || client > config.clients {
-        return Err(LineError::Bad(BadWord::Client));
+        return Err(BadWord::Client);
     }
     Ok(Said::Happens(CellEvent::Lost { client }))
 }
 
 /// That time went by.
-fn tick(config: &Config, ms: Option<u32>) -> Result<Said, LineError>
-    ensures says { IfOk result (λ s. tick_of ms ≡ Ok s) }
-    ensures bad { IfErr result (λ e. IsCause (tick_of ms) e) }
+fn tick(config: &Config, ms: Option<u32>) -> Result<Said, BadWord>
+    ensures says { result ≡ tick_of ms }
     ensures may { IfOk result (MayHappen config.now) }
 {
     let Some(ms) = ms else {
-        return Err(LineError::Bad(BadWord::Event));
+        return Err(BadWord::Event);
     };
     if ms < 1 || ms > MOST_IN_TICK {
-        return Err(LineError::Bad(BadWord::Event));
+        return Err(BadWord::Event);
     }
     Ok(Said::Happens(CellEvent::Tick { ms }))
 }
@@ -78,8 +93,7 @@ fn ends(alloc: Global, config: &Config, name: &[u8]) -> Result<Said, LineError>
 {
     match Identifier::read(alloc, name, config.edition) {
         Ok(name) => Ok(Said::Happens(CellEvent::Ends { name })),
-        Err(Unnamed::Bad(_)) => Err(LineError::Bad(BadWord::Event)),
-        Err(Unnamed::Memory) => Err(LineError::Memory),
+        Err(error) => Err(unnamed(error)),
     }
 }
 
@@ -94,15 +108,15 @@ fn by_word(alloc: Global, config: &Config, line: &[u8]) -> Result<Said, LineErro
     }
     let parted = first_word(line);
     if parted.word == b"lost".as_slice() {
-        return lost(config, number(parted.argument));
+        return told(lost(config, number(parted.argument)));
     }
     if parted.word == b"tick".as_slice() {
-        return tick(config, number(parted.argument));
+        return told(tick(config, number(parted.argument)));
     }
     if parted.word == b"ends".as_slice() {
         return ends(alloc, config, parted.argument);
     }
-    Err(LineError::Bad(BadWord::Event))
+    told(Err(BadWord::Event))
 }
 
 /// What a line says that begins with a digit.
@@ -118,7 +132,7 @@ fn by_client(
 {
     let parted = first_word(line);
     let octets = pairs(alloc, parted.argument, buffer)?;
-    heard(config, number(parted.word), octets)
+    told(heard(config, number(parted.word), octets))
 }
 
 /// What a line says that has no blanks at its ends.
@@ -154,7 +168,7 @@ pub fn said(
     ensures may { IfOk result (MayHappen config.now) }
 {
     if line.len() > MOST_IN_LINE {
-        return Err(LineError::Bad(BadWord::Long));
+        return told(Err(BadWord::Long));
     }
     trimmed(alloc, config, trim(line), buffer)
 }

@@ -1,6 +1,6 @@
 //! What holds of the definitions.
 
-ghost use Rattle.std.specs.Prelude.{◌≡◌, ◌↔◌, ℕ, List, None, Some};
+ghost use Rattle.std.specs.Prelude.{◌≡◌, ◌↔◌, ◌++◌, ℕ, List, None, Some};
 ghost use Rattle.mms_types.specs.declared.event.CellEvent.{CellEvent};
 ghost use Rattle.cell_config.specs.declared.config.Config.{Config};
 ghost use Rattle.cell_record.specs.Grammar.{ReadsRecording};
@@ -34,6 +34,17 @@ pub fn a_report_has_one_history()
         (phases bodies others : List (List CellEvent))
         → ReadsRecording text configured phases → Interleaves bodies phases
         → Interleaves others phases
+        → report said configured.clients bodies ≡ report said configured.clients others
+        → bodies ≡ others }
+{}
+
+/// The same of the phases at the front of what any text says, so also of those before the line that refuses it, and of
+/// those that are complete where it was cut: two lists of bodies that serve them and have the same report are the same.
+pub fn a_report_so_far_has_one_history()
+    ensures { (said : List CellEvent → ℕ → List What) (text : List ℕ) (configured : Config)
+        (done rest bodies others : List (List CellEvent))
+        → config_of_text text ≡ Some configured → (reading_of_text text).phases ≡ done ++ rest
+        → Interleaves bodies done → Interleaves others done
         → report said configured.clients bodies ≡ report said configured.clients others
         → bodies ≡ others }
 {}

@@ -1,6 +1,6 @@
 //! The lines of a source with their numbers.
 
-ghost use Rattle.std.specs.Prelude.{◌≡◌, ◌+◌, ◌<◌, ◌≤◌, ℕ, List, [], true, false, length, take, drop, IfOk, IfErr, IfSome};
+ghost use Rattle.std.specs.Prelude.{◌≡◌, ◌+◌, ◌<◌, ◌≤◌, ℕ, List, [], true, false, length, take, drop, IfOk, IfErr, IfSome, OnErr};
 ghost use Rattle.std.specs.declared.option.Option.{Option};
 ghost use Rattle.cell_io.specs.Faults.{Rose, SteadyBut};
 ghost use Rattle.cell_io.specs.Lines.{first_line, after_line, has_feed};
@@ -9,12 +9,24 @@ ghost use Rattle.cell_record.specs.Words.{content as content_of};
 ghost use Rattle.cell_record.specs.EventLine.{same};
 ghost use Rattle.cell_record.specs.Numbered.{IsPart, Gives, EndsThere};
 ghost use Rattle.cell_record.specs.Progress.{IsStated};
+ghost use Rattle.cell_record.specs.Turned.{stop_told};
 
 use crate::RecordError;
 use crate::words::content;
 use cell_io::{Lines, Source, Stop};
 use std::alloc::Global;
 use std::marker::Model;
+
+/// What is told where the line of this number isn't given.
+fn stopped(stop: Stop, number: u64) -> RecordError
+    ensures { result ≡ stop_told number stop }
+{
+    match stop {
+        Stop::Fault => RecordError::ReadFault,
+        Stop::TooMuch => RecordError::TooMuch { line: number },
+        Stop::Memory => RecordError::Memory,
+    }
+}
 
 /// A reader of lines that counts them and keeps the last one.
 #[derive(Drop)]
@@ -134,6 +146,8 @@ impl NumberedLines {
             4294967296 < self.old.held.given + length (first_line text))) }
         ensures fault { IfErr result (λ e. e ≡ RecordError.ReadFault → Rose (S.faults input.old) (S.faults input.new)) }
         ensures stops { IfErr result (λ e. e ≡ RecordError.ReadFault → FailsInLine self.old.held (S.left input.old) (S.left input.new) self.new.held.given) }
+        ensures uncounted { OnErr result (self.new.lines ≡ self.old.lines) }
+        ensures before_end { OnErr result (self.new.held.ended ≡ false) }
         ensures order { self.old.held.given ≤ self.new.held.given }
         ensures most { self.new.held.given ≤ 4294967296 }
         ensures left { IsPart (S.left input.old) (S.left input.new) }
@@ -146,11 +160,7 @@ impl NumberedLines {
                 Ok(true)
             }
             Ok(false) => Ok(false),
-            Err(Stop::Fault) => Err(RecordError::ReadFault),
-            Err(Stop::TooMuch) => Err(RecordError::TooMuch {
-                line: self.count + 1,
-            }),
-            Err(Stop::Memory) => Err(RecordError::Memory),
+            Err(stop) => Err(stopped(stop, self.count + 1)),
         }
     }
 }

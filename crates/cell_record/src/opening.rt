@@ -1,6 +1,6 @@
 //! The lines of a recording up to `end`, and the configuration in them.
 
-ghost use Rattle.std.specs.Prelude.{◌≡◌, ◌+◌, ◌<◌, ◌≤◌, ◌++◌, [], true, false, ℕ, List, length, codes, IfOk, IfErr, IfSome, OnOk, Ok, Err};
+ghost use Rattle.std.specs.Prelude.{◌≡◌, ◌+◌, ◌<◌, ◌≤◌, ◌++◌, [], true, false, ℕ, List, length, codes, IfOk, IfErr, IfSome, OnOk, Ok, Err, None, Some};
 ghost use Rattle.cell_io.specs.Faults.{Rose, SteadyBut};
 ghost use Rattle.cell_io.specs.Held.{IsEndSeen};
 ghost use Rattle.cell_config.specs.Said.{IsConfig};
@@ -10,6 +10,7 @@ ghost use Rattle.cell_record.specs.Recording.{Place, Opening, header_of, headed,
 ghost use Rattle.cell_record.specs.Numbered.{IsPart, at, place_at, setup};
 ghost use Rattle.cell_record.specs.Stops.{Leads, StopsOpening};
 ghost use Rattle.cell_record.specs.Progress.{Becomes, IsStated};
+ghost use Rattle.cell_record.specs.Turned.{config_told};
 
 use crate::numbered::NumberedLines;
 use crate::words::content;
@@ -34,6 +35,20 @@ fn edition_of(line: &[u8]) -> Option<Edition>
     }
 }
 
+/// The edition of the recording whose line of this number is its header, or the refusal of that line.
+fn header(line: &[u8], number: u64) -> Result<Edition, RecordError>
+    ensures named { IfOk result (λ edition. header_of line.now ≡ Some edition) }
+    ensures unnamed { IfErr result (λ e. (header_of line.now ≡ None) × (e ≡ RecordError.Bad number BadWord.Header)) }
+{
+    match edition_of(line) {
+        Some(edition) => Ok(edition),
+        None => Err(RecordError::Bad {
+            line: number,
+            word: BadWord::Header,
+        }),
+    }
+}
+
 /// Reads the header, and gives the edition of the recording.
 fn read_header<S: Source>(lines: &mut NumberedLines, input: &mut S) -> Result<Edition, RecordError>
     ensures there { IfOk result (λ edition. (next : Edition → List (List ℕ) → Place → Opening)
@@ -45,6 +60,8 @@ fn read_header<S: Source>(lines: &mut NumberedLines, input: &mut S) -> Result<Ed
     ensures refused { IfErr result (λ e. IsStated e →
         (next : Edition → List (List ℕ) → Place → Opening) → IfSome
         (at (headed next) lines.old (S.left input.old)) (λ r. r ≡ Err e)) }
+    ensures memory { IfErr result (λ e. e ≡ RecordError.Memory
+        → (lines.new.lines ≡ lines.old.lines) × (lines.new.held.ended ≡ false)) }
     ensures fault { IfErr result (λ e. e ≡ RecordError.ReadFault → Rose (S.faults input.old)
         (S.faults input.new)) }
     ensures stops { IfErr result (λ e. e ≡ RecordError.ReadFault →
@@ -64,10 +81,7 @@ fn read_header<S: Source>(lines: &mut NumberedLines, input: &mut S) -> Result<Ed
     if !lines.next(input)? {
         return Err(RecordError::Bad { line, word });
     }
-    match edition_of(lines.content()) {
-        Some(edition) => Ok(edition),
-        None => Err(RecordError::Bad { line, word }),
-    }
+    header(lines.content(), line)
 }
 
 /// Reads the next line, which is to be this one, or else is refused by the word.
@@ -87,6 +101,8 @@ fn expect<S: Source>(
         next lines.new.held (place_at lines.new) (S.left input.new)) }
     ensures refused { IfErr result (λ e. IsStated e → (next : List (List ℕ) → Place → Opening)
         → IfSome (at (expected want.now word next) lines.old (S.left input.old)) (λ r. r ≡ Err e)) }
+    ensures memory { IfErr result (λ e. e ≡ RecordError.Memory
+        → (lines.new.lines ≡ lines.old.lines) × (lines.new.held.ended ≡ false)) }
     ensures fault { IfErr result (λ e. e ≡ RecordError.ReadFault → Rose (S.faults input.old)
         (S.faults input.new)) }
     ensures stops { IfErr result (λ e. e ≡ RecordError.ReadFault →
@@ -245,6 +261,16 @@ fn read_setup<S: Source>(
     unreachable!()
 }
 
+/// What is told where the configuration's text is none.
+fn unconfigured(bad: BadConfig) -> RecordError
+    ensures { result ≡ config_told bad }
+{
+    match bad {
+        BadConfig::Rule(rule) => RecordError::BadConfig { rule },
+        BadConfig::Memory => RecordError::Memory,
+    }
+}
+
 /// The configuration that the text of its lines tells in an edition.
 fn read_text(alloc: Global, text: &[u8], edition: Edition) -> Result<Config, RecordError>
     ensures config { IfOk result (λ config. (lines : List (List ℕ)) (p : Place)
@@ -256,8 +282,7 @@ fn read_text(alloc: Global, text: &[u8], edition: Edition) -> Result<Config, Rec
 {
     match read_config(alloc, text, edition) {
         Ok(config) => Ok(config),
-        Err(BadConfig::Rule(rule)) => Err(RecordError::BadConfig { rule }),
-        Err(BadConfig::Memory) => Err(RecordError::Memory),
+        Err(bad) => Err(unconfigured(bad)),
     }
 }
 

@@ -13,6 +13,7 @@ ghost use Rattle.cell_record.specs.Grammar.{phase_ms};
 ghost use Rattle.cell_record.specs.Numbered.{IsPart, at, place_at, phases, after_phase, IsWithin};
 ghost use Rattle.cell_record.specs.Stops.{Leads, StopsInPhase};
 ghost use Rattle.cell_record.specs.Progress.{Becomes, IsStated};
+ghost use Rattle.cell_record.specs.Turned.{line_told};
 
 use crate::RecordError;
 use crate::counts::Counts;
@@ -30,6 +31,16 @@ use std::alloc::Global;
 pub struct Piece {
     pub events: Events,
     pub last: bool,
+}
+
+/// What is told where the line of this number says nothing.
+fn at_line(error: LineError, number: u64) -> RecordError
+    ensures { result ≡ line_told number error }
+{
+    match error {
+        LineError::Bad(word) => RecordError::Bad { line: number, word },
+        LineError::Memory => RecordError::Memory,
+    }
 }
 
 /// Goes on behind the line that `sent` was read from where it is held, and tells what it says.
@@ -55,7 +66,7 @@ fn held_said(
     ensures counts { IfOk result (λ s. counts.new ≡ moved counts.old s) }
     ensures within { IfOk result (λ _. IsWithin counts.new) }
     ensures refused { IfErr result (λ e. IsStated e → (left : Option (List ℕ)) → IfSome (at (phases config.now counts.old) lines.old left) (λ r. r ≡ refused e)) }
-    ensures unread { IfErr result (λ e. ¬ (e ≡ RecordError.ReadFault)) }
+    ensures stated { IfErr result IsStated }
     ensures unended { lines.new.held.ended ≡ false }
     ensures grows { lines.old.held.given < lines.new.held.given }
     ensures most { lines.new.held.given ≤ 4294967296 }
@@ -67,8 +78,7 @@ fn held_said(
             None => Ok(said),
             Some(refusal) => Err(refusal),
         },
-        Err(LineError::Bad(word)) => Err(RecordError::Bad { line: number, word }),
-        Err(LineError::Memory) => Err(RecordError::Memory),
+        Err(word) => Err(RecordError::Bad { line: number, word }),
     }
 }
 
@@ -112,8 +122,7 @@ fn copied_said<S: Source>(
             None => Ok(Some(said)),
             Some(refusal) => Err(refusal),
         },
-        Err(LineError::Bad(word)) => Err(RecordError::Bad { line: number, word }),
-        Err(LineError::Memory) => Err(RecordError::Memory),
+        Err(error) => Err(at_line(error, number)),
     }
 }
 

@@ -1,5 +1,5 @@
 use Rattle.std.proofs.Common.{◌≡◌, ◌+◌, refl, sym, ap, ◌∙◌, Some, None, Err, arith}
-use Rattle.std.proofs.lemmas.Result.{err_from_is_err_and}
+use Rattle.std.proofs.lemmas.Result.{err_from_is_err_and, IfOk-weaker, IfErr-weaker}
 use Rattle.cell_io.specs.Held.{ahead}
 use Rattle.cell_record.specs.Words.{content}
 use Rattle.cell_record.specs.Recording.{header_of, headed}
@@ -19,29 +19,32 @@ returns-in_err-next-clause-refused g c =
     rw m.0 (much (headed next) (Err (TooMuch (p.lines + 1))) (ahead c.args.lines.now.held (g.S.Source.left c.args.input.now)) p (omega (arith, c.given-given.ensures.given, c.given-given.ensures.most)) m.1
     (λ l rest f. much_headed next p l rest f)))
 
-pub returns-in-Some-clause-there : goal.returns-in-Some-clause-there
-returns-in-Some-clause-there g c = λ next.
+pub returns-clause-there : goal.returns-clause-there
+returns-clause-there g c =
     let p = place_at c.args.lines.now in
-    let e : header_of (content c.next.new.self.line) ≡ Some c.in-Some.edition = ap header_of (sym c.content.ensures) ∙ sym c.in-Some.ensures in
-    rw (c.in_ok-next.ensures.count c.if-not-branch.false) (there (headed next) (next c.in-Some.edition) (λ r. r) (ahead c.args.lines.now.held (g.S.Source.left c.args.input.now))
+    IfOk-weaker c.header.result _ _ (λ edition named next.
+    let e : header_of (content c.next.new.self.line) ≡ Some edition = ap header_of (sym c.content.ensures) ∙ named in
+    rw (c.in_ok-next.ensures.count c.if-not-branch.false) (there (headed next) (next edition) (λ r. r) (ahead c.args.lines.now.held (g.S.Source.left c.args.input.now))
     (ahead c.next.new.self.held (g.S.Source.left c.next.new.input)) c.next.new.self.line p c.next.new.self.held.given c.next.ensures.most (c.in_ok-next.ensures.gives c.if-not-branch.false)
-    (λ l rest k n f. is_headed next p c.next.new.self.line l rest (Some c.in-Some.edition) e k f))
+    (λ l rest k n f. is_headed next p c.next.new.self.line l rest (Some edition) e k f))) c.header.ensures.named
 
-pub returns-in-None-clause-refused : goal.returns-in-None-clause-refused
-returns-in-None-clause-refused g c = λ _ next.
+pub returns-clause-refused : goal.returns-clause-refused
+returns-clause-refused g c =
     let p = place_at c.args.lines.now in
-    let e : header_of (content c.next.new.self.line) ≡ None = ap header_of (sym c.content.ensures) ∙ sym c.in-None.ensures in
-    rw c.count-line.ensures.count (is (headed next) (Err (Bad (p.lines + 1) bad.Header)) (ahead c.args.lines.now.held (g.S.Source.left c.args.input.now))
+    IfErr-weaker c.header.result _ _ (λ x unnamed s next.
+    let e : header_of (content c.next.new.self.line) ≡ None = ap header_of (sym c.content.ensures) ∙ unnamed.0 in
+    rw (unnamed.1, c.count-line.ensures.count) (is (headed next) (Err (Bad (p.lines + 1) bad.Header)) (ahead c.args.lines.now.held (g.S.Source.left c.args.input.now))
     (ahead c.next.new.self.held (g.S.Source.left c.next.new.input)) c.next.new.self.line p c.next.new.self.held.given c.next.ensures.most (c.in_ok-next.ensures.gives c.if-not-branch.false)
-    (λ l rest k n f. is_headed next p c.next.new.self.line l rest None e k f))
+    (λ l rest k n f. is_headed next p c.next.new.self.line l rest None e k f))) c.header.ensures.unnamed
 
-pub returns-in-Some-clause-leads : goal.returns-in-Some-clause-leads
-returns-in-Some-clause-leads g c = λ next.
+pub returns-clause-leads : goal.returns-clause-leads
+returns-clause-leads g c =
     let p = place_at c.args.lines.now in
-    let e : header_of (content c.next.new.self.line) ≡ Some c.in-Some.edition = ap header_of (sym c.content.ensures) ∙ sym c.in-Some.ensures in
-    rw (c.in_ok-next.ensures.count c.if-not-branch.false) (leads_there (headed next) (next c.in-Some.edition) (λ r. r) c.args.lines.now.held c.next.new.self.held (g.S.Source.left c.args.input.now) (g.S.Source.left c.next.new.input)
+    IfOk-weaker c.header.result _ _ (λ edition named next.
+    let e : header_of (content c.next.new.self.line) ≡ Some edition = ap header_of (sym c.content.ensures) ∙ named in
+    rw (c.in_ok-next.ensures.count c.if-not-branch.false) (leads_there (headed next) (next edition) (λ r. r) c.args.lines.now.held c.next.new.self.held (g.S.Source.left c.args.input.now) (g.S.Source.left c.next.new.input)
     c.next.new.self.line p (c.in_ok-next.ensures.unended c.if-not-branch.false) c.next.ensures.most (c.in_ok-next.ensures.gives c.if-not-branch.false) (c.in_ok-next.ensures.feed c.if-not-branch.false)
-    (λ l rest k n f. is_headed next p c.next.new.self.line l rest (Some c.in-Some.edition) e k f))
+    (λ l rest k n f. is_headed next p c.next.new.self.line l rest (Some edition) e k f))) c.header.ensures.named
 
 pub returns-in_err-next-clause-stops : goal.returns-in_err-next-clause-stops
 returns-in_err-next-clause-stops g c =

@@ -1,12 +1,14 @@
-use Rattle.std.proofs.Common.{◌+◌, ℕ, refl, sym, ◌∙◌, ap, arith}
+use Rattle.std.proofs.Common.{◌+◌, ℕ, List, refl, sym, subst, ◌∙◌, ap, arith}
 use Rattle.std.proofs.lemmas.Result.{err_from_is_err_and}
 use Rattle.cell_io.specs.Held.{ahead}
-use Rattle.cell_record.specs.EventLine.{said_of}
+use Rattle.cell_record.specs.EventLine.{said_of, IsCause}
+use Rattle.cell_record.specs.Progress.{IsStated}
+use Rattle.cell_record.specs.Turned.{line_told}
 use Rattle.cell_record.specs.Recording.{refused, makes, refusal_of}
 use Rattle.cell_record.specs.Numbered.{place_at, phases}
-use Rattle.cell_record.specs.declared.refusal.RecordError.TheVariants.{Bad, TooMuch}
+use Rattle.cell_record.specs.declared.refusal.RecordError.TheVariants.{TooMuch}
 use Rattle.cell_record.proofs.Stopping.{leads_there, phase_stops}
-use Rattle.cell_record.proofs.Steps.{there, is, much, says, says_bad, says_much, much_says}
+use Rattle.cell_record.proofs.Steps.{there, is, much, says, says_nothing, says_much, much_says}
 use Rattle.cell_record.proofs.phase_lines.copied_said.Goals as goal
 
 pub returns-in_err-next-clause-refused : goal.returns-in_err-next-clause-refused
@@ -36,13 +38,13 @@ returns-in-Some-clause-refused g c = λ _.
     (ahead c.next.new.self.held (g.S.Source.left c.next.new.input)) c.next.new.self.line p c.next.new.self.held.given c.next.ensures.most (c.in_ok-next.ensures.gives c.if-not-branch.false)
     (λ l rest k n f. says_much c.args.config.now c.args.counts.now c.count.new.self p c.next.new.self.line l rest c.in-Ok.said c.in-Some.refusal e c.in-Some.ensures.counts there k f)
 
-pub returns-in-Err-Bad-clause-refused : goal.returns-in-Err-Bad-clause-refused
-returns-in-Err-Bad-clause-refused g c = λ _.
+pub returns-in-Err-clause-refused : goal.returns-in-Err-clause-refused
+returns-in-Err-clause-refused g c = λ s.
     let p = place_at c.args.lines.now in
-    let e = ap (said_of c.args.config.now) (sym c.content.ensures) ∙ (rw c.in-Err-Bad.field-0-is at c.in-Err-Bad.ensures.bad) in
-    rw c.count-number.ensures.count (is (phases c.args.config.now c.args.counts.now) (refused (Bad (p.lines + 1) c.in-Err-Bad.word)) (ahead c.args.lines.now.held (g.S.Source.left c.args.input.now))
+    let told = c.at_line.ensures ∙ ap (λ (n : ℕ). line_told (n + 1) c.in-Err.error) c.count-number.ensures.count in
+    rw told (is (phases c.args.config.now c.args.counts.now) (refused (line_told (p.lines + 1) c.in-Err.error)) (ahead c.args.lines.now.held (g.S.Source.left c.args.input.now))
     (ahead c.next.new.self.held (g.S.Source.left c.next.new.input)) c.next.new.self.line p c.next.new.self.held.given c.next.ensures.most (c.in_ok-next.ensures.gives c.if-not-branch.false)
-    (λ l rest k n f. says_bad c.args.config.now c.args.counts.now p c.next.new.self.line l rest c.in-Err-Bad.word e k f))
+    (λ l rest k n f. says_nothing c.args.config.now c.args.counts.now p c.next.new.self.line l rest c.in-Err.error (subst (λ (x : List ℕ). IsCause (said_of c.args.config.now x) c.in-Err.error) c.content.ensures c.in-Err.ensures.bad) (subst IsStated told s) k f))
 
 pub returns-in-None-clause-leads : goal.returns-in-None-clause-leads
 returns-in-None-clause-leads g c =
