@@ -80,6 +80,26 @@ fn the_part_taken_last_is_told(rt: HostRuntime) {
     assert!(rt; last_of_each(rt.alloc()) == Some((3, 0, 4)));
 }
 
+/// Takes three of five parts, gives back the one taken second, and then the others as they are told: each of them.
+fn last_after_another(alloc: Global) -> Option<(u32, u32, bool)> {
+    let (table, mut passes) = table_of(alloc, &[1, 2, 3, 4, 5], 1, 10).ok()?;
+    let mut pass = passes.pop()?;
+    take(&table, &mut pass, 3).ok()?;
+    take(&table, &mut pass, 0).ok()?;
+    take(&table, &mut pass, 4).ok()?;
+    table.give(&mut pass, 0);
+    let first = pass.last_taken()?;
+    table.give(&mut pass, first);
+    let second = pass.last_taken()?;
+    table.give(&mut pass, second);
+    Some((first, second, pass.last_taken().is_none()))
+}
+
+#[test]
+fn the_part_taken_last_is_told_after_another_is_given_back(rt: HostRuntime) {
+    assert!(rt; last_after_another(rt.alloc()) == Some((4, 3, true)));
+}
+
 #[test]
 fn a_table_has_room_for_71_parts_and_65_callers(rt: HostRuntime) {
     let found = opened_and_closed(rt.alloc(), &[7; 71], 65);

@@ -58,10 +58,13 @@ impl Meeting {
     }
 }
 
-/// A gate that notes which of two callers got on, one behind the other, as digits to the base 3.
+/// A gate that notes which of two callers got on, one behind the other, as digits to the base 3, and how many steps the
+/// first had made when the second made its first.
 #[derive(Drop)]
 struct Noting {
     callers: AtomicU64,
+    first: AtomicU64,
+    before: AtomicU64,
 }
 
 impl Gate for Noting {
@@ -70,6 +73,22 @@ impl Gate for Noting {
             let known = self.callers.load(Ordering::SeqCst);
             let now = known.wrapping_mul(3).wrapping_add(u64::from(caller) + 1);
             self.callers.store(now, Ordering::SeqCst);
+            if caller == 0 {
+                self.first.fetch_add(1, Ordering::SeqCst);
+            } else if self.before.load(Ordering::SeqCst) == u64::MAX {
+                let made = self.first.load(Ordering::SeqCst);
+                self.before.store(made, Ordering::SeqCst);
+            }
+        }
+    }
+}
+
+impl Noting {
+    fn new() -> Noting {
+        Noting {
+            callers: AtomicU64::new(0),
+            first: AtomicU64::new(0),
+            before: AtomicU64::new(u64::MAX),
         }
     }
 }
@@ -165,23 +184,29 @@ fn two_workers_are_at_work_at_once(rt: HostRuntime) -> Result<(), Fail> {
     Ok(())
 }
 
-/// The first count takes two turns before the second is no longer held up, and then they take turns.
+/// The second count is held up once, behind the first sixteen turns of the first; then that has sixteen more.
 #[test]
-fn a_worker_turns_a_count_once_and_puts_it_back(rt: HostRuntime) -> Result<(), Fail> {
-    let gate = Noting {
-        callers: AtomicU64::new(0),
-    };
+fn a_worker_turns_a_count_sixteen_times_and_puts_it_back(rt: HostRuntime) -> Result<(), Fail> {
+    let gate = Noting::new();
+    let found = served(&rt, rt.alloc(), &[40, 3], 1, NONE, &gate);
+    let before = gate.before.load(Ordering::SeqCst);
+    assert_eq!(rt; (found, before), (Some((true, true, 2)), 32));
+    Ok(())
+}
+
+/// Its turns are taken one behind the other, and then the second count's, which was held up once.
+#[test]
+fn a_count_of_few_turns_is_done_before_another_is_begun(rt: HostRuntime) -> Result<(), Fail> {
+    let gate = Noting::new();
     let found = served(&rt, rt.alloc(), &[3, 3], 1, NONE, &gate);
     let callers = gate.callers.load(Ordering::SeqCst);
-    assert_eq!(rt; (found, callers), (Some((true, true, 2)), 395));
+    assert_eq!(rt; (found, callers), (Some((true, true, 2)), 377));
     Ok(())
 }
 
 #[test]
 fn no_count_is_begun_once_memory_was_wanting(rt: HostRuntime) -> Result<(), Fail> {
-    let gate = Noting {
-        callers: AtomicU64::new(0),
-    };
+    let gate = Noting::new();
     let found = served(&rt, rt.alloc(), &[0, 3], 1, 0, &gate);
     let callers = gate.callers.load(Ordering::SeqCst);
     assert_eq!(rt; (found, callers), (Some((false, true, 1)), 0));

@@ -26,7 +26,26 @@ pub(crate) struct Item<T: Turn, C: Given<T::Job>> {
     pub ghost is_short: { IsTrue short → ∥ T.short job ∥₁ },
 }
 
-/// One turn of a job.
+/// How many turns of a job a worker takes at most before the job goes back to the queue: what a job costs beside what it
+/// serves, the steps on the words of the queue that all workers share and its way to another processor, is then paid
+/// once for so many.
+const TURNS: u32 = 16;
+
+/// One turn more of a job that the last one moved on.
+fn turned_again<T: Turn, G: Gate>(turns: &T, job: &mut T::Job, last: Step, gate: &G) -> Step
+    // A job that is done, or found memory wanting, isn't turned again.
+    requires moved { last ≡ Moved }
+    requires fit { ∥ T.fit turns.now job.old ∥₁ }
+    ensures fit { ∥ T.fit turns.now job.new ∥₁ }
+    ensures made { ∥ T.made job.old job.new ∥₁ }
+    ensures done { result ≡ Done → ∥ T.done job.new ∥₁ }
+    ensures short { result ≡ Memory → ∥ T.short job.new ∥₁ }
+{
+    let _moved = last;
+    turns.turn(job, gate)
+}
+
+/// Turns of a job while they move it on, and at most so many as a worker takes at once; how the last one ended.
 pub(crate) fn turned<T: Turn, C: Given<T::Job>, G: Gate>(
     turns: &T,
     item: Item<T, C>,
@@ -41,7 +60,13 @@ pub(crate) fn turned<T: Turn, C: Given<T::Job>, G: Gate>(
     ensures waits { (result.1 ≡ Moved) ⊎ (result.1 ≡ Busy) → Waits result.0.ended result.0.short }
 {
     let Item { place, mut job, .. } = item;
-    let step = turns.turn(&mut job, gate);
+    let mut step = turns.turn(&mut job, gate);
+    for _turn in 1..TURNS {
+        let Step::Moved = step else {
+            break;
+        };
+        step = turned_again(turns, &mut job, step, gate);
+    }
     let ended = matches!(step, Step::Done);
     let short = matches!(step, Step::Memory);
     (

@@ -1,4 +1,5 @@
-//! A worker: it takes a job from the queue, turns it once, and puts it back at the end.
+//! A worker: it takes a job from the queue, turns it while its turns move it on, up to sixteen times, and puts it back at
+//! the end.
 ghost use Rattle.std.specs.Prelude.{◌≡◌, false, IsFalse};
 ghost use Rattle.crossbeam_queue.specs.Passes.{view, IsPassOf};
 ghost use Rattle.cell_pool.specs.Rule.{Keeps, Rests, Same};
