@@ -3,7 +3,9 @@ use Rattle.std.specs.Prelude.{◌≡◌, ℕ, Bool, true, false, List, Option, N
 use Rattle.mms_types.specs.declared.event.CellEvent.{CellEvent}
 use Rattle.mms_types.specs.declared.event.CellEvent.TheVariants.{Heard, Lost, Tick, Ends, Drain}
 use Rattle.mms_types.specs.declared.identifier.Edition.{Edition}
+use Rattle.mms_types.specs.declared.memory.Memory.{Memory}
 use Rattle.mms_types.specs.declared.pdu.Pdu.{Pdu}
+use Rattle.mms_types.specs.Wanting.{wanting}
 use Rattle.mms_pdu.specs.declared.refusal.Refusal.{Refusal}
 use Rattle.mms_pdu.specs.declared.refusal.Refusal.TheVariants as refusal
 use Rattle.mms_pdu.specs.declared.reading.Read.{Read}
@@ -19,6 +21,11 @@ pdu_read (Err refusal) = Err refusal
 abbrev pub wants_memory : Result Read Refusal → Bool
 wants_memory (Err refusal.Memory) = true
 wants_memory read = false
+
+-- it is told, unless memory was wanting
+abbrev pub unless_memory : Result Read Refusal → Result (Result Read Refusal) Memory
+unless_memory (Err refusal.Memory) = Err wanting
+unless_memory read = Ok read
 
 -- the depth of what was read
 abbrev pub IsDeep : Result Read Refusal → Type 0

@@ -1,6 +1,6 @@
 //! The part of a client, and what becomes of it.
 
-ghost use Rattle.std.specs.Prelude.{◌≡◌, ◌≤◌, nat_le, length, is_none, is_some, true, false, OnOk, OnErr, OnSome, IfOk, IfNone, IfSome, [], ◌∷◌, None, Some, if◌then◌else◌};
+ghost use Rattle.std.specs.Prelude.{◌≡◌, ◌≤◌, nat_le, length, is_none, is_some, true, false, OnOk, OnErr, OnSome, IfOk, IsOk, IfNone, IfSome, [], ◌∷◌, None, Some, if◌then◌else◌};
 ghost use Rattle.association.specs.Client.{closed_row, drained_row, new_row};
 ghost use Rattle.association.specs.Negotiation.{negotiation};
 ghost use Rattle.mms_pdu.specs.Pdus.{pdu_octets};
@@ -316,7 +316,7 @@ impl Client {
         ensures kept { OnErr result (self.new ≡ self.old) }
     {
         match variables.read(alloc, self.part.client(), asked) {
-            Err(Refuse::Memory) => Err(Memory),
+            Err(Refuse::Memory) => Err(Memory::wanting()),
             Err(Refuse::Service(error)) => {
                 self.refuse(alloc, invoke, error)?;
                 Ok(true)
@@ -358,7 +358,7 @@ impl Client {
     {
         let client = self.part.client();
         match variables.write_results(alloc, client, owned, asked) {
-            Err(Refuse::Memory) => Err(Memory),
+            Err(Refuse::Memory) => Err(Memory::wanting()),
             Err(Refuse::Service(error)) => {
                 self.refuse(alloc, invoke, error)?;
                 Ok(true)
@@ -461,11 +461,14 @@ impl Client {
         }
     }
 
-    /// Makes room for so many outputs and requests that wait, in place of the room that there was.
+    /// Makes room for so many outputs and requests that wait, in place of the room that there was. It takes no memory
+    /// where there is room for as many.
     pub fn reserve(&mut self, outputs: usize, waiting: usize) -> Result<(), Memory>
         ensures made { OnOk result (self.new
             ≡ record { row = self.old.row; output_room = outputs; waiting_room = waiting }) }
         ensures kept { OnErr result (self.new ≡ self.old) }
+        ensures enough { outputs ≤ self.old.output_room → waiting ≤ self.old.waiting_room
+            → IsOk result }
     {
         self.part.reserve(outputs, waiting)
     }

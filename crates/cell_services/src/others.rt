@@ -1,6 +1,6 @@
 //! Who is told something by what another client does, or by time.
 
-ghost use Rattle.std.specs.Prelude.{◌≡◌, ◌==◌, ℕ, IfOk, Some, map};
+ghost use Rattle.std.specs.Prelude.{◌≡◌, ◌≢◌, ◌==◌, ℕ, IfOk, OnErr, Some, [], map};
 ghost use Rattle.std.specs.List.{list_any};
 ghost use Rattle.mms_types.specs.Moments.{IsDated};
 ghost use Rattle.parted_state.specs.Served.{is_told};
@@ -50,7 +50,7 @@ fn relinquish_told(
         clients.items) }
 {
     match sem_ticks::relinquish_told(alloc, semaphores, part.client(), asked) {
-        Err(Refuse::Memory) => Err(Memory),
+        Err(Refuse::Memory) => Err(Memory::wanting()),
         Err(Refuse::Service(_)) | Ok(None) => Ok(Vec::new(alloc)),
         Ok(Some(grant)) => {
             if is_answered(alloc, part, invoke)? {
@@ -97,7 +97,8 @@ fn request_told(
     }
 }
 
-/// The clients that are told something beside the one that is heard, by what is heard from it.
+/// The clients that are told something beside the one that is heard, by what is heard from it. Their order is left
+/// open: who asks takes them as a set, of whose parts it needs.
 pub fn also_told(
     alloc: Global,
     semaphores: &Named<SemaphoreRow>,
@@ -116,7 +117,7 @@ pub fn also_told(
     }
 }
 
-/// The clients that are told something beside the one that is lost.
+/// The clients that are told something beside the one that is lost. Their order is left open, as that of `also_told`.
 pub fn loss_told(
     alloc: Global,
     semaphores: &Named<SemaphoreRow>,
@@ -147,15 +148,22 @@ fn client_of(happening: &Happening) -> u32
 
 /// The client that is told of each thing that happened, in order.
 fn clients_of(alloc: Global, happened: &[Happening]) -> Result<Vec<u32>, Memory>
-    ensures { IfOk result (λ clients. clients.items ≡ map client_of happened.now) }
+    ensures order { IfOk result (λ clients. clients.items ≡ map client_of happened.now) }
+    ensures wants { OnErr result (happened.now ≢ []) }
 {
-    Ok(happened.iter().map(client_of).collect(alloc)?)
+    let mut clients = Vec::new(alloc);
+    for happening in happened {
+        clients.push(client_of(happening))?;
+    }
+    Ok(clients)
 }
 
-/// The clients that are told of what happened.
+/// The clients that are told of what happened, one for each thing and in their order.
 pub fn happened_to(alloc: Global, happened: &[Happening]) -> Result<Vec<u32>, Memory>
-    ensures { IfOk result (λ clients. (k : ℕ) → is_told (all_told happened.now) k
+    ensures told { IfOk result (λ clients. (k : ℕ) → is_told (all_told happened.now) k
         ≡ list_any (λ c. c == k) clients.items) }
+    ensures order { IfOk result (λ clients. clients.items ≡ map client_of happened.now) }
+    ensures wants { OnErr result (happened.now ≢ []) }
 {
     let clients = clients_of(alloc, happened)?;
     Ok(clients)

@@ -189,7 +189,7 @@ fn request_plan<'a>(
     ensures may { IfOk result (λ plan. MayChange plan.change tables.now) }
 {
     match served(alloc, tables, part, invoke, asked) {
-        Err(Refuse::Memory) => Err(Memory),
+        Err(Refuse::Memory) => Err(Memory::wanting()),
         Err(Refuse::Service(refusal)) => refused(alloc, client, invoke, refusal),
         Ok(outcome) => settled(alloc, client, size_of(part), invoke, outcome),
     }

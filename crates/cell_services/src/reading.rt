@@ -2,22 +2,28 @@
 
 ghost use Rattle.std.specs.Prelude.{◌≡◌, ◌≢◌, None, Some, IfNone, IfOk, IfSome};
 ghost use Rattle.mms_pdu.specs.Heard.{pdu_heard};
-ghost use Rattle.cell_services.specs.Reads.{IsRead, IsReadingOf, edition_of, edition_read, wants_memory};
+ghost use Rattle.cell_services.specs.Reads.{IsRead, IsReadingOf, edition_of, edition_read, unless_memory, wants_memory};
 
 use mms_pdu::{Read, Refusal, read_pdu};
 use mms_types::{CellEvent, Edition, Memory};
 use std::alloc::Global;
 use std::marker::Model;
 
+/// What was read, or the refusal that it has; want of memory is told as such, and nothing else is.
+fn unless_memory(read: Result<Read, Refusal>) -> Result<Result<Read, Refusal>, Memory>
+    ensures { result ≡ unless_memory read }
+{
+    match read {
+        Err(Refusal::Memory) => Err(Memory::wanting()),
+        told => Ok(told),
+    }
+}
+
 /// What octets are that a client of that edition sends: a PDU and its depth, or the first refusal that applies.
 pub fn read(alloc: Global, octets: &[u8], edition: Edition) -> Result<Result<Read, Refusal>, Memory>
     ensures { IfOk result (λ told. IsRead told (pdu_heard edition octets.now)) }
 {
-    match read_pdu(alloc, octets, edition) {
-        Ok(read) => Ok(Ok(read)),
-        Err(Refusal::Memory) => Err(Memory),
-        Err(refusal) => Ok(Err(refusal)),
-    }
+    unless_memory(read_pdu(alloc, octets, edition))
 }
 
 /// Whether memory was wanting to read octets.

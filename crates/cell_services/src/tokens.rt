@@ -130,7 +130,7 @@ impl Client {
         ensures same { OnErr result (row.new ≡ row.old) }
     {
         match row.take_told(alloc, self.part().client(), asked) {
-            Err(Refuse::Memory) => Err(Memory),
+            Err(Refuse::Memory) => Err(Memory::wanting()),
             Err(Refuse::Service(error)) => self.refuse(alloc, invoke, error),
             Ok(TakeDone::Answered(answer)) => {
                 self.take_at_once(alloc, row, now, invoke, asked, answer)

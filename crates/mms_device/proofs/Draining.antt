@@ -55,7 +55,7 @@ module _ (config : Config) (is_config : IsConfig config) (old p saw : Caller) (c
   drain_may = let same : saw.by ≡ old.by = ap (λ (x : Caller). x.by) seeing.pass in may_drain saw.by client (by ∙ sym same) (omega (arith, same, some))
 
   -- another caller holds the part
-  pub drain_busy : (g : Caller) (part other : ℕ) → g ≡ record saw { taken = nothing (length saw.table.opening); hand = nothing (length saw.table.opening) }
+  pub drain_busy : (g : Caller) (part other : ℕ) → g ≡ record saw { taken = nothing (length saw.table.opening); hand = nothing (length saw.table.opening); order = [] }
       → HasLost (Drain client) old p part other → IsBusy config (Drain old.by) old g part other
   drain_busy g part other is_g lost =
       subst (λ (k : ℕ). IsBusy config (Drain k) old g part other) by
@@ -91,7 +91,7 @@ module _ (config : Config) (is_config : IsConfig config) (old p saw : Caller) (c
 
   pub drain_served : (q r g : Caller) (ticket : ℕ) (h : History) → p.lost ≡ old.lost → q ≡ record saw { hand = q.hand }
       → r ≡ record q { seen = h ++ (q.by, Drain client) ∷ []; own = q.own ++ ticket ∷ []; left = q.left - 1; taken = q.hand } → StartsWith h q.seen → ticket ≡ length r.seen
-      → IsTrueOf MayMake r → g ≡ record r { taken = nothing (length r.table.opening); hand = nothing (length r.table.opening) } → IsServed (Drain old.by) old g ticket h
+      → IsTrueOf MayMake r → g ≡ record r { taken = nothing (length r.table.opening); hand = nothing (length r.table.opening); order = [] } → IsServed (Drain old.by) old g ticket h
   drain_served q r g ticket h lost same is_r begins place knows_r is_g =
       subst (λ (k : ℕ). IsServed (Drain k) old g ticket h) by
       (served (Drain client) old saw seeing idle knew q r g ticket h (ap (λ (x : Caller). x.lost) is_s ∙ lost) same is_r begins place knows_r is_g)

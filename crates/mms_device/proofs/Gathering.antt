@@ -14,7 +14,7 @@ use Rattle.mms_device.specs.Shared.{Caller, History}
 
 pub newcomers : (table : Opened Part) (from n : ℕ) → AreInOrder table from (map (newcomer table) (range_with_len from n))
 newcomers table from zero = tt
-newcomers table from (suc n) = (refl, refl, (refl, refl), newcomers table (from + 1) n)
+newcomers table from (suc n) = (refl, refl, (refl, refl, refl), newcomers table (from + 1) n)
 
 held_nowhere : (p : Caller) → HoldsNothing p → (part : ℕ) → held_at p.taken part ≡ None
 held_nowhere p idle part = ap (λ l. held_at l part) idle.0 ∙ nothing_held Part (length p.table.opening) part

@@ -61,7 +61,7 @@ taken_none asked pass same = record { pass = refl; hand = same; grown = grown_no
 
 pub taken_more : (asked : List ℕ) (part : ℕ) (a b c : Caller) → Contains asked part → HasTaken asked a b → HasTaken (part ∷ []) b c → HasTaken asked a c
 taken_more asked part a b c is first next = record {
-  pass = next.pass ∙ ap {A = Caller} {B = Caller} (λ p. record p { lost = c.lost; taken = c.taken; hand = c.hand }) first.pass;
+  pass = next.pass ∙ ap {A = Caller} {B = Caller} (λ p. record p { lost = c.lost; taken = c.taken; hand = c.hand; order = c.order }) first.pass;
   hand = next.hand;
   grown = grown_more asked part a.taken b.taken c.taken is first.grown next.grown;
 }

@@ -136,7 +136,7 @@ timely_seen config event old saw kept starts knew knows time =
         (sym (ap (λ (x : Caller). x.own) kept) ∙ knows.own ∙ ap (λ (b : ℕ). places_of b saw.seen) by)
 
 -- and it is while parts are taken
-pub timely_taken : (config : Config) (event : CellEvent) (old p : Caller) → p ≡ record old { lost = p.lost; taken = p.taken; hand = p.hand }
+pub timely_taken : (config : Config) (event : CellEvent) (old p : Caller) → p ≡ record old { lost = p.lost; taken = p.taken; hand = p.hand; order = p.order }
     → IsTimely config old event → IsTimely config p event
 timely_taken config event old p same time =
     subst (λ (events : List CellEvent). IsInTime (config.start.0 + ticks_in events) event)

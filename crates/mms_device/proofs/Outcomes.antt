@@ -122,8 +122,8 @@ module _ (event : CellEvent) where
   more_taken old saw new asked is starts wanted took all =
       let seen : new.seen ≡ saw.seen = ap (λ (p : Caller). p.seen) took.pass in
       let held : saw.taken ≡ old.taken = ap (λ (p : Caller). p.taken) is in record {
-        pass = took.pass ∙ ap {A = Caller} {B = Caller} (λ p. record p { lost = new.lost; taken = new.taken; hand = new.hand }) is
-            ∙ ap {A = History} {B = Caller} (λ h. record old { seen = h; lost = new.lost; taken = new.taken; hand = new.hand }) (sym seen);
+        pass = took.pass ∙ ap {A = Caller} {B = Caller} (λ p. record p { lost = new.lost; taken = new.taken; hand = new.hand; order = new.order }) is
+            ∙ ap {A = History} {B = Caller} (λ h. record old { seen = h; lost = new.lost; taken = new.taken; hand = new.hand; order = new.order }) (sym seen);
         seen = subst (λ (h : History). StartsWith h old.seen) (sym seen) starts;
         hand = took.hand;
         places = took.grown.places ∙ ap length held;
@@ -140,7 +140,7 @@ module _ (event : CellEvent) where
 
   pub taken_on : (a b c : Caller) → IsTaking event a b → IsTaking event b c → IsTaking event a c
   taken_on a b c first next = record {
-    pass = next.pass ∙ ap {A = Caller} {B = Caller} (λ p. record p { seen = c.seen; lost = c.lost; taken = c.taken; hand = c.hand }) first.pass;
+    pass = next.pass ∙ ap {A = Caller} {B = Caller} (λ p. record p { seen = c.seen; lost = c.lost; taken = c.taken; hand = c.hand; order = c.order }) first.pass;
     seen = starts_trans c.seen b.seen a.seen next.seen first.seen;
     hand = next.hand;
     places = next.places ∙ first.places;
@@ -168,7 +168,7 @@ module _ (event : CellEvent) where
     pub first_taken : IsTaking event old new
     first_taken =
         let seen : new.seen ≡ old.seen = ap (λ (p : Caller). p.seen) took.pass in record {
-          pass = took.pass ∙ ap {A = History} {B = Caller} (λ h. record old { seen = h; lost = new.lost; taken = new.taken; hand = new.hand }) (sym seen);
+          pass = took.pass ∙ ap {A = History} {B = Caller} (λ h. record old { seen = h; lost = new.lost; taken = new.taken; hand = new.hand; order = new.order }) (sym seen);
           seen = ([], seen ∙ sym (append-nil old.seen));
           hand = took.hand;
           places = took.grown.places;
@@ -199,7 +199,7 @@ told_within config table event parts clients is same among set i there =
 module _ (event : CellEvent) (old p : Caller) (taking : IsTaking event old p) (idle : HoldsNothing old) (knew : IsTrueOf MayMake old) where
   module _ (q r g : Caller) (ticket : ℕ) (h : History) (lost : p.lost ≡ old.lost) (is_q : q ≡ record p { hand = q.hand })
       (is_r : r ≡ record q { seen = h ++ (q.by, event) ∷ []; own = q.own ++ ticket ∷ []; left = q.left - 1; taken = q.hand }) (starts : StartsWith h q.seen) (place : ticket ≡ length r.seen)
-      (knows : IsTrueOf MayMake r) (is_g : g ≡ record r { taken = nothing (length r.table.opening); hand = nothing (length r.table.opening) }) where
+      (knows : IsTrueOf MayMake r) (is_g : g ≡ record r { taken = nothing (length r.table.opening); hand = nothing (length r.table.opening); order = [] }) where
     abbrev f : Caller → Caller
     f x = record x {
       seen = h ++ (x.by, event) ∷ [];
@@ -207,17 +207,19 @@ module _ (event : CellEvent) (old p : Caller) (taking : IsTaking event old p) (i
       left = x.left - 1;
       taken = nothing (length x.table.opening);
       hand = nothing (length x.table.opening);
+      order = [];
     }
 
     all : g ≡ record old { seen = h ++ (old.by, event) ∷ []; own = old.own ++ ticket ∷ []; left = old.left - 1 }
     all =
         is_g
-        ∙ ap {A = Caller} {B = Caller} (λ x. record x { taken = nothing (length x.table.opening); hand = nothing (length x.table.opening) }) is_r
+        ∙ ap {A = Caller} {B = Caller} (λ x. record x { taken = nothing (length x.table.opening); hand = nothing (length x.table.opening); order = [] }) is_r
         ∙ ap {A = Caller} {B = Caller} f is_q
         ∙ ap {A = Caller} {B = Caller} f taking.pass
         ∙ ap {A = List (ℕ × ℕ)} {B = Caller} (λ l. record (f old) { lost = l }) lost
-        ∙ ap {A = List (Option Part)} {B = Caller} (λ t. record old { seen = h ++ (old.by, event) ∷ []; own = old.own ++ ticket ∷ []; left = old.left - 1; taken = t; hand = nothing (length old.table.opening) }) (sym idle.0)
-        ∙ ap {A = List (Option Part)} {B = Caller} (λ t. record old { seen = h ++ (old.by, event) ∷ []; own = old.own ++ ticket ∷ []; left = old.left - 1; hand = t }) (sym idle.1)
+        ∙ ap {A = List (Option Part)} {B = Caller} (λ t. record old { seen = h ++ (old.by, event) ∷ []; own = old.own ++ ticket ∷ []; left = old.left - 1; taken = t; hand = nothing (length old.table.opening); order = [] }) (sym idle.0)
+        ∙ ap {A = List (Option Part)} {B = Caller} (λ t. record old { seen = h ++ (old.by, event) ∷ []; own = old.own ++ ticket ∷ []; left = old.left - 1; hand = t; order = [] }) (sym idle.1)
+        ∙ ap {A = List ℕ} {B = Caller} (λ o. record old { seen = h ++ (old.by, event) ∷ []; own = old.own ++ ticket ∷ []; left = old.left - 1; order = o }) (sym idle.2)
 
     r_seen : r.seen ≡ h ++ (old.by, event) ∷ []
     r_seen = ap (λ (x : Caller). x.seen) is_r ∙ ap (λ (x : Caller). h ++ (x.by, event) ∷ []) is_q ∙ ap (λ (x : Caller). h ++ (x.by, event) ∷ []) taking.pass
@@ -245,18 +247,19 @@ module _ (event : CellEvent) (old p : Caller) (taking : IsTaking event old p) (i
     }
 
   module _ (saw g : Caller) (is_s : saw ≡ record p { seen = saw.seen }) (starts : StartsWith saw.seen p.seen) (knows : IsTrueOf MayMake saw)
-      (is_g : g ≡ record saw { taken = nothing (length saw.table.opening); hand = nothing (length saw.table.opening) }) where
+      (is_g : g ≡ record saw { taken = nothing (length saw.table.opening); hand = nothing (length saw.table.opening); order = [] }) where
     g_seen : g.seen ≡ saw.seen
     g_seen = ap (λ (x : Caller). x.seen) is_g
 
     given : (lost : List (ℕ × ℕ)) → p.lost ≡ lost → g ≡ record old { seen = g.seen; lost = lost }
     given lost same =
         is_g
-        ∙ ap {A = Caller} {B = Caller} (λ x. record x { taken = nothing (length x.table.opening); hand = nothing (length x.table.opening) }) is_s
-        ∙ ap {A = Caller} {B = Caller} (λ x. record x { seen = saw.seen; taken = nothing (length x.table.opening); hand = nothing (length x.table.opening) }) taking.pass
-        ∙ ap {A = List (ℕ × ℕ)} {B = Caller} (λ l. record old { seen = saw.seen; lost = l; taken = nothing (length old.table.opening); hand = nothing (length old.table.opening) }) same
-        ∙ ap {A = List (Option Part)} {B = Caller} (λ t. record old { seen = saw.seen; lost = lost; taken = t; hand = nothing (length old.table.opening) }) (sym idle.0)
-        ∙ ap {A = List (Option Part)} {B = Caller} (λ t. record old { seen = saw.seen; lost = lost; hand = t }) (sym idle.1)
+        ∙ ap {A = Caller} {B = Caller} (λ x. record x { taken = nothing (length x.table.opening); hand = nothing (length x.table.opening); order = [] }) is_s
+        ∙ ap {A = Caller} {B = Caller} (λ x. record x { seen = saw.seen; taken = nothing (length x.table.opening); hand = nothing (length x.table.opening); order = [] }) taking.pass
+        ∙ ap {A = List (ℕ × ℕ)} {B = Caller} (λ l. record old { seen = saw.seen; lost = l; taken = nothing (length old.table.opening); hand = nothing (length old.table.opening); order = [] }) same
+        ∙ ap {A = List (Option Part)} {B = Caller} (λ t. record old { seen = saw.seen; lost = lost; taken = t; hand = nothing (length old.table.opening); order = [] }) (sym idle.0)
+        ∙ ap {A = List (Option Part)} {B = Caller} (λ t. record old { seen = saw.seen; lost = lost; hand = t; order = [] }) (sym idle.1)
+        ∙ ap {A = List ℕ} {B = Caller} (λ o. record old { seen = saw.seen; lost = lost; order = o }) (sym idle.2)
         ∙ ap {A = History} {B = Caller} (λ h. record old { seen = h; lost = lost }) (sym g_seen)
 
     g_starts : StartsWith g.seen old.seen
@@ -290,9 +293,9 @@ module _ (event : CellEvent) (old p : Caller) (taking : IsTaking event old p) (i
     refuses config refused.Memory led stopped = without_memory stopped
 
   -- without memory at the step
-  pub kept : (q g : Caller) → IsTrueOf MayMake p → p.lost ≡ old.lost → q ≡ p → g ≡ record q { taken = nothing (length q.table.opening); hand = nothing (length q.table.opening) } → IsAsBefore old g
+  pub kept : (q g : Caller) → IsTrueOf MayMake p → p.lost ≡ old.lost → q ≡ p → g ≡ record q { taken = nothing (length q.table.opening); hand = nothing (length q.table.opening); order = [] } → IsAsBefore old g
   kept q g knows lost is_q is_g =
-      let same = is_g ∙ ap {A = Caller} {B = Caller} (λ x. record x { taken = nothing (length x.table.opening); hand = nothing (length x.table.opening) }) is_q in
+      let same = is_g ∙ ap {A = Caller} {B = Caller} (λ x. record x { taken = nothing (length x.table.opening); hand = nothing (length x.table.opening); order = [] }) is_q in
       without_memory p g refl ([], sym (append-nil p.seen)) knows same lost
 
 -- an event in time is in time by the clock that is held

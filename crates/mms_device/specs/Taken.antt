@@ -19,7 +19,7 @@ pub record HasGrown (asked : List ℕ) (before after : List (Option Part)) : Typ
 
 -- a pass took parts, and nothing else of it has changed but the claims that it lost
 pub record HasTaken (asked : List ℕ) (old new : Caller) : Type 0 where
-  pub pass : new ≡ record old { lost = new.lost; taken = new.taken; hand = new.hand }
+  pub pass : new ≡ record old { lost = new.lost; taken = new.taken; hand = new.hand; order = new.order }
   pub hand : new.hand ≡ new.taken
   pub grown : HasGrown asked old.taken new.taken
 
@@ -37,7 +37,7 @@ HoldsWanted event hand = (part : ℕ) → is_held hand part ≡ true → Wants e
 
 -- while a call takes parts: nothing of the pass has changed but what it knows, what it holds and the claims that it lost
 pub record IsTaking (event : CellEvent) (old new : Caller) : Type 0 where
-  pub pass : new ≡ record old { seen = new.seen; lost = new.lost; taken = new.taken; hand = new.hand }
+  pub pass : new ≡ record old { seen = new.seen; lost = new.lost; taken = new.taken; hand = new.hand; order = new.order }
   pub seen : StartsWith new.seen old.seen
   pub hand : new.hand ≡ new.taken
   pub places : length new.taken ≡ length old.taken

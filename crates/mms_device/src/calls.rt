@@ -37,7 +37,7 @@ pub(crate) fn new(
         ≡ map (newcomer made.0) (range_with_len 0 callers)) }
 {
     let Ok(made) = PartTable::new(alloc, parts, callers, quota) else {
-        return Err(Memory);
+        return Err(Memory::wanting());
     };
     Ok(made)
 }
@@ -96,6 +96,7 @@ pub(crate) fn try_take(
         × (pass.new ≡ record pass.old {
           taken = slice_set pass.old.taken part (Some value);
           hand = slice_set pass.old.hand part (Some value);
+          order = part ∷ pass.old.order;
         })) }
     ensures lost { IfErr result (λ held. (held.by ≢ pass.old.by)
         × (pass.new ≡ record pass.old { lost = pass.old.lost ++ (part, held.by) ∷ [] })) }

@@ -1,6 +1,6 @@
 //! Giving parts back, as a caller of the device.
 
-ghost use Rattle.std.specs.Prelude.{◌≡◌, length};
+ghost use Rattle.std.specs.Prelude.{◌≡◌, [], length};
 ghost use Rattle.part_table.specs.Known.{nothing};
 
 use mms_step::Cell;
@@ -13,6 +13,7 @@ pub(crate) fn give_all(table: &PartTable<Cell>, pass: &mut Pass<Cell>)
     ensures { pass.new ≡ record pass.old {
       taken = nothing (length pass.old.table.opening);
       hand = nothing (length pass.old.table.opening);
+      order = [];
     } }
 {
     while let Some(part) = pass.last_taken() {

@@ -68,7 +68,7 @@ impl Device {
     {
         let parts = start_parts(alloc, config)?;
         let Ok((table, passes)) = calls::new(alloc, parts, config.clients + 1, QUOTA) else {
-            return Err(Memory);
+            return Err(Memory::wanting());
         };
         let device = Device {
             table,

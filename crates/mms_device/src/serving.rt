@@ -208,7 +208,7 @@ impl Device {
         for _ in rt.forever() {
             match self.try_read(alloc, pass, event, reading, gate) {
                 Ok(served) => return Ok(served),
-                Err(Refused::Memory) => return Err(Memory),
+                Err(Refused::Memory) => return Err(Memory::wanting()),
                 Err(Refused::Busy(_)) => {}
             }
         }
@@ -237,7 +237,7 @@ impl Device {
     {
         match read_event(alloc, event, self.edition) {
             Ok(reading) => self.serve_read(rt, alloc, pass, event, &reading, gate),
-            Err(Memory) => Err(Memory),
+            Err(memory) => Err(memory),
         }
     }
 

@@ -1,22 +1,12 @@
 -- Each request is answered at once, or it waits; and one that waits no more is answered.
-use Rattle.std.specs.Prelude.{◌≡◌, ◌⊎◌, ℕ, zero, suc, ◌+◌, ◌<◌, nat_lt, Bool, true, false, Option, None, Some, List, [], ◌∷◌, ◌++◌, is_none, length, option_to_list, Contains, Result, Ok, Err, if◌then◌else◌, refl}
+use Rattle.std.specs.Prelude.{◌≡◌, ◌⊎◌, ℕ, ◌+◌, Bool, true, false, Option, None, Some, List, [], ◌∷◌, is_none, if◌then◌else◌, refl}
 use Rattle.std.specs.Option.{option_map}
-use Rattle.std.proofs.Common.{ap, sym, ◌∙◌, subst, arith, inl, inr}
-use Rattle.std.proofs.lemmas.List.Elements.{Contains-append_left, Contains-append_right, Contains-append_cases}
+use Rattle.std.proofs.Common.{sym, subst, inl, inr}
 use Rattle.mms_types.specs.Errors.{first_of, object_non_existent}
-use Rattle.mms_types.specs.declared.event.CellEvent.{CellEvent}
-use Rattle.mms_types.specs.declared.event.CellEvent.TheVariants.{Heard, Lost, Tick, Ends, Drain}
-use Rattle.mms_types.specs.declared.event.What.{What}
-use Rattle.mms_types.specs.declared.initiate.InitiateAnswer.{InitiateAnswer}
-use Rattle.mms_types.specs.declared.memory.Memory.{Memory}
 use Rattle.mms_types.specs.declared.pdu.Answer.{Answer}
 use Rattle.mms_types.specs.declared.pdu.Answer.TheVariants as answer
-use Rattle.mms_types.specs.declared.pdu.Pdu.{Pdu}
-use Rattle.mms_types.specs.declared.pdu.Pdu.TheVariants as pdu
-use Rattle.mms_types.specs.declared.pdu.Reject.{Reject}
 use Rattle.mms_types.specs.declared.pdu.Request.{Request}
 use Rattle.mms_types.specs.declared.pdu.Request.TheVariants as request
-use Rattle.mms_types.specs.declared.semaphore.ReportSemaphoreEntryStatus.{ReportSemaphoreEntryStatus}
 use Rattle.mms_types.specs.declared.semaphore.RelinquishControl.{RelinquishControl}
 use Rattle.mms_types.specs.declared.semaphore.TakeControl.{TakeControl}
 use Rattle.mms_types.specs.declared.semaphore.TakeControlAnswer.TheVariants.{NoResult}
@@ -24,8 +14,7 @@ use Rattle.mms_types.specs.declared.service_error.ServiceError.{ServiceError}
 use Rattle.association.specs.Client.{ClientRow}
 use Rattle.association.specs.declared.waiting.Waiting.{Waiting}
 use Rattle.token_sem.specs.Semaphore.{Sem, has_token}
-use Rattle.sem_ticks.specs.declared.granted.Granted.{Granted}
-use Rattle.mms_time.specs.Semaphores.{Rows, entries_of, names_in, semaphore}
+use Rattle.mms_time.specs.Semaphores.{entries_of, names_in, semaphore}
 use Rattle.mms_time.specs.Services.{name_at, named_answer, place_asked, relinquish_conditions, relinquish_grant_of, take_conditions, take_told_in, take_told_of}
 use Rattle.mms_time.specs.Statuses.{entry_statuses, pool_status_conditions, pool_status_conditions_in, pool_status_in, pool_status_of, status_in}
 use Rattle.mms_types.specs.Order.{key_of}
@@ -35,12 +24,11 @@ use Rattle.mms_time.specs.declared.row.Semaphore.{Semaphore}
 use Rattle.mms_time.specs.declared.row.Semaphore.TheVariants.{Token, Pool}
 use Rattle.pool_sem.specs.Pools as pool
 use Rattle.mms_time.specs.declared.row.SemaphoreRow.{SemaphoreRow}
-use Rattle.mms_time.specs.declared.taking.TakeDone.{TakeDone}
 use Rattle.mms_time.specs.declared.taking.TakeDone.TheVariants as taken
 use Rattle.variable_services.specs.Services as variable
 use Rattle.cell_services.specs.Association.{Takes, other_error}
-use Rattle.cell_services.specs.Effects.{Effect, Sends, Opens, Closes, Waits, Answers, Drains}
-use Rattle.cell_services.specs.Services.{Outcome, answer_told, answers, cause, effect, fits, grant_told, grants_told, is_done, refuses, relinquish_outcome, request_told, take_outcome}
+use Rattle.cell_services.specs.Effects.{Waits}
+use Rattle.cell_services.specs.Services.{Outcome, answer_told, answers, cause, effect, fits, is_done, refuses, relinquish_outcome, request_told, take_outcome}
 use Rattle.cell_services.specs.Serving.{also_told, own_told, size_of}
 use Rattle.cell_services.specs.Tables.{Tables, moment_of}
 use Rattle.mms_step.specs.Answered.{AnswersOrWaits, waits_told}

@@ -1,8 +1,7 @@
 -- What an event needs, as code finds it.
-use Rattle.std.specs.Prelude.{◌≡◌, ◌≢◌, ℕ, suc, ◌+◌, ◌≤◌, ◌==◌, ◌&&◌, ◌||◌, nat_le, Bool, true, false, Option, None, option_and_then, List, [], ◌∷◌, ◌++◌, filter, map, take, length, slice_get, Some, if◌then◌else◌, refl}
+use Rattle.std.specs.Prelude.{◌≡◌, ℕ, ◌+◌, ◌==◌, ◌&&◌, ◌||◌, nat_le, Bool, true, false, Option, None, option_and_then, List, [], ◌∷◌, ◌++◌, filter, map, length, if◌then◌else◌, refl}
 use Rattle.std.specs.List.{list_any}
-use Rattle.std.proofs.Common.{ap, ap₂, sym, ◌∙◌, subst, arith}
-use Rattle.std.proofs.lemmas.List.{map-append}
+use Rattle.std.proofs.Common.{ap, ap₂, sym, ◌∙◌}
 use Rattle.mms_types.specs.declared.moment.Moment.{Moment}
 use Rattle.association.specs.Client.{ClientRow}
 use Rattle.part_table.specs.Held.{held_at}

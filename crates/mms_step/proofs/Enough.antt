@@ -27,7 +27,7 @@ use Rattle.parted_state.specs.Lifted.{row_shown, tables_shown, put_in_place}
 use Rattle.parted_state.specs.LiftedLaws as lifted
 use Rattle.cell_services.specs.Serving.{hears, serves, services}
 use Rattle.mms_step.specs.Step.{step}
-use Rattle.mms_step.specs.Partition.{cell, parts_of, state_in, client_place, clients_among, client_part, on_client, on_clock, row_in, IsClient}
+use Rattle.mms_step.specs.Partition.{cell, parts_of, state_in, client_place, clients_among, client_part, on_client, row_in, IsClient}
 use Rattle.mms_step.specs.Needs.{need, is_held, footprint, shown}
 use Rattle.mms_step.specs.After.{after}
 use Rattle.mms_step.specs.AfterLaws.{after_holds_the_same}

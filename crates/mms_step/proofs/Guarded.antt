@@ -1,7 +1,7 @@
 -- The value of a guarded cell is changed by the writes of owners of its guard alone.
 use Rattle.std.specs.Prelude.{◌≡◌, ◌⊎◌, ℕ, nat_eq, Bool, true, false, List, [], ◌∷◌, Option, None, Some, if◌then◌else◌, refl}
 use Rattle.std.specs.Map.{lookup}
-use Rattle.std.proofs.Common.{ap, sym, ◌∙◌, inl, inr}
+use Rattle.std.proofs.Common.{ap, ◌∙◌, inl, inr}
 use Rattle.mms_types.specs.declared.event.CellEvent.{CellEvent}
 use Rattle.mms_types.specs.declared.event.CellEvent.TheVariants.{Heard, Lost, Tick, Ends, Drain}
 use Rattle.mms_types.specs.declared.pdu.Request.{Request}
@@ -12,7 +12,7 @@ use Rattle.association.specs.declared.negotiation.Association.{Association}
 use Rattle.association.specs.declared.negotiation.Association.TheVariants.{Idle, Open}
 use Rattle.association.specs.declared.waiting.Waiting.{Waiting}
 use Rattle.variables.specs.Access.{guard_in}
-use Rattle.variables.specs.Rows.{Rows as Cells, cell_at}
+use Rattle.variables.specs.Rows.{cell_at}
 use Rattle.variables.specs.declared.rows.Cell.{Cell}
 use Rattle.variable_services.specs.declared.tables.VariableTables.{VariableTables}
 use Rattle.variable_services.proofs.Guards.{unowned_stays}

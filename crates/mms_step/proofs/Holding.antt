@@ -11,10 +11,10 @@ use Rattle.parted_state.specs.DeviceLaws as device
 use Rattle.parted_state.specs.Served.{change}
 use Rattle.mms_time.specs.Semaphores.{Rows}
 use Rattle.mms_step.specs.declared.part.Part.{Part}
-use Rattle.mms_step.specs.declared.part.Part.TheVariants.{Clock, Client, Semaphores}
+use Rattle.mms_step.specs.declared.part.Part.TheVariants.{Client, Semaphores}
 use Rattle.mms_step.specs.State.{State}
 use Rattle.mms_step.specs.Step.{step}
-use Rattle.mms_step.specs.Partition.{cell, parts_of, client_part, client_place, clients_among, clock_in, client_in, state_in, IsClient}
+use Rattle.mms_step.specs.Partition.{cell, parts_of, client_part, client_place, clients_among, client_in, state_in, IsClient}
 use Rattle.mms_step.specs.Needs.{need, shown, wants, is_held}
 use Rattle.mms_step.specs.After.{after, parts_after}
 use Rattle.mms_step.specs.AfterLaws.{is_device, each_framed}

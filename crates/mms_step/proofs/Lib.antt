@@ -18,3 +18,4 @@ pub mod Asked
 mod Configured
 mod Worked
 pub mod Waiters
+pub mod QuietTime

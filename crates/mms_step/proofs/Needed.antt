@@ -1,5 +1,5 @@
 -- What an event needs, stage by stage.
-use Rattle.std.specs.Prelude.{◌≡◌, ◌≢◌, ℕ, zero, suc, ◌≤◌, ◌==◌, Bool, true, false, not, ◌&&◌, ◌||◌, Option, Some, List, [], ◌∷◌, ◌++◌, is_some, length, unwrap_or, if◌then◌else◌, refl}
+use Rattle.std.specs.Prelude.{◌≡◌, ◌≢◌, ℕ, zero, suc, ◌≤◌, ◌==◌, Bool, true, false, ◌&&◌, Option, Some, List, [], ◌∷◌, ◌++◌, is_some, length, unwrap_or, if◌then◌else◌, refl}
 use Rattle.std.proofs.Common.{ap, ap₂, sym, ◌∙◌, subst, arith}
 use Rattle.std.proofs.lemmas.Bool.Decides.{nat_tests}
 use Rattle.mms_types.specs.declared.event.CellEvent.{CellEvent}
@@ -16,7 +16,7 @@ use Rattle.parted_state.specs.Served as parted
 use Rattle.mms_step.specs.declared.part.Part.{Part}
 use Rattle.mms_step.specs.declared.part.Part.TheVariants.{Client}
 use Rattle.cell_services.specs.Tables.{Tables}
-use Rattle.cell_services.specs.Effects.{Effect, Drains, tell}
+use Rattle.cell_services.specs.Effects.{Drains, tell}
 use Rattle.cell_services.specs.Association.{Verdict, verdict, loss_told}
 use Rattle.cell_services.specs.Serving.{also_lost, also_told, hears, heard_asks, heard_more, loses, loss_asks, own_told, passes, services, time_asks}
 use Rattle.mms_step.specs.Partition.{cell, parts_of, client_place, clients_among, row_in, state_in, no_client}

@@ -4,7 +4,7 @@ use Rattle.std.specs.List.{list_any}
 use Rattle.std.proofs.Common.{ap, ap₂, sym, ◌∙◌, arith}
 use Rattle.std.proofs.lemmas.Bool.Decides.{nat_tests}
 use Rattle.parted_state.specs.Cut.{is_in, is_held, missing}
-use Rattle.parted_state.specs.CutLaws.{same_number, same_itself}
+use Rattle.parted_state.specs.CutLaws.{same_number}
 use Rattle.parted_state.specs.Sets.{IsSetOf}
 use Rattle.parted_state.specs.SetLaws.{in_missing}
 use Rattle.parted_state.specs.Served.{is_told}

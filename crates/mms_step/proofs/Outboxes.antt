@@ -1,11 +1,9 @@
 -- Who is granted a token has its answer in the outbox after the event.
-use Rattle.std.specs.Prelude.{◌≡◌, ◌⊎◌, ℕ, zero, suc, ◌+◌, ◌-◌, ◌<◌, ◌≤◌, Bool, true, Option, None, Some, List, [], ◌∷◌, ◌++◌, length, option_to_list, slice_get, Contains, Result, Ok, Err, if◌then◌else◌, refl}
-use Rattle.std.specs.List.{flat_map}
+use Rattle.std.specs.Prelude.{◌≡◌, ◌⊎◌, ℕ, zero, suc, ◌-◌, ◌<◌, ◌≤◌, Bool, true, Option, None, Some, List, [], ◌∷◌, ◌++◌, length, slice_get, Contains, Result, Ok, Err, if◌then◌else◌, refl}
 use Rattle.std.specs.Option.{option_map}
 use Rattle.std.proofs.Common.{ap, sym, ◌∙◌, subst, arith, inl, inr}
 use Rattle.std.proofs.lemmas.List.Elements.{Contains-append_left, Contains-append_right}
 use native.Mathlib.Decide.{ℕ_discrete}
-use Rattle.mms_types.specs.declared.event.CellEvent.{CellEvent}
 use Rattle.mms_types.specs.declared.event.CellEvent.TheVariants.{Heard, Lost, Tick}
 use Rattle.mms_types.specs.declared.event.What.{What}
 use Rattle.mms_types.specs.declared.pdu.Request.TheVariants as request
@@ -14,9 +12,8 @@ use Rattle.association.specs.Admission.{admission, waiting_if}
 use Rattle.association.specs.Client.{ClientRow}
 use Rattle.association.specs.declared.client_part.NotAdmitted.{NotAdmitted}
 use Rattle.association.specs.declared.negotiation.Association.{Association}
-use Rattle.association.specs.declared.negotiation.Association.TheVariants.{Idle, Open}
+use Rattle.association.specs.declared.negotiation.Association.TheVariants.{Open}
 use Rattle.association.specs.declared.negotiation.Negotiated.{Negotiated}
-use Rattle.association.specs.declared.waiting.Waiting.{Waiting}
 use Rattle.sem_ticks.specs.declared.granted.Granted.{Granted}
 use Rattle.sem_ticks.specs.Granted.{lost_granted}
 use Rattle.sem_ticks.specs.Granted.{relinquish_granted}
@@ -26,9 +23,8 @@ use Rattle.parted_state.specs.Lists.{get_changed, get_change, length-change}
 use Rattle.parted_state.specs.Served.{change, delivered, reached, row_at}
 use Rattle.cell_services.specs.Association.{Verdict, Takes, Concludes, Aborts, loss_told, verdict}
 use Rattle.cell_services.specs.Effects.{Effect, Sends, Opens, Closes, Waits, Answers, Drains, felt, tell}
-use Rattle.cell_services.specs.Services.{Outcome, effect, grant_told, grants_told, relinquish_outcome}
+use Rattle.cell_services.specs.Services.{effect, grant_told, grants_told, relinquish_outcome}
 use Rattle.cell_services.specs.Serving.{all_told, also_lost, also_told, happening_told, is_served, loss_also, meanwhile, own_told}
-use Rattle.cell_services.specs.Tables.{Tables, moment_of}
 use Rattle.mms_step.specs.Partition.{cell}
 use Rattle.mms_step.specs.State.{State}
 use Rattle.mms_step.specs.Step.{outbox_in, step}

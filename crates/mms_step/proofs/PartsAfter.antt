@@ -1,14 +1,12 @@
 -- What each event makes of a state.
 use Rattle.std.specs.Prelude.{◌≡◌, ℕ, zero, suc, ◌+◌, ◌-◌, ◌≤◌, ◌<◌, Bool, true, false, Option, None, Some, List, [], ◌∷◌, ◌++◌, map, fold, length, slice_get, unwrap_or, if◌then◌else◌, refl}
-use Rattle.std.proofs.Common.{ap, ap₂, sym, ◌∙◌, arith, length-append}
+use Rattle.std.proofs.Common.{ap, sym, ◌∙◌, arith, length-append}
 use Rattle.std.proofs.lemmas.List.{length-map, map-append}
 use Rattle.mms_types.specs.Actors.{clients_to}
 use Rattle.mms_types.specs.declared.event.CellEvent.{CellEvent}
 use Rattle.mms_types.specs.declared.event.CellEvent.TheVariants.{Heard, Lost, Tick, Ends, Drain}
-use Rattle.mms_types.specs.declared.service_error.ServiceError.{ServiceError}
 use Rattle.mms_types.specs.declared.pdu.Request.{Request}
 use Rattle.mms_types.specs.declared.pdu.Request.TheVariants as request
-use Rattle.mms_types.specs.declared.pdu.Answer.{Answer}
 use Rattle.association.specs.Client.{ClientRow, new_row, drained_row}
 use Rattle.cell_config.specs.declared.config.Config.{Config}
 use Rattle.cell_config.specs.Said.{IsConfig}
@@ -20,7 +18,7 @@ use Rattle.mms_step.specs.declared.part.Part.TheVariants.{Clock, Variables, Doma
 use Rattle.mms_step.specs.State.{State, start, device_of, first_rows, HasDate}
 use Rattle.cell_services.specs.Tables.{Tables}
 use Rattle.cell_services.specs.Effects.{Effect, felt, felt_all, tell}
-use Rattle.cell_services.specs.Association.{Verdict, Takes, Cancels, verdict, loss_told}
+use Rattle.cell_services.specs.Association.{Verdict, Takes, Cancels, verdict}
 use Rattle.cell_services.specs.Services.{effect, relinquish_outcome, take_outcome}
 use Rattle.association.specs.declared.negotiation.Association.{Association}
 use Rattle.association.specs.declared.negotiation.Association.TheVariants.{Idle, Open}
@@ -30,9 +28,8 @@ use Rattle.mms_time.specs.Services.{take_told}
 use Rattle.sem_ticks.specs.Granted.{relinquish_granted}
 use Rattle.mms_time.specs.declared.taking.TakeDone.{TakeDone}
 use Rattle.mms_time.specs.declared.taking.TakeDone.TheVariants.{Answered, Waits}
-use Rattle.cell_services.specs.Serving.{is_served, tables_cancelled, tables_lost, tables_heard, serves, services, waiting_of}
-use Rattle.cell_services.specs.Meant.{no_tables}
-use Rattle.mms_step.specs.Partition.{cell, parts_of, client_part, client_place, on_client, no_client}
+use Rattle.cell_services.specs.Serving.{is_served, tables_cancelled, tables_lost, tables_heard, services, waiting_of}
+use Rattle.mms_step.specs.Partition.{cell, parts_of, client_part, client_place, on_client}
 use Rattle.mms_step.specs.AfterLaws.{is_device}
 use Rattle.mms_step.specs.Step.{step, replay, MayCome, MayFollow}
 

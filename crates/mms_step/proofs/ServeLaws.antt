@@ -33,8 +33,8 @@ use Rattle.cell_services.specs.Tables.{Tables}
 use Rattle.mms_step.specs.Needs.{is_held}
 use Rattle.cell_services.specs.Effects.{Effect, felt, felt_all, tell}
 use Rattle.cell_services.specs.Meant.{no_tables, row_after, IsPlainlyHeard}
-use Rattle.cell_services.specs.Association.{Verdict, verdict, verdict_by, Takes, Concludes, Cancels, Aborts}
-use Rattle.cell_services.specs.Serving.{hears, loses, own_told}
+use Rattle.cell_services.specs.Association.{Verdict, verdict, verdict_by}
+use Rattle.cell_services.specs.Serving.{hears, own_told}
 use Rattle.cell_services.specs.declared.acts.Act.{Act}
 use Rattle.cell_services.specs.Acts.{act_done, verdict_read}
 use Rattle.mms_step.specs.Tasks.{row_held, task_done, AreDone, HoldsOwn, IsHeardInPlace, IsTimely}
@@ -133,7 +133,7 @@ varied_rooms variables last room hand =
 abbrev pub behind_clients : List (Option Part) → ℕ
 behind_clients hand = semaphores_place (clients_among (length hand))
 
-same_place : (one other : List (Option Part)) → length one ≡ length other → behind_clients one ≡ behind_clients other
+pub same_place : (one other : List (Option Part)) → length one ≡ length other → behind_clients one ≡ behind_clients other
 same_place one other same = ap (λ (l : ℕ). semaphores_place (clients_among l)) same
 
 semaphores_rooms : (semaphores : Rows) (last : ℕ) (room : ℕ → Room) (hand : List (Option Part))
@@ -274,14 +274,14 @@ clocked_same (None ∷ hand) = refl
 clocked_same (Some (Clock n) ∷ hand) = refl
 clocked_same (Some other ∷ hand) = refl
 
-varied_same : (hand : List (Option Part)) → varied (variables_in (held_at hand 1)) hand ≡ hand
+pub varied_same : (hand : List (Option Part)) → varied (variables_in (held_at hand 1)) hand ≡ hand
 varied_same [] = refl
 varied_same (first ∷ []) = refl
 varied_same (first ∷ None ∷ hand) = refl
 varied_same (first ∷ Some (Variables v) ∷ hand) = refl
 varied_same (first ∷ Some other ∷ hand) = refl
 
-semaphores_same : (hand : List (Option Part)) → with_semaphores (semaphores_in (held_at hand (behind_clients hand))) hand ≡ hand
+pub semaphores_same : (hand : List (Option Part)) → with_semaphores (semaphores_in (held_at hand (behind_clients hand))) hand ≡ hand
 semaphores_same hand =
     change_as (option_map (on_semaphores (λ was. semaphores_in (held_at hand (behind_clients hand))))) (λ held. held) hand (behind_clients hand) (here (held_at hand (behind_clients hand)))
     ∙ change_same hand (behind_clients hand)

@@ -1,8 +1,8 @@
 -- What holds of the semaphores of a device at any time stays so at each event.
-use Rattle.std.specs.Prelude.{◌≡◌, ℕ, zero, suc, ◌+◌, ◌<◌, ◌≤◌, Bool, true, false, not, List, [], ◌∷◌, filter, Option, None, Some, IfSome, option_and_then, option_map, if◌then◌else◌, refl}
+use Rattle.std.specs.Prelude.{◌≡◌, ℕ, zero, suc, ◌+◌, ◌≤◌, Bool, true, false, not, List, [], ◌∷◌, filter, Option, None, Some, IfSome, option_and_then, option_map, if◌then◌else◌, refl}
 use Rattle.std.specs.List.{All}
-use Rattle.std.specs.Map.{lookup, remove_entry, values_of}
-use Rattle.std.proofs.Common.{ap, sym, ◌∙◌, subst, cond, arith}
+use Rattle.std.specs.Map.{lookup, values_of}
+use Rattle.std.proofs.Common.{sym, subst, cond, arith}
 use Rattle.std.proofs.lemmas.List.{map-append}
 use Rattle.std.proofs.lemmas.List.Elements.{All-append}
 use Rattle.std.proofs.lemmas.Map.Views.{All-map-remove_entry, All-values-set_value, IfSome-lookup_from_All}
@@ -10,7 +10,6 @@ use Rattle.mms_types.specs.Order.{key_eq, key_of, scope_eq}
 use Rattle.mms_types.specs.declared.key.Key.{Key}
 use Rattle.mms_types.specs.declared.key.Scope.TheVariants.{Association as OfClient}
 use Rattle.mms_types.specs.declared.moment.Moment.{Moment}
-use Rattle.mms_types.specs.declared.pdu.Answer.{Answer}
 use Rattle.mms_types.specs.declared.pdu.Request.{Request}
 use Rattle.mms_types.specs.declared.pdu.Request.TheVariants as request
 use Rattle.mms_types.specs.declared.semaphore.DefineSemaphore.{DefineSemaphore}
@@ -50,7 +49,7 @@ use Rattle.sem_ticks.proofs.Requests.{keeps_cancelled, keeps_defined, keeps_dele
 use Rattle.sem_ticks.proofs.Settling.{settle-keeps}
 use Rattle.cell_services.specs.Association.{Verdict, Tells, Takes, Concludes, Cancels, Aborts}
 use Rattle.cell_services.specs.Services.{cause, effect, fits, is_done, relinquish_outcome, take_outcome}
-use Rattle.cell_services.specs.Serving.{is_served, size_of, tables_cancelled, tables_heard, tables_lost, waiting_of}
+use Rattle.cell_services.specs.Serving.{size_of, tables_cancelled, tables_heard, tables_lost, waiting_of}
 use Rattle.cell_services.specs.Tables.{Tables, moment_of}
 use Rattle.mms_step.specs.State.{HaveMadeAtMost}
 

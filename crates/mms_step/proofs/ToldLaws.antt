@@ -16,7 +16,6 @@ use Rattle.parted_state.specs.Served.{change}
 use Rattle.mms_step.specs.declared.part.Part.{Part}
 use Rattle.mms_step.specs.declared.part.Part.TheVariants.{Client}
 use Rattle.cell_services.specs.declared.told.Told.{Told}
-use Rattle.cell_services.specs.declared.told.Told.TheVariants as told
 use Rattle.cell_services.specs.Effects.{Effect, felt}
 use Rattle.mms_step.specs.Partition.{cell, client_place}
 use Rattle.cell_services.specs.Telling.{effect_of, effects_told, is_output, is_wait, output_count, wait_count}

@@ -1,5 +1,5 @@
 -- Two ticks are one.
-use Rattle.std.specs.Prelude.{◌≡◌, ℕ, zero, suc, ◌+◌, ◌≤◌, Option, None, Some, List, [], ◌∷◌, ◌++◌, filter_map, fold, option_and_then, option_map, refl}
+use Rattle.std.specs.Prelude.{◌≡◌, ℕ, zero, suc, ◌+◌, ◌≤◌, Option, None, Some, List, [], ◌∷◌, ◌++◌, option_and_then, option_map, refl}
 use Rattle.std.proofs.Common.{ap, ap₂, sym, ◌∙◌, append_assoc, arith}
 use Rattle.mms_types.specs.declared.event.CellEvent.TheVariants.{Tick}
 use Rattle.mms_types.specs.declared.moment.Moment.{Moment}

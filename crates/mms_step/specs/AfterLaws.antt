@@ -48,7 +48,7 @@ use Rattle.cell_services.specs.Tables.{Tables, clock_table, moment_of, semaphore
 use Rattle.cell_services.specs.Effects.{Effect, tell}
 use Rattle.cell_services.specs.Association.{Verdict, Tells, Takes, Cancels, verdict, cancel_told, loss_told}
 use Rattle.cell_services.specs.Services.{Outcome, answers, becomes, becomes_semaphores, guard_tables, owned_guards, take_outcome, relinquish_outcome, variable_asks, semaphore_asks, is_of_domain, specifies_domain, accesses_domain, deletes_domain, cause, effect, listed, listing, names_in, request_asks, request_more, is_done, request_told, scope_of}
-use Rattle.cell_services.specs.Serving.{size_of, is_served, tables_cancelled, tables_lost, tables_heard, waiting_of, without_clients, own_told, also_lost, also_told, all_told, hears, heard_asks, heard_more, loss_asks, meanwhile, abort_asks, aborted, passes, time_asks, serves, services, words}
+use Rattle.cell_services.specs.Serving.{size_of, is_served, tables_cancelled, tables_lost, tables_heard, waiting_of, without_clients, own_told, also_lost, also_told, all_told, hears, heard_asks, heard_more, loss_asks, meanwhile, abort_asks, aborted, passes, time_asks, services, words}
 use Rattle.mms_step.specs.Partition.{cell, clock_in, semaphores_in, variables_in, parts_of}
 use Rattle.mms_step.specs.Step.{step}
 use Rattle.mms_step.specs.Needs.{need, wants}

@@ -1,7 +1,6 @@
 -- Parts with room for what their clients are told (this profile's choice).
 use Rattle.std.specs.Prelude.{◌≡◌, ℕ, ◌-◌, ◌≤◌, ◌==◌, ◌&&◌, Bool, Option, None, Some, List, length, filter, nat_lt, if◌then◌else◌}
 use Rattle.std.specs.Option.{option_map}
-use Rattle.association.specs.Client.{Client as RoomyRow}
 use Rattle.part_table.specs.Held.{held_at}
 use Rattle.parted_state.specs.Cut.{with_places}
 use Rattle.mms_step.specs.declared.part.Part.{Part}

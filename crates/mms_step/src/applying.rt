@@ -25,6 +25,7 @@ ghost use Rattle.cell_services.specs.Serving.{hears};
 ghost use Rattle.mms_step.specs.After.{after};
 
 use crate::needs::{client_held, semaphores_held};
+use crate::passing::tick;
 use crate::serving::{Task, serve};
 use crate::tables::{BEFORE_CLIENTS, VARIABLES, clients_of};
 use crate::tokens::serve_on_semaphores;
@@ -303,7 +304,7 @@ fn hear_told(
     ensures kept { OnErr result (held.new ≡ held.old) }
 {
     if wants_memory(read) {
-        return Err(Memory);
+        return Err(Memory::wanting());
     }
     hear_read(alloc, held, clients, client, read)
 }
@@ -416,7 +417,7 @@ pub fn apply_read(
             clients,
             &Task::Client(*client, Act::Loss),
         ),
-        CellEvent::Tick { ms } => serve(alloc, held, clients, &Task::Time(*ms)),
+        CellEvent::Tick { ms } => tick(alloc, held, clients, *ms),
         CellEvent::Ends { .. } => Ok(()),
         CellEvent::Drain { client } => {
             let _outputs = drain(*client, held);

@@ -10,6 +10,7 @@ mod lifted;
 mod needs;
 mod opening;
 mod part;
+mod passing;
 mod serving;
 mod tables;
 mod telling;

@@ -1,4 +1,4 @@
-use Rattle.std.proofs.Common.{sym, ◌∙◌, ap, subst, refl, length, ◌+◌, ◌<◌, arith}
+use Rattle.std.proofs.Common.{◌≡◌, ℕ, List, [], ◌∷◌, None, slice_get, sym, ◌∙◌, ap, subst, refl, length, ◌+◌, ◌<◌, arith}
 use Rattle.part_table.proofs.Callers.{all_given}
 use Rattle.part_table.proofs.Hands.{all_free, count_taken}
 use Rattle.part_table.specs.Passes.{held_count}
@@ -14,9 +14,14 @@ loop-part-smaller c =
     let given = ap (λ (y : Caller). held_count y.taken) c.give.ensures.given in
     omega (arith, fewer, given)
 
+none_first : (parts : List ℕ) → None ≡ slice_get parts 0 → parts ≡ []
+none_first [] e = refl
+none_first (part ∷ parts) e = absurd (cc e)
+
 pub returns : goal.returns
 returns c =
     let p = c.loop-part.pass in
     let kept = c.loop-part.invariant in
     all_given c.args.pass.now p (length c.args.pass.now.table.opening) kept.kept kept.hand
     (all_free p.taken (length c.args.pass.now.table.opening) (c.a_pass_has_a_place_for_each_part.ensures ∙ ap (λ (y : Caller). length y.table.opening) kept.kept) (λ i lt. c.in_default.ensures.none i))
+    (none_first p.order c.in_default.ensures.last)

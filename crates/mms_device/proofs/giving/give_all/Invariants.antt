@@ -4,7 +4,7 @@ use Rattle.mms_device.proofs.giving.give_all.Given as goal
 
 abbrev pub invariant-loop-part : goal.invariant-loop-part
 invariant-loop-part l = record {
-  kept : l.pass ≡ record l.fn.pass { taken = l.pass.taken; hand = l.pass.hand };
+  kept : l.pass ≡ record l.fn.pass { taken = l.pass.taken; hand = l.pass.hand; order = l.pass.order };
   hand : l.pass.hand ≡ l.pass.taken;
 }
 

@@ -1,4 +1,4 @@
-use Rattle.std.proofs.Common.{◌≡◌, ◌+◌, ◌≤◌, List, length, [], ℕ, ap, refl, sym, ◌∙◌, subst}
+use Rattle.std.proofs.Common.{◌≡◌, List, length, [], ℕ, ap, refl, ◌∙◌, subst}
 use Rattle.std.proofs.lemmas.Result.{on_ok_weaker}
 use Rattle.mms_types.specs.Actors.{IsAmong}
 use Rattle.mms_types.specs.declared.event.CellEvent.{CellEvent}
@@ -7,9 +7,7 @@ use Rattle.parted_state.specs.Lifted.{put_in_place, tables_shown}
 use Rattle.mms_step.specs.Tasks.{row_held}
 use Rattle.cell_services.specs.Association.{verdict}
 use Rattle.part_table.specs.Held.{held_at}
-use Rattle.cell_services.specs.Tables.{last_moment}
 use Rattle.mms_step.specs.Step.{IsInTime}
-use Rattle.mms_step.proofs.Asked.{shown_now}
 use Rattle.mms_step.specs.Partition.{cell, clients_among, clock_in}
 use Rattle.mms_step.specs.Needs.{need}
 use Rattle.cell_services.specs.Serving.{hears}
@@ -29,10 +27,8 @@ serve-requires-clause-own c =
     lost_is_held hand c.in-Lost.client c.requires.of (subst (λ (e : CellEvent). IsAmong (clients_among (length hand)) e) c.in-Lost.is c.requires.among)
     (subst (λ (e : CellEvent). need e hand ≡ []) c.in-Lost.is c.requires.held)
 
-pub serve-requires-in-Tick-clause-time : goal.serve-requires-in-Tick-clause-time
-serve-requires-in-Tick-clause-time c =
-    subst (λ (now : ℕ). now + c.in-Tick.ms ≤ last_moment) (sym (shown_now c.args.held.now))
-    (subst (λ (e : CellEvent). IsInTime (clock_in (held_at c.args.held.now 0)) e) c.in-Tick.is c.requires.time)
+pub tick-requires-clause-time : goal.tick-requires-clause-time
+tick-requires-clause-time c = subst (λ (e : CellEvent). IsInTime (clock_in (held_at c.args.held.now 0)) e) c.in-Tick.is c.requires.time
 
 pub drain-outputs-requires-clause-held : goal.drain-outputs-requires-clause-held
 drain-outputs-requires-clause-held c =
@@ -97,24 +93,24 @@ returns-in-Lost-clause-places c =
 
 pub returns-in-Tick-clause-step : goal.returns-in-Tick-clause-step
 returns-in-Tick-clause-step c =
-    on_ok_weaker c.serve-in-Tick.result (λ done. (
-    becomes_as c.args.held.now c.serve-in-Tick.new.held c.args.event.now (Tick c.in-Tick.ms) c.in-Tick.is
-    (ticked_becomes c.args.held.now c.serve-in-Tick.new.held c.in-Tick.ms c.requires.of
-    (subst (λ (e : CellEvent). need e c.args.held.now ≡ []) c.in-Tick.is c.requires.held) done)).step) c.serve-in-Tick.ensures.put
+    on_ok_weaker c.tick.result (λ done. (
+    becomes_as c.args.held.now c.tick.new.held c.args.event.now (Tick c.in-Tick.ms) c.in-Tick.is
+    (ticked_becomes c.args.held.now c.tick.new.held c.in-Tick.ms c.requires.of
+    (subst (λ (e : CellEvent). need e c.args.held.now ≡ []) c.in-Tick.is c.requires.held) done)).step) c.tick.ensures.put
 
 pub returns-in-Tick-clause-parts : goal.returns-in-Tick-clause-parts
 returns-in-Tick-clause-parts c =
-    on_ok_weaker c.serve-in-Tick.result (λ done. (
-    becomes_as c.args.held.now c.serve-in-Tick.new.held c.args.event.now (Tick c.in-Tick.ms) c.in-Tick.is
-    (ticked_becomes c.args.held.now c.serve-in-Tick.new.held c.in-Tick.ms c.requires.of
-    (subst (λ (e : CellEvent). need e c.args.held.now ≡ []) c.in-Tick.is c.requires.held) done)).parts) c.serve-in-Tick.ensures.put
+    on_ok_weaker c.tick.result (λ done. (
+    becomes_as c.args.held.now c.tick.new.held c.args.event.now (Tick c.in-Tick.ms) c.in-Tick.is
+    (ticked_becomes c.args.held.now c.tick.new.held c.in-Tick.ms c.requires.of
+    (subst (λ (e : CellEvent). need e c.args.held.now ≡ []) c.in-Tick.is c.requires.held) done)).parts) c.tick.ensures.put
 
 pub returns-in-Tick-clause-places : goal.returns-in-Tick-clause-places
 returns-in-Tick-clause-places c =
-    places_either c.serve-in-Tick.result c.args.held.now c.serve-in-Tick.new.held c.args.event.now (on_ok_weaker c.serve-in-Tick.result (λ done.
-    becomes_as c.args.held.now c.serve-in-Tick.new.held c.args.event.now (Tick c.in-Tick.ms) c.in-Tick.is
-    (ticked_becomes c.args.held.now c.serve-in-Tick.new.held c.in-Tick.ms c.requires.of
-    (subst (λ (e : CellEvent). need e c.args.held.now ≡ []) c.in-Tick.is c.requires.held) done)) c.serve-in-Tick.ensures.put) c.serve-in-Tick.ensures.kept
+    places_either c.tick.result c.args.held.now c.tick.new.held c.args.event.now (on_ok_weaker c.tick.result (λ done.
+    becomes_as c.args.held.now c.tick.new.held c.args.event.now (Tick c.in-Tick.ms) c.in-Tick.is
+    (ticked_becomes c.args.held.now c.tick.new.held c.in-Tick.ms c.requires.of
+    (subst (λ (e : CellEvent). need e c.args.held.now ≡ []) c.in-Tick.is c.requires.held) done)) c.tick.ensures.put) c.tick.ensures.kept
 
 pub returns-in-Drain-clause-step : goal.returns-in-Drain-clause-step
 returns-in-Drain-clause-step c =

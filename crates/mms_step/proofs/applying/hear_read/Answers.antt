@@ -1,4 +1,4 @@
-use Rattle.std.proofs.Common.{ap, ◌∙◌, refl, List, Option, arith}
+use Rattle.std.proofs.Common.{ap, ◌∙◌, List, Option, arith}
 use Rattle.std.proofs.lemmas.Result.{on_ok_weaker}
 use Rattle.parted_state.specs.Lifted.{put_in_place, tables_shown}
 use Rattle.parted_state.specs.Served.{Done}

@@ -1,4 +1,4 @@
-use Rattle.std.proofs.Common.{◌≡◌, ℕ, ◌+◌, ◌≤◌, None, Some, List, Option, ap, ◌∙◌, subst, set}
+use Rattle.std.proofs.Common.{ℕ, ◌+◌, ◌≤◌, None, Some, ap, ◌∙◌, subst, set}
 use Rattle.part_table.specs.Held.{held_at}
 use Rattle.mms_step.specs.Partition.{semaphores_in, semaphores_place}
 use Rattle.mms_step.specs.declared.part.Part.{Part}

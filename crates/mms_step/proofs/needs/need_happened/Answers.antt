@@ -24,4 +24,4 @@ returns c =
     (parted.told_places cell (all_told c.args.happened.now) c.args.clients) c.unheld-missing.result
     (missing_set c.args.held.now c.abort_asks.result (placed c.args.clients (abort_asks (aborted c.args.happened.now))) c.unheld-missing.result c.abort_asks.ensures c.unheld-missing.ensures)
     (sym c.is_empty.ensures ∙ c.if-not-is_empty.false) c.untold.result
-    (told_set c.args.held.now (all_told c.args.happened.now) c.in_ok-told.told.items c.args.clients c.untold.result (λ k free. c.in_ok-told.ensures k) (subst (λ (l : List ℕ). IsSetOf c.untold.result (missing c.args.held.now (client_parts c.args.clients l))) c.deref.ensures.value c.untold.ensures))
+    (told_set c.args.held.now (all_told c.args.happened.now) c.in_ok-told.told.items c.args.clients c.untold.result (λ k free. c.in_ok-told.ensures.told k) (subst (λ (l : List ℕ). IsSetOf c.untold.result (missing c.args.held.now (client_parts c.args.clients l))) c.deref.ensures.value c.untold.ensures))

@@ -2,10 +2,9 @@ use Rattle.std.proofs.Common.{◌≡◌, [], ℕ, List, ap, sym, refl, ◌∙◌
 use Rattle.std.proofs.lemmas.Result.{IfOk-weaker}
 use Rattle.mms_types.specs.Actors.{IsAmong}
 use Rattle.mms_types.specs.declared.event.CellEvent.{CellEvent}
-use Rattle.mms_types.specs.declared.event.CellEvent.TheVariants.{Heard, Lost, Tick, Drain}
+use Rattle.mms_types.specs.declared.event.CellEvent.TheVariants.{Heard, Lost, Drain}
 use Rattle.parted_state.specs.Cut.{missing}
 use Rattle.parted_state.specs.Sets.{IsSetOf}
-use Rattle.parted_state.specs.SetLaws.{missing_set}
 use Rattle.part_table.specs.Held.{held_at}
 use Rattle.mms_step.specs.Needs.{footprint, heard_need, lost_need, need, time_need}
 use Rattle.mms_step.specs.Partition.{clock_in}

@@ -2,13 +2,12 @@ use Rattle.std.proofs.Common.{◌+◌, ap, sym, ◌∙◌, subst, List, Option}
 use Rattle.parted_state.specs.Lifted.{put_in_place}
 use Rattle.parted_state.specs.Served.{Done}
 use Rattle.mms_step.specs.declared.part.Part.{Part}
-use Rattle.mms_step.specs.Tasks.{task_done, HoldsOwn, IsTimely}
+use Rattle.mms_step.specs.Tasks.{task_done, HoldsOwn}
 use Rattle.mms_step.specs.Lifting.{tabled}
 use Rattle.cell_services.specs.Effects.{Effect}
 use Rattle.cell_services.specs.Meant.{no_tables}
 use Rattle.mms_step.specs.Partition.{cell}
 use Rattle.cell_services.specs.Tables.{Tables}
-use Rattle.cell_services.specs.Telling.{effects_told}
 use Rattle.mms_step.specs.Rooms.{room_to, with_rooms, IsSettled}
 use Rattle.mms_step.proofs.ServeLaws.{is_settled, settled_tabled, rooms_kept, clients_kept, told_in_place, done_kept, lifted_own, lifted_shown, many_lifted, many_roomed, own_kept, put_back_own, timely_kept}
 use Rattle.mms_step.proofs.serving.serve.Goals as goal

@@ -1,10 +1,10 @@
-use Rattle.std.proofs.Common.{sym, ◌∙◌, ap, List, Option, ℕ, ◌+◌, arith}
+use Rattle.std.proofs.Common.{sym, ◌∙◌, ap, List, Option, ◌+◌, arith}
 use Rattle.std.specs.Option.{option_map}
 use Rattle.parted_state.specs.Served.{change}
 use Rattle.mms_step.specs.declared.part.Part.{Part}
 use Rattle.mms_step.specs.Partition.{client_place}
 use Rattle.mms_step.specs.declared.telling.Room.{Room}
-use Rattle.mms_step.specs.Rooms.{no_room, with_room, without_rooms, room_to}
+use Rattle.mms_step.specs.Rooms.{with_room, without_rooms, room_to}
 use Rattle.mms_step.proofs.ToldLaws.{no_more_room, no_rooms_yet, room_made, room_needless, rooms_gone}
 use Rattle.mms_step.proofs.telling.make_rooms.Goals as goal
 use Rattle.mms_step.proofs.telling.make_rooms.Goals.{then-not-is_none+in_default, else-not-is_none}

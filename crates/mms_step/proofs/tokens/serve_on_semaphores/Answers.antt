@@ -1,4 +1,4 @@
-use Rattle.std.proofs.Common.{ℕ, ◌+◌, Some, List, Option, ap, sym, ◌∙◌, subst, set}
+use Rattle.std.proofs.Common.{◌+◌, Some, ap, sym, ◌∙◌, subst, set}
 use Rattle.mms_step.specs.Partition.{semaphores_place}
 use Rattle.mms_step.specs.declared.part.Part.{Part}
 use Rattle.mms_step.specs.Tasks.{AreDoneAmong, IsRoomless}
