@@ -1,11 +1,13 @@
 -- After any history the requests that were taken since an association opened are answered, or wait.
 use Rattle.std.proofs.Common.{◌≡◌, ℕ, ◌+◌, ◌⊎◌, inl, inr, Bool, true, false, cond, ◌==◌, ◌&&◌, ◌||◌, List, [], ◌∷◌, ◌++◌, fold, Option, None, Some, is_some, if◌then◌else◌, refl, sym, ◌∙◌, ap, subst, arith}
+use Rattle.std.proofs.lemmas.List.Elements.{All-from_recursion}
 use Rattle.mms_types.specs.declared.event.CellEvent.{CellEvent}
 use Rattle.mms_types.specs.declared.event.CellEvent.TheVariants.{Heard, Lost, Tick, Ends, Drain}
 use Rattle.mms_types.specs.declared.event.What.{What}
 use Rattle.mms_types.specs.declared.event.What.TheVariants.{Octets, Abort}
 use Rattle.mms_types.specs.declared.pdu.Pdu.{Pdu}
 use Rattle.mms_types.specs.declared.pdu.Pdu.TheVariants as pdu
+use Rattle.mms_pdu.specs.Answering.{is_answer, HasUnsigned32}
 use Rattle.mms_pdu.specs.Pdus.{pdu_octets}
 use Rattle.association.specs.declared.negotiation.Association.TheVariants.{Idle, Open}
 use Rattle.association.specs.declared.negotiation.Negotiated.{Negotiated}
@@ -24,9 +26,10 @@ use Rattle.mms_step.specs.State.{State, IsSound, start}
 use Rattle.mms_step.specs.Step.{step, replay}
 use Rattle.mms_step.proofs.Sound.{start_sound, step_sound}
 use Rattle.cell_laws.specs.Linked.{asker}
-use Rattle.cell_laws.specs.Tally.{Account, HaveOneAnswerEach, AreSpelled, account, account_after, is_answer, is_opening, opens, sent_to, taken_by, taken_from, told_in}
+use Rattle.cell_laws.specs.Tally.{Account, HaveOneAnswerEach, AreSpelled, account, account_after, is_opening, opens, sent_to, taken_by, taken_from, told_in}
 use Rattle.cell_laws.proofs.Answering.{cancels-fair, ends-fair, loses-fair, takes-fair}
 use Rattle.cell_laws.proofs.Bound.{Bound, nat-same}
+use Rattle.cell_laws.proofs.Counted.{answers-small, octets-counted, small-along}
 use Rattle.cell_laws.proofs.Counting.{many, many-counts}
 use Rattle.cell_laws.proofs.Events.{Told, verdict-told}
 use Rattle.cell_laws.proofs.Fair.{IsIdle, IsQuiet, Outcome, Unopening, bit, idle-stays, many-append, none_taken, one_of, piece-abort, piece-drains, piece-quiet, spelled-append, waits}
@@ -230,14 +233,19 @@ replay_answered config history client values is open_now =
     by_kept : Kept client (replay config history).clients (account config history client).taken (account config history client).sent
         → HaveOneAnswerEach client (replay config history) (account config history client).taken (account config history client).sent
     by_kept (inr idle) = absurd (cc (sym open_now ∙ idle))
-    by_kept (inl was) = record {
-      pdus = was.pdus;
-      spelled = was.spelled;
-      balance = λ i.
-          let a = was.balance i in
-          let taken = many-counts (λ j. i == j) (account config history client).taken in
-          let answers = many-counts (is_answer i) was.pdus in
-          let b : waits (replay config history).clients client i ≡ bit (is_waiting i (row_at cell client (replay config history).clients).waiting) =
-          ap bit (waits-is i (row_at cell client (replay config history).clients).waiting) in
-          omega (arith, a, b, taken, answers);
-    }
+    by_kept (inl was) =
+        let small = small-along client (record { state = start config; taken = []; sent = [] }) history tt in
+        let unsigned = answers-small (account config history client).taken was.pdus small (λ i. let a = was.balance i in omega (arith, a)) in
+        record {
+          pdus = was.pdus;
+          spelled = was.spelled;
+          unsigned = All-from_recursion HasUnsigned32 was.pdus unsigned;
+          answers = λ i. many (is_answer i) was.pdus;
+          told = λ i. octets-counted i (account config history client).sent was.pdus was.spelled unsigned;
+          balance = λ i.
+              let a = was.balance i in
+              let taken = many-counts (λ j. i == j) (account config history client).taken in
+              let b : waits (replay config history).clients client i ≡ bit (is_waiting i (row_at cell client (replay config history).clients).waiting) =
+              ap bit (waits-is i (row_at cell client (replay config history).clients).waiting) in
+              omega (arith, a, b, taken);
+        }

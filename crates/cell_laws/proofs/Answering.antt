@@ -14,6 +14,7 @@ use Rattle.mms_types.specs.declared.pdu.Request.TheVariants as request
 use Rattle.mms_types.specs.declared.semaphore.RelinquishControl.{RelinquishControl}
 use Rattle.mms_types.specs.declared.semaphore.TakeControl.{TakeControl}
 use Rattle.mms_types.specs.declared.service_error.ServiceError.{ServiceError}
+use Rattle.mms_pdu.specs.Answering.{is_answer}
 use Rattle.mms_pdu.specs.Pdus.{pdu_octets}
 use Rattle.association.specs.declared.negotiation.Association.{Association}
 use Rattle.association.specs.declared.negotiation.Association.TheVariants.{Idle, Open}
@@ -42,7 +43,7 @@ use Rattle.cell_services.specs.Tables.{Tables, moment_of}
 use Rattle.mms_step.specs.Partition.{cell}
 use Rattle.mms_step.specs.State.{State, IsSound}
 use Rattle.cell_laws.specs.Linked.{asker}
-use Rattle.cell_laws.specs.Tally.{AreSpelled, is_answer, is_opening}
+use Rattle.cell_laws.specs.Tally.{AreSpelled, is_opening}
 use Rattle.cell_laws.proofs.Bound.{Bound, nat-same}
 use Rattle.cell_laws.proofs.Bounds.{given-back, told_of}
 use Rattle.cell_laws.proofs.Counting.{many}

@@ -8,6 +8,7 @@ use Rattle.association.specs.declared.negotiation.Association.TheVariants.{Idle}
 use Rattle.association.specs.declared.waiting.Waiting.{Waiting}
 use Rattle.association.specs.Admission.{admission, waiting_if}
 use Rattle.association.specs.Client.{ClientRow}
+use Rattle.mms_pdu.specs.Answering.{is_answer}
 use Rattle.mms_pdu.specs.Pdus.{pdu_octets}
 use Rattle.parted_state.specs.Lists.{get_changed}
 use Rattle.parted_state.specs.Served.{row_at, reached, delivered}
@@ -16,7 +17,7 @@ use Rattle.cell_services.specs.Effects.{Effect, Sends, Opens, Closes, Waits, Ans
 use Rattle.cell_services.specs.Serving.{waiting_of}
 use Rattle.mms_step.specs.Partition.{cell, no_client}
 use Rattle.mms_step.proofs.Sound.{delivered_both}
-use Rattle.cell_laws.specs.Tally.{AreSpelled, is_answer, is_opening, sent_by, sent_to}
+use Rattle.cell_laws.specs.Tally.{AreSpelled, is_opening, sent_by, sent_to}
 use Rattle.cell_laws.proofs.Bound.{nat-same}
 use Rattle.cell_laws.proofs.Counting.{many}
 use Rattle.cell_laws.proofs.Hears.{IsAdmitted, admitted-none, reached-answered, reached-still, reached-waits, row-other, waits_in}

@@ -15,6 +15,7 @@ pub mod Answering
 pub mod Passing
 pub mod Accounts
 pub mod Counting
+pub mod Counted
 pub mod Sent
 pub mod Freeing
 pub mod Granted
@@ -24,4 +25,13 @@ pub mod Claims
 pub mod ClaimsKept
 pub mod Left
 pub mod LeftNamed
+pub mod Asked32
+pub mod Near
+pub mod NearAlong
+pub mod Stays
+pub mod Holding
+pub mod LostFor
+pub mod Gone
+pub mod GoneFor
 pub mod Worked
+pub mod WorkedLost

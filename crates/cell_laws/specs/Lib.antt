@@ -1,3 +1,4 @@
 pub mod Freed
 pub mod Linked
+pub mod Lost
 pub mod Tally

@@ -1,12 +1,12 @@
 -- How many requests of a client were taken since its association opened, and how many were answered (ISO 9506-1: each confirmed request has one answer).
-use Rattle.std.specs.Prelude.{◌≡◌, ℕ, ◌+◌, Bool, true, false, ◌==◌, ◌&&◌, List, [], ◌∷◌, ◌++◌, count_by, fold, if◌then◌else◌}
+use Rattle.std.specs.Prelude.{◌≡◌, ◌⊎◌, ℕ, ◌+◌, Bool, true, false, ◌==◌, ◌&&◌, List, [], ◌∷◌, ◌++◌, count_by, fold, All, if◌then◌else◌}
 use Rattle.std.specs.List.{list_any}
 use Rattle.mms_types.specs.declared.event.CellEvent.{CellEvent}
 use Rattle.mms_types.specs.declared.event.CellEvent.TheVariants.{Heard, Lost, Tick, Ends, Drain}
 use Rattle.mms_types.specs.declared.event.What.{What}
 use Rattle.mms_types.specs.declared.event.What.TheVariants.{Octets, Abort}
 use Rattle.mms_types.specs.declared.pdu.Pdu.{Pdu}
-use Rattle.mms_types.specs.declared.pdu.Pdu.TheVariants as pdu
+use Rattle.mms_pdu.specs.Answering.{IsAnswer, HasUnsigned32}
 use Rattle.mms_pdu.specs.Pdus.{pdu_octets}
 use Rattle.cell_config.specs.declared.config.Config.{Config}
 use Rattle.association.specs.Waiting.{is_waiting}
@@ -18,18 +18,19 @@ use Rattle.mms_step.specs.Partition.{cell}
 use Rattle.mms_step.specs.State.{State, start}
 use Rattle.mms_step.specs.Step.{outbox_of, step}
 
--- a confirmed response or a confirmed error of that invokeID
-abbrev pub is_answer : ℕ → Pdu → Bool
-is_answer invoke (pdu.ConfirmedResponse other answer) = invoke == other
-is_answer invoke (pdu.ConfirmedError error) = invoke == error.invoke
-is_answer invoke p = false
-
 -- the outputs are these PDUs, each spelled; an abort is none
 abbrev pub AreSpelled : List What → List Pdu → Type 0
 AreSpelled [] ps = ps ≡ []
 AreSpelled (Octets octets ∷ outputs) [] = ⊥
 AreSpelled (Octets octets ∷ outputs) (p ∷ ps) = (octets ≡ pdu_octets p) × AreSpelled outputs ps
 AreSpelled (Abort ∷ outputs) ps = AreSpelled outputs ps
+
+-- so many of the outputs answer a request of that invokeID, by their octets
+abbrev pub HaveAnswers : ℕ → List What → ℕ → Type 0
+HaveAnswers invoke [] n = n ≡ 0
+HaveAnswers invoke (Octets octets ∷ outputs) n =
+    (IsAnswer invoke octets × (others : ℕ) × (n ≡ others + 1) × HaveAnswers invoke outputs others) ⊎ ((IsAnswer invoke octets → ⊥) × HaveAnswers invoke outputs n)
+HaveAnswers invoke (Abort ∷ outputs) n = HaveAnswers invoke outputs n
 
 -- what an effect sends
 abbrev pub sent_by : Effect → List What
@@ -91,13 +92,18 @@ account_after client a event = record {
 abbrev pub account : Config → List CellEvent → ℕ → Account
 account config history client = fold (account_after client) (record { state = start config; taken = []; sent = [] }) history
 
--- The requests of a client that were taken have one answer each: what was sent are PDUs, and of each invokeID as many requests were taken as the confirmed
--- responses and confirmed errors among them, and one more where a request of it waits.
+-- The requests of a client that were taken have one answer each:
 pub record HaveOneAnswerEach (client : ℕ) (s : State) (taken : List ℕ) (sent : List What) : Type 0 where
+  -- what was sent are PDUs, and the invokeID of an answer is an Unsigned32;
   pub pdus : List Pdu
   pub spelled : AreSpelled sent pdus
+  pub unsigned : All HasUnsigned32 pdus
+  -- and of each invokeID as many requests were taken as outputs are a confirmed response or a confirmed error of it, by their octets, and one more where a
+  -- request of it waits
+  pub answers : ℕ → ℕ
+  pub told : (invoke : ℕ) → HaveAnswers invoke sent (answers invoke)
   pub balance : (invoke : ℕ) → count_by (λ other. invoke == other) taken
-      ≡ count_by (is_answer invoke) pdus + (if is_waiting invoke (row_at cell client s.clients).waiting then 1 else 0)
+      ≡ answers invoke + (if is_waiting invoke (row_at cell client s.clients).waiting then 1 else 0)
 
 -- ---- what a client takes
 

@@ -1,6 +1,6 @@
 //! What holds of every history.
 
-ghost use Rattle.std.specs.Prelude.{◌≡◌, ℕ, ◌≤◌, false, true, List, None, Option, Some, [], ◌∷◌, ◌++◌, length};
+ghost use Rattle.std.specs.Prelude.{◌≡◌, ◌⊎◌, ℕ, ◌+◌, ◌≤◌, IfSome, false, true, All, List, None, Option, Some, [], ◌∷◌, ◌++◌, length};
 ghost use Rattle.std.specs.Map.{lookup};
 ghost use Rattle.mms_types.specs.Order.{key_eq, scope_eq};
 ghost use Rattle.mms_types.specs.declared.event.CellEvent.{CellEvent};
@@ -10,10 +10,11 @@ ghost use Rattle.mms_types.specs.declared.key.Key.{Key};
 ghost use Rattle.mms_types.specs.declared.key.Scope.TheVariants.{Association};
 ghost use Rattle.mms_types.specs.declared.moment.Moment.{Moment};
 ghost use Rattle.token_sem.specs.declared.entry.SemEntry.{SemEntry};
-ghost use Rattle.token_sem.specs.Semaphore.{is_owner};
-ghost use Rattle.mms_time.specs.Deadlines.{NamedDeadline, expire_after};
+ghost use Rattle.token_sem.specs.Semaphore.{holds, is_owner};
+ghost use Rattle.mms_time.specs.Deadlines.{NamedDeadline, all_deadlines, expire_after};
 ghost use Rattle.mms_time.specs.Loss.{lost};
-ghost use Rattle.mms_time.specs.Semaphores.{Rows};
+ghost use Rattle.mms_time.specs.Semaphores.{Rows, entry_in};
+ghost use Rattle.mms_time.specs.Statuses.{entry_status};
 ghost use Rattle.sem_ticks.specs.Ticks.{Ticking};
 ghost use Rattle.cell_config.specs.declared.config.Config.{Config};
 ghost use Rattle.cell_config.specs.Said.{IsConfig};
@@ -25,6 +26,7 @@ ghost use Rattle.parted_state.specs.Served.{row_at};
 ghost use Rattle.mms_step.specs.Partition.{cell};
 ghost use Rattle.cell_laws.specs.Freed.{GivesBack, IsPassedOn, Leaves, OwnsNamed, OwnsUnkept, TimesOut, lost_so_far, owners_at, token_held, token_named};
 ghost use Rattle.cell_laws.specs.Linked.{AreLinked};
+ghost use Rattle.cell_laws.specs.Lost.{HasStill, IsLostFor};
 ghost use Rattle.cell_laws.specs.Tally.{HaveOneAnswerEach, account, drained, drains, sent_to, told_in};
 
 /// The requests that wait are those of the entries that are queued, after any history: each has a queued entry of its
@@ -37,8 +39,8 @@ pub fn each_waiting_request_is_queued()
 
 /// Each confirmed request that is taken has one answer, or waits, after any history: where a client has an
 /// association, what was sent to it since it opened are PDUs, and of each invokeID the requests that were taken since
-/// then are as many as the confirmed responses and confirmed errors among these PDUs, and one more where a request of
-/// it waits.
+/// then are as many as the outputs that are confirmed responses or confirmed errors of it, by their octets, and one
+/// more where a request of it waits.
 pub fn each_request_is_answered_once()
     ensures { (config : Config) (history : List CellEvent) (client : ℕ) (values : Negotiated)
         → IsConfig config
@@ -127,4 +129,35 @@ pub fn tokens_of_a_pool_are_passed_on_in_order()
         → scope_eq key.scope (Association client) ≡ false
         → lookup (key_eq key) (lost client now rows)
         ≡ lookup (key_eq key) (lost_so_far client now (owners_at key client rows) key rows) }
+{}
+
+/// No deadline is far: after any history each deadline of a semaphore's entry, acceptable delay or control time-out,
+/// is at most 2^32 - 1 milliseconds away, also one that arose while time went by. So what a status of entries tells to
+/// be left until then, the deadline less the moment, is a number of 32 bits, and none is ever too far away to be told.
+pub fn no_deadline_is_far()
+    ensures near { (config : Config) (history : List CellEvent)
+        → All (λ due. due.at.0 ≤ (replay config history).now + 4294967295)
+        (all_deadlines (replay config history).semaphores) }
+    ensures told { (config : Config) (history : List CellEvent) (key : Key) (number : ℕ) (entry : SemEntry)
+        (names : List (List ℕ)) → entry_in key number (replay config history).semaphores ≡ Some entry
+        → IfSome (entry_status names (record { 0 = (replay config history).now }) entry).remaining
+        (λ left. left ≤ 4294967295) }
+{}
+
+/// A token is lost for a cause, and for each of these. An entry that has a token before an event, an owner entry or a
+/// hung one, is after it as it was, or is hung, as its client is lost and keeps the token; or it has lost the token
+/// for one of these causes: its client gives the token back; it is hung, and the one that a TakeControl preempts,
+/// whose entry has the token then; its control times out; its client is lost, because its association ends or is
+/// aborted, and doesn't keep the token; or the semaphore is one of a client's association, and goes with it. Where
+/// one of these holds the entry is there no more. So an owner entry is never preempted, and no semaphore is deleted
+/// that has an entry.
+pub fn a_token_is_lost_for_a_cause()
+    ensures lost { (config : Config) (history : List CellEvent) (event : CellEvent) (key : Key) (entry : SemEntry)
+        → IsConfig config → entry_in key entry.number (replay config history).semaphores ≡ Some entry
+        → holds entry ≡ true
+        → HasStill (replay config history) event key entry ⊎ IsLostFor (replay config history) event key entry }
+    ensures gone { (config : Config) (history : List CellEvent) (event : CellEvent) (key : Key) (entry : SemEntry)
+        → IsConfig config → entry_in key entry.number (replay config history).semaphores ≡ Some entry
+        → holds entry ≡ true → IsLostFor (replay config history) event key entry
+        → entry_in key entry.number (step (replay config history) event).semaphores ≡ None }
 {}

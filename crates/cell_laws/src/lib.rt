@@ -1,9 +1,11 @@
-//! What holds of the device over all histories: of requests that wait, of answers, and of tokens that are freed.
+//! What holds of the device over all histories: of requests that wait, of answers, of tokens that are lost and freed,
+//! and of deadlines.
 #![tactic(auto)]
 
 mod laws;
 
 pub use laws::{
-    a_freed_token_is_passed_on, each_request_is_answered_once, each_waiting_request_is_queued,
-    tokens_of_a_pool_are_passed_on_in_order, what_is_sent_is_in_the_outbox,
+    a_freed_token_is_passed_on, a_token_is_lost_for_a_cause, each_request_is_answered_once,
+    each_waiting_request_is_queued, no_deadline_is_far, tokens_of_a_pool_are_passed_on_in_order,
+    what_is_sent_is_in_the_outbox,
 };
