@@ -46,4 +46,4 @@ begun crew config is of passes none workers = record {
         x.2 ∙ ap (newcomer crew.device.table) n
 
     one : (i : ℕ) (p : Caller) → slice_get crew.passes.items i ≡ Some p → IsOne crew.device.table [] i p
-    one i p at = subst (λ (k : Caller). IsOne crew.device.table [] i k) (sym (there i p at)) (record { of_table = refl; by = refl; idle = (refl, refl); seen = starts_refl []; own = refl })
+    one i p at = subst (λ (k : Caller). IsOne crew.device.table [] i k) (sym (there i p at)) (record { of_table = refl; by = refl; idle = (refl, refl, refl); seen = starts_refl []; own = refl })

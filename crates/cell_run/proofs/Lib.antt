@@ -15,3 +15,4 @@ pub mod Given
 pub mod Laid
 pub mod Begun
 pub mod CrewPhase
+pub mod OneHistory

@@ -6,6 +6,7 @@ mod draining;
 mod engine;
 mod jobs;
 mod last_line;
+mod laws;
 mod laying;
 mod running;
 mod server;
@@ -15,5 +16,6 @@ mod top;
 mod workers;
 
 pub use engine::serve_alone;
+pub use laws::what_is_printed_has_one_history;
 pub use status::Status;
 pub use top::run_cell;

@@ -59,7 +59,7 @@ fn serve_jobs<R: Threads + Wait + Sync, G: Gate + Sync>(
     let turns = CellTurns { device, alloc };
     match serve_phase(rt, &turns, jobs, workers, gate) {
         Ok(jobs) => Ok(jobs),
-        Err(PhaseStopped { jobs: _jobs }) => Err(Memory),
+        Err(PhaseStopped { jobs: _jobs }) => Err(Memory::wanting()),
     }
 }
 

@@ -1,0 +1,4 @@
+use Rattle.cell_main.proofs.top.run_words.Goals as goal
+
+pub returns-clause-complete : goal.returns-clause-complete
+returns-clause-complete g c = rw c.from.ensures c.serve_words-status.ensures.complete

@@ -1,0 +1,98 @@
+//! The program.
+
+ghost use Rattle.std.specs.Prelude.{◌≡◌, ◌⊎◌, List, IfSome, Some, None};
+ghost use Rattle.std.specs.Io.KnownBytes.{Appends};
+ghost use Rattle.std.specs.Process.{exit_status};
+ghost use Rattle.cell_io.specs.Faults.{Rose};
+ghost use Rattle.cell_io.specs.Prefix.{AppendsPrefix};
+ghost use Rattle.mms_types.specs.declared.event.CellEvent.{CellEvent};
+ghost use Rattle.cell_config.specs.declared.config.Config.{Config};
+ghost use Rattle.cell_record.specs.Grammar.{ReadsRecording};
+ghost use Rattle.cell_words.specs.declared.words.Command.{Command};
+ghost use Rattle.cell_run.specs.Outcome.{Completes};
+ghost use Rattle.cell_main.specs.Ends.{EndsFor, IsExit, asked};
+ghost use Rattle.cell_main.specs.Failure.{failure_line};
+
+use crate::told::tell;
+use crate::words::{Words, words_of};
+use cell_io::{Open, Sink, Source, StdSink, StdSource};
+use cell_run::run_cell;
+use std::alloc::{Alloc, Global};
+use std::env::Env;
+use std::io;
+use std::io::{Input, Print, Write};
+use std::process::ExitCode;
+use std::sync::Wait;
+use std::thread::Threads;
+
+/// The exit status for want of memory.
+const MEMORY: u8 = 3;
+
+/// Does what the words ask, as `run_cell` does it, and answers the exit status. A word that isn't UTF-8 is no form of the
+/// command, and where there is no memory for the words, nothing is read and written, and the status is 3.
+pub fn serve_words<R: Threads + Wait + Sync, S: Source, K: Sink>(
+    rt: &R,
+    alloc: Global,
+    words: &Words,
+    input: &mut S,
+    out: &mut K,
+) -> u8
+    // How it ends by the words, with which status, and what was read and written.
+    ensures ends { EndsFor words.now result (record { octets = S.left input.old; faults = S.faults input.old }) (record { octets = S.left input.new; faults = S.faults input.new })
+        (record { octets = K.held out.old; faults = K.faults out.old }) (record { octets = K.held out.new; faults = K.faults out.new }) }
+
+    // Words of no command read nothing.
+    ensures nothing_read { asked words.now ≡ None → input.new ≡ input.old }
+
+    // A recording without a fault is served and reported, unless memory runs out.
+    ensures complete { (command : Command) → asked words.now ≡ Some command → IfSome (S.left input.old) (λ text. (config : Config) (phases : List (List CellEvent))
+        → ReadsRecording text config phases → (Rose (S.faults input.old) (S.faults input.new) → ⊥) → (Rose (K.faults out.old) (K.faults out.new) → ⊥)
+        → (result ≡ 3) ⊎ ((result ≡ 0) × Completes command config phases (K.held out.old) (K.held out.new))) }
+{
+    match words {
+        Words::Texts(words) => run_cell(rt, alloc, words, input, out, &Open),
+        Words::NotText => run_cell(rt, alloc, &[], input, out, &Open),
+        Words::Memory => MEMORY,
+    }
+}
+
+/// Does what the words ask, tells what failed, and answers how the process is to end.
+pub fn run_words<R: Threads + Wait + Sync, S: Source, K: Sink, E: Sink>(
+    rt: &R,
+    alloc: Global,
+    words: &Words,
+    input: &mut S,
+    out: &mut K,
+    err: &mut E,
+) -> ExitCode
+    // As `serve_words`, by the status with which the process is to end.
+    ensures ends { EndsFor words.now (exit_status result) (record { octets = S.left input.old; faults = S.faults input.old }) (record { octets = S.left input.new; faults = S.faults input.new })
+        (record { octets = K.held out.old; faults = K.faults out.old }) (record { octets = K.held out.new; faults = K.faults out.new }) }
+    ensures nothing_read { asked words.now ≡ None → input.new ≡ input.old }
+    ensures complete { (command : Command) → asked words.now ≡ Some command → IfSome (S.left input.old) (λ text. (config : Config) (phases : List (List CellEvent))
+        → ReadsRecording text config phases → (Rose (S.faults input.old) (S.faults input.new) → ⊥) → (Rose (K.faults out.old) (K.faults out.new) → ⊥)
+        → (exit_status result ≡ 3) ⊎ ((exit_status result ≡ 0) × Completes command config phases (K.held out.old) (K.held out.new))) }
+
+    // What failed by that status is told, or a prefix of it where this fails as well.
+    ensures told { (Rose (E.faults err.old) (E.faults err.new) → ⊥) → Appends (E.held err.old) (E.held err.new) (failure_line (exit_status result)) }
+    ensures part { AppendsPrefix (E.held err.old) (E.held err.new) (failure_line (exit_status result)) }
+{
+    let status = serve_words(rt, alloc, words, input, out);
+    // Where standard error fails as well, the status alone tells.
+    let _told = tell(err, status);
+    ExitCode::from(status)
+}
+
+/// The program: does what its words ask over standard input and output, and tells on `err` what failed.
+pub fn program<R: Env + Alloc<A = Global> + Input + Print + Threads + Wait + Sync, E: Write + Drop>(
+    rt: &R,
+    err: E,
+) -> ExitCode
+    ensures exit { IsExit (exit_status result) }
+{
+    let words = words_of(rt);
+    let mut input = StdSource::new(rt.reader());
+    let mut out = StdSink::new(io::writer(rt));
+    let mut err = StdSink::new(err);
+    run_words(rt, rt.alloc(), &words, &mut input, &mut out, &mut err)
+}
