@@ -3,17 +3,18 @@
 
     bench/workers.py [--events N] [--phase N] [--actors N,N,..] [--workers N,N,..] [--rounds N] [--program PATH]
 
-Writes recordings of so many events by 2, 4 and 8 clients in turn, in phases of so many events: status requests; each
-client writes a variable of its own and reads it, in turn; each takes the token of a semaphore of its own and gives it
-back, in turn; and all do so with one semaphore of one token. Runs the built program on each of them by `replay` and
-by `run` with 1, 2 and 4 workers, several rounds in one run, and prints the least real time of each, and of the best
-the events a second and the ratio to `replay`. Real times have the start of the program and of the threads of each
-phase in them. How often a part was busy the program doesn't tell; bench/device.py counts that. Nothing here is a
-test.
+Writes recordings of so many events by 4 and 8 clients in turn, in phases of so many events: status requests; each
+client writes a variable of its own and reads it, in turn; each takes the token of a semaphore of its own and gives
+it back, in turn; and all do so with one semaphore of one token. Runs the built program on each of them by `replay`
+and by `run` with 1, 2 and 4 workers, several rounds in one run, and prints the median real time of each, its ratio
+to `replay`'s, and the events a second of `replay` and of the best. Real times have the start of the program and of
+the threads of each phase in them. How often a part was busy the program doesn't tell; bench/device.py counts that.
+Nothing here is a test.
 """
 
 import argparse
 import os
+import statistics
 import subprocess
 import tempfile
 import time
@@ -67,30 +68,28 @@ def real_seconds(words, path):
 
 def main():
     parser = argparse.ArgumentParser(description=__doc__, formatter_class=argparse.RawDescriptionHelpFormatter)
-    parser.add_argument("--events", type=int, default=160000)
+    parser.add_argument("--events", type=int, default=960000)
     parser.add_argument("--phase", type=int, default=4000)
-    parser.add_argument("--actors", default="2,4,8")
+    parser.add_argument("--actors", default="4,8")
     parser.add_argument("--workers", default="1,2,4")
-    parser.add_argument("--rounds", type=int, default=7)
+    parser.add_argument("--rounds", type=int, default=9)
     parser.add_argument("--program", default=os.path.join(HERE, "..", "crates", "mmscell", "out", "mmscell"))
     asked = parser.parse_args()
     workers = asked.workers.split(",")
     forms = [["replay"]] + [["run", "--workers", count] for count in workers]
     with tempfile.TemporaryDirectory() as folder:
         path = os.path.join(folder, "recording.mms")
-        print(f"{'work':>14} {'actors':>6} {'replay, s':>10} " + " ".join(f"{f'run {n}, s':>9}" for n in workers)
-              + f" {'replay, events/s':>17} {'best run, events/s':>19} {'time of run to replay':>22}")
+        print(f"{'work':>14} {'actors':>6} {'replay, s':>10} " + " ".join(f"{f'run {n}, s':>9} {'ratio':>5}" for n in workers)
+              + f" {'replay, events/s':>17} {'best run, events/s':>19}")
         for work in WORKS:
             for actors in map(int, asked.actors.split(",")):
                 with open(path, "wb") as out:
                     out.write(recording(work, actors, asked.events, asked.phase))
-                least = [float("inf")] * len(forms)
-                for _ in range(asked.rounds):
-                    for place, form in enumerate(forms):
-                        least[place] = min(least[place], real_seconds([asked.program, *form], path))
-                best = min(least[1:])
-                print(f"{work:>14} {actors:>6} {least[0]:>10.3f} " + " ".join(f"{time:>9.3f}" for time in least[1:])
-                      + f" {asked.events / least[0]:>17.0f} {asked.events / best:>19.0f} {best / least[0]:>22.2f}", flush=True)
+                rounds = [[real_seconds([asked.program, *form], path) for form in forms] for _ in range(asked.rounds)]
+                replay, *runs = [statistics.median(times) for times in zip(*rounds)]
+                print(f"{work:>14} {actors:>6} {replay:>10.3f} "
+                      + " ".join(f"{run:>9.3f} {run / replay:>5.2f}" for run in runs)
+                      + f" {asked.events / replay:>17.0f} {asked.events / min(runs):>19.0f}", flush=True)
 
 
 if __name__ == "__main__":
