@@ -5,6 +5,7 @@ pub mod Guarded
 pub mod Holding
 pub mod Needed
 pub mod Others
+pub mod Own
 pub mod Outboxes
 pub mod PartsAfter
 pub mod Sound

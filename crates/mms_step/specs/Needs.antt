@@ -1,13 +1,15 @@
 -- Which parts an event needs (this profile's choice).
-use Rattle.std.specs.Prelude.{ℕ, Bool, ◌&&◌, nat_le, Option, List, [], ◌++◌, filter, map, if◌then◌else◌}
+use Rattle.std.specs.Prelude.{ℕ, Bool, true, false, ◌&&◌, nat_le, Option, List, [], ◌++◌, filter, map, if◌then◌else◌}
 use Rattle.mms_types.specs.declared.event.CellEvent.{CellEvent}
+use Rattle.mms_types.specs.declared.pdu.Request.{Request}
+use Rattle.mms_types.specs.declared.pdu.Request.TheVariants as request
 use Rattle.parted_state.specs.Cut as cut
 use Rattle.parted_state.specs.Lifted.{tables_shown}
 use Rattle.parted_state.specs.Served as parted
 use Rattle.mms_step.specs.declared.part.Part.{Part}
 use Rattle.mms_step.specs.State.{State}
 use Rattle.association.specs.Client.{ClientRow}
-use Rattle.cell_services.specs.Association.{Verdict, verdict}
+use Rattle.cell_services.specs.Association.{Verdict, Tells, Takes, verdict}
 use Rattle.cell_services.specs.Serving.{services, abort_asks, aborted, all_told, also_lost, also_told, heard_asks, heard_more, loss_asks, meanwhile}
 use Rattle.sem_ticks.specs.declared.ticks.Happening.{Happening}
 use Rattle.mms_step.specs.Partition.{cell, client_place, parts_of, state_in}
@@ -39,6 +41,17 @@ placed n tables = map (parted.table_place cell n) tables
 -- of two stages of places, what isn't held
 abbrev pub two_stages : List (Option Part) → List ℕ → List ℕ → List ℕ
 two_stages hand first second = cut.missing hand (first ++ (if cut.are_held hand first then second else []))
+
+-- a request, and so a verdict, that uses no table and tells nobody else anything: of its client's part alone
+abbrev pub is_own_request : Request → Bool
+is_own_request (request.Status asked) = true
+is_own_request request.Identify = true
+is_own_request other = false
+
+abbrev pub is_own : Verdict → Bool
+is_own (Tells effects) = true
+is_own (Takes invoke asked) = is_own_request asked
+is_own other = false
 
 -- the parts of those of clients 1 to n that are among these
 abbrev pub client_parts : ℕ → List ℕ → List ℕ

@@ -15,7 +15,7 @@ ghost use Rattle.parted_state.specs.Cut.{missing};
 ghost use Rattle.parted_state.specs.Sets.{IsSetOf};
 ghost use Rattle.mms_step.specs.Partition.{cell, parts_of, client_place, clients_among, clock_in, semaphores_in, semaphores_place, variables_in, IsClient};
 ghost use Rattle.cell_services.specs.Association.{verdict_by};
-ghost use Rattle.mms_step.specs.Needs.{also_parts, client_parts, footprint, happened_need, heard_need, is_held, lost_need, need, placed, time_need, verdict_need};
+ghost use Rattle.mms_step.specs.Needs.{also_parts, client_parts, footprint, happened_need, heard_need, is_held, is_own, lost_need, need, placed, time_need, verdict_need};
 ghost use Rattle.mms_step.specs.Step.{IsInTime};
 ghost use Rattle.cell_services.specs.Reads.{pdu_read, IsDeep, IsReadOf, IsReadingOf};
 
@@ -31,7 +31,7 @@ use cell_services::{
 };
 use mms_pdu::{Read, Refusal};
 use mms_time::SemaphoreRow;
-use mms_types::{CellEvent, Memory, Moment};
+use mms_types::{CellEvent, Memory, Moment, Request};
 use object_names::Named;
 use part_table::Hand;
 use parted_state::Parts;
@@ -223,6 +223,16 @@ fn also_need(
     Ok(untold(&told, clients, held))
 }
 
+/// Whether what octets come to is of the client's part alone: no table is used, and nobody else is told anything.
+fn is_own(found: &Found<'_>) -> bool
+    ensures { result ≡ is_own (meant found.now) }
+{
+    matches!(
+        found,
+        Found::Tells(_) | Found::Takes(_, Request::Status(_) | Request::Identify)
+    )
+}
+
 /// What a verdict needs, once the part of the client is held.
 fn found_need(
     alloc: Global,
@@ -237,6 +247,9 @@ fn found_need(
     ensures { IfOk result (λ parts. IsSetOf parts
         (verdict_need clients held.now part.now.row (meant found.now))) }
 {
+    if is_own(found) {
+        return Ok(Parts::new());
+    }
     let missing = unheld(&heard_asks(found, clients), held);
     if !missing.is_empty() {
         return Ok(missing);

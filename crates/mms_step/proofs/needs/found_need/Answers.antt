@@ -1,4 +1,4 @@
-use Rattle.std.proofs.Common.{sym, ◌∙◌}
+use Rattle.std.proofs.Common.{sym, ◌∙◌, subst}
 use Rattle.std.proofs.lemmas.Result.{IfOk-weaker}
 use Rattle.parted_state.specs.SetLaws.{missing_set}
 use Rattle.parted_state.specs.Sets.{IsSetOf}
@@ -10,7 +10,13 @@ use Rattle.cell_services.specs.Serving.{heard_asks, heard_more}
 use Rattle.mms_step.specs.Needs.{also_parts, placed, verdict_need}
 use Rattle.mms_step.proofs.Asked.{second_by_test, third_by_test}
 use Rattle.mms_step.proofs.Needed.{first_by_test}
+use Rattle.mms_step.proofs.Own.{own_needs_nothing}
 use Rattle.mms_step.proofs.needs.found_need.Goals as goal
+
+pub returns-then-is_own : goal.returns-then-is_own
+returns-then-is_own c =
+    subst (IsSetOf c.new.result) (sym (own_needs_nothing c.args.clients c.args.held.now c.args.part.now.row (meant c.args.found.now) (sym c.is_own.ensures ∙ c.if-is_own.true)))
+    c.new.ensures.set
 
 pub returns-then-not-is_empty : goal.returns-then-not-is_empty
 returns-then-not-is_empty c =
