@@ -7,4 +7,4 @@ mod words;
 
 pub use told::{failure, tell};
 pub use top::{program, run_words, serve_words};
-pub use words::{Words, after_name, words_of};
+pub use words::{Words, after_name};

@@ -48,7 +48,7 @@ fn lack(kind: ErrorKind) -> Words
 }
 
 /// The words after the program's name. Of the words that it gives std tells nothing.
-pub fn words_of<R: Env + Alloc<A = Global>>(rt: &R) -> Words {
+pub(crate) fn words_of<R: Env + Alloc<A = Global>>(rt: &R) -> Words {
     match env::args(rt) {
         Ok(words) => match words.collect(rt.alloc()) {
             Ok(words) => Words::Texts(after_name(words)),
