@@ -12,7 +12,7 @@ use Rattle.object_names.specs.Selected.{counted_by, is_among}
 use Rattle.object_names.proofs.Listed.{any_more}
 
 -- a key that is the same as one that differs from another differs from it as well
-differs : (a b c : Key) → key_eq a b ≡ true → key_eq b c ≡ false → key_eq a c ≡ false
+pub differs : (a b c : Key) → key_eq a b ≡ true → key_eq b c ≡ false → key_eq a c ≡ false
 differs a b c same other = ap (λ (k : Key). key_eq k c) ((key_eq_tells a b).0 same) ∙ other
 
 -- a row counts by whether it has a name, and by its value; without a name it doesn't

@@ -1,8 +1,13 @@
 pub mod Fewer
 pub mod Found
+pub mod KeysInOrder
 pub mod Listed
+pub mod Ordered
+pub mod Places
+pub mod Ranked
 pub mod NameOrder
 pub mod Scopes
+pub mod Walked
 mod Worked
+pub mod Changed
 pub mod Counted
-pub mod FirstNames

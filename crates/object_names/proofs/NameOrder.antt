@@ -13,7 +13,7 @@ use Rattle.std.proofs.lemmas.List.Sorted.{sum_by-IsPermutation, IsPermutation-ma
 use Rattle.mms_types.specs.Order.{name_order}
 use Rattle.std.proofs.lemmas.Map.Lookups.{exact_bytes}
 use Rattle.object_names.specs.Listing.{insert_name, sorted_names}
-use Rattle.object_names.specs.Ordered.{IsOrdered, before}
+use Rattle.object_names.proofs.Ordered.{IsOrdered, before}
 
 pub cases : (b : Bool) → (b ≡ true) ⊎ (b ≡ false)
 cases true = inl refl

@@ -9,6 +9,7 @@ ghost use Rattle.object_names.specs.Selected.{deleted_by, is_among, matched_by, 
 use crate::Named;
 use crate::borrowed::{KeyRef, ScopeRef};
 use crate::copying::each_name_stands_once;
+use crate::index::{Keeps, has_any_of, leave};
 use indexmap::IndexSet;
 use mms_types::{DeleteNames, DeleteScope, Deleted, Key, Memory, ObjectName};
 use std::alloc::Global;
@@ -80,6 +81,20 @@ pub trait Deletable: Drop {
         ensures { result ≡ is_fixed self.now };
 }
 
+/// The rows that a selection doesn't have, or that can't be deleted.
+#[derive(Drop)]
+struct Unselected<'a, 'b> {
+    selection: &'a Selection<'b>,
+}
+
+impl<'a, 'b, T: Deletable> Keeps<T> for Unselected<'a, 'b> {
+    ghost stays = { λ by row. not (goes T.is_fixed (selected by.selection.now) row) };
+
+    fn stays(&self, key: &Key, value: &T) -> bool {
+        !self.selection.has(key) || value.is_fixed()
+    }
+}
+
 impl<T: Deletable> Named<T> {
     /// How many rows have the name, which is one at most, and how many of them can be deleted.
     fn count_one(&self, name: KeyRef<'_>) -> Deleted
@@ -122,7 +137,7 @@ impl<T: Deletable> Named<T> {
     }
 
     /// How many rows have a name of the selection, and how many of them can be deleted. Where names are listed each is
-    /// looked up, and else the table is gone through.
+    /// looked up; else the table is gone through, where it has a name of the scope.
     pub fn count(&self, selection: &Selection<'_>) -> Deleted
         requires { length self.now ≤ 4294967295 }
         ensures matched { result.matched ≡ matched (selected selection.entry.now) self.now }
@@ -130,6 +145,14 @@ impl<T: Deletable> Named<T> {
     {
         if let Selection::Names(names) = selection {
             return self.count_named(names);
+        }
+        if let Selection::Scope(scope) = selection {
+            if !has_any_of(&self.rows, &self.places, *scope) {
+                return Deleted {
+                    matched: 0,
+                    deleted: 0,
+                };
+            }
         }
         let mut counts = Deleted {
             matched: 0,
@@ -163,12 +186,18 @@ impl<T: Deletable> Named<T> {
     }
 
     /// Takes the rows out that have a name of the selection and can be deleted. All others stay as they are, in their
-    /// order. Where names are listed of which none can be deleted, the table isn't gone through. It takes no memory.
+    /// order. Where names are listed of which none can be deleted, or a scope is selected of which there is no name, the
+    /// table isn't gone through. It takes no memory.
     pub fn delete(&mut self, selection: &Selection<'_>)
         ensures { self.new ≡ left T.is_fixed (selected selection.entry.now) self.old }
     {
         if let Selection::Names(names) = selection {
             if self.keeps_named(names) {
+                return;
+            }
+        }
+        if let Selection::Scope(scope) = selection {
+            if !has_any_of(&self.rows, &self.places, *scope) {
                 return;
             }
         }
@@ -179,6 +208,12 @@ impl<T: Deletable> Named<T> {
     fn take_out(&mut self, selection: &Selection<'_>)
         ensures { self.new ≡ left T.is_fixed (selected selection.entry.now) self.old }
     {
+        leave(
+            &self.rows,
+            &mut self.places,
+            &mut self.ranks,
+            &Unselected { selection },
+        );
         self.rows.retain(
             |key: &Key, value: &mut T| -> bool
                 ensures { (result ≡ not (goes T.is_fixed (selected selection.entry.now) (key.now, value.old))) × (value.new ≡ value.old) }

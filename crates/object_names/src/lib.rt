@@ -5,6 +5,7 @@
 mod borrowed;
 mod copying;
 mod deletion;
+mod index;
 mod lends;
 mod listing;
 mod table;
