@@ -15,18 +15,18 @@ use Rattle.parted_state.specs.Lifted.{tables_shown, with_tables, told_all, put_i
 use Rattle.parted_state.specs.LiftedLaws as lifted
 use Rattle.parted_state.specs.Rows.{settled}
 use Rattle.parted_state.specs.Served.{Done, around, is_told, done_of, table_place}
-use Rattle.parted_state.specs.Shop.{State, shop, services, parts_of, state_in, clients_among, pieces_in, tool_in, told_heir, serve, step, need, after, roomy_in, IsRow}
+use Rattle.parted_state.specs.Shop.{State, shop, services, parts_of, state_in, clients_among, shelf_in, tool_in, told_heir, serve, step, need, after, roomy_in, IsRow}
 use Rattle.parted_state.specs.ShopLaws.{is_device, each_served}
 use Rattle.parted_state.proofs.Putting.{is_row, room_is, at_place}
 
 pub shown_there : (hand : List (Option Part)) (n : ℕ) → n ≡ clients_among (length hand)
-    → record { pieces = pieces_in (held_at hand 0); tool = tool_in (held_at hand (1 + n)) } ≡ tables_shown shop hand
+    → record { shelf = shelf_in (held_at hand 0); tool = tool_in (held_at hand (1 + n)) } ≡ tables_shown shop hand
 shown_there hand n many =
     ap (λ (m : ℕ). of (held_at hand 0) (held_at hand (1 + m))) many
     ∙ sym (ap₂ (λ (o q : Option Part). of o q) (at 0) (at 1))
   where
     of : Option Part → Option Part → Tables
-    of o q = record { pieces = pieces_in o; tool = tool_in q }
+    of o q = record { shelf = shelf_in o; tool = tool_in q }
 
     at : (k : ℕ) → held_at (around 1 (clients_among (length hand)) hand) k ≡ held_at hand (table_place shop (clients_among (length hand)) k)
     at k = ap (λ (o : Option (Option Part)). unwrap_or o None) (around_at shop is_device (clients_among (length hand)) hand k)

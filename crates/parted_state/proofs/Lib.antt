@@ -2,3 +2,4 @@ pub mod Applied
 pub mod Bits
 pub mod Places
 pub mod Putting
+mod Worked

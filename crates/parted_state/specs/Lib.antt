@@ -1,3 +1,5 @@
+pub mod Area
+pub mod AreaLaws
 pub mod Cut
 pub mod CutLaws
 pub mod DeviceLaws

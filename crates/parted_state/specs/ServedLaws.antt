@@ -115,7 +115,7 @@ module _ {S T R F P : Type 0} (d : Device S T R F P) (is : IsDevice d) where
   masked_same : (us : List ℕ) (t u : T) → SameOn us t u → masked d us t ≡ masked d us u
   masked_same us t u same = ap d.tables_in (same_veiled (is_in us) (d.table_parts t) (d.table_parts u) (is.many t ∙ sym (is.many u)) same)
 
-  merged_at : (us : List ℕ) (one other : T) (k : ℕ) → slice_get (d.table_parts (merged d us one other)) k ≡ slice_get (d.table_parts (if is_in us k then one else other)) k
+  pub merged_at : (us : List ℕ) (one other : T) (k : ℕ) → slice_get (d.table_parts (merged d us one other)) k ≡ slice_get (d.table_parts (if is_in us k then one else other)) k
   merged_at us one other k =
       is.by_place (chosen (is_in us) (d.table_parts one) (d.table_parts other)) (map Some (d.table_parts (if is_in us k then one else other))) k
       (get_chosen (is_in us) (d.table_parts one) (d.table_parts other) k (is.many one ∙ sym (is.many other)) ∙ by_test (is_in us k))
@@ -132,16 +132,17 @@ module _ {S T R F P : Type 0} (d : Device S T R F P) (is : IsDevice d) where
       by_test true = at_some (d.table_parts one)
       by_test false = at_some (d.table_parts other)
 
-  -- some of the tables as they are make all tables as they are
+  -- some of the tables are as they are among all
+  pub masked_at : (us : List ℕ) (t : T) (k : ℕ) → is_in us k ≡ true → slice_get (d.table_parts (masked d us t)) k ≡ slice_get (d.table_parts t) k
+  masked_at us t k on =
+      is.by_place (veiled (is_in us) (d.table_parts t)) (map Some (d.table_parts t)) k
+      (get_veiled (is_in us) (d.table_parts t) k on ∙ held_of_all (d.table_parts t) k)
+      ∙ ap (λ (x : T). slice_get (d.table_parts x) k) (is.whole t)
+
+  -- and make all tables as they are
   pub merged_masked : (us : List ℕ) (t : T) → merged d us (masked d us t) t ≡ t
   merged_masked us t =
-      ap d.tables_in (chosen_same (is_in us) (d.table_parts (masked d us t)) (d.table_parts t) (is.many (masked d us t) ∙ sym (is.many t)) same) ∙ is.whole t
-    where
-      same : (k : ℕ) → is_in us k ≡ true → slice_get (d.table_parts (masked d us t)) k ≡ slice_get (d.table_parts t) k
-      same k on =
-          is.by_place (veiled (is_in us) (d.table_parts t)) (map Some (d.table_parts t)) k
-          (get_veiled (is_in us) (d.table_parts t) k on ∙ held_of_all (d.table_parts t) k)
-          ∙ ap (λ (x : T). slice_get (d.table_parts x) k) (is.whole t)
+      ap d.tables_in (chosen_same (is_in us) (d.table_parts (masked d us t)) (d.table_parts t) (is.many (masked d us t) ∙ sym (is.many t)) (masked_at us t)) ∙ is.whole t
 
   -- where no table is changed
   pub unchanged : (us : List ℕ) (t : T) (told : List (ℕ × F))

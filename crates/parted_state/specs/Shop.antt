@@ -1,14 +1,21 @@
--- The example: a shelf with pieces, and a tool that one client has at a time.
-use Rattle.std.specs.Prelude.{◌≡◌, ℕ, ◌-◌, ◌==◌, Bool, true, false, nat_le, nat_lt, Option, Some, List, [], ◌∷◌, ◌++◌, if◌then◌else◌}
+-- The example: a shelf with pieces, and a tool that one client has at a time. They share nothing but a fact.
+use Rattle.std.specs.Prelude.{◌≡◌, ℕ, ◌+◌, ◌-◌, ◌==◌, ◌||◌, ◌&&◌, not, Bool, false, nat_le, nat_lt, Option, Some, List, [], ◌∷◌, ◌++◌, if◌then◌else◌}
 use Rattle.part_table.specs.Held.{held_at}
 use Rattle.parted_state.specs.Rows.{Roomy, settled}
+use Rattle.parted_state.specs.Area.{Own, Tells, Area, Plan, area_plan, facts_of, planned}
 use Rattle.parted_state.specs.Served.{Device, Services, Done}
 use Rattle.parted_state.specs.Served as parted
 use Rattle.parted_state.specs.declared.example.Word.{Word}
 use Rattle.parted_state.specs.declared.example.Word.TheVariants as word
 use Rattle.parted_state.specs.declared.example.Ask.{Ask}
-use Rattle.parted_state.specs.declared.example.Ask.TheVariants.{Take, Give, Fetch}
+use Rattle.parted_state.specs.declared.example.Ask.TheVariants as ask
+use Rattle.parted_state.specs.declared.example.ToolAsk.{ToolAsk}
+use Rattle.parted_state.specs.declared.example.ToolAsk.TheVariants.{Take, Give}
+use Rattle.parted_state.specs.declared.example.ShelfAsk.{ShelfAsk}
+use Rattle.parted_state.specs.declared.example.ShelfAsk.TheVariants.{Fetch, Stock}
 use Rattle.parted_state.specs.declared.example.Asked.{Asked}
+use Rattle.parted_state.specs.declared.example.Facts.{Facts}
+use Rattle.parted_state.specs.declared.example.Shelf.{Shelf}
 use Rattle.parted_state.specs.declared.example.Tool.{Tool}
 use Rattle.parted_state.specs.declared.example.Tables.{Tables}
 use Rattle.parted_state.specs.declared.example.Part.{Part}
@@ -21,9 +28,9 @@ pub record State : Type 0 where
 
 -- ---- parts
 
-abbrev pub pieces_in : Option Part → ℕ
-pieces_in (Some (part.Shelf pieces)) = pieces
-pieces_in other = 0
+abbrev pub shelf_in : Option Part → Shelf
+shelf_in (Some (part.Shelf shelf)) = shelf
+shelf_in other = record { pieces = 0 }
 
 abbrev pub tool_in : Option Part → Tool
 tool_in (Some (part.Tool tool)) = tool
@@ -38,11 +45,11 @@ shop = record {
   tables_of = λ s. s.tables;
   clients_of = λ s. s.clients;
   state_of = λ t rows. record { tables = t; clients = rows };
-  table_parts = λ t. part.Shelf t.pieces ∷ part.Tool t.tool ∷ [];
+  table_parts = λ t. part.Shelf t.shelf ∷ part.Tool t.tool ∷ [];
   tables = 2;
   last = 0;
   client_part = λ row. part.Client (settled row);
-  tables_in = λ hand. record { pieces = pieces_in (held_at hand 0); tool = tool_in (held_at hand 1) };
+  tables_in = λ hand. record { shelf = shelf_in (held_at hand 0); tool = tool_in (held_at hand 1) };
   row_in = row_in;
   nobody = [];
   felt = λ told row. row ++ told ∷ [];
@@ -70,7 +77,28 @@ IsRow held = held ≡ Some (part.Client (roomy_in held))
 abbrev pub clients_among : ℕ → ℕ
 clients_among places = places - 2
 
--- ---- services
+-- ---- the areas' tables, and what one is told of the other's
+
+abbrev pub shelf_table : Own Tables Shelf
+shelf_table = record { numbers = 0 ∷ []; of = λ t. t.shelf; put = λ new t. record t { shelf = new } }
+
+abbrev pub tool_table : Own Tables Tool
+tool_table = record { numbers = 1 ∷ []; of = λ t. t.tool; put = λ new t. record t { tool = new } }
+
+pub data Question : Type 0 where
+  -- whether a client has the tool
+  HasTool : ℕ → Question
+
+abbrev pub tables_for : Question → List ℕ
+tables_for (HasTool client) = 1 ∷ []
+
+abbrev pub noted : Question → Tables → Facts → Facts
+noted (HasTool client) t facts = record { has_tool = t.tool.owner == client }
+
+abbrev pub tells : Tells Tables Question Facts
+tells = record { nothing = record { has_tool = false }; tables = tables_for; noted = noted }
+
+-- ---- the tool
 
 -- a client takes the tool, or waits for it
 abbrev pub taken : ℕ → Tool → Tool
@@ -93,51 +121,70 @@ told_heir client = if client == 0 then [] else (client, word.Yours) ∷ []
 abbrev pub give_word : ℕ → Tool → Word
 give_word c tool = if tool.owner == c then word.Done else word.No
 
+abbrev pub serve_tool : Tool → ℕ → ToolAsk → Done Tool Word
+serve_tool tool c Take = record { tables = taken c tool; told = (c, take_word tool) ∷ [] }
+serve_tool tool c Give = record { tables = given c tool; told = (c, give_word c tool) ∷ told_heir (heir c tool) }
+
+-- it asks nothing of the shelf
+abbrev pub tool_area : Area Tool ℕ Word ToolAsk Question Facts
+tool_area = record { words = λ c asked. []; more = λ tool c asked. []; serves = λ facts tool c asked. serve_tool tool c asked }
+
+-- ---- the shelf
+
 -- pieces are fetched where there are as many, and where few are left, by the one that has the tool
-abbrev pub are_few : ℕ → Bool
-are_few pieces = nat_lt pieces 10
+abbrev pub are_few : Shelf → Bool
+are_few shelf = nat_lt shelf.pieces 10
 
-abbrev pub may_fetch : Bool → ℕ → ℕ → Tables → Bool
-may_fetch true c n t = if t.tool.owner == c then nat_le n t.pieces else false
-may_fetch false c n t = nat_le n t.pieces
+abbrev pub may_fetch : ℕ → Facts → Shelf → Bool
+may_fetch n facts shelf = (not (are_few shelf) || facts.has_tool) && nat_le n shelf.pieces
 
-abbrev pub fetched : Bool → ℕ → ℕ → ℕ
-fetched true n pieces = pieces - n
-fetched false n pieces = pieces
+abbrev pub fetched : ℕ → Facts → Shelf → Shelf
+fetched n facts shelf = if may_fetch n facts shelf then record { pieces = shelf.pieces - n } else shelf
 
-abbrev pub fetch_word : Bool → Word
-fetch_word true = word.Done
-fetch_word false = word.No
+abbrev pub fetch_word : ℕ → Facts → Shelf → Word
+fetch_word n facts shelf = if may_fetch n facts shelf then word.Done else word.No
 
-abbrev pub fetch : Bool → Tables → ℕ → ℕ → Done Tables Word
-fetch few t c n = record { tables = record t { pieces = fetched (may_fetch few c n t) n t.pieces }; told = (c, fetch_word (may_fetch few c n t)) ∷ [] }
+-- pieces are put on the shelf, up to a thousand, by the one that has the tool
+abbrev pub may_stock : ℕ → Facts → Shelf → Bool
+may_stock n facts shelf = facts.has_tool && nat_le shelf.pieces 1000 && nat_le n (1000 - shelf.pieces)
+
+abbrev pub stocked : ℕ → Facts → Shelf → Shelf
+stocked n facts shelf = if may_stock n facts shelf then record { pieces = shelf.pieces + n } else shelf
+
+abbrev pub stock_word : ℕ → Facts → Shelf → Word
+stock_word n facts shelf = if may_stock n facts shelf then word.Done else word.No
+
+abbrev pub serve_shelf : Facts → Shelf → ℕ → ShelfAsk → Done Shelf Word
+serve_shelf facts shelf c (Fetch n) = record { tables = fetched n facts shelf; told = (c, fetch_word n facts shelf) ∷ [] }
+serve_shelf facts shelf c (Stock n) = record { tables = stocked n facts shelf; told = (c, stock_word n facts shelf) ∷ [] }
+
+-- who has the tool is asked where few pieces are left
+abbrev pub ask_tool : Shelf → ℕ → ShelfAsk → List Question
+ask_tool shelf c (Fetch n) = if are_few shelf then HasTool c ∷ [] else []
+ask_tool shelf c (Stock n) = []
+
+-- or by the words of the request
+abbrev pub words_ask : ℕ → ShelfAsk → List Question
+words_ask c (Fetch n) = []
+words_ask c (Stock n) = HasTool c ∷ []
+
+abbrev pub shelf_area : Area Shelf ℕ Word ShelfAsk Question Facts
+shelf_area = record { words = words_ask; more = ask_tool; serves = serve_shelf }
+
+abbrev pub shelf_facts : ℕ → ShelfAsk → Tables → Facts
+shelf_facts c asked t = facts_of shelf_table tells shelf_area c asked t
+
+-- ---- all areas
+
+abbrev pub plan_of : ℕ → Ask → Plan Tables Word
+plan_of c (ask.Tool asked) = area_plan tool_table tells tool_area c asked
+plan_of c (ask.Shelf asked) = area_plan shelf_table tells shelf_area c asked
 
 abbrev pub serve : Tables → ℕ → Ask → Done Tables Word
-serve t c Take = record { tables = record t { tool = taken c t.tool }; told = (c, take_word t.tool) ∷ [] }
-serve t c Give = record { tables = record t { tool = given c t.tool }; told = (c, give_word c t.tool) ∷ told_heir (heir c t.tool) }
-serve t c (Fetch n) = fetch (are_few t.pieces) t c n
-
--- the tables that it uses: by its words, and then by what these show
-abbrev pub asks : Ask → List ℕ
-asks Take = 1 ∷ []
-asks Give = 1 ∷ []
-asks (Fetch n) = 0 ∷ []
-
-abbrev pub guarded : Bool → List ℕ
-guarded true = 1 ∷ []
-guarded false = []
-
-abbrev pub more : Tables → Ask → List ℕ
-more t (Fetch n) = guarded (are_few t.pieces)
-more t ask = []
+serve t c asked = (plan_of c asked).does t
 
 abbrev pub services : Services Tables (List Word) Word Asked
-services = record {
-  own = λ asked. asked.client;
-  words = λ asked. [];
-  asks = λ asked. (λ t row. asks asked.ask) ∷ (λ t row. more t asked.ask) ∷ [];
-  serves = λ t row asked. serve t asked.client asked.ask;
-}
+services = planned (λ asked. asked.client) (λ row asked. plan_of asked.client asked.ask)
 
 -- ---- derived, for every event
 

@@ -1,22 +1,26 @@
--- What is shown of the example: how it is cut, and of each request that it reads and changes the tables that it uses alone.
-use Rattle.std.specs.Prelude.{◌≡◌, ℕ, zero, suc, Bool, true, false, Option, None, Some, List, [], ◌∷◌, ◌++◌, slice_get, refl}
+-- What is shown of the example: how it is cut, of each area that it has a table, and of each question that a table answers it. Of a request nothing is to be shown.
+use Rattle.std.specs.Prelude.{◌≡◌, ℕ, zero, suc, ◌==◌, Option, None, Some, List, [], slice_get, refl}
 use Rattle.std.proofs.Common.{ap, arith}
 use Rattle.part_table.specs.Held.{held_at, places_held, laid_over, IsHandOf}
-use Rattle.parted_state.specs.Served.{IsDevice, IsServed, masked, done_within}
+use Rattle.parted_state.specs.Area.{AllIn, IsTable, AreTold, IsPlan}
+use Rattle.parted_state.specs.AreaLaws.{table_own, table_same, area_law, planned_served}
+use Rattle.parted_state.specs.Served.{IsDevice, IsServed, masked}
 use Rattle.parted_state.specs.ServedLaws as served
 use Rattle.parted_state.specs.declared.example.Ask.{Ask}
-use Rattle.parted_state.specs.declared.example.Ask.TheVariants.{Fetch}
+use Rattle.parted_state.specs.declared.example.Ask.TheVariants as ask
 use Rattle.parted_state.specs.declared.example.Asked.{Asked}
+use Rattle.parted_state.specs.declared.example.Facts.{Facts}
 use Rattle.parted_state.specs.declared.example.Tables.{Tables}
+use Rattle.parted_state.specs.declared.example.Tool.{Tool}
 use Rattle.parted_state.specs.declared.example.Part.{Part}
 use Rattle.parted_state.specs.declared.example.Part.TheVariants as part
-use Rattle.parted_state.specs.Shop.{State, shop, services, parts_of, pieces_in, tool_in, are_few, fetch, serve, asks, guarded, more, step, need, after, parts_after}
+use Rattle.parted_state.specs.Shop.{State, Question, HasTool, tables_for, shop, services, shelf_table, tool_table, tells, noted, shelf_area, tool_area, plan_of, parts_of, shelf_in, tool_in, step, need, after, parts_after}
 
 -- ---- once
 
 by_place : (one other : List (Option Part)) (table : ℕ) → held_at one table ≡ held_at other table
     → slice_get (shop.table_parts (shop.tables_in one)) table ≡ slice_get (shop.table_parts (shop.tables_in other)) table
-by_place one other zero same = ap (λ (o : Option Part). Some (part.Shelf (pieces_in o))) same
+by_place one other zero same = ap (λ (o : Option Part). Some (part.Shelf (shelf_in o))) same
 by_place one other (suc zero) same = ap (λ (o : Option Part). Some (part.Tool (tool_in o))) same
 by_place one other (suc (suc table)) same = refl
 
@@ -32,23 +36,27 @@ is_device = record {
   state_back = λ s. refl;
 }
 
--- ---- each request
+-- ---- each area, and each question
 
-fetch_law : (few : Bool) (t : Tables) (c n : ℕ)
-    → fetch few t c n ≡ done_within shop ((0 ∷ []) ++ (guarded few ++ [])) t (fetch few (masked shop ((0 ∷ []) ++ (guarded few ++ [])) t) c n)
-fetch_law true t c n = refl
-fetch_law false t c n = refl
+abbrev pub is_shelf : IsTable shop shelf_table
+is_shelf = record { number = 0; part = part.Shelf; part_in = shelf_in; one = refl; shown = λ hand. refl; puts = λ new t. refl }
 
-serve_law : (t : Tables) (c : ℕ) (ask : Ask) → serve t c ask ≡ done_within shop (asks ask ++ (more t ask ++ [])) t (serve (masked shop (asks ask ++ (more t ask ++ [])) t) c ask)
-serve_law t c (Fetch n) = fetch_law (are_few t.pieces) t c n
-serve_law t c ask = refl
+abbrev pub is_tool : IsTable shop tool_table
+is_tool = record { number = 1; part = part.Tool; part_in = tool_in; one = refl; shown = λ hand. refl; puts = λ new t. refl }
 
-more_law : (t : Tables) (ask : Ask) → more (masked shop (asks ask) t) ask ≡ more t ask
-more_law t (Fetch n) = refl
-more_law t ask = refl
+told_same : (question : Question) (facts : Facts) (us : List ℕ) (t : Tables) → AllIn shop (tables_for question) us
+    → noted question (masked shop us t) facts ≡ noted question t facts
+told_same (HasTool c) facts us t asked = ap (λ (x : Tool). record { has_tool = x.owner == c }) (table_same shop is_device tool_table is_tool us t (asked 1 refl))
+
+are_told : AreTold shop tells
+are_told = record { same = told_same }
+
+is_plan : (c : ℕ) (asked : Ask) → IsPlan shop (plan_of c asked)
+is_plan c (ask.Tool asked) = area_law shop is_device tells are_told tool_table (table_own shop is_device tool_table is_tool) tool_area c asked
+is_plan c (ask.Shelf asked) = area_law shop is_device tells are_told shelf_table (table_own shop is_device shelf_table is_shelf) shelf_area c asked
 
 pub each_served : (asked : Asked) → IsServed shop services asked
-each_served asked = record { stages = λ t row. (refl, (more_law t asked.ask, tt)); within = λ t row. serve_law t asked.client asked.ask }
+each_served asked = planned_served shop is_device (λ asked. asked.client) (λ row asked. plan_of asked.client asked.ask) asked (λ row. is_plan asked.client asked.ask)
 
 -- ---- and so, for every event
 

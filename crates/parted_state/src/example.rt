@@ -1,7 +1,8 @@
-//! An example of a device of tables and clients: a shelf with pieces, and a tool that one client has at a time. A
-//! client asks for the tool and waits where another has it; one that hands it over tells the client that waited for it,
-//! which is another client's part; pieces are fetched from the shelf, and where few are left, by the client alone that
-//! has the tool.
+//! An example of a device of tables and clients, with two areas: a shelf with pieces, and a tool that one client has at
+//! a time. A client asks for the tool and waits where another has it; one that hands it over tells the client that
+//! waited for it, which is another client's part. Pieces are fetched from the shelf, and where few are left, by the
+//! client alone that has the tool; that client alone puts pieces on it. Whether a client has the tool is all that the
+//! shelf needs to know of it, and it is told it as a fact.
 
 ghost use Rattle.std.specs.Prelude.{◌≡◌, ◌≢◌, ◌+◌, ◌<◌, ◌≤◌, ◌∷◌, [], ℕ, List, Option, None, OnOk, OnErr, length, slice_get};
 ghost use Rattle.std.specs.Option.{option_map};
@@ -9,7 +10,7 @@ ghost use Rattle.part_table.specs.Held.{held_at, IsHandOf};
 ghost use Rattle.parted_state.specs.Lifted.{told_all, with_tables};
 ghost use Rattle.parted_state.specs.Rows.{with_room, with_word};
 ghost use Rattle.parted_state.specs.Served.{change};
-ghost use Rattle.parted_state.specs.Shop.{State, IsRow, after, are_few, clients_among, fetch, give_word, given, heir, need, on_row, parts_after, parts_of, pieces_in, roomy_in, serve, shop, step, take_word, taken, told_heir, tool_in};
+ghost use Rattle.parted_state.specs.Shop.{State, IsRow, after, are_few, clients_among, fetch_word, fetched, give_word, given, heir, need, on_row, parts_after, parts_of, roomy_in, serve, serve_shelf, serve_tool, shelf_facts, shelf_in, shop, step, stock_word, stocked, take_word, taken, told_heir, tool_in};
 
 use part_table::{Hand, Object};
 use std::alloc::AllocError;
@@ -28,15 +29,31 @@ pub enum Word {
     No,
 }
 
-/// What a client asks for.
+/// What a client asks of the tool.
 #[derive(Clone, Copy)]
-pub enum Ask {
-    /// The tool.
+pub enum ToolAsk {
+    /// To have it.
     Take,
-    /// To hand over the tool.
+    /// To hand it over.
     Give,
+}
+
+/// What a client asks of the shelf.
+#[derive(Clone, Copy)]
+pub enum ShelfAsk {
     /// So many pieces.
     Fetch(u32),
+    /// To have so many pieces more.
+    Stock(u32),
+}
+
+/// What a client asks for, by the area that serves it.
+#[derive(Clone, Copy)]
+pub enum Ask {
+    /// Of the tool.
+    Tool(ToolAsk),
+    /// Of the shelf.
+    Shelf(ShelfAsk),
 }
 
 /// A client asks for something. Clients count from 1.
@@ -53,11 +70,23 @@ pub struct Tool {
     pub next: u32,
 }
 
-/// The tables: the pieces on the shelf, and the tool.
+/// How many pieces there are.
+#[derive(Clone, Copy)]
+pub struct Shelf {
+    pub pieces: u32,
+}
+
+/// The tables, one of each area.
 #[derive(Clone, Copy)]
 pub struct Tables {
-    pub pieces: u32,
+    pub shelf: Shelf,
     pub tool: Tool,
+}
+
+/// What an area is told of tables that aren't its own: whether the client that asks has the tool.
+#[derive(Clone, Copy)]
+pub struct Facts {
+    pub has_tool: bool,
 }
 
 /// What a client was told, in order, with room for more words that is made before it is used. Contracts see the words,
@@ -110,8 +139,8 @@ impl Row {
 /// A part. With n clients there are n + 2 of them.
 #[derive(Drop)]
 pub enum Part {
-    /// Part 0: how many pieces there are.
-    Shelf(u32),
+    /// Part 0.
+    Shelf(Shelf),
     /// Part c, of client c.
     Client(Row),
     /// Part n + 1.
@@ -186,22 +215,80 @@ impl Tool {
         };
         (Word::Done, heir)
     }
+
+    /// Serves the one that asks: what it is told, and the client that is told that it has the tool, or 0.
+    fn serve(&mut self, client: u32, ask: ToolAsk) -> (Word, u32)
+        ensures tool { self.new ≡ (serve_tool self.old client ask).tables }
+        ensures told { (client, result.0) ∷ told_heir result.1
+            ≡ (serve_tool self.old client ask).told }
+    {
+        match ask {
+            ToolAsk::Take => (self.take(client), 0),
+            ToolAsk::Give => self.give(client),
+        }
+    }
 }
 
-impl Tables {
-    /// The one that asks fetches pieces: what it is told.
-    fn fetch(&mut self, client: u32, pieces: u32) -> Word
-        ensures tables { self.new ≡ (fetch
-            (are_few self.old.pieces) self.old client pieces).tables }
-        ensures told { (client, result) ∷ []
-            ≡ (fetch (are_few self.old.pieces) self.old client pieces).told }
+impl Shelf {
+    /// Whether few pieces are left.
+    fn are_few(&self) -> bool
+        ensures { result ≡ are_few self.now }
     {
-        let may = (self.pieces >= 10 || self.tool.owner == client) && pieces <= self.pieces;
+        self.pieces < 10
+    }
+
+    /// Pieces are fetched: what the one that asks is told.
+    fn fetch(&mut self, pieces: u32, facts: Facts) -> Word
+        ensures shelf { self.new ≡ fetched pieces facts self.old }
+        ensures told { result ≡ fetch_word pieces facts self.old }
+    {
+        let may = (!self.are_few() || facts.has_tool) && pieces <= self.pieces;
         if !may {
             return Word::No;
         }
         self.pieces -= pieces;
         Word::Done
+    }
+
+    /// Pieces are put on the shelf: what the one that asks is told.
+    fn stock(&mut self, pieces: u32, facts: Facts) -> Word
+        ensures shelf { self.new ≡ stocked pieces facts self.old }
+        ensures told { result ≡ stock_word pieces facts self.old }
+    {
+        let may = facts.has_tool && self.pieces <= 1000 && pieces <= 1000 - self.pieces;
+        if !may {
+            return Word::No;
+        }
+        self.pieces += pieces;
+        Word::Done
+    }
+
+    /// Serves the one that asks: what it is told.
+    fn serve(&mut self, client: u32, ask: ShelfAsk, facts: Facts) -> Word
+        ensures shelf { self.new ≡ (serve_shelf facts self.old client ask).tables }
+        ensures told { (client, result) ∷ [] ≡ (serve_shelf facts self.old client ask).told }
+    {
+        let _client = client;
+        match ask {
+            ShelfAsk::Fetch(pieces) => self.fetch(pieces, facts),
+            ShelfAsk::Stock(pieces) => self.stock(pieces, facts),
+        }
+    }
+}
+
+impl Tables {
+    /// What the shelf is told of the tool.
+    fn shelf_facts(&self, client: u32, ask: ShelfAsk) -> Facts
+        ensures { result ≡ shelf_facts client ask self.now }
+    {
+        match ask {
+            ShelfAsk::Fetch(_) => Facts {
+                has_tool: self.shelf.are_few() && self.tool.owner == client,
+            },
+            ShelfAsk::Stock(_) => Facts {
+                has_tool: self.tool.owner == client,
+            },
+        }
     }
 
     /// Serves the one that asks: what it is told, and the client that is told that it has the tool, or 0.
@@ -211,9 +298,11 @@ impl Tables {
             ≡ (serve self.old asked.client asked.ask).told }
     {
         match asked.ask {
-            Ask::Take => (self.tool.take(asked.client), 0),
-            Ask::Give => self.tool.give(asked.client),
-            Ask::Fetch(pieces) => (self.fetch(asked.client, pieces), 0),
+            Ask::Tool(ask) => self.tool.serve(asked.client, ask),
+            Ask::Shelf(ask) => {
+                let facts = self.shelf_facts(asked.client, ask);
+                (self.shelf.serve(asked.client, ask, facts), 0)
+            }
         }
     }
 }
@@ -222,19 +311,19 @@ impl Tables {
 fn lift(held: &Hand<Shop>, clients: u32) -> Tables
     requires few { clients < 256 }
     ensures { result ≡ record {
-      pieces = pieces_in (held_at held.now 0);
+      shelf = shelf_in (held_at held.now 0);
       tool = tool_in (held_at held.now (1 + clients));
     } }
 {
-    let pieces = match held.get(0) {
-        Some(Part::Shelf(pieces)) => *pieces,
-        _ => 0,
+    let shelf = match held.get(0) {
+        Some(Part::Shelf(shelf)) => *shelf,
+        _ => Shelf { pieces: 0 },
     };
     let tool = match held.get(1 + clients) {
         Some(Part::Tool(tool)) => *tool,
         _ => Tool { owner: 0, next: 0 },
     };
-    Tables { pieces, tool }
+    Tables { shelf, tool }
 }
 
 /// Puts a part into its place, where one is held there.
@@ -253,7 +342,7 @@ fn lower(held: &mut Hand<Shop>, clients: u32, tables: Tables)
     requires few { clients < 256 }
     ensures { held.new ≡ with_tables shop clients tables held.old }
 {
-    put_back(held, 0, Part::Shelf(tables.pieces));
+    put_back(held, 0, Part::Shelf(tables.shelf));
     put_back(held, 1 + clients, Part::Tool(tables.tool));
 }
 
