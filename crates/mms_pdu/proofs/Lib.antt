@@ -1,3 +1,4 @@
+pub mod ByArea
 pub mod Whole
 pub mod AskedAgain
 pub mod AnswerTold

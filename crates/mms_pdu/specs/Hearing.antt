@@ -141,24 +141,9 @@ module _ (lengths : Lengths) (edition : Edition) where
 -- How deep the data and the type of a request nest (ISO 9506-2, nestingLevel): the data that is written, and the type of a variable that
 -- is defined. The other requests have none.
 abbrev pub request_depth : Request → ℕ
-request_depth (request.Status x) = 0
-request_depth (request.GetNameList x) = 0
-request_depth request.Identify = 0
-request_depth (request.Read x) = 0
 request_depth (request.Write x) = write_depth x
-request_depth (request.GetVariableAccessAttributes x) = 0
 request_depth (request.DefineNamedVariable x) = definition_depth x
-request_depth (request.DeleteVariableAccess x) = 0
-request_depth (request.DefineNamedVariableList x) = 0
-request_depth (request.GetNamedVariableListAttributes x) = 0
-request_depth (request.DeleteNamedVariableList x) = 0
-request_depth (request.TakeControl x) = 0
-request_depth (request.RelinquishControl x) = 0
-request_depth (request.DefineSemaphore x) = 0
-request_depth (request.DeleteSemaphore x) = 0
-request_depth (request.ReportSemaphoreStatus x) = 0
-request_depth (request.ReportPoolSemaphoreStatus x) = 0
-request_depth (request.ReportSemaphoreEntryStatus x) = 0
+request_depth other = 0
 
 -- and those of a PDU
 abbrev pub depth_of : Pdu → ℕ

@@ -13,22 +13,7 @@ pub(crate) fn request_depth(request: &Request) -> u8
     match request {
         Request::Write(x) => x.depth(),
         Request::DefineNamedVariable(x) => x.depth(),
-        Request::Status(_)
-        | Request::GetNameList(_)
-        | Request::Identify
-        | Request::Read(_)
-        | Request::GetVariableAccessAttributes(_)
-        | Request::DeleteVariableAccess(_)
-        | Request::DefineNamedVariableList(_)
-        | Request::GetNamedVariableListAttributes(_)
-        | Request::DeleteNamedVariableList(_)
-        | Request::TakeControl(_)
-        | Request::RelinquishControl(_)
-        | Request::DefineSemaphore(_)
-        | Request::DeleteSemaphore(_)
-        | Request::ReportSemaphoreStatus(_)
-        | Request::ReportPoolSemaphoreStatus(_)
-        | Request::ReportSemaphoreEntryStatus(_) => 0,
+        _ => 0,
     }
 }
 

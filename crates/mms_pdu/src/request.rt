@@ -9,11 +9,13 @@ ghost use Rattle.ber_forms.specs.Spelling.{alternative_octets};
 ghost use Rattle.ber_forms.specs.Value.{chosen};
 ghost use Rattle.mms_types.specs.Spelling.{widest};
 ghost use Rattle.pdu_names.specs.Editions.{lengths_of};
+ghost use Rattle.pdu_areas.specs.Services.{forms_of};
+ghost use Rattle.pdu_areas.specs.Joined.{IsSaid};
 ghost use Rattle.mms_pdu.specs.declared.refusal.Refusal.TheVariants.{Memory};
 ghost use Rattle.mms_pdu.specs.Services.{requests};
 ghost use Rattle.mms_pdu.specs.Pdus.{pdu_value};
 ghost use Rattle.mms_pdu.specs.Heard.{IsHeard};
-ghost use Rattle.mms_pdu.specs.Hearing.{Hears, sole_part, service_of, asked_at, asking, refusal_of_argument, argued, served, request_told, request_depth, depth_of};
+ghost use Rattle.mms_pdu.specs.Hearing.{Hears, sole_part, service_of, asked_at, asking, refusal_of_argument, argued, request_told, request_depth, depth_of};
 
 use crate::depth::request_depth;
 use crate::reading::{Read, tell};
@@ -21,18 +23,11 @@ use crate::refusal::Refusal;
 use ber_core::{Element, Memory as Full, Tag, Writer};
 use ber_forms::{Cursor, Unread};
 use mms_types::{Boxed, Edition, Pdu, Request};
-use pdu_assoc::{GetNameListRequest, StatusRequest};
-use pdu_names::{Formed, Null, cursor, read_as};
-use pdu_sems::{
-    DefineSemaphoreRequest, DeleteSemaphoreRequest, RelinquishControlRequest,
-    ReportPoolSemaphoreStatusRequest, ReportSemaphoreEntryStatusRequest,
-    ReportSemaphoreStatusRequest, TakeControlRequest,
-};
-use pdu_vars::{
-    DefineNamedVariableListRequest, DefineNamedVariableRequest, DeleteNamedVariableListRequest,
-    DeleteVariableAccessRequest, GetNamedVariableListAttributesRequest,
-    GetVariableAccessAttributesRequest, ReadRequest, WriteRequest,
-};
+use pdu_areas::Area;
+use pdu_assoc::{DeviceServices, StatusRequest};
+use pdu_names::{Formed, cursor, read_as};
+use pdu_sems::{RelinquishControlRequest, SemaphoreServices, TakeControlRequest};
+use pdu_vars::{ReadRequest, VariableServices, WriteRequest};
 use std::alloc::Global;
 
 /// The last element: nothing follows it.
@@ -122,72 +117,6 @@ fn argument_apart<F: Formed>(
     Ok(Boxed::new(alloc, found)?)
 }
 
-/// The request for the service of that number, or why it is refused: a service that isn't listed here is not offered.
-#[tactic(auto, unfolding(crate::specs::Services::requests))]
-fn served(
-    alloc: Global,
-    invoke: u32,
-    service: Element<'_>,
-    edition: Edition,
-) -> Result<Request, Refusal>
-    ensures { Hears requests.value result
-        (served (lengths_of edition) invoke (part service.entry)
-        (form_at service.entry.tag.number (requests.alternatives edition))) }
-{
-    match service.tag.number {
-        0 => Ok(Request::Status(argument::<StatusRequest>(alloc, invoke, service, edition)?)),
-        1 => Ok(Request::GetNameList(argument::<GetNameListRequest>(
-            alloc, invoke, service, edition,
-        )?)),
-        2 => {
-            argument::<Null>(alloc, invoke, service, edition)?;
-            Ok(Request::Identify)
-        }
-        4 => Ok(Request::Read(argument::<ReadRequest>(alloc, invoke, service, edition)?)),
-        5 => Ok(Request::Write(argument::<WriteRequest>(alloc, invoke, service, edition)?)),
-        6 => Ok(Request::GetVariableAccessAttributes(argument::<GetVariableAccessAttributesRequest>(
-            alloc, invoke, service, edition,
-        )?)),
-        7 => Ok(Request::DefineNamedVariable(argument::<DefineNamedVariableRequest>(
-            alloc, invoke, service, edition,
-        )?)),
-        10 => Ok(Request::DeleteVariableAccess(argument::<DeleteVariableAccessRequest>(
-            alloc, invoke, service, edition,
-        )?)),
-        11 => Ok(Request::DefineNamedVariableList(argument::<DefineNamedVariableListRequest>(
-            alloc, invoke, service, edition,
-        )?)),
-        12 => Ok(Request::GetNamedVariableListAttributes(argument::<
-            GetNamedVariableListAttributesRequest,
-        >(alloc, invoke, service, edition)?)),
-        13 => Ok(Request::DeleteNamedVariableList(argument::<DeleteNamedVariableListRequest>(
-            alloc, invoke, service, edition,
-        )?)),
-        19 => Ok(Request::TakeControl(argument_apart::<TakeControlRequest>(
-            alloc, invoke, service, edition,
-        )?)),
-        20 => Ok(Request::RelinquishControl(argument::<RelinquishControlRequest>(
-            alloc, invoke, service, edition,
-        )?)),
-        21 => Ok(Request::DefineSemaphore(argument::<DefineSemaphoreRequest>(
-            alloc, invoke, service, edition,
-        )?)),
-        22 => Ok(Request::DeleteSemaphore(argument::<DeleteSemaphoreRequest>(
-            alloc, invoke, service, edition,
-        )?)),
-        23 => Ok(Request::ReportSemaphoreStatus(argument::<ReportSemaphoreStatusRequest>(
-            alloc, invoke, service, edition,
-        )?)),
-        24 => Ok(Request::ReportPoolSemaphoreStatus(argument::<ReportPoolSemaphoreStatusRequest>(
-            alloc, invoke, service, edition,
-        )?)),
-        25 => Ok(Request::ReportSemaphoreEntryStatus(argument::<ReportSemaphoreEntryStatusRequest>(
-            alloc, invoke, service, edition,
-        )?)),
-        _ => Err(Refusal::Service { invoke }),
-    }
-}
-
 /// Tells that this is asked for.
 #[inline(always)]
 fn tell_asked(invoke: u32, request: Request, told: &mut Result<Read, Refusal>)
@@ -202,29 +131,33 @@ fn tell_asked(invoke: u32, request: Request, told: &mut Result<Read, Refusal>)
     tell(told, Ok(Read { pdu, depth }));
 }
 
-/// Tells the request of a service, or why it is refused.
+/// Tells the request of a service of the area A, or why it is refused: a service that the area does not have is not
+/// offered.
 #[inline(never)]
-#[tactic(auto, unfolding(crate::specs::Hearing::request_told))]
-fn tell_served(
+fn tell_of<A: Area>(
     alloc: Global,
     invoke: u32,
     service: Element<'_>,
     edition: Edition,
     told: &mut Result<Read, Refusal>,
 )
-    requires { IsErr told.old }
+    requires form { form_at service.tag.number (requests.alternatives edition)
+        ≡ form_at service.tag.number (forms_of A.area.requests.arms edition) }
+    requires value { IsSaid A.area.requests requests }
+    requires fresh { IsErr told.old }
     ensures told { Hears (λ r. pdu_value r.pdu) told.new
         (request_told (lengths_of edition) edition (asking invoke false (part service.entry))) }
     ensures client { IfOk told.new (λ r. IsHeard r.pdu) }
     ensures depth { IfOk told.new (λ r. r.depth ≡ depth_of r.pdu) }
 {
-    match served(alloc, invoke, service, edition) {
-        Ok(request) => tell_asked(invoke, request, told),
-        Err(refusal) => tell(told, Err(refusal)),
+    match A::read_request(alloc, service, edition) {
+        Ok(Some(request)) => tell_asked(invoke, request, told),
+        Ok(None) => tell(told, Err(Refusal::Service { invoke })),
+        Err(unread) => tell(told, Err(refusal_of_argument(invoke, unread))),
     }
 }
 
-/// Tells the request for the status of the device, as `tell_served` does.
+/// Tells the request for the status of the device, as `tell_of` does.
 #[tactic(auto, unfolding(crate::specs::Hearing::request_told, crate::specs::Services::requests))]
 fn tell_status(
     alloc: Global,
@@ -246,7 +179,7 @@ fn tell_status(
     }
 }
 
-/// Tells the request to read variables, as `tell_served` does.
+/// Tells the request to read variables, as `tell_of` does.
 #[inline(never)]
 #[tactic(auto, unfolding(crate::specs::Hearing::request_told, crate::specs::Services::requests))]
 fn tell_read(
@@ -269,7 +202,7 @@ fn tell_read(
     }
 }
 
-/// Tells the request to write variables, as `tell_served` does.
+/// Tells the request to write variables, as `tell_of` does.
 #[inline(never)]
 #[tactic(auto, unfolding(crate::specs::Hearing::request_told, crate::specs::Services::requests))]
 fn tell_write(
@@ -292,7 +225,7 @@ fn tell_write(
     }
 }
 
-/// Tells the request for a token, as `tell_served` does.
+/// Tells the request for a token, as `tell_of` does.
 #[inline(never)]
 #[tactic(auto, unfolding(crate::specs::Hearing::request_told, crate::specs::Services::requests))]
 fn tell_take(
@@ -315,7 +248,7 @@ fn tell_take(
     }
 }
 
-/// Tells the request to give a token back, as `tell_served` does.
+/// Tells the request to give a token back, as `tell_of` does.
 #[inline(never)]
 #[tactic(auto, unfolding(crate::specs::Hearing::request_told, crate::specs::Services::requests))]
 fn tell_relinquish(
@@ -338,9 +271,9 @@ fn tell_relinquish(
     }
 }
 
-/// Tells the request that is asked for, or why it is refused. What is asked most has a way of its own, on which no
-/// other request is made room for.
-#[tactic(auto, unfolding(crate::specs::Hearing::request_told))]
+/// Tells the request that is asked for, or why it is refused: by its area. What is asked most has a way of its own, on
+/// which no other request is made room for.
+#[tactic(auto, unfolding(crate::specs::Hearing::request_told), using(crate::proofs::ByArea::device_form, crate::proofs::ByArea::variable_form, crate::proofs::ByArea::semaphore_form, crate::proofs::ByArea::no_request_form, crate::proofs::ByArea::device_said, crate::proofs::ByArea::variable_said, crate::proofs::ByArea::semaphore_said))]
 pub(crate) fn tell_request(
     alloc: Global,
     invoke: u32,
@@ -364,44 +297,23 @@ pub(crate) fn tell_request(
         5 => tell_write(alloc, invoke, service, edition, told),
         19 => tell_take(alloc, invoke, service, edition, told),
         20 => tell_relinquish(alloc, invoke, service, edition, told),
-        _ => tell_served(alloc, invoke, service, edition, told),
+        0..=3 => tell_of::<DeviceServices>(alloc, invoke, service, edition, told),
+        4..=18 => tell_of::<VariableServices>(alloc, invoke, service, edition, told),
+        19..=25 => tell_of::<SemaphoreServices>(alloc, invoke, service, edition, told),
+        _ => tell(told, Err(Refusal::Service { invoke })),
     }
 }
 
 /// Appends the service with its argument, or nothing where memory runs out.
-#[tactic(auto, unfolding(crate::specs::Services::requests))]
 pub(crate) fn put_argument(out: &mut Writer, request: &Request) -> Result<(), Full>
     ensures ok { OnOk result (out.new
         ≡ out.old ++ alternative_octets (requests.alternatives widest)
         (requests.value request.now)) }
     ensures err { OnErr result (out.new ≡ out.old) }
 {
-    match request {
-        Request::Status(x) => StatusRequest::put_part(out, 0, x),
-        Request::GetNameList(x) => GetNameListRequest::put_part(out, 1, x),
-        Request::Identify => Null::put_part(out, 2, &()),
-        Request::Read(x) => ReadRequest::put_part(out, 4, x),
-        Request::Write(x) => WriteRequest::put_part(out, 5, x),
-        Request::GetVariableAccessAttributes(x) => {
-            GetVariableAccessAttributesRequest::put_part(out, 6, x)
-        }
-        Request::DefineNamedVariable(x) => DefineNamedVariableRequest::put_part(out, 7, x),
-        Request::DeleteVariableAccess(x) => DeleteVariableAccessRequest::put_part(out, 10, x),
-        Request::DefineNamedVariableList(x) => DefineNamedVariableListRequest::put_part(out, 11, x),
-        Request::GetNamedVariableListAttributes(x) => {
-            GetNamedVariableListAttributesRequest::put_part(out, 12, x)
-        }
-        Request::DeleteNamedVariableList(x) => DeleteNamedVariableListRequest::put_part(out, 13, x),
-        Request::TakeControl(x) => TakeControlRequest::put_part(out, 19, x.get()),
-        Request::RelinquishControl(x) => RelinquishControlRequest::put_part(out, 20, x),
-        Request::DefineSemaphore(x) => DefineSemaphoreRequest::put_part(out, 21, x),
-        Request::DeleteSemaphore(x) => DeleteSemaphoreRequest::put_part(out, 22, x),
-        Request::ReportSemaphoreStatus(x) => ReportSemaphoreStatusRequest::put_part(out, 23, x),
-        Request::ReportPoolSemaphoreStatus(x) => {
-            ReportPoolSemaphoreStatusRequest::put_part(out, 24, x)
-        }
-        Request::ReportSemaphoreEntryStatus(x) => {
-            ReportSemaphoreEntryStatusRequest::put_part(out, 25, x)
-        }
+    if DeviceServices::put_request(out, request)? || VariableServices::put_request(out, request)? {
+        return Ok(());
     }
+    SemaphoreServices::put_request(out, request)?;
+    Ok(())
 }

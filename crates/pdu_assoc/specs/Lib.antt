@@ -4,3 +4,4 @@ pub mod Status
 pub mod Reject
 pub mod Heard
 pub mod NameList
+pub mod Services

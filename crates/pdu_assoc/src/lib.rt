@@ -7,6 +7,7 @@ mod heard;
 mod initiate;
 mod name_list;
 mod reject;
+mod services;
 mod status;
 
 pub use errors::{
@@ -16,4 +17,5 @@ pub use heard::{HeardErrors, read_heard_reject};
 pub use initiate::{Detail, InitiateRequest, InitiateResponse};
 pub use name_list::{Classes, GetNameListRequest, GetNameListResponse, Scopes};
 pub use reject::{Reasons, Rejects};
+pub use services::DeviceServices;
 pub use status::{IdentifyResponse, StatusRequest, StatusResponse};

@@ -7,6 +7,7 @@ mod control;
 mod definitions;
 mod entries;
 mod pools;
+mod services;
 
 pub use control::{
     RelinquishControlRequest, TakeControlAlternatives, TakeControlRequest, TakeControlResponse,
@@ -22,3 +23,4 @@ pub use entries::{
 pub use pools::{
     NamedTokenAlternatives, ReportPoolSemaphoreStatusRequest, ReportPoolSemaphoreStatusResponse,
 };
+pub use services::SemaphoreServices;

@@ -3,3 +3,4 @@ pub mod Results
 pub mod ReadWrite
 pub mod Named
 pub mod Lists
+pub mod Services

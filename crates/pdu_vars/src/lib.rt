@@ -7,6 +7,7 @@ mod lists;
 mod named;
 mod read_write;
 mod results;
+mod services;
 mod variables;
 
 pub use lists::{
@@ -20,4 +21,5 @@ pub use named::{
 };
 pub use read_write::{ReadRequest, ReadResponse, WriteRequest, WriteResponse};
 pub use results::{AccessResultAlternatives, WriteResultAlternatives};
+pub use services::VariableServices;
 pub use variables::{AccessSpecification, Addresses, ListedVariable, Specification, Variables};

@@ -1,0 +1,305 @@
+-- A service is that of its area: how it is read, and how it is spelled.
+use Rattle.std.proofs.Common.{◌≡◌, ℕ, ◌≤◌, ◌<◌, true, false, List, [], ◌∷◌, ◌++◌, Option, Some, None, Result, Ok, Err, refl, sym, ap, ◌∙◌, arith}
+use Rattle.std.specs.Prelude.{is_some}
+use Rattle.std.proofs.lemmas.List.{append-nil}
+use Rattle.ber_core.specs.declared.element.Lengths.{Lengths}
+use Rattle.ber_core.specs.Part.{Part}
+use Rattle.ber_forms.specs.declared.unread.Unread.{Unread}
+use Rattle.ber_forms.specs.declared.unread.Unread.TheVariants as unread
+use Rattle.ber_forms.specs.Fault.{Fault}
+use Rattle.ber_forms.specs.Fault as fault
+use Rattle.ber_forms.specs.Value.{Value}
+use Rattle.ber_forms.specs.Form.{Form, Alternatives}
+use Rattle.ber_forms.specs.ByNumber.{form_at, read_as}
+use Rattle.ber_forms.specs.Reading.{◌>>=◌, Fails}
+use Rattle.ber_forms.specs.Spelling.{alternative_octets}
+use Rattle.mms_types.specs.declared.identifier.Edition.{Edition}
+use Rattle.mms_types.specs.declared.pdu.Request.{Request}
+use Rattle.mms_types.specs.declared.pdu.Answer.{Answer}
+use Rattle.mms_types.specs.Spelling.{widest}
+use Rattle.pdu_areas.specs.Services.{forms_of}
+use Rattle.pdu_areas.specs.Joined.{Share, IsSaid, joined, counted}
+use Rattle.pdu_areas.specs.Gives.{read_under, octets_if}
+use Rattle.pdu_areas.proofs.Whose.{none_within, no_form, form_there, value_there, octets_own, octets_none}
+use Rattle.pdu_assoc.specs.Services.{device_area}
+use Rattle.pdu_vars.specs.Services.{variable_area}
+use Rattle.pdu_sems.specs.Services.{semaphore_area}
+use Rattle.mms_pdu.specs.declared.refusal.Refusal.{Refusal}
+use Rattle.mms_pdu.specs.declared.refusal.Refusal.TheVariants as refusal
+use Rattle.mms_pdu.specs.Services.{requests, answers, request_shares, answer_shares, one_asks, one_answers}
+use Rattle.mms_pdu.specs.Hearing.{asking, and_then, argued, asked_value, served, request_told, refusal_of_argument, Refuses}
+
+-- ---- what is read by the form of a share is what is read by that of all
+
+module _ (lengths : Lengths) (edition : Edition) (invoke : ℕ) (p : Part) (share : Share Request) where
+  abbrev Own : Type 0
+  Own = form_at p.tag.number (requests.alternatives edition) ≡ form_at p.tag.number (forms_of share.arms edition)
+
+  abbrev told_by : Option Form → Result Value Refusal
+  told_by o = and_then (served lengths invoke p o) (λ v. Ok (asked_value invoke v))
+
+  told_own : Own → request_told lengths edition (asking invoke false p) ≡ told_by (form_at p.tag.number (forms_of share.arms edition))
+  unfolding request_told
+  told_own own = ap told_by own
+
+  pub request_by : (r : Request) → Own → IsSaid share requests → read_under lengths p (form_at p.tag.number (forms_of share.arms edition)) ≡ Ok (Some (share.value r))
+      → request_told lengths edition (asking invoke false p) ≡ Ok (asked_value invoke (requests.value r))
+  request_by r own said e = told_own own ∙ by_form (form_at p.tag.number (forms_of share.arms edition)) e
+    where
+      by_read : (q : Result Value Fault) → (q >>= λ v. Ok (Some (Some v))) ≡ Ok (Some (share.value r)) → and_then (argued invoke q) (λ v. Ok (asked_value invoke v)) ≡ Ok (asked_value invoke (requests.value r))
+      by_read (Ok v) e =
+          let is : Some v ≡ share.value r = cc e in
+          ap (λ w. Ok (asked_value invoke w)) (sym (said r v (sym is)))
+      by_read (Err fault.malformed) e = absurd cc
+      by_read (Err fault.too_deep) e = absurd cc
+
+      by_form : (o : Option Form) → read_under lengths p o ≡ Ok (Some (share.value r)) → told_by o ≡ Ok (asked_value invoke (requests.value r))
+      by_form None e = absurd cc
+      by_form (Some f) e = by_read (read_as lengths p (Some f)) e
+
+  pub not_offered : Own → read_under lengths p (form_at p.tag.number (forms_of share.arms edition)) ≡ Ok None → request_told lengths edition (asking invoke false p) ≡ Err (refusal.Service invoke)
+  not_offered own e = told_own own ∙ by_form (form_at p.tag.number (forms_of share.arms edition)) e
+    where
+      by_read : (q : Result Value Fault) → (q >>= λ v. Ok (Some (Some v))) ≡ Ok None → and_then (argued invoke q) (λ v. Ok (asked_value invoke v)) ≡ Err (refusal.Service invoke)
+      by_read (Ok v) e = absurd cc
+      by_read (Err d) e = absurd cc
+
+      by_form : (o : Option Form) → read_under lengths p o ≡ Ok None → told_by o ≡ Err (refusal.Service invoke)
+      by_form None e = refl
+      by_form (Some f) e = by_read (read_as lengths p (Some f)) e
+
+  refused_by : (e : Fault) → Own → read_under lengths p (form_at p.tag.number (forms_of share.arms edition)) ≡ Err e
+      → request_told lengths edition (asking invoke false p) ≡ and_then (argued invoke (Err e)) (λ v. Ok (asked_value invoke v))
+  refused_by d own e = told_own own ∙ by_form (form_at p.tag.number (forms_of share.arms edition)) e
+    where
+      by_read : (q : Result Value Fault) → (q >>= λ v. Ok (Some (Some v))) ≡ Err d
+          → and_then (argued invoke q) (λ v. Ok (asked_value invoke v)) ≡ and_then (argued invoke (Err d)) (λ v. Ok (asked_value invoke v))
+      by_read (Ok v) e = absurd cc
+      by_read (Err f) e =
+          let same : f ≡ d = cc e in
+          ap (λ (x : Fault). and_then (argued invoke (Err x)) (λ v. Ok (asked_value invoke v))) same
+
+      by_form : (o : Option Form) → read_under lengths p o ≡ Err d → told_by o ≡ and_then (argued invoke (Err d)) (λ v. Ok (asked_value invoke v))
+      by_form None e = absurd cc
+      by_form (Some f) e = by_read (read_as lengths p (Some f)) e
+
+  pub unread_request : (e : Unread) → Own → Fails e (read_under lengths p (form_at p.tag.number (forms_of share.arms edition)))
+      → Refuses (refusal_of_argument invoke e) (request_told lengths edition (asking invoke false p))
+  unread_request unread.Memory own e = tt
+  unread_request unread.Malformed own e = refused_by fault.malformed own e
+  unread_request unread.TooDeep own e = refused_by fault.too_deep own e
+
+module _ (lengths : Lengths) (edition : Edition) (p : Part) (share : Share Answer) where
+  abbrev OwnAnswer : Type 0
+  OwnAnswer = form_at p.tag.number (answers.alternatives edition) ≡ form_at p.tag.number (forms_of share.arms edition)
+
+  pub answer_by : (a : Answer) → OwnAnswer → IsSaid share answers → read_under lengths p (form_at p.tag.number (forms_of share.arms edition)) ≡ Ok (Some (share.value a))
+      → read_as lengths p (form_at p.tag.number (answers.alternatives edition)) ≡ Ok (answers.value a)
+  answer_by a own said e = ap (read_as lengths p) own ∙ by_form (form_at p.tag.number (forms_of share.arms edition)) e
+    where
+      by_read : (q : Result Value Fault) → (q >>= λ v. Ok (Some (Some v))) ≡ Ok (Some (share.value a)) → q ≡ Ok (answers.value a)
+      by_read (Ok v) e =
+          let is : Some v ≡ share.value a = cc e in
+          ap (λ w. Ok w) (sym (said a v (sym is)))
+      by_read (Err d) e = absurd cc
+
+      by_form : (o : Option Form) → read_under lengths p o ≡ Ok (Some (share.value a)) → read_as lengths p o ≡ Ok (answers.value a)
+      by_form None e = absurd cc
+      by_form (Some f) e = by_read (read_as lengths p (Some f)) e
+
+  pub no_answer : OwnAnswer → read_under lengths p (form_at p.tag.number (forms_of share.arms edition)) ≡ Ok None → read_as lengths p (form_at p.tag.number (answers.alternatives edition)) ≡ Err fault.malformed
+  no_answer own e = ap (read_as lengths p) own ∙ by_form (form_at p.tag.number (forms_of share.arms edition)) e
+    where
+      by_read : (q : Result Value Fault) → (q >>= λ v. Ok (Some (Some v))) ≡ Ok None → q ≡ Err fault.malformed
+      by_read (Ok v) e = absurd cc
+      by_read (Err d) e = absurd cc
+
+      by_form : (o : Option Form) → read_under lengths p o ≡ Ok None → read_as lengths p o ≡ Err fault.malformed
+      by_form None e = refl
+      by_form (Some f) e = by_read (read_as lengths p (Some f)) e
+
+  failed_by : (d : Fault) → OwnAnswer → read_under lengths p (form_at p.tag.number (forms_of share.arms edition)) ≡ Err d → read_as lengths p (form_at p.tag.number (answers.alternatives edition)) ≡ Err d
+  failed_by d own e = ap (read_as lengths p) own ∙ by_form (form_at p.tag.number (forms_of share.arms edition)) e
+    where
+      by_read : (q : Result Value Fault) → (q >>= λ v. Ok (Some (Some v))) ≡ Err d → q ≡ Err d
+      by_read (Ok v) e = absurd cc
+      by_read (Err f) e = ap (λ (x : Fault). Err x) (cc e)
+
+      by_form : (o : Option Form) → read_under lengths p o ≡ Err d → read_as lengths p o ≡ Err d
+      by_form None e = absurd cc
+      by_form (Some f) e = by_read (read_as lengths p (Some f)) e
+
+  pub unread_answer : (e : Unread) → OwnAnswer → Fails e (read_under lengths p (form_at p.tag.number (forms_of share.arms edition)))
+      → Fails e (read_as lengths p (form_at p.tag.number (answers.alternatives edition)))
+  unread_answer unread.Memory own e = tt
+  unread_answer unread.Malformed own e = failed_by fault.malformed own e
+  unread_answer unread.TooDeep own e = failed_by fault.too_deep own e
+
+-- ---- the areas, by their numbers: 0 to 3, 4 to 18 and 19 to 25
+
+abbrev after_device : List (Share Request)
+after_device = variable_area.requests ∷ semaphore_area.requests ∷ []
+
+abbrev after_device_answers : List (Share Answer)
+after_device_answers = variable_area.answers ∷ semaphore_area.answers ∷ []
+
+abbrev before_semaphores : List (Share Request)
+before_semaphores = device_area.requests ∷ variable_area.requests ∷ []
+
+abbrev before_semaphore_answers : List (Share Answer)
+before_semaphore_answers = device_area.answers ∷ variable_area.answers ∷ []
+
+module _ (n : ℕ) (edition : Edition) where
+  pub device_form : n ≤ 3 → form_at n (requests.alternatives edition) ≡ form_at n (forms_of device_area.requests.arms edition)
+  unfolding requests
+  device_form few =
+      form_there [] device_area.requests after_device n edition refl (none_within 4 25 (joined after_device) n refl (λ low high. omega (arith, few, low)))
+
+  pub variable_form : 4 ≤ n → n ≤ 18 → form_at n (requests.alternatives edition) ≡ form_at n (forms_of variable_area.requests.arms edition)
+  unfolding requests
+  variable_form most few =
+      form_there (device_area.requests ∷ []) variable_area.requests (semaphore_area.requests ∷ []) n edition
+      (none_within 0 3 (joined (device_area.requests ∷ [])) n refl (λ low high. omega (arith, most, high)))
+      (none_within 19 25 (joined (semaphore_area.requests ∷ [])) n refl (λ low high. omega (arith, few, low)))
+
+  pub semaphore_form : 19 ≤ n → form_at n (requests.alternatives edition) ≡ form_at n (forms_of semaphore_area.requests.arms edition)
+  unfolding requests
+  semaphore_form most =
+      form_there before_semaphores semaphore_area.requests [] n edition (none_within 0 18 (joined before_semaphores) n refl (λ low high. omega (arith, most, high))) refl
+
+  pub no_request_form : 25 < n → form_at n (requests.alternatives edition) ≡ None
+  unfolding requests
+  no_request_form many = no_form (joined request_shares) n edition (none_within 0 25 (joined request_shares) n refl (λ low high. omega (arith, many, high)))
+
+  pub device_answer_form : n ≤ 3 → form_at n (answers.alternatives edition) ≡ form_at n (forms_of device_area.answers.arms edition)
+  unfolding answers
+  device_answer_form few =
+      form_there [] device_area.answers after_device_answers n edition refl (none_within 4 25 (joined after_device_answers) n refl (λ low high. omega (arith, few, low)))
+
+  pub variable_answer_form : 4 ≤ n → n ≤ 18 → form_at n (answers.alternatives edition) ≡ form_at n (forms_of variable_area.answers.arms edition)
+  unfolding answers
+  variable_answer_form most few =
+      form_there (device_area.answers ∷ []) variable_area.answers (semaphore_area.answers ∷ []) n edition
+      (none_within 0 3 (joined (device_area.answers ∷ [])) n refl (λ low high. omega (arith, most, high)))
+      (none_within 19 25 (joined (semaphore_area.answers ∷ [])) n refl (λ low high. omega (arith, few, low)))
+
+  pub semaphore_answer_form : 19 ≤ n → form_at n (answers.alternatives edition) ≡ form_at n (forms_of semaphore_area.answers.arms edition)
+  unfolding answers
+  semaphore_answer_form most =
+      form_there before_semaphore_answers semaphore_area.answers [] n edition (none_within 0 18 (joined before_semaphore_answers) n refl (λ low high. omega (arith, most, high))) refl
+
+  pub no_answer_form : 25 < n → form_at n (answers.alternatives edition) ≡ None
+  unfolding answers
+  no_answer_form many = no_form (joined answer_shares) n edition (none_within 0 25 (joined answer_shares) n refl (λ low high. omega (arith, many, high)))
+
+-- ---- what an area's requests and answers say
+
+pub device_said : IsSaid device_area.requests requests
+unfolding requests
+device_said = λ r v. value_there [] device_area.requests after_device r v (one_asks r)
+
+pub variable_said : IsSaid variable_area.requests requests
+unfolding requests
+variable_said = λ r v. value_there (device_area.requests ∷ []) variable_area.requests (semaphore_area.requests ∷ []) r v (one_asks r)
+
+pub semaphore_said : IsSaid semaphore_area.requests requests
+unfolding requests
+semaphore_said = λ r v. value_there before_semaphores semaphore_area.requests [] r v (one_asks r)
+
+pub device_answer_said : IsSaid device_area.answers answers
+unfolding answers
+device_answer_said = λ a v. value_there [] device_area.answers after_device_answers a v (one_answers a)
+
+pub variable_answer_said : IsSaid variable_area.answers answers
+unfolding answers
+variable_answer_said = λ a v. value_there (device_area.answers ∷ []) variable_area.answers (semaphore_area.answers ∷ []) a v (one_answers a)
+
+pub semaphore_answer_said : IsSaid semaphore_area.answers answers
+unfolding answers
+semaphore_answer_said = λ a v. value_there before_semaphore_answers semaphore_area.answers [] a v (one_answers a)
+
+-- ---- how they are spelled
+
+third : (a b c : Option Value) → counted a (counted b (counted c 0)) ≡ 1 → is_some a ≡ false → is_some b ≡ false → is_some c ≡ true
+third None None None one e f = absurd (omega (arith, one))
+third None None (Some v) one e f = refl
+third None (Some v) c one e f = absurd cc
+third (Some v) b c one e f = absurd cc
+
+module _ (r : Request) where
+  abbrev pub IsSpelled : List ℕ → Type 0
+  IsSpelled octets = octets ≡ alternative_octets (requests.alternatives widest) (requests.value r)
+
+  pub device_spelled : is_some (device_area.requests.value r) ≡ true → IsSpelled (octets_if (forms_of device_area.requests.arms widest) (device_area.requests.value r))
+  unfolding requests
+  device_spelled e = octets_own [] device_area.requests after_device r widest refl (one_asks r) e
+
+  pub variable_spelled : is_some (variable_area.requests.value r) ≡ true → IsSpelled (octets_if (forms_of variable_area.requests.arms widest) (variable_area.requests.value r))
+  unfolding requests
+  variable_spelled e = octets_own (device_area.requests ∷ []) variable_area.requests (semaphore_area.requests ∷ []) r widest refl (one_asks r) e
+
+  pub semaphore_spelled : is_some (device_area.requests.value r) ≡ false → is_some (variable_area.requests.value r) ≡ false
+      → IsSpelled (octets_if (forms_of semaphore_area.requests.arms widest) (semaphore_area.requests.value r))
+  unfolding requests
+  semaphore_spelled e f =
+      octets_own before_semaphores semaphore_area.requests [] r widest refl (one_asks r)
+      (third (device_area.requests.value r) (variable_area.requests.value r) (semaphore_area.requests.value r) (one_asks r) e f)
+
+module _ (a : Answer) where
+  abbrev pub IsAnswered : List ℕ → Type 0
+  IsAnswered octets = octets ≡ alternative_octets (answers.alternatives widest) (answers.value a)
+
+  pub device_answered : is_some (device_area.answers.value a) ≡ true → IsAnswered (octets_if (forms_of device_area.answers.arms widest) (device_area.answers.value a))
+  unfolding answers
+  device_answered e = octets_own [] device_area.answers after_device_answers a widest refl (one_answers a) e
+
+  pub variable_answered : is_some (variable_area.answers.value a) ≡ true → IsAnswered (octets_if (forms_of variable_area.answers.arms widest) (variable_area.answers.value a))
+  unfolding answers
+  variable_answered e = octets_own (device_area.answers ∷ []) variable_area.answers (semaphore_area.answers ∷ []) a widest refl (one_answers a) e
+
+  pub semaphore_answered : is_some (device_area.answers.value a) ≡ false → is_some (variable_area.answers.value a) ≡ false
+      → IsAnswered (octets_if (forms_of semaphore_area.answers.arms widest) (semaphore_area.answers.value a))
+  unfolding answers
+  semaphore_answered e f =
+      octets_own before_semaphore_answers semaphore_area.answers [] a widest refl (one_answers a)
+      (third (device_area.answers.value a) (variable_area.answers.value a) (semaphore_area.answers.value a) (one_answers a) e f)
+
+-- nothing is appended of another area's
+nothing_put : (others : Alternatives) (o : Option Value) (before after : List ℕ) → after ≡ before ++ octets_if others o → is_some o ≡ false → after ≡ before
+nothing_put others o before after e none = e ∙ ap (λ (x : List ℕ). before ++ x) (octets_none others o none) ∙ append-nil before
+
+module _ (r : Request) (old one : List ℕ) (first : one ≡ old ++ octets_if (forms_of device_area.requests.arms widest) (device_area.requests.value r)) where
+  abbrev RequestPut : List ℕ → Type 0
+  RequestPut after = after ≡ old ++ alternative_octets (requests.alternatives widest) (requests.value r)
+
+  pub first_put : is_some (device_area.requests.value r) ≡ true → RequestPut one
+  first_put e = first ∙ ap (λ (o : List ℕ). old ++ o) (device_spelled r e)
+
+  module _ (two : List ℕ) (second : two ≡ one ++ octets_if (forms_of variable_area.requests.arms widest) (variable_area.requests.value r)) (none : is_some (device_area.requests.value r) ≡ false) where
+    pub second_put : is_some (variable_area.requests.value r) ≡ true → RequestPut two
+    second_put e =
+        second ∙ ap (λ (o : List ℕ). o ++ octets_if (forms_of variable_area.requests.arms widest) (variable_area.requests.value r)) (nothing_put (forms_of device_area.requests.arms widest) (device_area.requests.value r) old one first none)
+        ∙ ap (λ (o : List ℕ). old ++ o) (variable_spelled r e)
+
+    pub third_put : (three : List ℕ) → is_some (variable_area.requests.value r) ≡ false → three ≡ two ++ octets_if (forms_of semaphore_area.requests.arms widest) (semaphore_area.requests.value r) → RequestPut three
+    third_put three e third =
+        third ∙ ap (λ (o : List ℕ). o ++ octets_if (forms_of semaphore_area.requests.arms widest) (semaphore_area.requests.value r)) (nothing_put (forms_of variable_area.requests.arms widest) (variable_area.requests.value r) one two second e ∙ nothing_put (forms_of device_area.requests.arms widest) (device_area.requests.value r) old one first none)
+        ∙ ap (λ (o : List ℕ). old ++ o) (semaphore_spelled r none e)
+
+module _ (a : Answer) (old one : List ℕ) (first : one ≡ old ++ octets_if (forms_of device_area.answers.arms widest) (device_area.answers.value a)) where
+  abbrev AnswerPut : List ℕ → Type 0
+  AnswerPut after = after ≡ old ++ alternative_octets (answers.alternatives widest) (answers.value a)
+
+  pub first_put_answer : is_some (device_area.answers.value a) ≡ true → AnswerPut one
+  first_put_answer e = first ∙ ap (λ (o : List ℕ). old ++ o) (device_answered a e)
+
+  module _ (two : List ℕ) (second : two ≡ one ++ octets_if (forms_of variable_area.answers.arms widest) (variable_area.answers.value a)) (none : is_some (device_area.answers.value a) ≡ false) where
+    pub second_put_answer : is_some (variable_area.answers.value a) ≡ true → AnswerPut two
+    second_put_answer e =
+        second ∙ ap (λ (o : List ℕ). o ++ octets_if (forms_of variable_area.answers.arms widest) (variable_area.answers.value a)) (nothing_put (forms_of device_area.answers.arms widest) (device_area.answers.value a) old one first none)
+        ∙ ap (λ (o : List ℕ). old ++ o) (variable_answered a e)
+
+    pub third_put_answer : (three : List ℕ) → is_some (variable_area.answers.value a) ≡ false → three ≡ two ++ octets_if (forms_of semaphore_area.answers.arms widest) (semaphore_area.answers.value a) → AnswerPut three
+    third_put_answer three e third =
+        third ∙ ap (λ (o : List ℕ). o ++ octets_if (forms_of semaphore_area.answers.arms widest) (semaphore_area.answers.value a)) (nothing_put (forms_of variable_area.answers.arms widest) (variable_area.answers.value a) one two second e ∙ nothing_put (forms_of device_area.answers.arms widest) (device_area.answers.value a) old one first none)
+        ∙ ap (λ (o : List ℕ). old ++ o) (semaphore_answered a none e)

@@ -1,0 +1,17 @@
+use Rattle.std.proofs.Common.{sym, ◌∙◌}
+use Rattle.mms_pdu.proofs.ByArea.{first_put, second_put, third_put}
+use Rattle.mms_pdu.proofs.request.put_argument.Goals as goal
+use Rattle.mms_pdu.proofs.request.put_argument.Goals.{then-branch-via-then-branch, then-branch-via-else-branch+in_ok-put_request-2+then-branch-2}
+
+pub returns-then-branch-clause-ok : goal.returns-then-branch-clause-ok
+returns-then-branch-clause-ok c =
+    elim c.then-branch.branch [
+      | then-branch-via-then-branch w ↦ w.out-is ∙ first_put c.args.request.now c.args.out.now c.put_request.new.out c.in_ok-put_request.ensures.ok (sym c.in_ok-put_request.ensures.own ∙ w.if-branch.true)
+      | then-branch-via-else-branch+in_ok-put_request-2+then-branch-2 w ↦ w.out-is ∙ second_put c.args.request.now c.args.out.now c.put_request.new.out c.in_ok-put_request.ensures.ok
+          w.put_request-else-branch.new.out w.in_ok-put_request-2.ensures.ok (sym c.in_ok-put_request.ensures.own ∙ w.if-branch.false) (sym w.in_ok-put_request-2.ensures.own ∙ w.if-branch-2.true)
+    ]
+
+pub returns-clause-ok : goal.returns-clause-ok
+returns-clause-ok c =
+    third_put c.args.request.now c.args.out.now c.put_request.new.out c.in_ok-put_request.ensures.ok c.put_request-else-branch.new.out c.in_ok-put_request-2.ensures.ok (sym c.in_ok-put_request.ensures.own ∙ c.if-branch.false)
+    c.put_request-2.new.out (sym c.in_ok-put_request-2.ensures.own ∙ c.if-branch-2.false) c.in_ok-put_request-3.ensures.ok

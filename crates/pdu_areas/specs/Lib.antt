@@ -1,0 +1,4 @@
+pub mod Services
+pub mod Joined
+pub mod Areas
+pub mod Gives
