@@ -17,8 +17,8 @@ use Rattle.association.specs.Waiting.{is_waiting}
 use Rattle.cell_config.specs.declared.config.Config.{Config}
 use Rattle.cell_config.specs.Said.{IsConfig}
 use Rattle.parted_state.specs.Served.{row_at, reached, delivered}
-use Rattle.cell_services.specs.Association.{Verdict, Tells, Takes, Concludes, Cancels, Aborts, sends, verdict}
-use Rattle.cell_services.specs.Effects.{Effect, Sends, Opens, Drains, tell}
+use Rattle.cell_client.specs.Association.{Verdict, Tells, Takes, Concludes, Cancels, Aborts, sends, verdict}
+use Rattle.cell_client.specs.Effects.{Effect, Sends, Opens, Drains, tell}
 use Rattle.cell_services.specs.Serving.{all_told, also_told, meanwhile, own_told, waiting_of}
 use Rattle.cell_services.specs.Tables.{moment_after}
 use Rattle.mms_step.specs.Partition.{cell}

@@ -35,10 +35,11 @@ use Rattle.sem_ticks.specs.Granted.{lost_granted, relinquish_granted}
 use Rattle.sem_ticks.specs.Sound.{AreSound}
 use Rattle.sem_ticks.specs.declared.granted.Granted.{Granted}
 use Rattle.sem_ticks.proofs.Kept.{row_found}
-use Rattle.cell_services.specs.Association.{Takes, Cancels, sends, confirmed_error, cancel_error, loss_told, other_error}
-use Rattle.cell_services.specs.Effects.{Effect, Closes, Waits, Answers, tell}
-use Rattle.cell_services.specs.Services.{answer_told, cause, effect, fits, grants_told, is_done, refuses, relinquish_outcome, request_told, take_outcome}
-use Rattle.cell_services.specs.Serving.{also_lost, also_told, own_told, size_of}
+use Rattle.cell_client.specs.Association.{Takes, Cancels, sends, confirmed_error, cancel_error, loss_told, other_error}
+use Rattle.cell_client.specs.Effects.{Effect, Closes, Waits, Answers, tell}
+use Rattle.cell_services.specs.Services.{cause, effect, grants_told, relinquish_outcome, take_outcome}
+use Rattle.cell_client.specs.Requests.{answer_told, fits, is_done, refuses, request_told, size_of}
+use Rattle.cell_services.specs.Serving.{also_lost, also_told, own_told}
 use Rattle.cell_services.specs.Tables.{Tables, moment_of}
 use Rattle.mms_step.specs.Partition.{cell}
 use Rattle.mms_step.specs.State.{State, IsSound}

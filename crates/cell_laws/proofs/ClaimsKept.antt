@@ -43,7 +43,7 @@ use Rattle.sem_ticks.specs.declared.granted.Granted.{Granted}
 use Rattle.sem_ticks.specs.Ticks.{Ticking, after_abort, entries_left, met, met_as, next_met}
 use Rattle.sem_ticks.proofs.Kept.{row_found}
 use Rattle.sem_ticks.proofs.Settling.{settle-keeps}
-use Rattle.cell_services.specs.Association.{Verdict, Tells, Takes, Concludes, Cancels, Aborts, verdict}
+use Rattle.cell_client.specs.Association.{Verdict, Tells, Takes, Concludes, Cancels, Aborts, verdict}
 use Rattle.cell_services.specs.Services.{effect, relinquish_outcome, take_outcome}
 use Rattle.cell_services.specs.Serving.{all_told, is_served, tables_cancelled, tables_heard, tables_lost, waiting_of}
 use Rattle.cell_services.specs.Tables.{Tables, moment_after, moment_of}

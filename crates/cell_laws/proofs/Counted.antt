@@ -25,7 +25,7 @@ use Rattle.association.specs.Admission.{admission}
 use Rattle.association.specs.Client.{ClientRow}
 use Rattle.association.specs.Waiting.{is_waiting}
 use Rattle.parted_state.specs.Served.{row_at}
-use Rattle.cell_services.specs.Association.{admitted, cancelled, concluded, idle_verdict, open_verdict, requested, verdict, verdict_by}
+use Rattle.cell_client.specs.Association.{admitted, cancelled, concluded, idle_verdict, open_verdict, requested, verdict, verdict_by}
 use Rattle.mms_step.specs.Partition.{cell}
 use Rattle.mms_step.specs.State.{State}
 use Rattle.cell_laws.specs.Tally.{Account, AreSpelled, HaveAnswers, account_after, opens, taken_by, taken_from, told_in}

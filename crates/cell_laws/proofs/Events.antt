@@ -28,8 +28,8 @@ use Rattle.association.specs.Waiting.{is_waiting}
 use Rattle.token_sem.proofs.Least.{Stands}
 use Rattle.sem_ticks.specs.declared.granted.Granted.{Granted}
 use Rattle.parted_state.specs.Served.{reached, delivered}
-use Rattle.cell_services.specs.Association.{Verdict, Tells, Takes, Concludes, Cancels, Aborts, sends, verdict, verdict_by, idle_verdict, open_verdict, admitted, requested, concluded, cancelled, negotiated, refused, rejects, rejects_invalid, further_error, unknown_error}
-use Rattle.cell_services.specs.Effects.{Effect, Sends, Opens, Answers, tell}
+use Rattle.cell_client.specs.Association.{Verdict, Tells, Takes, Concludes, Cancels, Aborts, sends, verdict, verdict_by, idle_verdict, open_verdict, admitted, requested, concluded, cancelled, negotiated, refused, rejects, rejects_invalid, further_error, unknown_error}
+use Rattle.cell_client.specs.Effects.{Effect, Sends, Opens, Answers, tell}
 use Rattle.cell_services.specs.Services.{grant_told, grants_told}
 use Rattle.mms_step.specs.Partition.{cell}
 use Rattle.cell_laws.proofs.Bound.{nat-same, nat-test, of-both, both-true}

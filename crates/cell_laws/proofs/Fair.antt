@@ -12,8 +12,8 @@ use Rattle.mms_pdu.specs.Answering.{is_answer}
 use Rattle.mms_pdu.specs.Pdus.{pdu_octets}
 use Rattle.parted_state.specs.Lists.{get_changed}
 use Rattle.parted_state.specs.Served.{row_at, reached, delivered}
-use Rattle.cell_services.specs.Association.{sends}
-use Rattle.cell_services.specs.Effects.{Effect, Sends, Opens, Closes, Waits, Answers, Drains, felt}
+use Rattle.cell_client.specs.Association.{sends}
+use Rattle.cell_client.specs.Effects.{Effect, Sends, Opens, Closes, Waits, Answers, Drains, felt}
 use Rattle.cell_services.specs.Serving.{waiting_of}
 use Rattle.mms_step.specs.Partition.{cell, no_client}
 use Rattle.mms_step.proofs.Sound.{delivered_both}

@@ -33,10 +33,11 @@ use Rattle.sem_ticks.specs.Granted.{granted, relinquish_granted}
 use Rattle.sem_ticks.specs.Sound.{AreSound}
 use Rattle.sem_ticks.specs.declared.granted.Granted.{Granted}
 use Rattle.sem_ticks.proofs.Kept.{row_found}
-use Rattle.cell_services.specs.Association.{Verdict, Takes, verdict}
-use Rattle.cell_services.specs.Effects.{Effect, tell}
-use Rattle.cell_services.specs.Services.{cause, effect, grants_told, is_done, relinquish_outcome}
-use Rattle.cell_services.specs.Serving.{also_told, is_served, own_told, size_of, tables_heard}
+use Rattle.cell_client.specs.Association.{Verdict, Takes, verdict}
+use Rattle.cell_client.specs.Effects.{Effect, tell}
+use Rattle.cell_services.specs.Services.{cause, effect, grants_told, relinquish_outcome}
+use Rattle.cell_client.specs.Requests.{is_done, size_of}
+use Rattle.cell_services.specs.Serving.{also_told, is_served, own_told, tables_heard}
 use Rattle.cell_services.specs.Tables.{Tables, moment_of}
 use Rattle.mms_step.specs.Answered.{IsAnswered}
 use Rattle.mms_step.specs.Partition.{cell}

@@ -33,7 +33,7 @@ use Rattle.sem_ticks.specs.Ticks.{Ticking, after_abort, entries_left, met, met_a
 use Rattle.sem_ticks.specs.declared.granted.Granted.{Granted}
 use Rattle.sem_ticks.proofs.Kept.{keeps_lost}
 use Rattle.sem_ticks.proofs.Settling.{settle-keeps}
-use Rattle.cell_services.specs.Association.{Takes, verdict}
+use Rattle.cell_client.specs.Association.{Takes, verdict}
 use Rattle.cell_services.specs.Services.{relinquish_outcome, take_outcome}
 use Rattle.cell_services.specs.Serving.{is_served}
 use Rattle.cell_services.specs.Tables.{Tables, moment_after, moment_of}

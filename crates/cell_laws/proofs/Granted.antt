@@ -15,7 +15,7 @@ use Rattle.sem_ticks.specs.Granted.{granted}
 use Rattle.sem_ticks.specs.declared.granted.Granted.{Granted}
 use Rattle.sem_ticks.specs.declared.ticks.Happening.{Happening}
 use Rattle.sem_ticks.specs.declared.ticks.Happening.TheVariants as happens
-use Rattle.cell_services.specs.Effects.{Effect}
+use Rattle.cell_client.specs.Effects.{Effect}
 use Rattle.cell_services.specs.Services.{grants_told}
 use Rattle.cell_services.specs.Serving.{all_told, happening_told, waiting_of}
 use Rattle.mms_step.specs.Answered.{IsAnswered}

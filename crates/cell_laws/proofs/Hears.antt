@@ -13,7 +13,7 @@ use Rattle.association.specs.Waiting.{AreDistinct, is_waiting, without}
 use Rattle.sem_ticks.specs.declared.granted.Granted.{Granted}
 use Rattle.parted_state.specs.Lists.{get_changed, get_change}
 use Rattle.parted_state.specs.Served.{row_at, reached, delivered}
-use Rattle.cell_services.specs.Effects.{Effect, Sends, Opens, Closes, Waits, Answers, Drains, felt, tell}
+use Rattle.cell_client.specs.Effects.{Effect, Sends, Opens, Closes, Waits, Answers, Drains, felt, tell}
 use Rattle.cell_services.specs.Services.{grant_told, grants_told}
 use Rattle.cell_services.specs.Serving.{waiting_of}
 use Rattle.mms_step.specs.Partition.{cell, no_client}

@@ -39,8 +39,8 @@ use Rattle.sem_ticks.specs.declared.granted.Granted.{Granted}
 use Rattle.sem_ticks.specs.Ticks.{Ticking, abort_told, expiry_told}
 use Rattle.sem_ticks.specs.declared.ticks.Happening.TheVariants as happens
 use Rattle.sem_ticks.proofs.Kept.{row_found}
-use Rattle.cell_services.specs.Association.{Verdict, Concludes, Aborts, loss_told, verdict}
-use Rattle.cell_services.specs.Effects.{Effect, tell}
+use Rattle.cell_client.specs.Association.{Verdict, Concludes, Aborts, loss_told, verdict}
+use Rattle.cell_client.specs.Effects.{Effect, tell}
 use Rattle.cell_services.specs.Services.{grants_told}
 use Rattle.cell_services.specs.Serving.{all_told, also_lost, also_told, own_told, tables_heard, tables_lost}
 use Rattle.mms_step.specs.Answered.{IsAnswered}

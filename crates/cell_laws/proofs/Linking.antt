@@ -50,10 +50,11 @@ use Rattle.sem_ticks.specs.declared.ticks.Happening.{Happening}
 use Rattle.sem_ticks.specs.declared.ticks.Happening.TheVariants as happens
 use Rattle.sem_ticks.proofs.Kept.{keeps_lost}
 use Rattle.sem_ticks.proofs.Settling.{settle-keeps}
-use Rattle.cell_services.specs.Association.{Verdict, Tells, Takes, Concludes, Cancels, Aborts, other_error, verdict, verdict_by, idle_verdict, open_verdict, admitted, requested, concluded, cancelled, negotiated, refused, loss_told}
-use Rattle.cell_services.specs.Effects.{Effect, Sends, Closes, Answers, Drains, felt, tell}
-use Rattle.cell_services.specs.Services.{answer_told, cause, effect, fits, grants_told, is_done, refuses, relinquish_outcome, request_told, take_outcome}
-use Rattle.cell_services.specs.Serving.{all_told, also_lost, also_told, happening_told, own_told, services, size_of, tables_cancelled, tables_heard, tables_lost, waiting_of}
+use Rattle.cell_client.specs.Association.{Verdict, Tells, Takes, Concludes, Cancels, Aborts, other_error, verdict, verdict_by, idle_verdict, open_verdict, admitted, requested, concluded, cancelled, negotiated, refused, loss_told}
+use Rattle.cell_client.specs.Effects.{Effect, Sends, Closes, Answers, Drains, felt, tell}
+use Rattle.cell_services.specs.Services.{cause, effect, grants_told, relinquish_outcome, take_outcome}
+use Rattle.cell_client.specs.Requests.{answer_told, fits, is_done, refuses, request_told, size_of}
+use Rattle.cell_services.specs.Serving.{all_told, also_lost, also_told, happening_told, own_told, services, tables_cancelled, tables_heard, tables_lost, waiting_of}
 use Rattle.cell_services.specs.Tables.{Tables, moment_after, moment_of}
 use Rattle.mms_step.specs.Partition.{cell, no_client}
 use Rattle.mms_step.specs.State.{State, IsSound}

@@ -41,9 +41,10 @@ use Rattle.sem_ticks.specs.declared.granted.Granted.{Granted}
 use Rattle.sem_ticks.proofs.Kept.{keeps_lost}
 use Rattle.sem_ticks.proofs.Requests.{keeps_relinquished, keeps_taken}
 use Rattle.sem_ticks.proofs.Settling.{settle-keeps}
-use Rattle.cell_services.specs.Association.{Verdict, Tells, Takes, Concludes, Cancels, Aborts, verdict}
-use Rattle.cell_services.specs.Services.{cause, effect, is_done, relinquish_outcome, take_outcome}
-use Rattle.cell_services.specs.Serving.{is_served, size_of, tables_cancelled, tables_heard, tables_lost, waiting_of}
+use Rattle.cell_client.specs.Association.{Verdict, Tells, Takes, Concludes, Cancels, Aborts, verdict}
+use Rattle.cell_services.specs.Services.{cause, effect, relinquish_outcome, take_outcome}
+use Rattle.cell_client.specs.Requests.{is_done, size_of}
+use Rattle.cell_services.specs.Serving.{is_served, tables_cancelled, tables_heard, tables_lost, waiting_of}
 use Rattle.cell_services.specs.Tables.{Tables, moment_after, moment_of}
 use Rattle.mms_step.specs.Partition.{cell}
 use Rattle.mms_step.specs.State.{State, IsSound as IsSoundState}

@@ -37,7 +37,7 @@ use Rattle.mms_time.specs.declared.taking.TakeDone.TheVariants.{Answered, Waits}
 use Rattle.sem_ticks.specs.Granted.{relinquish_granted}
 use Rattle.sem_ticks.specs.declared.granted.Granted.{Granted}
 use Rattle.parted_state.specs.Served.{row_at}
-use Rattle.cell_services.specs.Association.{Verdict, Tells, Takes, Concludes, Cancels, Aborts, admitted, cancelled, concluded, idle_verdict, open_verdict, requested, verdict, verdict_by}
+use Rattle.cell_client.specs.Association.{Verdict, Tells, Takes, Concludes, Cancels, Aborts, admitted, cancelled, concluded, idle_verdict, open_verdict, requested, verdict, verdict_by}
 use Rattle.cell_services.specs.Services.{effect, relinquish_outcome, take_outcome}
 use Rattle.cell_services.specs.Serving.{is_served, tables_cancelled, tables_heard, tables_lost, waiting_of}
 use Rattle.cell_services.specs.Tables.{Tables, moment_after, moment_of}

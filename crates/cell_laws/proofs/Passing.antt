@@ -26,8 +26,8 @@ use Rattle.sem_ticks.specs.declared.ticks.Happening.{Happening}
 use Rattle.sem_ticks.specs.declared.ticks.Happening.TheVariants as happens
 use Rattle.sem_ticks.proofs.Kept.{row_found}
 use Rattle.sem_ticks.proofs.Settling.{settle-keeps}
-use Rattle.cell_services.specs.Association.{confirmed_error, timeout_error}
-use Rattle.cell_services.specs.Effects.{Effect, Sends, Closes}
+use Rattle.cell_client.specs.Association.{confirmed_error, timeout_error}
+use Rattle.cell_client.specs.Effects.{Effect, Sends, Closes}
 use Rattle.cell_services.specs.Services.{grants_told}
 use Rattle.cell_services.specs.Serving.{all_told, happening_told}
 use Rattle.mms_step.specs.Partition.{cell}

@@ -26,7 +26,7 @@ use Rattle.mms_time.specs.declared.row.SemaphoreRow.{SemaphoreRow}
 use Rattle.sem_ticks.specs.Granted.{granted}
 use Rattle.sem_ticks.specs.Ticks.{Ticking, next_met}
 use Rattle.parted_state.specs.Served.{row_at}
-use Rattle.cell_services.specs.Association.{Takes, Concludes, Aborts, verdict}
+use Rattle.cell_client.specs.Association.{Takes, Concludes, Aborts, verdict}
 use Rattle.cell_services.specs.Serving.{is_served}
 use Rattle.cell_services.specs.Tables.{moment_after}
 use Rattle.mms_step.specs.Answered.{grant_answer}

@@ -20,7 +20,7 @@ use Rattle.mms_time.specs.declared.row.Semaphore.TheVariants.{Token, Pool}
 use Rattle.mms_time.specs.declared.row.SemaphoreRow.{SemaphoreRow}
 use Rattle.sem_ticks.specs.Ticks.{Ticking}
 use Rattle.parted_state.specs.Served.{row_at}
-use Rattle.cell_services.specs.Association.{Takes, verdict}
+use Rattle.cell_client.specs.Association.{Takes, verdict}
 use Rattle.cell_services.specs.Serving.{is_served}
 use Rattle.mms_step.specs.Partition.{cell}
 use Rattle.mms_step.specs.State.{State}

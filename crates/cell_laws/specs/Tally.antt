@@ -11,8 +11,8 @@ use Rattle.mms_pdu.specs.Pdus.{pdu_octets}
 use Rattle.cell_config.specs.declared.config.Config.{Config}
 use Rattle.association.specs.Waiting.{is_waiting}
 use Rattle.parted_state.specs.Served.{done_of, row_at}
-use Rattle.cell_services.specs.Association.{Verdict, Tells, Takes, Concludes, Cancels, Aborts, verdict}
-use Rattle.cell_services.specs.Effects.{Effect, Sends, Opens, Closes, Waits, Answers, Drains}
+use Rattle.cell_client.specs.Association.{Verdict, Tells, Takes, Concludes, Cancels, Aborts, verdict}
+use Rattle.cell_client.specs.Effects.{Effect, Sends, Opens, Closes, Waits, Answers, Drains}
 use Rattle.cell_services.specs.Serving.{services}
 use Rattle.mms_step.specs.Partition.{cell}
 use Rattle.mms_step.specs.State.{State, start}

@@ -25,14 +25,15 @@ use Rattle.association.specs.declared.negotiation.Association.{Association}
 use Rattle.association.specs.declared.negotiation.Association.TheVariants.{Idle, Open}
 use Rattle.parted_state.specs.Served.{is_told}
 use Rattle.cell_services.proofs.TimeLaws.{moment_given}
-use Rattle.cell_services.specs.Effects.{Effect}
-use Rattle.cell_services.specs.Association.{Verdict, Tells, Takes, Concludes, Cancels, Aborts}
-use Rattle.cell_services.specs.declared.verdict.Found.{Found}
-use Rattle.cell_services.specs.declared.verdict.Found.TheVariants as found
-use Rattle.cell_services.specs.Meant.{meant}
+use Rattle.cell_client.specs.Effects.{Effect}
+use Rattle.cell_client.specs.Association.{Verdict, Tells, Takes, Concludes, Cancels, Aborts}
+use Rattle.cell_client.specs.declared.verdict.Found.{Found}
+use Rattle.cell_client.specs.declared.verdict.Found.TheVariants as found
+use Rattle.cell_client.specs.Meant.{meant}
 use Rattle.cell_services.specs.Others.{AlsoTells, client_of, grant_clients}
-use Rattle.cell_services.specs.Services.{fits, grants_told, is_done, relinquish_outcome, take_outcome}
-use Rattle.cell_services.specs.Serving.{all_told, also_lost, also_told, is_served, loss_also, size_of}
+use Rattle.cell_services.specs.Services.{grants_told, relinquish_outcome, take_outcome}
+use Rattle.cell_client.specs.Requests.{fits, is_done, size_of}
+use Rattle.cell_services.specs.Serving.{all_told, also_lost, also_told, is_served, loss_also}
 use Rattle.cell_services.specs.Tables.{Tables, moment_of}
 
 -- ---- grants, and what happens

@@ -13,9 +13,9 @@ use Rattle.variable_services.specs.Services.{is_guarded, write_after, write_answ
 use Rattle.variable_services.proofs.Guards.{unguarded_after, unguarded_answer}
 use Rattle.mms_time.specs.Guards.{owns_guard}
 use Rattle.mms_time.specs.Semaphores.{Rows}
-use Rattle.cell_services.specs.Effects.{felt_all, settled}
-use Rattle.cell_services.specs.Acts.{Settles}
-use Rattle.cell_services.specs.Services.{AreFlags, Outcome, becomes, cause, effect, is_done, owned_guards, request_told, variables_written, write_told}
+use Rattle.cell_client.specs.Effects.{felt_all, settled}
+use Rattle.cell_client.specs.Requests.{Settles, is_done, request_told}
+use Rattle.cell_services.specs.Services.{AreFlags, Outcome, becomes, cause, effect, owned_guards, variables_written, write_told}
 use Rattle.cell_services.specs.Tables.{Tables}
 
 -- all of them

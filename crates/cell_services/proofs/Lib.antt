@@ -3,3 +3,4 @@ pub mod GuardLaws
 pub mod PlanLaws
 pub mod TimeLaws
 pub mod TokenLaws
+mod Worked

@@ -1,5 +1,5 @@
 -- Requests that the row of their client alone answers, and what is left to be done on the tables.
-use Rattle.std.specs.Prelude.{◌≡◌, ℕ, Bool, true, false, Option, None, Some, List, [], ◌∷◌, ◌++◌, Result, Ok, Err, IfOk, OnOk, if◌then◌else◌, refl}
+use Rattle.std.specs.Prelude.{◌≡◌, ℕ, Bool, true, false, Option, None, Some, List, [], ◌∷◌, ◌++◌, Result, Ok, Err, IfOk, OnOk, IfNone, IfSome, if◌then◌else◌, is_none, is_some, refl}
 use Rattle.std.proofs.Common.{ap, ap₂, sym, ◌∙◌, subst}
 use Rattle.mms_types.specs.declared.memory.Memory.{Memory}
 use Rattle.mms_types.specs.declared.pdu.Request.{Request}
@@ -9,13 +9,16 @@ use Rattle.mms_types.specs.declared.service_error.ServiceError.{ServiceError}
 use Rattle.std.specs.Borrow.{Bor}
 use Rattle.association.specs.Client.{ClientRow, Client as RoomyRow}
 use Rattle.parted_state.specs.Served.{Done}
-use Rattle.cell_services.specs.declared.acts.Act.TheVariants as act
+use Rattle.cell_client.specs.declared.acts.Act.TheVariants as act
 use Rattle.cell_services.specs.Tables.{Tables}
-use Rattle.cell_services.specs.Effects.{Effect, felt_all, settled, tell}
-use Rattle.cell_services.specs.Association.{Verdict, Tells, Takes, Concludes, Cancels, Aborts}
-use Rattle.cell_services.specs.Services.{Outcome, answers, cause, effect, owned_guards, plain_answer, fits, is_done, request_told, variables_written, write_told}
+use Rattle.cell_client.specs.Effects.{Effect, felt_all, settled, tell}
+use Rattle.cell_client.specs.declared.acts.Act.{Act}
+use Rattle.cell_client.specs.Meant.{act_verdict, told_alone, uses_no_table}
+use Rattle.cell_client.specs.Association.{Verdict, Tells, Takes, Concludes, Cancels, Aborts}
+use Rattle.cell_services.specs.Services.{Outcome, answers, cause, effect, owned_guards, variables_written, write_told}
+use Rattle.cell_client.specs.Requests.{plain_answer, fits, is_done, request_told, size_of}
 use Rattle.mms_time.specs.Semaphores.{Rows}
-use Rattle.cell_services.specs.Serving.{hears, own_told, size_of}
+use Rattle.cell_services.specs.Serving.{hears, own_told}
 use Rattle.cell_services.specs.Meant.{no_tables, row_after, IsPlainlyHeard}
 use Rattle.mms_types.specs.declared.pdu.Answer.TheVariants as answer
 use Rattle.mms_types.specs.declared.variable.Read.{Read}
@@ -189,3 +192,38 @@ abort_left row v is = λ t client. ap (λ (w : Verdict). hears t row client w) i
 
 pub plain_as : (row : ClientRow) (new : RoomyRow) (v w : Verdict) → v ≡ w → IsPlainlyHeard row new v → IsPlainlyHeard row new w
 plain_as row new v w same heard = subst (IsPlainlyHeard row new) same heard
+
+-- ---- what a client hears
+
+some_of : (o : Option Answer) → is_some o ≡ true → (a : Answer) × (o ≡ Some a)
+some_of (Some a) is = (a, refl)
+some_of None is = absurd (cc is)
+
+heard_alone : (row : ClientRow) (new : RoomyRow) (v : Verdict) → uses_no_table row v ≡ true → new ≡ settled (felt_all (told_alone row v) row) → IsPlainlyHeard row new v
+heard_alone row new (Tells effects) plain is = plainly_told row new effects is
+heard_alone row new (Takes invoke asked) plain is =
+    let found : (a : Answer) × (plain_answer row asked ≡ Some a) = some_of (plain_answer row asked) plain in
+    plainly_answered row new invoke asked found.0 (sym found.1)
+    (is ∙ ap (λ (o : Option Answer). settled (felt_all (request_told (size_of row.association) invoke None o) row)) found.1)
+heard_alone row new v plain is = absurd (cc plain)
+
+pub heard_plainly : (result : Result (Option Act) Memory) (row : ClientRow) (new : RoomyRow) (v : Verdict)
+    → IfOk result (λ left. IfNone left (new ≡ settled (felt_all (told_alone row v) row)))
+    → IfOk result (λ left. is_none left ≡ uses_no_table row v)
+    → IfOk result (λ left. IfNone left (IsPlainlyHeard row new v))
+heard_plainly (Err memory) row new v told exact = tt
+heard_plainly (Ok (Some a)) row new v told exact = tt
+heard_plainly (Ok None) row new v told exact = heard_alone row new v (sym exact) told
+
+left_of : (row : ClientRow) (v : Verdict) (a : Act) → act_verdict a ≡ Some v → IsActOf row v a
+left_of row v (act.Request invoke asked) is = request_left row invoke asked v (cc is)
+left_of row v act.Conclusion is = conclusion_left row v (cc is)
+left_of row v (act.Cancel invoke) is = cancel_left row invoke v (cc is)
+left_of row v act.Abort is = abort_left row v (cc is)
+left_of row v act.Loss is = absurd (cc is)
+
+pub left_so : (result : Result (Option Act) Memory) (row : ClientRow) (v : Verdict) → IfOk result (λ left. IfSome left (λ a. act_verdict a ≡ Some v))
+    → IfOk result (λ left. IfSome left (λ a. IsActOf row v a))
+left_so (Err memory) row v left = tt
+left_so (Ok None) row v left = tt
+left_so (Ok (Some a)) row v left = left_of row v a left

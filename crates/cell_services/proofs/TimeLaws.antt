@@ -10,9 +10,9 @@ use Rattle.sem_ticks.proofs.Settling.{settle-none}
 use Rattle.sem_ticks.specs.declared.ticks.Happening.{Happening}
 use Rattle.parted_state.specs.Served.{Done}
 use Rattle.cell_services.specs.declared.tables.Change.TheVariants.{Passes}
-use Rattle.cell_services.specs.declared.told.Told.{Told}
+use Rattle.cell_client.specs.declared.told.Told.{Told}
 use Rattle.cell_services.specs.Acts.{plan_done}
-use Rattle.cell_services.specs.Effects.{Effect}
+use Rattle.cell_client.specs.Effects.{Effect}
 use Rattle.cell_services.specs.Serving.{passed, passes}
 use Rattle.cell_services.specs.Tables.{Tables, moment_after, moment_of}
 

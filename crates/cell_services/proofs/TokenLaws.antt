@@ -27,10 +27,11 @@ use Rattle.sem_ticks.specs.Granted.{granted}
 use Rattle.sem_ticks.specs.declared.granted.Granted.{Granted}
 use Rattle.parted_state.specs.Served.{Done}
 use Rattle.cell_services.specs.Acts.{IsDoneAmong}
-use Rattle.cell_services.specs.Association.{Takes, missing_error, other_error}
-use Rattle.cell_services.specs.Effects.{Effect, felt, felt_all, settled, tell}
-use Rattle.cell_services.specs.Services.{Outcome, answer_told, fits, is_done, refuses, relinquish_outcome, request_told, take_outcome}
-use Rattle.cell_services.specs.Serving.{hears, size_of}
+use Rattle.cell_client.specs.Association.{Takes, missing_error, other_error}
+use Rattle.cell_client.specs.Effects.{Effect, felt, felt_all, settled, tell}
+use Rattle.cell_services.specs.Services.{Outcome, relinquish_outcome, take_outcome}
+use Rattle.cell_client.specs.Requests.{answer_told, fits, is_done, refuses, request_told, size_of}
+use Rattle.cell_services.specs.Serving.{hears}
 use Rattle.cell_services.specs.Tables.{Tables, moment_of}
 use Rattle.cell_services.specs.Tokens.{is_taken, relinquish_cause_on, relinquish_on, relinquished_on, take_cause_on, take_effects, take_on, taken_on}
 

@@ -1,27 +1,23 @@
 -- What a client does on the tables, and how code plans it (this profile's choice).
-use Rattle.std.specs.Prelude.{◌≡◌, ℕ, List, ◌++◌, Option, Some, None, [], Result, Ok, Err, if◌then◌else◌}
-use Rattle.mms_types.specs.declared.refuse.Refuse.{Refuse}
-use Rattle.mms_types.specs.declared.refuse.Refuse.TheVariants as refuse
+use Rattle.std.specs.Prelude.{◌≡◌, ℕ, List, ◌++◌, Option, [], if◌then◌else◌}
 use Rattle.mms_types.specs.declared.pdu.Answer.{Answer}
 use Rattle.mms_types.specs.declared.service_error.ServiceError.{ServiceError}
-use Rattle.mms_pdu.specs.declared.refusal.Refusal.{Refusal}
-use Rattle.mms_pdu.specs.declared.reading.Read.{Read}
 use Rattle.association.specs.Client.{ClientRow, Client as RoomyRow}
 use Rattle.mms_time.specs.Semaphores.{Rows}
 use Rattle.variable_services.specs.declared.tables.VariableTables.{VariableTables}
 use Rattle.parted_state.specs.Served.{Done}
 use Rattle.cell_services.specs.declared.tables.Change.{Change}
-use Rattle.cell_services.specs.declared.acts.Act.{Act}
-use Rattle.cell_services.specs.declared.acts.Act.TheVariants as act
-use Rattle.cell_services.specs.declared.told.Told.{Told}
-use Rattle.cell_services.specs.Association.{Verdict, Takes, Concludes, Cancels, Aborts, verdict_by}
+use Rattle.cell_client.specs.declared.acts.Act.{Act}
+use Rattle.cell_client.specs.declared.acts.Act.TheVariants as act
+use Rattle.cell_client.specs.declared.told.Told.{Told}
+use Rattle.cell_client.specs.Association.{Verdict, Takes, Concludes, Cancels, Aborts}
 use Rattle.cell_services.specs.Changes.{changed}
-use Rattle.cell_services.specs.Effects.{Effect, felt_all, settled, tell}
-use Rattle.cell_services.specs.Reads.{pdu_read}
-use Rattle.cell_services.specs.Services.{Outcome, is_done, request_told}
+use Rattle.cell_client.specs.Effects.{Effect, felt_all, settled, tell}
+use Rattle.cell_services.specs.Services.{Outcome}
+use Rattle.cell_client.specs.Requests.{is_done, request_told}
 use Rattle.cell_services.specs.Serving.{hears, loses}
 use Rattle.cell_services.specs.Tables.{Tables}
-use Rattle.cell_services.specs.Telling.{effects_told}
+use Rattle.cell_client.specs.Telling.{effects_told}
 
 -- what a client of a row does
 abbrev pub act_done : Tables → ClientRow → ℕ → Act → Done Tables Effect
@@ -39,12 +35,6 @@ all_done t told = record { tables = t; told = effects_told told }
 abbrev pub plan_done : Tables → Change → List (ℕ × Told) → Done Tables Effect
 plan_done t change told = all_done (changed change t) told
 
--- A request is refused for its cause, or it has none, and this holds of what it comes to, or memory is wanting.
-abbrev pub Settles : {X : Type 0} → Result X Refuse → Option ServiceError → (X → Type 0) → Type 0
-Settles (Ok x) cause Is = (cause ≡ None) × Is x
-Settles (Err (refuse.Service error)) cause Is = cause ≡ Some error
-Settles (Err refuse.Memory) cause Is = cause ≡ None
-
 -- what a request does, as code carries it
 abbrev pub outcome_of : Tables → Change → Option Answer → List (ℕ × Told) → Outcome
 outcome_of t change told also = record { tables = changed change t; answer = told; also = effects_told also }
@@ -59,10 +49,6 @@ request_done t client size invoke why o = record {
 -- it is what a verdict on what the client of a row sends leaves to be done on the tables
 abbrev pub IsActOf : ClientRow → Verdict → Act → Type 0
 IsActOf row v a = (t : Tables) (client : ℕ) → act_done t row client a ≡ hears t row client v
-
--- what was read of the octets of the client of a row comes to
-abbrev pub verdict_read : ClientRow → Result Read Refusal → Verdict
-verdict_read row read = verdict_by row.association row (pdu_read read)
 
 -- A verdict on what the client of a row sends is done on the row and the variables alone, beside these semaphores: the client is told something, nobody else
 -- is, and of the tables the variables alone become others.

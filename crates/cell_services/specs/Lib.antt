@@ -1,12 +1,13 @@
 pub mod Acts
-pub mod Association
 pub mod Changes
-pub mod Effects
+pub mod Device
+pub mod Facts
 pub mod Meant
 pub mod Others
-pub mod Reads
+pub mod Requests
+pub mod Semaphores
 pub mod Services
 pub mod Serving
 pub mod Tables
-pub mod Telling
 pub mod Tokens
+pub mod Variables

@@ -6,7 +6,7 @@ use Rattle.parted_state.specs.Served.{is_told}
 use Rattle.sem_ticks.specs.declared.granted.Granted.{Granted}
 use Rattle.sem_ticks.specs.declared.ticks.Happening.{Happening}
 use Rattle.sem_ticks.specs.declared.ticks.Happening.TheVariants.{WaitEnds, Grants, Aborts}
-use Rattle.cell_services.specs.Association.{Verdict}
+use Rattle.cell_client.specs.Association.{Verdict}
 use Rattle.cell_services.specs.Serving.{also_told}
 use Rattle.cell_services.specs.Tables.{Tables}
 

@@ -19,15 +19,11 @@ use Rattle.sem_ticks.specs.declared.ticks.Happening.TheVariants as happens
 use Rattle.variable_services.specs.declared.tables.VariableTables.{VariableTables}
 use Rattle.variable_services.specs.Services.{lost}
 use Rattle.parted_state.specs.Served.{Done, Services}
-use Rattle.cell_services.specs.Effects.{Effect, Answers, Closes, Drains, Sends, tell}
+use Rattle.cell_client.specs.Effects.{Effect, Answers, Closes, Drains, Sends, tell}
 use Rattle.cell_services.specs.Tables.{Tables, moment_of, moment_after, clock_table, variables_table, domains_table, programs_table, conditions_table, journals_table, semaphores_table, loss_tables}
-use Rattle.cell_services.specs.Association.{Verdict, Tells, Takes, Concludes, Cancels, Aborts, verdict, conclusion_told, cancel_told, abort_told, loss_told, timeout_error}
-use Rattle.cell_services.specs.Services.{cause, effect, grant_told, grants_told, request_asks, request_more, is_done, refuses, request_told}
-
--- the negotiated size of a PDU
-abbrev pub size_of : Association → ℕ
-size_of Idle = 0
-size_of (Open values) = values.size
+use Rattle.cell_client.specs.Association.{Verdict, Tells, Takes, Concludes, Cancels, Aborts, verdict, conclusion_told, cancel_told, abort_told, loss_told, timeout_error}
+use Rattle.cell_services.specs.Services.{cause, effect, grant_told, grants_told, request_asks, request_more}
+use Rattle.cell_client.specs.Requests.{is_done, refuses, request_told, size_of}
 
 -- ---- the loss of a client: what belongs to its association is gone
 

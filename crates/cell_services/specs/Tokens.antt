@@ -16,9 +16,8 @@ use Rattle.mms_time.specs.Services.{relinquish_conditions_in, relinquish_grant_i
 use Rattle.mms_time.specs.declared.row.SemaphoreRow.{SemaphoreRow}
 use Rattle.mms_time.specs.declared.taking.TakeDone.{TakeDone}
 use Rattle.mms_time.specs.declared.taking.TakeDone.TheVariants.{Answered, Waits as Waiting}
-use Rattle.cell_services.specs.Effects.{Effect, Waits}
-use Rattle.cell_services.specs.Services.{fits, is_done, refuses, request_told}
-use Rattle.cell_services.specs.Serving.{size_of}
+use Rattle.cell_client.specs.Effects.{Effect, Waits}
+use Rattle.cell_client.specs.Requests.{fits, is_done, refuses, request_told, size_of}
 
 -- why a client's request for a token of a semaphore is refused
 abbrev pub take_cause_on : ℕ → TakeControl → SemaphoreRow → Option ServiceError

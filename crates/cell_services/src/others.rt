@@ -4,17 +4,15 @@ ghost use Rattle.std.specs.Prelude.{◌≡◌, ◌≢◌, ◌==◌, ℕ, IfOk, O
 ghost use Rattle.std.specs.List.{list_any};
 ghost use Rattle.mms_types.specs.Moments.{IsDated};
 ghost use Rattle.parted_state.specs.Served.{is_told};
-ghost use Rattle.cell_services.specs.Meant.{meant};
-ghost use Rattle.cell_services.specs.Association.{Takes};
+ghost use Rattle.cell_client.specs.Meant.{meant};
+ghost use Rattle.cell_client.specs.Association.{Takes};
 ghost use Rattle.cell_services.specs.Others.{AlsoTells, client_of, grant_clients, is_abort};
-ghost use Rattle.cell_services.specs.Services.{fits};
-ghost use Rattle.cell_services.specs.Serving.{all_told, also_lost, loss_also, size_of};
+ghost use Rattle.cell_client.specs.Requests.{fits, size_of};
+ghost use Rattle.cell_services.specs.Serving.{all_told, also_lost, loss_also};
 ghost use Rattle.cell_services.specs.Tables.{Tables as Rows};
 
-use crate::client::size_of;
-use crate::planning::answer_within;
-use crate::verdict::Found;
 use association::ClientPart;
+use cell_client::{Found, answer_within, size_of};
 use mms_time::SemaphoreRow;
 use mms_types::{Answer, Memory, Moment, Refuse, RelinquishControl, Request};
 use object_names::Named;

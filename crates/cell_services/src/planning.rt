@@ -1,31 +1,26 @@
 //! What is done on the tables is planned first: all is read and made that may want memory, and nothing changes.
 
-ghost use Rattle.std.specs.Prelude.{◌≡◌, ◌≢◌, ◌≤◌, ◌+◌, ◌++◌, ◌∷◌, [], nat_le, true, false, length, IfOk, OnErr, OnOk, MatchOption, None, Some};
+ghost use Rattle.std.specs.Prelude.{◌≡◌, ◌≢◌, ◌≤◌, ◌+◌, ◌++◌, ◌∷◌, [], nat_le, length, IfOk, OnErr, OnOk, None, Some};
 ghost use Rattle.std.specs.Option.{option_map};
-ghost use Rattle.mms_pdu.specs.Pdus.{pdu_octets};
-ghost use Rattle.mms_types.specs.declared.pdu.Pdu.TheVariants as pdu;
 ghost use Rattle.cell_services.specs.Acts.{act_done, outcome_of, plan_done, request_done};
 ghost use Rattle.sem_ticks.specs.Meant.{state_of};
 ghost use Rattle.mms_time.specs.Deadlines.{next_due};
 ghost use Rattle.cell_services.specs.Tables.{Tables as Rows, last_moment, moment_after};
 ghost use Rattle.cell_services.specs.Changes.{changed, MayChange};
-ghost use Rattle.cell_services.specs.Effects.{tell, Sends};
-ghost use Rattle.cell_services.specs.Association.{abort_told, cancel_told, conclusion_told, sends, Takes};
-ghost use Rattle.cell_services.specs.Services.{fits, refuses};
+ghost use Rattle.cell_client.specs.Effects.{tell, Sends};
+ghost use Rattle.cell_client.specs.Association.{abort_told, cancel_told, conclusion_told, Takes};
+ghost use Rattle.cell_client.specs.Requests.{refuses};
 ghost use Rattle.cell_services.specs.Serving.{aborted, aborted_one, all_told, happening_told, hears, loses, loss_also, passed, passes, tables_cancelled, waiting_of};
-ghost use Rattle.cell_services.specs.Telling.{effect_of, effects_told};
+ghost use Rattle.cell_client.specs.Telling.{effect_of, effects_told};
 
-use crate::client::size_of;
 use crate::semaphores::{tell_grant, tell_grants};
 use crate::service::{Outcome, served};
-use crate::{Act, Change, Tables, Told};
+use crate::{Change, Tables};
 use association::{ClientPart, Waiting};
-use mms_pdu::{
-    Writer, put_answer, put_cancel_response, put_conclude_response, put_confirmed_error,
+use cell_client::{
+    Act, Told, answer_within, cancel_response, conclude_response, one_told, refusal, size_of,
 };
-use mms_types::{
-    Answer, ConfirmedError, Memory, Moment, Octets, Refuse, Request, ServiceError, What,
-};
+use mms_types::{Answer, Memory, Moment, Refuse, Request, ServiceError, What};
 use sem_ticks::{Happening, Ticked, lose_told, tick};
 use std::alloc::Global;
 
@@ -36,66 +31,6 @@ pub struct Plan<'a> {
     pub change: Change<'a>,
     /// Who is told what, in order.
     pub told: Vec<(u32, Told)>,
-}
-
-/// A client is sent a PDU, as it is spelled there.
-fn sent(alloc: Global, out: &Writer) -> Result<Told, Memory>
-    ensures { IfOk result (λ told. effect_of told ≡ Sends (What.Octets out.now)) }
-{
-    Ok(Told::Sends(What::Octets(Octets::from_slice(alloc, out.octets())?)))
-}
-
-/// The octets of a positive answer.
-pub(crate) fn answer_octets(alloc: Global, invoke: u32, answer: &Answer) -> Result<Octets, Memory>
-    ensures { IfOk result (λ octets.
-        octets ≡ pdu_octets (pdu.ConfirmedResponse invoke answer.now)) }
-{
-    let mut out = Writer::new(alloc);
-    put_answer(&mut out, invoke, answer)?;
-    Octets::from_slice(alloc, out.octets())
-}
-
-/// A client is sent a positive answer, where it is not longer than so many octets.
-pub(crate) fn answer_within(
-    alloc: Global,
-    size: u32,
-    invoke: u32,
-    answer: &Answer,
-) -> Result<Option<Told>, Memory>
-    ensures { IfOk result (λ told. MatchOption told
-        (fits size invoke (Some answer.now) ≡ false)
-        (λ sent. (fits size invoke (Some answer.now) ≡ true)
-        × (effect_of sent ≡ sends (pdu.ConfirmedResponse invoke answer.now)))) }
-{
-    let octets = answer_octets(alloc, invoke, answer)?;
-    if octets.len() > size as usize {
-        return Ok(None);
-    }
-    Ok(Some(Told::Sends(What::Octets(octets))))
-}
-
-/// A client is sent a confirmed-Error.
-fn refusal(alloc: Global, invoke: u32, error: ServiceError) -> Result<Told, Memory>
-    ensures { IfOk result (λ told. effect_of told ≡ refuses invoke error) }
-{
-    let error = ConfirmedError {
-        invoke,
-        modifier: None,
-        error,
-    };
-    let mut out = Writer::new(alloc);
-    put_confirmed_error(&mut out, &error)?;
-    sent(alloc, &out)
-}
-
-/// One client is told one thing.
-pub(crate) fn one_told(alloc: Global, client: u32, told: Told) -> Result<Vec<(u32, Told)>, Memory>
-    ensures { IfOk result (λ list.
-        effects_told list.items ≡ (client, effect_of told) ∷ []) }
-{
-    let mut list = Vec::new(alloc);
-    list.push((client, told))?;
-    Ok(list)
 }
 
 /// The confirmed request of a client is refused.
@@ -195,24 +130,6 @@ fn request_plan<'a>(
     }
 }
 
-/// A client is sent a conclude-Response.
-fn concluded(alloc: Global) -> Result<Told, Memory>
-    ensures { IfOk result (λ told. effect_of told ≡ sends pdu.ConcludeResponse) }
-{
-    let mut out = Writer::new(alloc);
-    put_conclude_response(&mut out)?;
-    sent(alloc, &out)
-}
-
-/// A client is sent a cancel-Response.
-fn cancelled(alloc: Global, invoke: u32) -> Result<Told, Memory>
-    ensures { IfOk result (λ told. effect_of told ≡ sends (pdu.CancelResponse invoke)) }
-{
-    let mut out = Writer::new(alloc);
-    put_cancel_response(&mut out, invoke)?;
-    sent(alloc, &out)
-}
-
 /// A client is lost, of which it is told that; tokens that it had are granted to others, which are told so.
 fn lost_plan<'a>(
     alloc: Global,
@@ -245,7 +162,7 @@ fn conclusion_plan<'a>(
         ≡ tell client conclusion_told ++ loss_also part.now.row.client tables.now) }
     ensures change { IfOk result (λ plan. plan.change ≡ Change.Loses part.now.row.client) }
 {
-    let mut told = one_told(alloc, client, concluded(alloc)?)?;
+    let mut told = one_told(alloc, client, conclude_response(alloc)?)?;
     told.push((client, Told::Closes))?;
     lost_plan(alloc, tables, part, told)
 }
@@ -286,7 +203,7 @@ fn cancel_plan<'a>(
     ensures may { IfOk result (λ plan. (t : Rows) → MayChange plan.change t) }
 {
     let mut told = one_told(alloc, client, Told::Answers(invoke))?;
-    told.push((client, cancelled(alloc, invoke)?))?;
+    told.push((client, cancel_response(alloc, invoke)?))?;
     told.push((client, refusal(alloc, invoke, ServiceError::CANCEL)?))?;
     let change = cancel_change(alloc, part, invoke)?;
     Ok(Plan { change, told })

@@ -6,18 +6,19 @@ ghost use Rattle.mms_time.specs.Services.{define_cause, delete_cause, relinquish
 ghost use Rattle.sem_ticks.specs.Granted.{relinquish_granted};
 ghost use Rattle.mms_time.specs.Statuses.{entry_status_answer, entry_status_cause, pool_status_answer, pool_status_cause, status, status_cause};
 ghost use Rattle.std.specs.Option.{option_map};
-ghost use Rattle.cell_services.specs.Acts.{outcome_of, Settles};
+ghost use Rattle.cell_services.specs.Acts.{outcome_of};
+ghost use Rattle.cell_client.specs.Requests.{Settles};
 ghost use Rattle.mms_types.specs.declared.pdu.Pdu.TheVariants as pdu;
-ghost use Rattle.cell_services.specs.Association.{sends};
+ghost use Rattle.cell_client.specs.Association.{sends};
 ghost use Rattle.cell_services.specs.Changes.{MayChange};
 ghost use Rattle.cell_services.specs.Services.{answers, becomes_semaphores, grant_told, grants_told, relinquish_outcome, take_outcome};
 ghost use Rattle.cell_services.specs.Tables.{moment_of};
-ghost use Rattle.cell_services.specs.Telling.{effect_of, effects_told};
+ghost use Rattle.cell_client.specs.Telling.{effect_of, effects_told};
 
-use crate::planning::{answer_octets, one_told};
 use crate::service::{Outcome, answers, becomes};
-use crate::{Change, Tables, Told};
+use crate::{Change, Tables};
 use association::Waiting;
+use cell_client::{Told, answer_octets, one_told};
 use mms_time::{
     TakeDone, define_semaphore_cause, delete_semaphore_cause, report_pool_semaphore_status,
     report_semaphore_entry_status, report_semaphore_status, take_control_told,
@@ -148,7 +149,7 @@ pub(crate) fn define_semaphore<'a>(
 ) -> Result<Outcome<'a>, Refuse>
     ensures outcome { Settles result (define_cause false client asked.now tables.now.semaphores)
         (λ o. becomes_semaphores tables.now (define_after client asked.now tables.now.semaphores)
-        Answer.DefineSemaphore []
+        Answer.DefineSemaphore
         ≡ outcome_of tables.now o.change o.answer o.also.items) }
     ensures may { IfOk result (λ o. MayChange o.change tables.now) }
 {
@@ -170,7 +171,7 @@ pub(crate) fn delete_semaphore<'a>(
 ) -> Result<Outcome<'a>, Refuse>
     ensures outcome { Settles result (delete_cause client name.now tables.now.semaphores)
         (λ o. becomes_semaphores tables.now (delete_after client name.now tables.now.semaphores)
-        Answer.DeleteSemaphore []
+        Answer.DeleteSemaphore
         ≡ outcome_of tables.now o.change o.answer o.also.items) }
     ensures may { IfOk result (λ o. MayChange o.change tables.now) }
 {

@@ -3,21 +3,24 @@
 
 ghost use Rattle.std.specs.Prelude.{◌≡◌, false, [], IfOk, Some};
 ghost use Rattle.variable_services.specs.Services.{define_after, define_cause, define_list_after, define_list_cause, delete_after, delete_answer, delete_cause, delete_lists_after, delete_lists_answer, write_after, write_answer, write_cause};
-ghost use Rattle.cell_services.specs.Acts.{outcome_of, Settles};
+ghost use Rattle.cell_services.specs.Acts.{outcome_of};
+ghost use Rattle.cell_client.specs.Requests.{Settles, identity};
 ghost use Rattle.cell_services.specs.Changes.{MayChange};
-ghost use Rattle.cell_services.specs.Services.{becomes, cause, effect, identity, listed, names_in, owned_guards, scope_cause, scope_of};
+ghost use Rattle.cell_services.specs.Device.{scope_cause};
+ghost use Rattle.cell_services.specs.Services.{becomes, cause, effect, listed, names_in, owned_guards, scope_of};
 
 use crate::guards::owned_guards;
 use crate::semaphores::{
     define_semaphore, delete_semaphore, entry_status, pool_status, relinquish, semaphore_status,
     take,
 };
-use crate::{Change, Tables, Told};
+use crate::{Change, Tables};
 use association::ClientPart;
+use cell_client::{STATUS, Told, identity};
 use mms_types::{
     Answer, DefineNamedVariable, DefineNamedVariableList, DeleteNames, GetNameList,
-    GetNameListAnswer, Identifiers, IdentifyAnswer, Memory, ObjectClass, ObjectScope, Refuse,
-    Request, Scope, ServiceError, StatusAnswer, Write,
+    GetNameListAnswer, Identifiers, Memory, ObjectClass, ObjectScope, Refuse, Request, Scope,
+    ServiceError, Write,
 };
 use object_names::{Names, Selection};
 use std::alloc::Global;
@@ -48,28 +51,10 @@ pub(crate) fn answers<'a>(alloc: Global, answer: Answer) -> Outcome<'a>
     }
 }
 
-/// State changes are allowed, and the device is operational (ISO 9506-2, Status).
-pub(crate) const STATUS: Answer = Answer::Status(StatusAnswer {
-    logical: 0,
-    physical: 0,
-});
-
-/// The device's texts (ISO 9506-2, Identify).
-#[inline(always)]
-pub(crate) fn identity(alloc: Global, part: &ClientPart) -> Result<Answer, Memory>
-    ensures { IfOk result (λ answer. answer ≡ identity part.now.row) }
-{
-    let device = part.constants();
-    Ok(Answer::Identify(IdentifyAnswer {
-        vendor: device.vendor.copy(alloc)?,
-        model: device.model.copy(alloc)?,
-        revision: device.revision.copy(alloc)?,
-    }))
-}
-
 /// The scope that a client means by one whose names it asks for. Names of a domain aren't listed: there is none yet.
 fn scope_of(client: u32, scope: &ObjectScope) -> Result<Scope, Refuse>
-    ensures { Settles result (scope_cause scope.now) (λ s. s ≡ scope_of client scope.now) }
+    ensures { Settles result (scope_cause false scope.now)
+        (λ s. s ≡ scope_of client scope.now) }
 {
     match scope {
         ObjectScope::Vmd => Ok(Scope::Vmd),

@@ -14,7 +14,7 @@ use Rattle.object_names.specs.contracts.table.Named as Named
 use Rattle.object_names.proofs.table.Named.TheSendSync as named
 use Rattle.mms_time.specs.contracts.row.SemaphoreRow as SemaphoreRow
 use Rattle.mms_time.proofs.row.SemaphoreRow.TheSendSync as semaphore
-use Rattle.cell_services.proofs.client.Client.TheSendSync as client
+use Rattle.cell_client.proofs.client.Client.TheSendSync as client
 use Rattle.cell_services.proofs.clock.Clock.TheSendSync as clock
 use Rattle.variables.specs.contracts.vars.Vars as Vars
 use Rattle.variables.specs.contracts.vars.Vars.TheInside as vars

@@ -7,7 +7,7 @@ use Rattle.mms_step.specs.declared.part.Part.{Part}
 use Rattle.mms_step.specs.After.{after}
 use Rattle.mms_step.specs.Needs.{need}
 use Rattle.mms_step.specs.Partition.{parts_of, clients_among, clock_in}
-use Rattle.cell_services.specs.Reads.{Kept, IsReadingOf}
+use Rattle.cell_client.specs.Reads.{Kept, IsReadingOf}
 use Rattle.mms_step.specs.State.{State, IsSound}
 use Rattle.mms_step.specs.Step.{IsInTime}
 

@@ -8,7 +8,7 @@ ghost use Rattle.part_table.specs.History.{StartsWith};
 ghost use Rattle.part_table.specs.Known.{HoldsNothing};
 ghost use Rattle.mms_step.specs.Needs.{footprint, need};
 ghost use Rattle.mms_step.specs.Partition.{parts_of};
-ghost use Rattle.cell_services.specs.Reads.{IsReadingOf};
+ghost use Rattle.cell_client.specs.Reads.{IsReadingOf};
 ghost use Rattle.mms_step.specs.Step.{said};
 ghost use Rattle.mms_device.specs.Making.{MayMake};
 ghost use Rattle.mms_device.specs.Refusals.{IsRefused};

@@ -1,6 +1,6 @@
 -- Nothing is needed where all parts are held.
-use Rattle.std.specs.Prelude.{◌≡◌, ℕ, ◌<◌, ◌≤◌, nat_lt, ◌==◌, Bool, true, false, ◌&&◌, ◌||◌, Some, List, [], ◌∷◌, ◌++◌, map, length, refl}
-use Rattle.std.specs.List.{list_all, list_any}
+use Rattle.std.specs.Prelude.{◌≡◌, ℕ, ◌<◌, ◌≤◌, nat_lt, ◌==◌, Bool, true, false, ◌&&◌, ◌||◌, Some, is_some, List, [], ◌∷◌, ◌++◌, map, length, refl}
+use Rattle.std.specs.List.{flat_map, list_all, list_any}
 use Rattle.std.proofs.Common.{arith}
 use Rattle.std.proofs.lemmas.Bool.Decides.{nat_tests}
 use Rattle.mms_types.specs.Actors.{IsAmong, actor_of}
@@ -8,9 +8,6 @@ use Rattle.mms_types.specs.declared.event.CellEvent.{CellEvent}
 use Rattle.mms_types.specs.declared.event.CellEvent.TheVariants.{Heard, Lost, Tick, Ends, Drain}
 use Rattle.mms_types.specs.declared.name_list.ObjectClass.{ObjectClass}
 use Rattle.mms_types.specs.declared.name_list.ObjectClass.TheVariants as class
-use Rattle.mms_types.specs.declared.name_list.ObjectScope.{ObjectScope}
-use Rattle.mms_types.specs.declared.name_list.ObjectScope.TheVariants as scope
-use Rattle.mms_types.specs.declared.pdu.Request.TheVariants as request
 use Rattle.association.specs.declared.negotiation.Association.{Association}
 use Rattle.association.specs.declared.negotiation.Association.TheVariants.{Idle, Open}
 use Rattle.association.specs.Client.{ClientRow}
@@ -22,9 +19,9 @@ use Rattle.parted_state.specs.ServedLaws as served
 use Rattle.mms_step.specs.declared.part.Part.{Part}
 use Rattle.mms_step.specs.State.{State}
 use Rattle.cell_services.specs.Tables.{Tables}
-use Rattle.cell_services.specs.Association.{Verdict, Takes, verdict}
-use Rattle.variable_services.specs.Services.{is_guarded}
-use Rattle.cell_services.specs.Services.{class_tables, listing, variable_asks, is_of_domain, specifies_domain, accesses_domain, deletes_domain, guard_tables, semaphore_asks}
+use Rattle.cell_client.specs.Association.{Verdict, Takes, verdict}
+use Rattle.cell_services.specs.Facts.{Question, Now, Live, Owned, Names, class_tables, guard_tables, tables_for}
+use Rattle.cell_services.specs.Services.{InArea, OfDevice, OfVariables, OfSemaphores, area_of, asks_of, more_of}
 use Rattle.cell_services.specs.Serving.{heard_asks, heard_more, loss_asks, services, abort_asks, aborted, meanwhile, time_asks, words}
 use Rattle.mms_step.specs.Step.{step}
 use Rattle.mms_step.specs.Partition.{cell, parts_of, state_in}
@@ -66,46 +63,37 @@ class_below class.Domain = refl
 class_below class.ProgramInvocation = refl
 class_below c = refl
 
-listing_below : (s : ObjectScope) (c : ObjectClass) → are_tables (listing s c) ≡ true
-listing_below (scope.Domain domain) c = class_below c
-listing_below s c = class_below c
-
-variables_below : (of_domain : Bool) → are_tables (variable_asks of_domain) ≡ true
-variables_below true = refl
-variables_below false = refl
-
-semaphores_below : (of_domain : Bool) → are_tables (semaphore_asks of_domain) ≡ true
-semaphores_below true = refl
-semaphores_below false = refl
-
-asks_below : (v : Verdict) → are_tables (heard_asks v) ≡ true
-asks_below (Takes invoke (request.GetNameList x)) = listing_below x.scope x.class
-asks_below (Takes invoke (request.Read x)) = variables_below (accesses_domain x.access)
-asks_below (Takes invoke (request.Write x)) = variables_below (accesses_domain x.access)
-asks_below (Takes invoke (request.GetVariableAccessAttributes x)) = variables_below (specifies_domain x)
-asks_below (Takes invoke (request.DefineNamedVariable x)) = variables_below (is_of_domain x.name)
-asks_below (Takes invoke (request.DeleteVariableAccess x)) = variables_below (deletes_domain x)
-asks_below (Takes invoke (request.DefineNamedVariableList x)) = variables_below (is_of_domain x.name || list_any specifies_domain x.variables)
-asks_below (Takes invoke (request.GetNamedVariableListAttributes x)) = variables_below (is_of_domain x)
-asks_below (Takes invoke (request.DeleteNamedVariableList x)) = variables_below (deletes_domain x)
-asks_below (Takes invoke (request.TakeControl x)) = semaphores_below (is_of_domain x.name)
-asks_below (Takes invoke (request.RelinquishControl x)) = semaphores_below (is_of_domain x.name)
-asks_below (Takes invoke (request.DefineSemaphore x)) = semaphores_below (is_of_domain x.name)
-asks_below (Takes invoke (request.DeleteSemaphore x)) = semaphores_below (is_of_domain x)
-asks_below (Takes invoke (request.ReportSemaphoreStatus x)) = semaphores_below (is_of_domain x)
-asks_below (Takes invoke (request.ReportPoolSemaphoreStatus x)) = semaphores_below (is_of_domain x.name)
-asks_below (Takes invoke (request.ReportSemaphoreEntryStatus x)) = semaphores_below (is_of_domain x.name)
-asks_below (Takes invoke asked) = refl
-asks_below v = refl
-
 guards_below : (guarded : Bool) → are_tables (guard_tables guarded) ≡ true
 guards_below true = refl
 guards_below false = refl
 
+question_below : (k : Question) → are_tables (tables_for k) ≡ true
+question_below Now = refl
+question_below (Live true) = refl
+question_below (Live false) = refl
+question_below (Owned client guards) = guards_below (list_any is_some guards)
+question_below (Names c) = class_below c
+
+questions_below : (ks : List Question) → are_tables (flat_map tables_for ks) ≡ true
+questions_below [] = refl
+questions_below (k ∷ ks) = both_tables (tables_for k) (flat_map tables_for ks) (question_below k) (questions_below ks)
+
+area_below : (a : InArea) → are_tables (asks_of a) ≡ true
+area_below (OfDevice r) = questions_below r.words
+area_below (OfVariables r) = questions_below r.words
+area_below (OfSemaphores r) = questions_below r.words
+
+area_more_below : (t : Tables) (row : ClientRow) (a : InArea) → are_tables (more_of t row a) ≡ true
+area_more_below t row (OfDevice r) = questions_below (r.more tt row)
+area_more_below t row (OfVariables r) = questions_below (r.more t.variables row)
+area_more_below t row (OfSemaphores r) = questions_below (r.more t.semaphores row)
+
+asks_below : (v : Verdict) → are_tables (heard_asks v) ≡ true
+asks_below (Takes invoke asked) = area_below (area_of asked)
+asks_below v = refl
+
 more_below : (t : Tables) (row : ClientRow) (v : Verdict) → are_tables (heard_more t row v) ≡ true
-more_below t row (Takes invoke (request.GetNameList x)) = refl
-more_below t row (Takes invoke (request.Write x)) = guards_below (is_guarded row.client x t.variables)
-more_below t row (Takes invoke asked) = refl
+more_below t row (Takes invoke asked) = area_more_below t row (area_of asked)
 more_below t row v = refl
 
 loss_below : (a : Association) → are_tables (loss_asks a) ≡ true

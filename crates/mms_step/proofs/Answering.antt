@@ -26,10 +26,11 @@ use Rattle.pool_sem.specs.Pools as pool
 use Rattle.mms_time.specs.declared.row.SemaphoreRow.{SemaphoreRow}
 use Rattle.mms_time.specs.declared.taking.TakeDone.TheVariants as taken
 use Rattle.variable_services.specs.Services as variable
-use Rattle.cell_services.specs.Association.{Takes, other_error}
-use Rattle.cell_services.specs.Effects.{Waits}
-use Rattle.cell_services.specs.Services.{Outcome, answer_told, answers, cause, effect, fits, is_done, refuses, relinquish_outcome, request_told, take_outcome}
-use Rattle.cell_services.specs.Serving.{also_told, own_told, size_of}
+use Rattle.cell_client.specs.Association.{Takes, other_error}
+use Rattle.cell_client.specs.Effects.{Waits}
+use Rattle.cell_services.specs.Services.{Outcome, answers, cause, effect, relinquish_outcome, take_outcome}
+use Rattle.cell_client.specs.Requests.{answer_told, fits, is_done, refuses, request_told, size_of}
+use Rattle.cell_services.specs.Serving.{also_told, own_told}
 use Rattle.cell_services.specs.Tables.{Tables, moment_of}
 use Rattle.mms_step.specs.Answered.{AnswersOrWaits, waits_told}
 

@@ -17,7 +17,7 @@ use Rattle.sem_ticks.proofs.Settling.{settle-none}
 use Rattle.sem_ticks.specs.declared.ticks.Happening.{Happening}
 use Rattle.sem_ticks.specs.declared.ticks.Happening.TheVariants as happens
 use Rattle.mms_step.specs.declared.part.Part.{Part}
-use Rattle.cell_services.specs.Association.{Verdict}
+use Rattle.cell_client.specs.Association.{Verdict}
 use Rattle.cell_services.specs.Others.{AlsoTells, is_abort}
 use Rattle.cell_services.specs.Serving.{abort_asks, aborted, also_lost, also_told, meanwhile}
 use Rattle.cell_services.specs.Tables.{Tables, domains_table, journals_table, variables_table}

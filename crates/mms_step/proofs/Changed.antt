@@ -8,7 +8,7 @@ use Rattle.mms_step.specs.declared.part.Part.{Part}
 use Rattle.mms_step.specs.declared.part.Part.TheVariants.{Clock, Client, Semaphores, Variables}
 use Rattle.variable_services.specs.declared.tables.VariableTables.{VariableTables}
 use Rattle.parted_state.specs.Served.{change}
-use Rattle.cell_services.specs.Effects.{settled}
+use Rattle.cell_client.specs.Effects.{settled}
 use Rattle.mms_time.specs.Semaphores.{Rows}
 use Rattle.mms_step.specs.Partition.{clock_or, semaphores_or, variables_or, on_client, on_clock, on_semaphores, on_variables}
 

@@ -18,8 +18,8 @@ use Rattle.parted_state.specs.Served as parted
 use Rattle.mms_step.specs.declared.part.Part.{Part}
 use Rattle.mms_step.specs.declared.part.Part.TheVariants.{Client}
 use Rattle.mms_step.specs.State.{State, IsSound}
-use Rattle.cell_services.specs.Association.{verdict}
-use Rattle.cell_services.specs.declared.acts.Act.TheVariants as act
+use Rattle.cell_client.specs.Association.{verdict}
+use Rattle.cell_client.specs.declared.acts.Act.TheVariants as act
 use Rattle.mms_step.specs.declared.serving.Task.TheVariants as task
 use Rattle.mms_step.specs.Tasks.{row_held, task_done, HoldsClient}
 use Rattle.mms_step.specs.AfterLaws.{is_device, each_served}

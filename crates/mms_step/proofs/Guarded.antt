@@ -24,7 +24,7 @@ use Rattle.sem_ticks.specs.declared.granted.Granted.{Granted}
 use Rattle.mms_time.specs.declared.taking.TakeDone.{TakeDone}
 use Rattle.mms_time.specs.declared.taking.TakeDone.TheVariants as taken
 use Rattle.parted_state.specs.Served.{row_at}
-use Rattle.cell_services.specs.Association.{Verdict, Tells, Takes, Concludes, Cancels, Aborts, verdict}
+use Rattle.cell_client.specs.Association.{Verdict, Tells, Takes, Concludes, Cancels, Aborts, verdict}
 use Rattle.cell_services.specs.Services.{effect, relinquish_outcome, take_outcome}
 use Rattle.cell_services.specs.Serving.{aborted, is_served, meanwhile, tables_cancelled, tables_heard, tables_lost, waiting_of, without_clients}
 use Rattle.cell_services.specs.Tables.{Tables}

@@ -2,6 +2,7 @@ pub mod AllParts
 pub mod Changed
 pub mod Enough
 pub mod Guarded
+pub mod Guarding
 pub mod Holding
 pub mod Needed
 pub mod Others

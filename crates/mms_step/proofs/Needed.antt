@@ -16,8 +16,8 @@ use Rattle.parted_state.specs.Served as parted
 use Rattle.mms_step.specs.declared.part.Part.{Part}
 use Rattle.mms_step.specs.declared.part.Part.TheVariants.{Client}
 use Rattle.cell_services.specs.Tables.{Tables}
-use Rattle.cell_services.specs.Effects.{Drains, tell}
-use Rattle.cell_services.specs.Association.{Verdict, verdict, loss_told}
+use Rattle.cell_client.specs.Effects.{Drains, tell}
+use Rattle.cell_client.specs.Association.{Verdict, verdict, loss_told}
 use Rattle.cell_services.specs.Serving.{also_lost, also_told, hears, heard_asks, heard_more, loses, loss_asks, own_told, passes, services, time_asks}
 use Rattle.mms_step.specs.Partition.{cell, parts_of, client_place, clients_among, row_in, state_in, no_client}
 use Rattle.mms_step.specs.Needs.{is_held, footprint, placed, two_stages, heard_need, lost_need, need, time_need}

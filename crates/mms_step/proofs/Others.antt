@@ -9,7 +9,7 @@ use Rattle.parted_state.specs.Sets.{IsSetOf}
 use Rattle.parted_state.specs.SetLaws.{in_missing}
 use Rattle.parted_state.specs.Served.{is_told}
 use Rattle.parted_state.specs.Served as parted
-use Rattle.cell_services.specs.Effects.{Effect, tell}
+use Rattle.cell_client.specs.Effects.{Effect, tell}
 use Rattle.mms_step.specs.declared.part.Part.{Part}
 use Rattle.mms_step.specs.Needs.{client_parts}
 use Rattle.mms_step.specs.Partition.{cell, client_place}

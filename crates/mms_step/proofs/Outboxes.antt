@@ -21,8 +21,8 @@ use Rattle.sem_ticks.specs.declared.ticks.Happening.{Happening}
 use Rattle.sem_ticks.specs.declared.ticks.Happening.TheVariants as happens
 use Rattle.parted_state.specs.Lists.{get_changed, get_change, length-change}
 use Rattle.parted_state.specs.Served.{change, delivered, reached, row_at}
-use Rattle.cell_services.specs.Association.{Verdict, Takes, Concludes, Aborts, loss_told, verdict}
-use Rattle.cell_services.specs.Effects.{Effect, Sends, Opens, Closes, Waits, Answers, Drains, felt, tell}
+use Rattle.cell_client.specs.Association.{Verdict, Takes, Concludes, Aborts, loss_told, verdict}
+use Rattle.cell_client.specs.Effects.{Effect, Sends, Opens, Closes, Waits, Answers, Drains, felt, tell}
 use Rattle.cell_services.specs.Services.{effect, grant_told, grants_told, relinquish_outcome}
 use Rattle.cell_services.specs.Serving.{all_told, also_lost, also_told, happening_told, is_served, loss_also, meanwhile, own_told}
 use Rattle.mms_step.specs.Partition.{cell}

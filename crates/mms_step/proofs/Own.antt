@@ -6,8 +6,8 @@ use Rattle.association.specs.Client.{ClientRow}
 use Rattle.parted_state.specs.Cut as cut
 use Rattle.parted_state.specs.Lifted.{tables_shown}
 use Rattle.parted_state.specs.Served as parted
-use Rattle.cell_services.specs.Association.{Verdict, Tells, Takes}
-use Rattle.cell_services.specs.Effects.{Effect}
+use Rattle.cell_client.specs.Association.{Verdict, Tells, Takes}
+use Rattle.cell_client.specs.Effects.{Effect}
 use Rattle.cell_services.specs.Serving.{also_told, heard_asks, heard_more, is_served}
 use Rattle.cell_services.specs.Tables.{Tables}
 use Rattle.mms_step.specs.declared.part.Part.{Part}

@@ -5,8 +5,6 @@ use Rattle.std.proofs.lemmas.List.{length-map, map-append}
 use Rattle.mms_types.specs.Actors.{clients_to}
 use Rattle.mms_types.specs.declared.event.CellEvent.{CellEvent}
 use Rattle.mms_types.specs.declared.event.CellEvent.TheVariants.{Heard, Lost, Tick, Ends, Drain}
-use Rattle.mms_types.specs.declared.pdu.Request.{Request}
-use Rattle.mms_types.specs.declared.pdu.Request.TheVariants as request
 use Rattle.association.specs.Client.{ClientRow, new_row, drained_row}
 use Rattle.cell_config.specs.declared.config.Config.{Config}
 use Rattle.cell_config.specs.Said.{IsConfig}
@@ -17,17 +15,12 @@ use Rattle.mms_step.specs.declared.part.Part.{Part}
 use Rattle.mms_step.specs.declared.part.Part.TheVariants.{Clock, Variables, Domains, Programs, Conditions, Journals, Semaphores}
 use Rattle.mms_step.specs.State.{State, start, device_of, first_rows, HasDate}
 use Rattle.cell_services.specs.Tables.{Tables}
-use Rattle.cell_services.specs.Effects.{Effect, felt, felt_all, tell}
-use Rattle.cell_services.specs.Association.{Verdict, Takes, Cancels, verdict}
-use Rattle.cell_services.specs.Services.{effect, relinquish_outcome, take_outcome}
+use Rattle.cell_client.specs.Effects.{Effect, felt, felt_all, tell}
+use Rattle.cell_client.specs.Association.{Verdict, Takes, Cancels, verdict}
+use Rattle.cell_services.specs.Services.{InArea, OfDevice, OfVariables, OfSemaphores, area_of, effect, effect_of}
 use Rattle.association.specs.declared.negotiation.Association.{Association}
 use Rattle.association.specs.declared.negotiation.Association.TheVariants.{Idle, Open}
 use Rattle.association.specs.declared.waiting.Waiting.{Waiting}
-use Rattle.sem_ticks.specs.declared.granted.Granted.{Granted}
-use Rattle.mms_time.specs.Services.{take_told}
-use Rattle.sem_ticks.specs.Granted.{relinquish_granted}
-use Rattle.mms_time.specs.declared.taking.TakeDone.{TakeDone}
-use Rattle.mms_time.specs.declared.taking.TakeDone.TheVariants.{Answered, Waits}
 use Rattle.cell_services.specs.Serving.{is_served, tables_cancelled, tables_lost, tables_heard, services, waiting_of}
 use Rattle.mms_step.specs.Partition.{cell, parts_of, client_part, client_place, on_client}
 use Rattle.mms_step.specs.AfterLaws.{is_device}
@@ -92,27 +85,17 @@ pub told_one : (effects : List Effect) (i : ℕ) (rows : List ClientRow) → par
 told_one [] i rows = sym (change-none rows i)
 told_one (effect ∷ effects) i rows = told_one effects i (change (felt effect) rows i) ∙ change-twice (felt_all effects) (felt effect) rows i
 
--- no service moves the clock
-now_kept : (t : Tables) (row : ClientRow) (invoke : ℕ) (asked : Request) → (effect t row invoke asked).tables.now ≡ t.now
-now_kept t row invoke (request.GetNameList x) = refl
-now_kept t row invoke (request.TakeControl x) = by_done (take_told row.client x t.semaphores)
-  where
-    by_done : (o : Option TakeDone) → (take_outcome t row.client invoke x o).tables.now ≡ t.now
-    by_done None = refl
-    by_done (Some (Answered told)) = refl
-    by_done (Some (Waits entry)) = refl
-now_kept t row invoke (request.RelinquishControl x) = by_grant (relinquish_granted row.client x t.semaphores)
-  where
-    by_grant : (o : Option (Option Granted)) → (relinquish_outcome t row.client x o).tables.now ≡ t.now
-    by_grant None = refl
-    by_grant (Some grant) = refl
-now_kept t row invoke asked = refl
+-- no request moves the clock, in no area
+now_kept : (t : Tables) (row : ClientRow) (invoke : ℕ) (a : InArea) → (effect_of t row invoke a).tables.now ≡ t.now
+now_kept t row invoke (OfDevice r) = refl
+now_kept t row invoke (OfVariables r) = refl
+now_kept t row invoke (OfSemaphores r) = refl
 
 now_heard : (t : Tables) (row : ClientRow) (v : Verdict) → (tables_heard t row v).now ≡ t.now
 now_heard t row (Takes invoke asked) = by_test (is_served t row invoke asked)
   where
     by_test : (b : Bool) → (if b then (effect t row invoke asked).tables else t).now ≡ t.now
-    by_test true = now_kept t row invoke asked
+    by_test true = now_kept t row invoke (area_of asked)
     by_test false = refl
 now_heard t row (Cancels invoke) = by_waiting (waiting_of invoke row.waiting)
   where

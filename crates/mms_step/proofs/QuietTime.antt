@@ -7,7 +7,7 @@ use Rattle.parted_state.specs.LiftedLaws.{held_else}
 use Rattle.parted_state.specs.Lists.{length-change}
 use Rattle.parted_state.specs.Served.{Done}
 use Rattle.mms_time.specs.Deadlines.{next_due}
-use Rattle.cell_services.specs.Effects.{Effect}
+use Rattle.cell_client.specs.Effects.{Effect}
 use Rattle.cell_services.specs.Serving.{passes}
 use Rattle.cell_services.specs.Tables.{Tables, moment_after}
 use Rattle.cell_services.proofs.TimeLaws.{nothing_due}

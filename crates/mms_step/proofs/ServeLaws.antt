@@ -11,7 +11,7 @@ use Rattle.mms_pdu.specs.Heard.{pdu_heard}
 use Rattle.mms_pdu.specs.Hearing.{Hears}
 use Rattle.mms_types.specs.declared.pdu.Pdu.{Pdu}
 use Rattle.association.specs.declared.constants.Constants.{Constants}
-use Rattle.cell_services.specs.Reads.{IsRead, pdu_read, wants_memory}
+use Rattle.cell_client.specs.Reads.{IsRead, pdu_read, wants_memory}
 use Rattle.association.specs.Client.{ClientRow, Client as RoomyRow}
 use Rattle.part_table.specs.Held.{held_at, IsHandOf}
 use Rattle.part_table.specs.HeldLaws.{held_of_list}
@@ -27,22 +27,22 @@ use Rattle.mms_step.specs.declared.part.Part.{Part}
 use Rattle.mms_step.specs.declared.part.Part.TheVariants.{Clock, Client, Variables, Domains, Programs, Conditions, Journals, Semaphores}
 use Rattle.mms_step.specs.declared.serving.Task.{Task}
 use Rattle.mms_step.specs.declared.serving.Task.TheVariants as task
-use Rattle.cell_services.specs.declared.told.Told.{Told}
+use Rattle.cell_client.specs.declared.told.Told.{Told}
 use Rattle.mms_step.specs.State.{State}
 use Rattle.cell_services.specs.Tables.{Tables}
 use Rattle.mms_step.specs.Needs.{is_held}
-use Rattle.cell_services.specs.Effects.{Effect, felt, felt_all, tell}
+use Rattle.cell_client.specs.Effects.{Effect, felt, felt_all, tell, settled}
 use Rattle.cell_services.specs.Meant.{no_tables, row_after, IsPlainlyHeard}
-use Rattle.cell_services.specs.Association.{Verdict, verdict, verdict_by}
+use Rattle.cell_client.specs.Association.{Verdict, verdict, verdict_by}
 use Rattle.cell_services.specs.Serving.{hears, own_told}
-use Rattle.cell_services.specs.declared.acts.Act.{Act}
-use Rattle.cell_services.specs.Acts.{act_done, verdict_read}
-use Rattle.mms_step.specs.Tasks.{row_held, task_done, AreDone, HoldsOwn, IsHeardInPlace, IsTimely}
+use Rattle.cell_client.specs.declared.acts.Act.{Act}
+use Rattle.cell_services.specs.Acts.{act_done}
+use Rattle.cell_client.specs.Meant.{verdict_read}
+use Rattle.mms_step.specs.Tasks.{on_both, row_held, task_done, AreDone, HoldsOwn, IsHeardInPlace, IsTimely}
 use Rattle.mms_step.specs.Lifting.{clocked, varied, tabled, with_semaphores}
 use Rattle.variable_services.specs.declared.tables.VariableTables.{VariableTables}
 use Rattle.mms_step.specs.Partition.{cell, parts_of, client_part, client_place, clients_among, client_in, clock_in, clock_or, semaphores_in, semaphores_or, semaphores_place, variables_in, variables_or, on_client, on_clock, on_semaphores, on_variables, row_in, IsClient}
-use Rattle.cell_services.specs.Effects.{settled}
-use Rattle.cell_services.specs.Telling.{effects_told}
+use Rattle.cell_client.specs.Telling.{effects_told}
 use Rattle.mms_step.specs.declared.telling.Room.{Room}
 use Rattle.mms_step.specs.Rooms.{no_room, room_to, with_room, room_or_same, room_before, with_rooms, without_rooms, IsSettled, MayBeClient, AreClients}
 use Rattle.mms_step.specs.AfterLaws.{is_device}
@@ -640,6 +640,21 @@ pub both_back : (hand out gone there new : List (Option Part)) (place other : �
     → Some table ≡ held_at out other → gone ≡ set out other None → there ≡ set gone other (Some table) → new ≡ set there place (Some part) → new ≡ hand
 both_back hand out gone there new place other part table own taken second left put back =
     as_it_was hand there new place part own (as_it_was out gone there other table second left put ∙ taken) back
+
+-- what is decided by two parts that were taken, one after the other, is decided by those that are held
+pub decided_by_held : (serves : Part → Part → Bool) (hand out : List (Option Part)) (place other : ℕ) (part table own one : Part) → Some part ≡ held_at hand place → out ≡ set hand place None
+    → Some table ≡ held_at out other → own ≡ part → one ≡ table → serves own one ≡ on_both serves (held_at hand place) (held_at hand other)
+decided_by_held serves hand out place other part table own one held taken second same still =
+    ap (λ (p : Part). serves p one) same ∙ ap (λ (t : Part). serves part t) still
+    ∙ ap (λ (o : Option Part). on_both serves (Some part) o) (was_held hand place other (second ∙ ap (λ (l : List (Option Part)). held_at l other) taken))
+    ∙ ap (λ (o : Option Part). on_both serves o (held_at hand other)) held
+  where
+    was_held : (hand : List (Option Part)) (place other : ℕ) → Some table ≡ held_at (set hand place None) other → Some table ≡ held_at hand other
+    was_held [] place other e = e
+    was_held (h ∷ hand) zero zero e = absurd (cc e)
+    was_held (h ∷ hand) zero (suc other) e = e
+    was_held (h ∷ hand) (suc place) zero e = e
+    was_held (h ∷ hand) (suc place) (suc other) e = was_held hand place other e
 
 -- a part is put back where there is no other
 pub one_back : (hand out gone new : List (Option Part)) (place other : ℕ) (part : Part) → Some part ≡ held_at hand place → out ≡ set hand place None

@@ -63,12 +63,13 @@ use Rattle.sem_ticks.specs.declared.ticks.Happening.{Happening}
 use Rattle.sem_ticks.specs.declared.ticks.Happening.TheVariants as happens
 use Rattle.mms_types.specs.declared.pdu.Request.TheVariants as request
 use Rattle.mms_step.specs.State.{State, start, device_of, HaveMadeAtMost, IsSound, IsSoundRow, AreNumbered}
-use Rattle.cell_services.specs.Effects.{Effect, Sends, Opens, Closes, Waits, Answers, Drains, felt, felt_all, tell}
-use Rattle.cell_services.specs.Association.{Verdict, other_error, Tells, Takes, Concludes, Cancels, Aborts, verdict, verdict_by, idle_verdict, open_verdict, admitted, requested, concluded, cancelled, negotiated, refused, loss_told}
+use Rattle.cell_client.specs.Effects.{Effect, Sends, Opens, Closes, Waits, Answers, Drains, felt, felt_all, tell}
+use Rattle.cell_client.specs.Association.{Verdict, other_error, Tells, Takes, Concludes, Cancels, Aborts, verdict, verdict_by, idle_verdict, open_verdict, admitted, requested, concluded, cancelled, negotiated, refused, loss_told}
 use Rattle.cell_services.specs.Tables.{Tables, moment_after, moment_of}
 use Rattle.mms_step.specs.Partition.{cell, no_client}
-use Rattle.cell_services.specs.Services.{cause, effect, fits, grant_told, grants_told, refuses, relinquish_outcome, request_told, take_outcome, answer_told}
-use Rattle.cell_services.specs.Serving.{all_told, also_lost, also_told, happening_told, is_served, meanwhile, size_of, own_told}
+use Rattle.cell_services.specs.Services.{cause, effect, grant_told, grants_told, relinquish_outcome, take_outcome}
+use Rattle.cell_client.specs.Requests.{fits, refuses, request_told, answer_told, size_of}
+use Rattle.cell_services.specs.Serving.{all_told, also_lost, also_told, happening_told, is_served, meanwhile, own_told}
 use Rattle.mms_step.specs.Step.{step, replay}
 use Rattle.mms_step.proofs.PartsAfter.{length-start, length-clients_to, now_lost, step_sized, step_still, told_one}
 use Rattle.mms_step.proofs.TokensKept.{AreKept, kept_heard, kept_later, kept_lost, kept_ticked, waits_numbered}

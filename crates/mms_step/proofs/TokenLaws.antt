@@ -9,8 +9,8 @@ use Rattle.parted_state.specs.LiftedLaws.{held_else}
 use Rattle.parted_state.specs.Served.{Done, change}
 use Rattle.association.specs.Client.{ClientRow}
 use Rattle.mms_time.specs.Semaphores.{Rows}
-use Rattle.cell_services.specs.Association.{Verdict}
-use Rattle.cell_services.specs.Effects.{Effect, felt_all, settled, tell}
+use Rattle.cell_client.specs.Association.{Verdict}
+use Rattle.cell_client.specs.Effects.{Effect, felt_all, settled, tell}
 use Rattle.cell_services.specs.Serving.{hears}
 use Rattle.cell_services.specs.Tables.{Tables}
 use Rattle.mms_step.specs.declared.part.Part.{Part}

@@ -47,9 +47,10 @@ use Rattle.sem_ticks.proofs.Kept.{keeps_lost, keeps_ticked}
 use Rattle.sem_ticks.proofs.Later.{ahead_cancelled, ahead_defined, ahead_deleted, ahead_lost, ahead_relinquished, ahead_taken}
 use Rattle.sem_ticks.proofs.Requests.{keeps_cancelled, keeps_defined, keeps_deleted, keeps_relinquished, keeps_taken}
 use Rattle.sem_ticks.proofs.Settling.{settle-keeps}
-use Rattle.cell_services.specs.Association.{Verdict, Tells, Takes, Concludes, Cancels, Aborts}
-use Rattle.cell_services.specs.Services.{cause, effect, fits, is_done, relinquish_outcome, take_outcome}
-use Rattle.cell_services.specs.Serving.{size_of, tables_cancelled, tables_heard, tables_lost, waiting_of}
+use Rattle.cell_client.specs.Association.{Verdict, Tells, Takes, Concludes, Cancels, Aborts}
+use Rattle.cell_services.specs.Services.{cause, effect, relinquish_outcome, take_outcome}
+use Rattle.cell_client.specs.Requests.{fits, is_done, size_of}
+use Rattle.cell_services.specs.Serving.{tables_cancelled, tables_heard, tables_lost, waiting_of}
 use Rattle.cell_services.specs.Tables.{Tables, moment_of}
 use Rattle.mms_step.specs.State.{HaveMadeAtMost}
 

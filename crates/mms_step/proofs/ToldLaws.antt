@@ -15,10 +15,10 @@ use Rattle.parted_state.specs.Lists.{get_changed}
 use Rattle.parted_state.specs.Served.{change}
 use Rattle.mms_step.specs.declared.part.Part.{Part}
 use Rattle.mms_step.specs.declared.part.Part.TheVariants.{Client}
-use Rattle.cell_services.specs.declared.told.Told.{Told}
-use Rattle.cell_services.specs.Effects.{Effect, felt}
+use Rattle.cell_client.specs.declared.told.Told.{Told}
+use Rattle.cell_client.specs.Effects.{Effect, felt}
 use Rattle.mms_step.specs.Partition.{cell, client_place}
-use Rattle.cell_services.specs.Telling.{effect_of, effects_told, is_output, is_wait, output_count, wait_count}
+use Rattle.cell_client.specs.Telling.{effect_of, effects_told, is_output, is_wait, output_count, wait_count}
 use Rattle.mms_step.specs.declared.telling.Room.{Room}
 use Rattle.mms_step.specs.Rooms.{no_room, room_to, with_room, room_or_same, with_rooms, without_rooms, is_before, room_before, IsSettled, telling, HasRoom, MayBeClient, AreClients}
 

@@ -15,7 +15,7 @@ use Rattle.sem_ticks.specs.declared.ticks.Happening.{Happening}
 use Rattle.sem_ticks.specs.declared.ticks.Happening.TheVariants as happens
 use Rattle.sem_ticks.proofs.Settling.{settle_by}
 use Rattle.sem_ticks.proofs.Twice.{twice}
-use Rattle.cell_services.specs.Effects.{Effect}
+use Rattle.cell_client.specs.Effects.{Effect}
 use Rattle.cell_services.specs.Serving.{aborted, all_told, happening_told, without_clients}
 use Rattle.mms_step.specs.Partition.{cell}
 use Rattle.mms_step.specs.State.{State}

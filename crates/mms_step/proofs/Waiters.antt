@@ -40,10 +40,11 @@ use Rattle.mms_time.specs.declared.taking.TakeDone.TheVariants as taken
 use Rattle.sem_ticks.specs.declared.ticks.Happening.{Happening}
 use Rattle.sem_ticks.specs.declared.ticks.Happening.TheVariants as happens
 use Rattle.parted_state.specs.Served.{done_of, row_of}
-use Rattle.cell_services.specs.Association.{Verdict, Tells, Takes, Concludes, Cancels, Aborts, admitted, cancel_error, cancelled, concluded, confirmed_error, idle_verdict, loss_told, negotiated, open_verdict, other_error, sends, refused, requested, timeout_error, verdict, verdict_by}
-use Rattle.cell_services.specs.Effects.{Effect, Sends, Opens, Closes, Waits, Answers, Drains, tell}
-use Rattle.cell_services.specs.Services.{answer_told, cause, effect, fits, grant_told, grants_told, refuses, relinquish_outcome, request_told, take_outcome}
-use Rattle.cell_services.specs.Serving.{all_told, also_lost, also_told, happening_told, is_served, meanwhile, own_told, services, size_of}
+use Rattle.cell_client.specs.Association.{Verdict, Tells, Takes, Concludes, Cancels, Aborts, admitted, cancel_error, cancelled, concluded, confirmed_error, idle_verdict, loss_told, negotiated, open_verdict, other_error, sends, refused, requested, timeout_error, verdict, verdict_by}
+use Rattle.cell_client.specs.Effects.{Effect, Sends, Opens, Closes, Waits, Answers, Drains, tell}
+use Rattle.cell_services.specs.Services.{cause, effect, grant_told, grants_told, relinquish_outcome, take_outcome}
+use Rattle.cell_client.specs.Requests.{answer_told, fits, refuses, request_told, size_of}
+use Rattle.cell_services.specs.Serving.{all_told, also_lost, also_told, happening_told, is_served, meanwhile, own_told, services}
 use Rattle.cell_services.specs.Tables.{Tables, moment_of}
 use Rattle.mms_step.specs.Answered.{AreAnswered, IsAnswerTo, grant_answer}
 use Rattle.mms_step.specs.Partition.{cell}

@@ -1,42 +1,23 @@
 -- Laws of what an event makes of the parts that are held: the device is one of tables and clients, and each event reads and changes the tables that it uses alone.
+use Rattle.std.specs.Prelude.{◌≡◌, ℕ, zero, suc, ◌+◌, Bool, true, false, ◌++◌, Option, None, Some, is_some, List, [], ◌∷◌, if◌then◌else◌, slice_get, refl}
 use Rattle.std.specs.List.{list_any}
-use Rattle.std.specs.Option.{option_map}
-use Rattle.variable_services.specs.declared.tables.VariableTables.{VariableTables}
-use Rattle.variable_services.specs.Services as variable
-use Rattle.variables.specs.Access.{are_guarded, flags_of, guard_named, guards, is_owned}
-use Rattle.variables.specs.Rows.{Rows as Cells}
-use Rattle.mms_types.specs.declared.moment.Moment.{Moment}
-use Rattle.mms_types.specs.declared.semaphore.RelinquishControl.{RelinquishControl}
-use Rattle.mms_types.specs.declared.semaphore.TakeControl.{TakeControl}
-use Rattle.association.specs.declared.waiting.Waiting.{Waiting}
-use Rattle.mms_types.specs.declared.variable.Spec.{Spec}
-use Rattle.mms_types.specs.declared.variable.Write.{Write}
-use Rattle.sem_ticks.specs.Granted.{relinquish_granted}
-use Rattle.sem_ticks.specs.declared.granted.Granted.{Granted}
-use Rattle.mms_time.specs.Guards.{owns_guard}
-use Rattle.mms_time.specs.Semaphores.{Rows}
-use Rattle.mms_time.specs.Services as semaphore
-use Rattle.mms_time.specs.Statuses as semaphore_status
-use Rattle.mms_time.specs.declared.taking.TakeDone.{TakeDone}
-use Rattle.mms_time.specs.declared.taking.TakeDone.TheVariants.{Answered, Waits}
-use Rattle.std.specs.Prelude.{◌≡◌, ℕ, zero, suc, ◌+◌, Bool, true, false, ◌||◌, ◌++◌, Option, None, Some, is_some, List, [], ◌∷◌, if◌then◌else◌, slice_get, refl}
-use Rattle.std.proofs.Common.{ap, ap₂, sym, ◌∙◌, arith}
+use Rattle.std.proofs.Common.{ap, sym, ◌∙◌, arith}
 use Rattle.mms_types.specs.declared.event.CellEvent.{CellEvent}
 use Rattle.mms_types.specs.declared.event.CellEvent.TheVariants.{Heard, Lost, Tick, Ends, Drain}
-use Rattle.mms_types.specs.declared.service_error.ServiceError.{ServiceError}
-use Rattle.mms_types.specs.declared.pdu.Request.{Request}
-use Rattle.mms_types.specs.declared.pdu.Request.TheVariants as request
-use Rattle.mms_types.specs.declared.pdu.Answer.{Answer}
-use Rattle.mms_types.specs.declared.pdu.Answer.TheVariants as answer
-use Rattle.mms_types.specs.declared.key.Scope.{Scope}
-use Rattle.mms_types.specs.declared.name_list.ObjectClass.{ObjectClass}
 use Rattle.mms_types.specs.declared.name_list.ObjectClass.TheVariants as class
-use Rattle.mms_types.specs.declared.name_list.ObjectScope.{ObjectScope}
-use Rattle.mms_types.specs.declared.name_list.ObjectScope.TheVariants as scope
+use Rattle.mms_types.specs.declared.service_error.ServiceError.{ServiceError}
+use Rattle.object_names.specs.Listing.{names_after}
+use Rattle.variables.specs.Access.{flags_of}
+use Rattle.variable_services.specs.declared.tables.VariableTables.{VariableTables}
+use Rattle.mms_time.specs.Guards.{owns_guard}
+use Rattle.mms_time.specs.Semaphores.{Rows}
 use Rattle.association.specs.declared.negotiation.Association.{Association}
 use Rattle.association.specs.declared.negotiation.Association.TheVariants.{Idle, Open}
+use Rattle.association.specs.declared.waiting.Waiting.{Waiting}
 use Rattle.association.specs.Client.{ClientRow}
 use Rattle.part_table.specs.Held.{held_at, places_held, laid_over, IsHandOf}
+use Rattle.parted_state.specs.Area.{Own, no_table, Area, Plan, area_plan, AllIn, IsTable, IsOwn, AreTold, IsPlan}
+use Rattle.parted_state.specs.AreaLaws.{none_own, table_same, table_own, area_law}
 use Rattle.parted_state.specs.Cut.{IsFramed}
 use Rattle.parted_state.specs.Served.{Done, IsDevice, IsServed}
 use Rattle.parted_state.specs.Served as parted
@@ -44,11 +25,14 @@ use Rattle.parted_state.specs.ServedLaws as served
 use Rattle.mms_step.specs.declared.part.Part.{Part}
 use Rattle.mms_step.specs.declared.part.Part.TheVariants.{Clock, Semaphores, Variables}
 use Rattle.mms_step.specs.State.{State}
-use Rattle.cell_services.specs.Tables.{Tables, clock_table, moment_of, semaphores_table}
-use Rattle.cell_services.specs.Effects.{Effect, tell}
-use Rattle.cell_services.specs.Association.{Verdict, Tells, Takes, Cancels, verdict, cancel_told, loss_told}
-use Rattle.cell_services.specs.Services.{Outcome, answers, becomes, becomes_semaphores, guard_tables, owned_guards, take_outcome, relinquish_outcome, variable_asks, semaphore_asks, is_of_domain, specifies_domain, accesses_domain, deletes_domain, cause, effect, listed, listing, names_in, request_asks, request_more, is_done, request_told, scope_of}
-use Rattle.cell_services.specs.Serving.{size_of, is_served, tables_cancelled, tables_lost, tables_heard, waiting_of, without_clients, own_told, also_lost, also_told, all_told, hears, heard_asks, heard_more, loss_asks, meanwhile, abort_asks, aborted, passes, time_asks, services, words}
+use Rattle.cell_services.specs.Tables.{Tables, clock_table, variables_table, semaphores_table, own_clock, own_variables, own_semaphores}
+use Rattle.cell_client.specs.Effects.{Effect, tell}
+use Rattle.cell_client.specs.Association.{Verdict, Tells, Takes, Cancels, verdict, cancel_told, loss_told}
+use Rattle.cell_services.specs.Facts.{Question, Now, Live, Owned, Names, Facts, guard_tables, tables_for, noted, tells}
+use Rattle.cell_services.specs.Requests.{OutcomeIn, RequestIn, asks_in, more_in, told_in, cause_in, effect_in}
+use Rattle.cell_services.specs.Services.{InArea, OfDevice, OfVariables, OfSemaphores, area_of, asks_of, more_of, cause_of, effect_of}
+use Rattle.cell_client.specs.Requests.{is_done, request_told, size_of}
+use Rattle.cell_services.specs.Serving.{tables_cancelled, tables_lost, waiting_of, without_clients, also_lost, all_told, hears, heard_asks, heard_more, loss_asks, meanwhile, abort_asks, aborted, passes, time_asks, services, words}
 use Rattle.mms_step.specs.Partition.{cell, clock_in, semaphores_in, variables_in, parts_of}
 use Rattle.mms_step.specs.Step.{step}
 use Rattle.mms_step.specs.Needs.{need, wants}
@@ -87,257 +71,134 @@ alone us t = parted.masked cell us t
 as_it_was : (us : List ℕ) (t : Tables) → parted.merged cell us (alone us t) t ≡ t
 as_it_was us t = served.merged_masked cell is_device us t
 
--- ---- each request
+-- ---- each area's table, and each question
 
-abbrev request_uses : Tables → ClientRow → Request → List ℕ
-request_uses t row asked = request_asks asked ++ (request_more t row asked ++ [])
+abbrev is_clock : IsTable cell own_clock
+is_clock = record { number = clock_table; part = Clock; part_in = clock_in; one = refl; shown = λ hand. refl; puts = λ new t. refl }
 
-more_law : (t : Tables) (row : ClientRow) (asked : Request) → request_more (alone (request_asks asked) t) row asked ≡ request_more t row asked
-more_law t row (request.Write x) = by_domain (accesses_domain x.access)
-  where
-    by_domain : (of_domain : Bool)
-        → guard_tables (variable.is_guarded row.client x (alone (variable_asks of_domain) t).variables) ≡ guard_tables (variable.is_guarded row.client x t.variables)
-    by_domain true = refl
-    by_domain false = refl
-more_law t row asked = refl
+abbrev is_variables : IsTable cell own_variables
+is_variables = record { number = variables_table; part = Variables; part_in = variables_in; one = refl; shown = λ hand. refl; puts = λ new t. refl }
 
--- the variables are used, whether or not a domain is written
-variables_same : (of_domain : Bool) (t : Tables) → (alone (variable_asks of_domain ++ ([] ++ [])) t).variables ≡ t.variables
-variables_same true t = refl
-variables_same false t = refl
-
--- and whether or not a guard is looked up
-variables_beside : (of_domain guarded : Bool) (t : Tables) → (alone (variable_asks of_domain ++ (guard_tables guarded ++ [])) t).variables ≡ t.variables
-variables_beside true true t = refl
-variables_beside true false t = refl
-variables_beside false true t = refl
-variables_beside false false t = refl
-
--- the semaphores are used, whether or not a domain is written, and the moment
-semaphores_same : (of_domain : Bool) (t : Tables) → (alone (semaphore_asks of_domain ++ ([] ++ [])) t).semaphores ≡ t.semaphores
-semaphores_same true t = refl
-semaphores_same false t = refl
-
-cause_law : (t : Tables) (row : ClientRow) (asked : Request) → cause (alone (request_uses t row asked) t) row asked ≡ cause t row asked
-cause_law t row (request.Read x) = ap (variable.read_cause row.client x) (variables_same (accesses_domain x.access) t)
-cause_law t row (request.Write x) =
-    ap (variable.write_cause row.client x) (variables_beside (accesses_domain x.access) (variable.is_guarded row.client x t.variables) t)
-cause_law t row (request.GetVariableAccessAttributes x) = ap (variable.attributes_cause row.client x) (variables_same (specifies_domain x) t)
-cause_law t row (request.DefineNamedVariable x) = ap (variable.define_cause false row.client x) (variables_same (is_of_domain x.name) t)
-cause_law t row (request.DefineNamedVariableList x) =
-    ap (variable.define_list_cause false row.client x) (variables_same (is_of_domain x.name || list_any specifies_domain x.variables) t)
-cause_law t row (request.GetNamedVariableListAttributes x) = ap (variable.list_attributes_cause row.client x) (variables_same (is_of_domain x) t)
-cause_law t row (request.TakeControl x) = ap (semaphore.take_cause row.client x) (semaphores_same (is_of_domain x.name) t)
-cause_law t row (request.RelinquishControl x) = ap (semaphore.relinquish_cause row.client x) (semaphores_same (is_of_domain x.name) t)
-cause_law t row (request.DefineSemaphore x) = ap (semaphore.define_cause false row.client x) (semaphores_same (is_of_domain x.name) t)
-cause_law t row (request.DeleteSemaphore x) = ap (semaphore.delete_cause row.client x) (semaphores_same (is_of_domain x) t)
-cause_law t row (request.ReportSemaphoreStatus x) = ap (semaphore_status.status_cause row.client x) (semaphores_same (is_of_domain x) t)
-cause_law t row (request.ReportPoolSemaphoreStatus x) = ap (semaphore_status.pool_status_cause row.client x.name) (semaphores_same (is_of_domain x.name) t)
-cause_law t row (request.ReportSemaphoreEntryStatus x) = ap (semaphore_status.entry_status_cause row.client x) (semaphores_same (is_of_domain x.name) t)
-cause_law t row asked = refl
-
--- an outcome with these tables alone, beside the others
-abbrev outcome_within : List ℕ → Tables → Outcome → Outcome
-outcome_within us t o = record { tables = parted.merged cell us o.tables t; answer = o.answer; also = o.also }
-
--- names are listed, and nothing changes
-listed_law : (us : List ℕ) (t : Tables) (told : Option Answer) (also : List (ℕ × Effect))
-    → record { tables = t; answer = told; also = also } ≡ outcome_within us t (record { tables = alone us t; answer = told; also = also })
-listed_law us t told also = ap (λ (x : Tables). at x) (sym (as_it_was us t))
-  where
-    at : Tables → Outcome
-    at x = record { tables = x; answer = told; also = also }
-
--- what is told of the variables, and what becomes of them
-told_law : (of_domain : Bool) (t : Tables) (told : VariableTables → Option Answer)
-    → answers t (told t.variables)
-    ≡ outcome_within (variable_asks of_domain ++ ([] ++ [])) t
-    (answers (alone (variable_asks of_domain ++ ([] ++ [])) t) (told (alone (variable_asks of_domain ++ ([] ++ [])) t).variables))
-told_law true t told = refl
-told_law false t told = refl
-
-become_law : (of_domain : Bool) (t : Tables) (after : VariableTables → VariableTables) (told : VariableTables → Answer)
-    → becomes t (after t.variables) (told t.variables)
-    ≡ outcome_within (variable_asks of_domain ++ ([] ++ [])) t
-    (becomes (alone (variable_asks of_domain ++ ([] ++ [])) t) (after (alone (variable_asks of_domain ++ ([] ++ [])) t).variables)
-    (told (alone (variable_asks of_domain ++ ([] ++ [])) t).variables))
-become_law true t after told = refl
-become_law false t after told = refl
+abbrev is_semaphores : IsTable cell own_semaphores
+is_semaphores = record { number = semaphores_table; part = Semaphores; part_in = semaphores_in; one = refl; shown = λ hand. refl; puts = λ new t. refl }
 
 -- where no variable is guarded, semaphores tell nothing
-none_owned : (client : ℕ) (rows other : Rows) (cells : Cells) (variables : List Spec) → are_guarded client variables cells ≡ false
-    → flags_of (λ guard. owns_guard client guard rows) (guards client variables cells) ≡ flags_of (λ guard. owns_guard client guard other) (guards client variables cells)
-none_owned client rows other cells [] none = refl
-none_owned client rows other cells (s ∷ variables) none = by_guard (guard_named client cells s) none (none_owned client rows other cells variables)
+none_owned : (client : ℕ) (rows other : Rows) (guards : List (Option (List ℕ))) → list_any is_some guards ≡ false
+    → flags_of (λ guard. owns_guard client guard rows) guards ≡ flags_of (λ guard. owns_guard client guard other) guards
+none_owned client rows other [] none = refl
+none_owned client rows other (None ∷ guards) none = ap (λ (owned : List Bool). false ∷ owned) (none_owned client rows other guards none)
+none_owned client rows other (Some guard ∷ guards) none = absurd (cc none)
+
+told_same : (k : Question) (facts : Facts) (us : List ℕ) (t : Tables) → AllIn cell (tables_for k) us → noted k (alone us t) facts ≡ noted k t facts
+told_same Now facts us t all =
+    ap (λ (now : ℕ). record facts { now = record { 0 = now } }) (table_same cell is_device own_clock is_clock us t (all clock_table refl))
+told_same (Live of_domain) facts us t all = refl
+told_same (Owned client guards) facts us t all = by_guards (list_any is_some guards) refl all
   where
-    by_guard : (g : Option (List ℕ)) → (is_some g || are_guarded client variables cells) ≡ false
-        → (are_guarded client variables cells ≡ false
-        → flags_of (λ guard. owns_guard client guard rows) (guards client variables cells) ≡ flags_of (λ guard. owns_guard client guard other) (guards client variables cells))
-        → is_owned (λ guard. owns_guard client guard rows) g ∷ flags_of (λ guard. owns_guard client guard rows) (guards client variables cells)
-        ≡ is_owned (λ guard. owns_guard client guard other) g ∷ flags_of (λ guard. owns_guard client guard other) (guards client variables cells)
-    by_guard None h rest = ap (λ (owned : List Bool). false ∷ owned) (rest h)
-    by_guard (Some guard) h rest = absurd (cc h)
+    by_guards : (b : Bool) → list_any is_some guards ≡ b → AllIn cell (guard_tables b) us
+        → noted (Owned client guards) (alone us t) facts ≡ noted (Owned client guards) t facts
+    by_guards true e all =
+        ap (λ (rows : Rows). record facts { owned = flags_of (λ guard. owns_guard client guard rows) guards })
+        (table_same cell is_device own_semaphores is_semaphores us t (all semaphores_table refl))
+    by_guards false e all = ap (λ (owned : List Bool). record facts { owned = owned }) (none_owned client (alone us t).semaphores t.semaphores guards e)
+told_same (Names class.NamedVariable) facts us t all =
+    ap (λ (v : VariableTables). record facts { names = λ s after. names_after s after v.vars.variables })
+    (table_same cell is_device own_variables is_variables us t (all variables_table refl))
+told_same (Names class.NamedVariableList) facts us t all =
+    ap (λ (v : VariableTables). record facts { names = λ s after. names_after s after v.lists })
+    (table_same cell is_device own_variables is_variables us t (all variables_table refl))
+told_same (Names class.Semaphore) facts us t all =
+    ap (λ (rows : Rows). record facts { names = λ s after. names_after s after rows })
+    (table_same cell is_device own_semaphores is_semaphores us t (all semaphores_table refl))
+told_same (Names c) facts us t all = refl
 
--- variables are written by flags, and where the semaphores tell whose guards they are
-abbrev written_by : List Bool → ℕ → Write → Tables → Outcome
-written_by owned client x t = becomes t (variable.write_after owned client x t.variables) (answer.Write (variable.write_answer owned client x t.variables))
+are_told : AreTold cell tells
+are_told = record { same = told_same }
 
-abbrev written : ℕ → Write → Tables → Outcome
-written client x t = written_by (owned_guards client x t.variables t.semaphores) client x t
+-- ---- each area: a request that is taken is settled by the tables that it uses alone
 
-write_law : (of_domain guarded : Bool) (t : Tables) (client : ℕ) (x : Write) → variable.is_guarded client x t.variables ≡ guarded
-    → written client x t
-    ≡ outcome_within (variable_asks of_domain ++ (guard_tables guarded ++ [])) t (written client x (alone (variable_asks of_domain ++ (guard_tables guarded ++ [])) t))
-write_law true true t client x is = refl
-write_law false true t client x is = refl
-write_law of_domain false t client x none =
-    ap (λ (owned : List Bool). written_by owned client x t) (none_owned client t.semaphores [] t.variables.vars (variable.accessed_all client x.access t.variables) none) ∙ by_domain of_domain
-  where
-    by_domain : (of_domain : Bool)
-        → written_by (owned_guards client x t.variables []) client x t ≡ outcome_within (variable_asks of_domain ++ ([] ++ [])) t (written client x (alone (variable_asks of_domain ++ ([] ++ [])) t))
-    by_domain true = refl
-    by_domain false = refl
+-- a request of that cause and that outcome is done, or its table stays as it is
+abbrev settled : {A : Type 0} → ℕ → ℕ → ℕ → Option ServiceError → OutcomeIn A → A → Done A Effect
+settled size client invoke why o own = record {
+  tables = if is_done size invoke why o.answer then o.tables else own;
+  told = tell client (request_told size invoke why o.answer) ++ (if is_done size invoke why o.answer then o.also else []);
+}
 
--- what is told of the semaphores at that moment, and what becomes of them
-semaphores_told : (of_domain : Bool) (t : Tables) (told : Moment → Rows → Option Answer)
-    → answers t (told (moment_of t) t.semaphores)
-    ≡ outcome_within (semaphore_asks of_domain ++ ([] ++ [])) t
-    (answers (alone (semaphore_asks of_domain ++ ([] ++ [])) t)
-    (told (moment_of (alone (semaphore_asks of_domain ++ ([] ++ [])) t)) (alone (semaphore_asks of_domain ++ ([] ++ [])) t).semaphores))
-semaphores_told true t told = refl
-semaphores_told false t told = refl
+-- of a client's row, its number and the invokeID
+abbrev requests : {A : Type 0} → Area A (ClientRow × (ℕ × ℕ)) Effect (RequestIn A) Question Facts
+requests = record {
+  words = λ who r. r.words;
+  more = λ own who r. r.more own who.0;
+  serves = λ facts own who r. settled (size_of who.0.association) who.1.0 who.1.1 (r.cause facts own who.0) (r.effect facts own who.0 who.1.1) own;
+}
 
-semaphores_become : (of_domain : Bool) (t : Tables) (after : Rows → Rows) (told : Answer)
-    → becomes_semaphores t (after t.semaphores) told []
-    ≡ outcome_within (semaphore_asks of_domain ++ ([] ++ [])) t
-    (becomes_semaphores (alone (semaphore_asks of_domain ++ ([] ++ [])) t) (after (alone (semaphore_asks of_domain ++ ([] ++ [])) t).semaphores) told [])
-semaphores_become true t after told = refl
-semaphores_become false t after told = refl
+module _ {A : Type 0} (own : Own Tables A) (is_own : IsOwn cell own) (stays : (t : Tables) → own.put (own.of t) t ≡ t)
+    (row : ClientRow) (client invoke : ℕ) (r : RequestIn A) where
+  abbrev plan : Plan Tables Effect
+  plan = area_plan own tells requests (row, (client, invoke)) r
 
--- a token is asked for, and given back
-take_law : (of_domain : Bool) (t : Tables) (client invoke : ℕ) (x : TakeControl) (told : Rows → Option TakeDone)
-    → take_outcome t client invoke x (told t.semaphores)
-    ≡ outcome_within (semaphore_asks of_domain ++ ([] ++ [])) t
-    (take_outcome (alone (semaphore_asks of_domain ++ ([] ++ [])) t) client invoke x (told (alone (semaphore_asks of_domain ++ ([] ++ [])) t).semaphores))
-take_law true t client invoke x told = by_done (told t.semaphores)
-  where
-    by_done : (o : Option TakeDone) → take_outcome t client invoke x o
-        ≡ outcome_within (semaphore_asks true ++ ([] ++ [])) t (take_outcome (alone (semaphore_asks true ++ ([] ++ [])) t) client invoke x o)
-    by_done None = refl
-    by_done (Some (Answered a)) = refl
-    by_done (Some (Waits n)) = refl
-take_law false t client invoke x told = by_done (told t.semaphores)
-  where
-    by_done : (o : Option TakeDone) → take_outcome t client invoke x o
-        ≡ outcome_within (semaphore_asks false ++ ([] ++ [])) t (take_outcome (alone (semaphore_asks false ++ ([] ++ [])) t) client invoke x o)
-    by_done None = refl
-    by_done (Some (Answered a)) = refl
-    by_done (Some (Waits n)) = refl
+  is_plan : IsPlan cell plan
+  is_plan = area_law cell is_device tells are_told own is_own requests (row, (client, invoke)) r
 
-relinquish_law : (of_domain : Bool) (t : Tables) (client : ℕ) (x : RelinquishControl) (told : Rows → Option (Option Granted))
-    → relinquish_outcome t client x (told t.semaphores)
-    ≡ outcome_within (semaphore_asks of_domain ++ ([] ++ [])) t
-    (relinquish_outcome (alone (semaphore_asks of_domain ++ ([] ++ [])) t) client x (told (alone (semaphore_asks of_domain ++ ([] ++ [])) t).semaphores))
-relinquish_law true t client x told = by_grant (told t.semaphores)
-  where
-    by_grant : (o : Option (Option Granted)) → relinquish_outcome t client x o
-        ≡ outcome_within (semaphore_asks true ++ ([] ++ [])) t (relinquish_outcome (alone (semaphore_asks true ++ ([] ++ [])) t) client x o)
-    by_grant None = refl
-    by_grant (Some grant) = refl
-relinquish_law false t client x told = by_grant (told t.semaphores)
-  where
-    by_grant : (o : Option (Option Granted)) → relinquish_outcome t client x o
-        ≡ outcome_within (semaphore_asks false ++ ([] ++ [])) t (relinquish_outcome (alone (semaphore_asks false ++ ([] ++ [])) t) client x o)
-    by_grant None = refl
-    by_grant (Some grant) = refl
+  abbrev taken_in : Tables → Done Tables Effect
+  taken_in t = settled (size_of row.association) client invoke (cause_in own t row r) (effect_in own t row invoke r) t
 
--- from the table of their class
-names_same : (t : Tables) (s : ObjectScope) (c : ObjectClass) (of : Scope) (after : Option (List ℕ)) → names_in (alone (listing s c ++ ([] ++ [])) t) of c after ≡ names_in t of c after
-names_same t (scope.Domain domain) class.NamedVariable of after = refl
-names_same t (scope.Domain domain) class.NamedVariableList of after = refl
-names_same t (scope.Domain domain) class.Semaphore of after = refl
-names_same t (scope.Domain domain) c of after = refl
-names_same t s class.NamedVariable of after = refl
-names_same t s class.NamedVariableList of after = refl
-names_same t s class.Semaphore of after = refl
-names_same t s c of after = refl
+  planned : (t : Tables) → taken_in t ≡ plan.does t
+  planned t = by_test (is_done (size_of row.association) invoke (cause_in own t row r) (effect_in own t row invoke r).answer)
+    where
+      told : Bool → List (ℕ × Effect)
+      told b = tell client (request_told (size_of row.association) invoke (cause_in own t row r) (effect_in own t row invoke r).answer)
+          ++ (if b then (effect_in own t row invoke r).also else [])
 
-effect_law : (t : Tables) (row : ClientRow) (invoke : ℕ) (asked : Request)
-    → effect t row invoke asked ≡ outcome_within (request_uses t row asked) t (effect (alone (request_uses t row asked) t) row invoke asked)
-effect_law t row invoke (request.GetNameList x) =
-    listed_law (request_uses t row (request.GetNameList x)) t (effect t row invoke (request.GetNameList x)).answer []
-    ∙ ap (λ (names : List (List ℕ)). told names) (sym (names_same t x.scope x.class (scope_of row.client x.scope) x.after))
-  where
-    told : List (List ℕ) → Outcome
-    told names = outcome_within (request_uses t row (request.GetNameList x)) t
-        (answers (alone (request_uses t row (request.GetNameList x)) t) (Some (answer.GetNameList (listed names))))
-effect_law t row invoke (request.Read x) = told_law (accesses_domain x.access) t (λ v. Some (answer.Read (variable.read_answer row.client x v)))
-effect_law t row invoke (request.Write x) = write_law (accesses_domain x.access) (variable.is_guarded row.client x t.variables) t row.client x refl
-effect_law t row invoke (request.GetVariableAccessAttributes x) =
-    told_law (specifies_domain x) t (λ v. option_map answer.GetVariableAccessAttributes (variable.attributes_answer row.client x v))
-effect_law t row invoke (request.DefineNamedVariable x) =
-    become_law (is_of_domain x.name) t (variable.define_after row.client x) (λ v. answer.DefineNamedVariable)
-effect_law t row invoke (request.DeleteVariableAccess x) =
-    become_law (deletes_domain x) t (variable.delete_after row.client x) (λ v. answer.DeleteVariableAccess (variable.delete_answer row.client x v))
-effect_law t row invoke (request.DefineNamedVariableList x) =
-    become_law (is_of_domain x.name || list_any specifies_domain x.variables) t (variable.define_list_after row.client x) (λ v. answer.DefineNamedVariableList)
-effect_law t row invoke (request.GetNamedVariableListAttributes x) =
-    told_law (is_of_domain x) t (λ v. option_map answer.GetNamedVariableListAttributes (variable.list_attributes_answer row.client x v))
-effect_law t row invoke (request.DeleteNamedVariableList x) =
-    become_law (deletes_domain x) t (variable.delete_lists_after row.client x) (λ v. answer.DeleteNamedVariableList (variable.delete_lists_answer row.client x v))
-effect_law t row invoke (request.TakeControl x) = take_law (is_of_domain x.name) t row.client invoke x (semaphore.take_told row.client x)
-effect_law t row invoke (request.RelinquishControl x) = relinquish_law (is_of_domain x.name) t row.client x (relinquish_granted row.client x)
-effect_law t row invoke (request.DefineSemaphore x) = semaphores_become (is_of_domain x.name) t (semaphore.define_after row.client x) answer.DefineSemaphore
-effect_law t row invoke (request.DeleteSemaphore x) = semaphores_become (is_of_domain x) t (semaphore.delete_after row.client x) answer.DeleteSemaphore
-effect_law t row invoke (request.ReportSemaphoreStatus x) =
-    semaphores_told (is_of_domain x) t (λ now rows. option_map answer.ReportSemaphoreStatus (semaphore_status.status row.client x rows))
-effect_law t row invoke (request.ReportPoolSemaphoreStatus x) =
-    semaphores_told (is_of_domain x.name) t (λ now rows. option_map answer.ReportPoolSemaphoreStatus (semaphore_status.pool_status_answer row.client x rows))
-effect_law t row invoke (request.ReportSemaphoreEntryStatus x) =
-    semaphores_told (is_of_domain x.name) t (λ now rows. option_map answer.ReportSemaphoreEntryStatus (semaphore_status.entry_status_answer row.client now x rows))
-effect_law t row invoke asked = refl
+      at : Tables → List (ℕ × Effect) → Done Tables Effect
+      at x l = record { tables = x; told = l }
 
--- ---- settled once for all requests
+      by_test : (b : Bool) → at (if b then (effect_in own t row invoke r).tables else t) (told b)
+          ≡ at (own.put (if b then (r.effect (told_in own t row r) (own.of t) row invoke).tables else own.of t) t) (told b)
+      by_test true = refl
+      by_test false = ap (λ (x : Tables). at x (told false)) (sym (stays t))
 
-takes_law : (t : Tables) (row : ClientRow) (client invoke : ℕ) (asked : Request)
-    → hears t row client (Takes invoke asked) ≡ parted.done_within cell (request_uses t row asked) t (hears (alone (request_uses t row asked) t) row client (Takes invoke asked))
-takes_law t row client invoke asked = ap₂ (λ (x : Tables) (l : List (ℕ × Effect)). at x l) tables (ap₂ (λ (a b : List (ℕ × Effect)). a ++ b) own also)
-  where
-    at : Tables → List (ℕ × Effect) → Done Tables Effect
-    at x l = record { tables = x; told = l }
+  abbrev uses : Tables → List ℕ
+  uses t = asks_in own r ++ (more_in own t row r ++ [])
 
-    answer_same : (effect t row invoke asked).answer ≡ (effect (alone (request_uses t row asked) t) row invoke asked).answer
-    answer_same = ap (λ (o : Outcome). o.answer) (effect_law t row invoke asked)
+  taken_within : (t : Tables) → taken_in t ≡ parted.done_within cell (uses t) t (taken_in (alone (uses t) t))
+  taken_within t =
+      planned t ∙ is_plan.within t ∙ ap (λ (d : Done Tables Effect). parted.done_within cell (uses t) t d) (sym (planned (alone (uses t) t)))
 
-    done_same : is_served t row invoke asked ≡ is_served (alone (request_uses t row asked) t) row invoke asked
-    done_same = ap₂ (λ (c : Option ServiceError) (a : Option Answer). is_done (size_of row.association) invoke c a) (sym (cause_law t row asked)) answer_same
+variables_own : IsOwn cell own_variables
+variables_own = table_own cell is_device own_variables is_variables
 
-    own : tell client (own_told t row (Takes invoke asked)) ≡ tell client (own_told (alone (request_uses t row asked) t) row (Takes invoke asked))
-    own = ap₂ (λ (c : Option ServiceError) (a : Option Answer). tell client (request_told (size_of row.association) invoke c a)) (sym (cause_law t row asked)) answer_same
+semaphores_own : IsOwn cell own_semaphores
+semaphores_own = table_own cell is_device own_semaphores is_semaphores
 
-    also : also_told t row (Takes invoke asked) ≡ also_told (alone (request_uses t row asked) t) row (Takes invoke asked)
-    also = ap₂ (λ (b : Bool) (l : List (ℕ × Effect)). if b then l else []) done_same (ap (λ (o : Outcome). o.also) (effect_law t row invoke asked))
+-- ---- and so each request
 
-    by_test : (b : Bool) → (if b then (effect t row invoke asked).tables else t)
-        ≡ parted.merged cell (request_uses t row asked) (if b then (effect (alone (request_uses t row asked) t) row invoke asked).tables else alone (request_uses t row asked) t) t
-    by_test true = ap (λ (o : Outcome). o.tables) (effect_law t row invoke asked)
-    by_test false = sym (as_it_was (request_uses t row asked) t)
+more_law : (t : Tables) (row : ClientRow) (a : InArea) → more_of (alone (asks_of a) t) row a ≡ more_of t row a
+more_law t row (OfDevice r) = (is_plan no_table (none_own cell is_device) (λ u. refl) row 0 0 r).more_same t
+more_law t row (OfVariables r) = (is_plan own_variables variables_own (λ u. refl) row 0 0 r).more_same t
+more_law t row (OfSemaphores r) = (is_plan own_semaphores semaphores_own (λ u. refl) row 0 0 r).more_same t
 
-    tables : tables_heard t row (Takes invoke asked)
-        ≡ parted.merged cell (request_uses t row asked) (tables_heard (alone (request_uses t row asked) t) row (Takes invoke asked)) t
-    tables =
-        by_test (is_served t row invoke asked)
-        ∙ ap (λ (b : Bool). parted.merged cell (request_uses t row asked) (if b then (effect (alone (request_uses t row asked) t) row invoke asked).tables else alone (request_uses t row asked) t) t) done_same
+abbrev area_uses : Tables → ClientRow → InArea → List ℕ
+area_uses t row a = asks_of a ++ (more_of t row a ++ [])
+
+abbrev area_taken : Tables → ClientRow → ℕ → ℕ → InArea → Done Tables Effect
+area_taken t row client invoke a = settled (size_of row.association) client invoke (cause_of t row a) (effect_of t row invoke a) t
+
+takes_law : (t : Tables) (row : ClientRow) (client invoke : ℕ) (a : InArea)
+    → area_taken t row client invoke a ≡ parted.done_within cell (area_uses t row a) t (area_taken (alone (area_uses t row a) t) row client invoke a)
+takes_law t row client invoke (OfDevice r) = taken_within no_table (none_own cell is_device) (λ u. refl) row client invoke r t
+takes_law t row client invoke (OfVariables r) = taken_within own_variables variables_own (λ u. refl) row client invoke r t
+takes_law t row client invoke (OfSemaphores r) = taken_within own_semaphores semaphores_own (λ u. refl) row client invoke r t
 
 -- ---- each event
 
 heard_more_law : (t : Tables) (row : ClientRow) (v : Verdict) → heard_more (alone (heard_asks v) t) row v ≡ heard_more t row v
-heard_more_law t row (Takes invoke asked) = more_law t row asked
+heard_more_law t row (Takes invoke asked) = more_law t row (area_of asked)
 heard_more_law t row other = refl
 
 hears_law : (t : Tables) (row : ClientRow) (client : ℕ) (v : Verdict)
     → hears t row client v ≡ parted.done_within cell (heard_asks v ++ (heard_more t row v ++ [])) t (hears (alone (heard_asks v ++ (heard_more t row v ++ [])) t) row client v)
-hears_law t row client (Takes invoke asked) = takes_law t row client invoke asked
+hears_law t row client (Takes invoke asked) = takes_law t row client invoke (area_of asked)
 hears_law t row client (Tells effects) = refl
 hears_law t row client (Cancels invoke) = by_waiting (waiting_of invoke row.waiting)
   where

@@ -9,8 +9,8 @@ use Rattle.mms_types.specs.declared.service_error.ServiceError.{ServiceError}
 use Rattle.mms_pdu.specs.Pdus.{pdu_octets}
 use Rattle.association.specs.declared.waiting.Waiting.{Waiting}
 use Rattle.sem_ticks.specs.declared.granted.Granted.{Granted}
-use Rattle.cell_services.specs.Association.{confirmed_error}
-use Rattle.cell_services.specs.Effects.{Effect, Sends, Opens, Closes, Waits, Answers, Drains}
+use Rattle.cell_client.specs.Association.{confirmed_error}
+use Rattle.cell_client.specs.Effects.{Effect, Sends, Opens, Closes, Waits, Answers, Drains}
 use Rattle.mms_step.specs.State.{State}
 use Rattle.mms_step.specs.Step.{outbox_of}
 

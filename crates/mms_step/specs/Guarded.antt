@@ -6,7 +6,7 @@ use Rattle.mms_types.specs.declared.pdu.Request.TheVariants as request
 use Rattle.mms_types.specs.declared.variable.Write.{Write}
 use Rattle.mms_time.specs.Guards.{owns_guard}
 use Rattle.parted_state.specs.Served.{row_at}
-use Rattle.cell_services.specs.Association.{Takes, verdict}
+use Rattle.cell_client.specs.Association.{Takes, verdict}
 use Rattle.cell_services.specs.Serving.{is_served}
 use Rattle.mms_step.specs.Partition.{cell}
 use Rattle.mms_step.specs.State.{State}

@@ -9,7 +9,7 @@ use Rattle.parted_state.specs.Served as parted
 use Rattle.mms_step.specs.declared.part.Part.{Part}
 use Rattle.mms_step.specs.State.{State}
 use Rattle.association.specs.Client.{ClientRow}
-use Rattle.cell_services.specs.Association.{Verdict, Tells, Takes, verdict}
+use Rattle.cell_client.specs.Association.{Verdict, Tells, Takes, verdict}
 use Rattle.cell_services.specs.Serving.{services, abort_asks, aborted, all_told, also_lost, also_told, heard_asks, heard_more, loss_asks, meanwhile}
 use Rattle.sem_ticks.specs.declared.ticks.Happening.{Happening}
 use Rattle.mms_step.specs.Partition.{cell, client_place, parts_of, state_in}

@@ -11,7 +11,7 @@ use Rattle.mms_step.specs.declared.part.Part.{Part}
 use Rattle.mms_step.specs.declared.part.Part.TheVariants.{Clock, Variables, Domains, Programs, Conditions, Journals, Client, Semaphores}
 use Rattle.mms_step.specs.State.{State}
 use Rattle.mms_time.specs.Semaphores.{Rows}
-use Rattle.cell_services.specs.Effects.{Effect, felt, settled}
+use Rattle.cell_client.specs.Effects.{Effect, felt, settled}
 use Rattle.cell_services.specs.Tables.{Tables}
 use Rattle.variable_services.specs.declared.tables.VariableTables.{VariableTables}
 use Rattle.variable_services.specs.Services.{no_variables}

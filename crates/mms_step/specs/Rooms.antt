@@ -6,8 +6,8 @@ use Rattle.parted_state.specs.Cut.{with_places}
 use Rattle.mms_step.specs.declared.part.Part.{Part}
 use Rattle.mms_step.specs.declared.part.Part.TheVariants.{Client}
 use Rattle.mms_step.specs.declared.telling.Room.{Room}
-use Rattle.cell_services.specs.declared.told.Told.{Told}
-use Rattle.cell_services.specs.Telling.{effect_of, is_output, is_wait, output_count, told_row, wait_count}
+use Rattle.cell_client.specs.declared.told.Told.{Told}
+use Rattle.cell_client.specs.Telling.{effect_of, is_output, is_wait, output_count, told_row, wait_count}
 use Rattle.mms_step.specs.Partition.{client_place}
 
 -- how many outputs a client is told, and how many requests that wait

@@ -9,8 +9,8 @@ use Rattle.mms_time.specs.Semaphores.{Rows}
 use Rattle.variable_services.specs.declared.tables.VariableTables.{VariableTables}
 use Rattle.parted_state.specs.Served.{Done, change}
 use Rattle.cell_services.specs.Acts.{act_done, IsDoneAmong, IsDoneOn}
-use Rattle.cell_services.specs.Association.{Verdict}
-use Rattle.cell_services.specs.Effects.{Effect, settled, tell}
+use Rattle.cell_client.specs.Association.{Verdict}
+use Rattle.cell_client.specs.Effects.{Effect, settled, tell}
 use Rattle.cell_services.specs.Meant.{no_tables, row_after}
 use Rattle.cell_services.specs.Services.{reads_or_writes}
 use Rattle.cell_services.specs.Serving.{hears, own_told, passes}

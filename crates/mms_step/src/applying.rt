@@ -13,14 +13,14 @@ ghost use Rattle.part_table.specs.Held.{held_at, places_held, IsHandOf};
 ghost use Rattle.parted_state.specs.Lifted.{put_in_place, tables_shown};
 ghost use Rattle.parted_state.specs.Served.{change};
 ghost use Rattle.mms_step.specs.State.{State, IsSound};
-ghost use Rattle.cell_services.specs.Association.{verdict, verdict_by, Takes};
+ghost use Rattle.cell_client.specs.Association.{verdict, verdict_by, Takes};
 ghost use Rattle.mms_step.specs.Step.{step, IsInTime};
 ghost use Rattle.mms_step.specs.Partition.{cell, parts_of, clients_among, clock_in, client_place, outbox_held, on_client, IsClient};
 ghost use Rattle.mms_step.specs.Needs.{need};
-ghost use Rattle.cell_services.specs.Reads.{IsDeep, IsReadOf, IsReadingOf};
-ghost use Rattle.cell_services.specs.Acts.{act_done, verdict_read, IsActOf};
+ghost use Rattle.cell_client.specs.Reads.{IsDeep, IsReadOf, IsReadingOf};
+ghost use Rattle.cell_services.specs.Acts.{act_done, IsActOf};
+ghost use Rattle.cell_client.specs.Meant.{verdict_read, uses_no_table};
 ghost use Rattle.mms_step.specs.Tasks.{in_place, row_held, serves_variables, variables_in_place, AreDone, HoldsOwn, IsHeardInPlace};
-ghost use Rattle.cell_services.specs.Meant.{uses_no_table};
 ghost use Rattle.cell_services.specs.Serving.{hears};
 ghost use Rattle.mms_step.specs.After.{after};
 
@@ -30,7 +30,8 @@ use crate::serving::{Task, serve};
 use crate::tables::{BEFORE_CLIENTS, VARIABLES, clients_of};
 use crate::tokens::serve_on_semaphores;
 use crate::{Cell, Part};
-use cell_services::{Act, Reading, wants_memory};
+use cell_client::{Act, Reading, wants_memory};
+use cell_services::{hear, serve_variables};
 use mms_pdu::{Read, Refusal, read_pdu_to};
 use mms_time::SemaphoreRow;
 use mms_types::{CellEvent, Edition, Memory, Request, What};
@@ -101,7 +102,7 @@ fn hear_own<'a>(
 {
     let mut part = take_client(held, client);
     let heard = match &mut *part {
-        Part::Client(own) => own.hear(alloc, read),
+        Part::Client(own) => hear(alloc, own, read),
         _ => unreachable!(),
     };
     put_client(held, client, part);
@@ -129,7 +130,7 @@ fn serve_parts(
 {
     match (part, table) {
         (Part::Client(own), Part::Variables(variables)) => {
-            own.serve_on(alloc, variables, semaphores, invoke, asked)
+            serve_variables(alloc, own, variables, semaphores, invoke, asked)
         }
         _ => Ok(false),
     }

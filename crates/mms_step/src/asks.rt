@@ -1,15 +1,19 @@
 //! The tables that a confirmed request uses (this profile's choice).
 
-ghost use Rattle.std.specs.Prelude.{◌≡◌, ◌≤◌, [], ◌∷◌, MatchOption};
-ghost use Rattle.std.specs.List.{list_any};
+ghost use Rattle.std.specs.Prelude.{◌≡◌, ◌≤◌, [], ◌∷◌, ◌++◌, MatchOption};
+ghost use Rattle.std.specs.List.{flat_map, list_any};
 ghost use Rattle.parted_state.specs.Sets.{IsSetOf};
 ghost use Rattle.association.specs.Client.{ClientRow};
 ghost use Rattle.part_table.specs.Held.{held_at};
 ghost use Rattle.parted_state.specs.Lifted.{tables_shown};
-ghost use Rattle.variable_services.specs.Services.{is_guarded};
+ghost use Rattle.variable_services.specs.Services.{guards};
 ghost use Rattle.mms_step.specs.Needs.{placed};
 ghost use Rattle.mms_step.specs.Partition.{cell, variables_in};
-ghost use Rattle.cell_services.specs.Services.{accesses_domain, class_tables, deletes_domain, guard_tables, is_of_domain, listing, lists_domain, request_asks, request_more, semaphore_asks, specifies_domain, variable_asks};
+ghost use Rattle.cell_services.specs.Device.{is_domain};
+ghost use Rattle.cell_services.specs.Facts.{Live, Names, Owned, tables_for};
+ghost use Rattle.cell_services.specs.Semaphores.{at_its_moment};
+ghost use Rattle.cell_services.specs.Services.{accesses_domain, deletes_domain, is_of_domain, lists_domain, request_asks, request_more, specifies_domain};
+ghost use Rattle.cell_services.specs.Tables.{own_semaphores, own_variables};
 
 use crate::Cell;
 use crate::needs::variables_held;
@@ -25,8 +29,8 @@ use variable_services::VariableTables;
 /// The part with the names of a class, where it has one.
 fn class_part(clients: u32, class: ObjectClass) -> Option<u8>
     requires few { clients ≤ 64 }
-    ensures { MatchOption result (class_tables class ≡ [])
-        (λ part. placed clients (class_tables class) ≡ part ∷ []) }
+    ensures { MatchOption result (flat_map tables_for (Names class ∷ []) ≡ [])
+        (λ part. placed clients (flat_map tables_for (Names class ∷ [])) ≡ part ∷ []) }
 {
     match class {
         ObjectClass::NamedVariable | ObjectClass::NamedVariableList => Some(VARIABLES),
@@ -45,7 +49,8 @@ fn class_part(clients: u32, class: ObjectClass) -> Option<u8>
 /// The parts from which names of a class are listed in a scope.
 fn listing(scope: &ObjectScope, class: ObjectClass, clients: u32) -> Parts
     requires few { clients ≤ 64 }
-    ensures { IsSetOf result (placed clients (listing scope.now class)) }
+    ensures { IsSetOf result (placed clients
+        (flat_map tables_for (Live (is_domain scope.now) ∷ Names class ∷ []))) }
 {
     match (scope, class_part(clients, class)) {
         (ObjectScope::Domain(_), Some(part)) => Parts::of(&[DOMAINS, part]),
@@ -118,11 +123,12 @@ fn deletes_domain(asked: &DeleteNames) -> bool
 
 /// The part of the variables, and that of the domains where one is written in the request.
 fn variable_asks(of_domain: bool, clients: u32) -> Parts
-    ensures { IsSetOf result (placed clients (variable_asks of_domain)) }
+    ensures { IsSetOf result (placed clients
+        (own_variables.numbers ++ flat_map tables_for (Live of_domain ∷ []))) }
 {
     let _clients = clients;
     if of_domain {
-        Parts::of(&[DOMAINS, VARIABLES])
+        Parts::of(&[VARIABLES, DOMAINS])
     } else {
         Parts::of(&[VARIABLES])
     }
@@ -131,10 +137,11 @@ fn variable_asks(of_domain: bool, clients: u32) -> Parts
 /// The parts of the semaphores and of the clock, and that of the domains where one is written in the request.
 fn semaphore_asks(of_domain: bool, clients: u32) -> Parts
     requires few { clients ≤ 64 }
-    ensures { IsSetOf result (placed clients (semaphore_asks of_domain)) }
+    ensures { IsSetOf result (placed clients
+        (own_semaphores.numbers ++ flat_map tables_for (at_its_moment of_domain))) }
 {
     if of_domain {
-        Parts::of(&[DOMAINS, semaphores(clients), CLOCK])
+        Parts::of(&[semaphores(clients), CLOCK, DOMAINS])
     } else {
         Parts::of(&[semaphores(clients), CLOCK])
     }
@@ -181,10 +188,11 @@ pub(crate) fn request_asks(asked: &Request, clients: u32) -> Parts
 }
 
 /// The part of the semaphores, where a write names a guarded cell.
+#[tactic(auto, using(crate::proofs::Guarding::guards_asked))]
 fn write_more(alloc: Global, held: &Hand<Cell>, client: u32, asked: &Write, clients: u32) -> Parts
     requires few { clients ≤ 64 }
-    ensures { IsSetOf result (placed clients (guard_tables
-        (is_guarded client asked.now (variables_in (held_at held.now 1))))) }
+    ensures { IsSetOf result (placed clients (flat_map tables_for
+        (Owned client (guards client asked.now (variables_in (held_at held.now 1))) ∷ []))) }
 {
     let none = VariableTables::empty(alloc);
     if variables_held(held, &none).is_guarded(client, asked) {

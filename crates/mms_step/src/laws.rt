@@ -23,7 +23,7 @@ ghost use Rattle.mms_time.specs.declared.row.Semaphore.TheVariants.{Token, Pool}
 ghost use Rattle.mms_time.specs.declared.row.SemaphoreRow.{SemaphoreRow};
 ghost use Rattle.sem_ticks.specs.declared.ticks.Happening.TheVariants.{Grants};
 ghost use Rattle.parted_state.specs.Served.{done_of, row_at};
-ghost use Rattle.cell_services.specs.Association.{Verdict, Takes, Concludes, Aborts, verdict};
+ghost use Rattle.cell_client.specs.Association.{Verdict, Takes, Concludes, Aborts, verdict};
 ghost use Rattle.cell_services.specs.Serving.{also_told, is_served, meanwhile, own_told, services};
 ghost use Rattle.cell_services.specs.Tables.{Tables};
 ghost use Rattle.association.specs.Client.{ClientRow};

@@ -18,7 +18,8 @@ mod tokens;
 
 pub use applying::{apply, apply_read, drain};
 pub use cell::Cell;
-pub use cell_services::{Client, Clock, Reading, read_event};
+pub use cell_client::{Client, Reading, read_event};
+pub use cell_services::Clock;
 pub use laws::{a_step_is_of_the_held_parts, all_parts_are_enough, each_state_is_sound};
 pub use needs::{footprint, need, need_read};
 pub use opening::start_parts;

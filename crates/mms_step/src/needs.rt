@@ -3,7 +3,7 @@
 ghost use Rattle.std.specs.Prelude.{◌≡◌, ℕ, ◌+◌, ◌<◌, ◌≤◌, [], true, Some, length, IfOk};
 ghost use Rattle.mms_types.specs.Actors.{IsAmong};
 ghost use Rattle.part_table.specs.Held.{held_at, IsHandOf};
-ghost use Rattle.cell_services.specs.Meant.{meant};
+ghost use Rattle.cell_client.specs.Meant.{meant};
 ghost use Rattle.variable_services.specs.Services.{no_variables};
 ghost use Rattle.parted_state.specs.Lifted.{tables_shown};
 ghost use Rattle.mms_step.specs.State.{State, IsSound};
@@ -14,10 +14,10 @@ ghost use Rattle.sem_ticks.specs.Ticks.{ticked};
 ghost use Rattle.parted_state.specs.Cut.{missing};
 ghost use Rattle.parted_state.specs.Sets.{IsSetOf};
 ghost use Rattle.mms_step.specs.Partition.{cell, parts_of, client_place, clients_among, clock_in, semaphores_in, semaphores_place, variables_in, IsClient};
-ghost use Rattle.cell_services.specs.Association.{verdict_by};
+ghost use Rattle.cell_client.specs.Association.{verdict_by};
 ghost use Rattle.mms_step.specs.Needs.{also_parts, client_parts, footprint, happened_need, heard_need, is_held, is_own, lost_need, need, placed, time_need, verdict_need};
 ghost use Rattle.mms_step.specs.Step.{IsInTime};
-ghost use Rattle.cell_services.specs.Reads.{pdu_read, IsDeep, IsReadOf, IsReadingOf};
+ghost use Rattle.cell_client.specs.Reads.{pdu_read, IsDeep, IsReadOf, IsReadingOf};
 
 use crate::asks::{request_asks, request_more};
 use crate::tables::{
@@ -26,9 +26,8 @@ use crate::tables::{
 };
 use crate::{Cell, Part};
 use association::ClientPart;
-use cell_services::{
-    Found, Reading, also_told, happened_to, is_lossy, loss_told, read, verdict_of,
-};
+use cell_client::{Found, Reading, read, verdict_of};
+use cell_services::{also_told, happened_to, is_lossy, loss_told};
 use mms_pdu::{Read, Refusal};
 use mms_time::SemaphoreRow;
 use mms_types::{CellEvent, Memory, Moment, Request};

@@ -10,8 +10,9 @@ ghost use Rattle.mms_step.specs.Partition.{parts_of};
 
 use crate::Part;
 use association::Constants;
+use cell_client::Client;
 use cell_config::Config;
-use cell_services::{Client, Clock};
+use cell_services::Clock;
 use mms_time::SemaphoreRow;
 use mms_types::Memory;
 use object_names::Named;

@@ -1,6 +1,7 @@
 //! The parts of the device.
 
-use cell_services::{Client, Clock};
+use cell_client::Client;
+use cell_services::Clock;
 use mms_time::SemaphoreRow;
 use object_names::Named;
 use variable_services::VariableTables;

@@ -7,12 +7,12 @@ ghost use Rattle.part_table.specs.Held.{held_at};
 ghost use Rattle.parted_state.specs.Lifted.{told_all};
 ghost use Rattle.parted_state.specs.Served.{change};
 ghost use Rattle.mms_step.specs.Partition.{cell, client_place};
-ghost use Rattle.cell_services.specs.Telling.{effects_told};
+ghost use Rattle.cell_client.specs.Telling.{effects_told};
 ghost use Rattle.mms_step.specs.Rooms.{no_room, room_to, telling, with_room, with_rooms, without_rooms, AreClients, HasRoom, IsSettled};
 
 use crate::tables::BEFORE_CLIENTS;
 use crate::{Cell, Part};
-use cell_services::Told;
+use cell_client::Told;
 use mms_types::Memory;
 use part_table::Hand;
 

@@ -6,7 +6,7 @@ ghost use Rattle.std.specs.Option.{option_map};
 ghost use Rattle.mms_types.specs.Moments.{IsDated};
 ghost use Rattle.part_table.specs.Held.{held_at, IsHandOf};
 ghost use Rattle.parted_state.specs.Lifted.{put_in_place, tables_shown};
-ghost use Rattle.cell_services.specs.Association.{Takes};
+ghost use Rattle.cell_client.specs.Association.{Takes};
 ghost use Rattle.cell_services.specs.Serving.{hears};
 ghost use Rattle.mms_step.specs.State.{State};
 ghost use Rattle.mms_step.specs.Partition.{cell, parts_of, clients_among, clock_in, client_place, semaphores_place, IsClient};
@@ -75,7 +75,7 @@ fn serve_tokens(
     match (part, table) {
         (Part::Client(own), Part::Semaphores(rows)) => {
             if own.part().client() == client {
-                own.serve_tokens(alloc, rows, now, invoke, asked)
+                cell_services::serve_tokens(alloc, own, rows, now, invoke, asked)
             } else {
                 Ok(false)
             }

@@ -1,5 +1,5 @@
 use Rattle.std.proofs.lemmas.Result.{IfOk-weaker}
-use Rattle.cell_services.specs.Meant.{meant}
+use Rattle.cell_client.specs.Meant.{meant}
 use Rattle.cell_services.proofs.AlsoLaws.{heard_loss, loss_found}
 use Rattle.cell_services.proofs.others.also_told.Goals as goal
 

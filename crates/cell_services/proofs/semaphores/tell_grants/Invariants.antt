@@ -1,6 +1,6 @@
 use Rattle.std.proofs.Common.{◌≡◌, ◌++◌}
 use Rattle.cell_services.specs.Services.{grants_told}
-use Rattle.cell_services.specs.Telling.{effects_told}
+use Rattle.cell_client.specs.Telling.{effects_told}
 use Rattle.cell_services.proofs.semaphores.tell_grants.Given as goal
 
 -- what is told so far, and then of those that are left

@@ -5,7 +5,7 @@ use Rattle.mms_types.specs.declared.event.CellEvent.{CellEvent}
 use Rattle.mms_types.specs.declared.event.CellEvent.TheVariants.{Heard, Lost, Tick, Ends, Drain}
 use Rattle.parted_state.specs.Lifted.{put_in_place, tables_shown}
 use Rattle.mms_step.specs.Tasks.{row_held}
-use Rattle.cell_services.specs.Association.{verdict}
+use Rattle.cell_client.specs.Association.{verdict}
 use Rattle.part_table.specs.Held.{held_at}
 use Rattle.mms_step.specs.Step.{IsInTime}
 use Rattle.mms_step.specs.Partition.{cell, clients_among, clock_in}

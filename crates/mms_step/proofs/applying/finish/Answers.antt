@@ -2,7 +2,7 @@ use Rattle.std.proofs.Common.{ap, sym, ◌∙◌}
 use Rattle.std.proofs.lemmas.Result.{on_ok_weaker}
 use Rattle.parted_state.specs.Lifted.{put_in_place, tables_shown}
 use Rattle.cell_services.specs.Acts.{act_done}
-use Rattle.cell_services.specs.declared.acts.Act.{Act}
+use Rattle.cell_client.specs.declared.acts.Act.{Act}
 use Rattle.mms_step.specs.Partition.{cell}
 use Rattle.mms_step.specs.Tasks.{row_held}
 use Rattle.mms_step.proofs.applying.finish.Goals as goal

@@ -3,7 +3,7 @@ use Rattle.std.proofs.lemmas.Result.{on_ok_weaker}
 use Rattle.parted_state.specs.Lifted.{put_in_place, tables_shown}
 use Rattle.mms_step.specs.declared.part.Part.{Part}
 use Rattle.mms_step.specs.Tasks.{row_held}
-use Rattle.cell_services.specs.Association.{Takes}
+use Rattle.cell_client.specs.Association.{Takes}
 use Rattle.mms_step.specs.Partition.{cell}
 use Rattle.cell_services.specs.Serving.{hears}
 use Rattle.mms_step.proofs.applying.finish_request.Goals as goal

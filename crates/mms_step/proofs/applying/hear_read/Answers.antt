@@ -3,9 +3,10 @@ use Rattle.std.proofs.lemmas.Result.{on_ok_weaker}
 use Rattle.parted_state.specs.Lifted.{put_in_place, tables_shown}
 use Rattle.parted_state.specs.Served.{Done}
 use Rattle.mms_step.specs.declared.part.Part.{Part}
-use Rattle.cell_services.specs.Acts.{act_done, verdict_read, IsActOf}
+use Rattle.cell_services.specs.Acts.{act_done, IsActOf}
+use Rattle.cell_client.specs.Meant.{verdict_read}
 use Rattle.mms_step.specs.Tasks.{row_held}
-use Rattle.cell_services.specs.Effects.{Effect}
+use Rattle.cell_client.specs.Effects.{Effect}
 use Rattle.mms_step.specs.Partition.{cell}
 use Rattle.cell_services.specs.Tables.{Tables}
 use Rattle.mms_step.proofs.ServeLaws.{alone_in_place, if_none, if_some, on_some}

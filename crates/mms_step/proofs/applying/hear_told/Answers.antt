@@ -2,7 +2,7 @@ use Rattle.std.proofs.Common.{ap, ◌∙◌, sym}
 use Rattle.std.proofs.lemmas.Result.{on_ok_weaker}
 use Rattle.parted_state.specs.Lifted.{put_in_place, tables_shown}
 use Rattle.mms_step.specs.Tasks.{row_held}
-use Rattle.cell_services.specs.Association.{Verdict, verdict_by}
+use Rattle.cell_client.specs.Association.{Verdict, verdict_by}
 use Rattle.mms_step.specs.Partition.{cell}
 use Rattle.cell_services.specs.Serving.{hears}
 use Rattle.mms_step.proofs.ServeLaws.{read_heard_so}

@@ -2,10 +2,10 @@ use Rattle.std.proofs.Common.{ℕ, ◌+◌, ◌≤◌, None, Some, ap, ◌∙◌
 use Rattle.part_table.specs.Held.{held_at}
 use Rattle.mms_step.specs.Partition.{semaphores_in, semaphores_place}
 use Rattle.mms_step.specs.declared.part.Part.{Part}
-use Rattle.mms_step.specs.Tasks.{AreDone}
-use Rattle.cell_services.specs.Association.{Takes}
+use Rattle.mms_step.specs.Tasks.{AreDone, serves_variables}
+use Rattle.cell_client.specs.Association.{Takes}
 use Rattle.mms_step.proofs.Changed.{place_left, still_within}
-use Rattle.mms_step.proofs.ServeLaws.{served_in_place, both_back, one_back, if_ok_then, on_err_both}
+use Rattle.mms_step.proofs.ServeLaws.{served_in_place, both_back, decided_by_held, one_back, if_ok_then, on_err_both}
 use Rattle.mms_step.proofs.applying.serve_on_variables.Goals as goal
 
 pub put_client-requires-clause-place : goal.put_client-requires-clause-place
@@ -58,3 +58,12 @@ returns-clause-kept c =
     (c.put_variables.ensures ∙ ap (λ (p : Part). set c.take_variables.new.held 1 (Some p)) (left ∙ c.deref_mut-2.ensures.value))
     (c.put_client-2.ensures ∙ ap (λ (p : Part). set c.put_variables.new.held (5 + c.args.client) (Some p)) (kept ∙ c.deref_mut.ensures.value)))
     c.serve_parts-done.ensures.kept c.serve_parts-done.ensures.left
+
+pub returns-clause-exact : goal.returns-clause-exact
+returns-clause-exact c =
+    if_ok_then c.serve_parts-done.result
+    (λ done is.
+    is
+    ∙ decided_by_held (serves_variables c.args.asked.now) c.args.held.now c.take_client-part.new.held (5 + c.args.client) 1 c.take_client-part.result.value c.in-Some.table.value c.deref_mut.result.now
+    c.deref_mut-2.result.now c.take_client-part.ensures.part c.take_client-part.ensures.left c.in-Some.ensures.part c.deref_mut.ensures.value c.deref_mut-2.ensures.value)
+    c.serve_parts-done.ensures.exact

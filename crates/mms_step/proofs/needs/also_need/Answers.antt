@@ -2,7 +2,7 @@ use Rattle.std.proofs.Common.{ℕ, List, subst}
 use Rattle.parted_state.specs.Cut.{missing}
 use Rattle.parted_state.specs.Sets.{IsSetOf}
 use Rattle.mms_step.specs.Needs.{client_parts}
-use Rattle.cell_services.specs.Meant.{meant}
+use Rattle.cell_client.specs.Meant.{meant}
 use Rattle.mms_step.proofs.Asked.{also_set}
 use Rattle.mms_step.proofs.needs.also_need.Goals as goal
 

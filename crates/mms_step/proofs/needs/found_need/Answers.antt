@@ -3,7 +3,7 @@ use Rattle.std.proofs.lemmas.Result.{IfOk-weaker}
 use Rattle.parted_state.specs.SetLaws.{missing_set}
 use Rattle.parted_state.specs.Sets.{IsSetOf}
 use Rattle.parted_state.specs.Cut.{missing}
-use Rattle.cell_services.specs.Meant.{meant}
+use Rattle.cell_client.specs.Meant.{meant}
 use Rattle.parted_state.specs.Lifted.{tables_shown}
 use Rattle.mms_step.specs.Partition.{cell}
 use Rattle.cell_services.specs.Serving.{heard_asks, heard_more}

@@ -1,9 +1,9 @@
 use Rattle.std.proofs.Common.{sym, subst}
 use Rattle.parted_state.specs.Lifted.{tables_shown}
 use Rattle.parted_state.specs.Sets.{IsSetOf}
-use Rattle.cell_services.specs.Meant.{meant}
+use Rattle.cell_client.specs.Meant.{meant}
 use Rattle.cell_services.specs.Serving.{heard_more}
-use Rattle.cell_services.specs.declared.verdict.Found.{Found}
+use Rattle.cell_client.specs.declared.verdict.Found.{Found}
 use Rattle.mms_step.specs.Needs.{placed}
 use Rattle.mms_step.specs.Partition.{cell}
 use Rattle.mms_step.proofs.needs.heard_more.Goals as goal

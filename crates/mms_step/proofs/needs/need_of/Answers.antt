@@ -1,7 +1,7 @@
 use Rattle.std.proofs.Common.{subst}
 use Rattle.std.proofs.lemmas.Result.{IfOk-weaker}
 use Rattle.parted_state.specs.Sets.{IsSetOf}
-use Rattle.cell_services.specs.Association.{Verdict}
+use Rattle.cell_client.specs.Association.{Verdict}
 use Rattle.mms_step.specs.Needs.{verdict_need}
 use Rattle.mms_step.proofs.needs.need_of.Goals as goal
 

@@ -4,7 +4,7 @@ use Rattle.parted_state.specs.Served.{Done}
 use Rattle.mms_step.specs.declared.part.Part.{Part}
 use Rattle.mms_step.specs.Tasks.{task_done, HoldsOwn}
 use Rattle.mms_step.specs.Lifting.{tabled}
-use Rattle.cell_services.specs.Effects.{Effect}
+use Rattle.cell_client.specs.Effects.{Effect}
 use Rattle.cell_services.specs.Meant.{no_tables}
 use Rattle.mms_step.specs.Partition.{cell}
 use Rattle.cell_services.specs.Tables.{Tables}

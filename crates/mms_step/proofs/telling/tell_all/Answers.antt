@@ -1,8 +1,8 @@
 use Rattle.std.proofs.Common.{◌≡◌, ◌++◌, ◌∷◌, [], ◌+◌, ℕ, List, length, sym, ◌∙◌, ap, subst, refl, append_assoc, arith}
 use Rattle.parted_state.specs.Lifted.{told_all}
-use Rattle.cell_services.specs.declared.told.Told.{Told}
+use Rattle.cell_client.specs.declared.told.Told.{Told}
 use Rattle.mms_step.specs.Partition.{cell}
-use Rattle.cell_services.specs.Telling.{effects_told}
+use Rattle.cell_client.specs.Telling.{effects_told}
 use Rattle.mms_step.specs.Rooms.{without_rooms}
 use Rattle.mms_step.proofs.ToldLaws.{Tells, tells_first, tells_next, tells_all, room_there}
 use Rattle.mms_step.proofs.telling.tell_all.Goals as goal

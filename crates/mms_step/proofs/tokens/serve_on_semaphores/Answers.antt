@@ -2,7 +2,7 @@ use Rattle.std.proofs.Common.{◌+◌, Some, ap, sym, ◌∙◌, subst, set}
 use Rattle.mms_step.specs.Partition.{semaphores_place}
 use Rattle.mms_step.specs.declared.part.Part.{Part}
 use Rattle.mms_step.specs.Tasks.{AreDoneAmong, IsRoomless}
-use Rattle.cell_services.specs.Association.{Takes}
+use Rattle.cell_client.specs.Association.{Takes}
 use Rattle.mms_step.proofs.ServeLaws.{both_back, one_back, if_ok_then, on_err_both}
 use Rattle.mms_step.proofs.TokenLaws.{held_roomless, served_among}
 use Rattle.mms_step.proofs.tokens.serve_on_semaphores.Goals as goal

@@ -1,9 +1,9 @@
 -- What clients are told: the effects that it means, and the room that it uses (this profile's choice).
 use Rattle.std.specs.Prelude.{ℕ, ◌-◌, Bool, true, false, List, map, if◌then◌else◌}
 use Rattle.association.specs.Client.{Client as RoomyRow}
-use Rattle.cell_services.specs.declared.told.Told.{Told}
-use Rattle.cell_services.specs.declared.told.Told.TheVariants as told
-use Rattle.cell_services.specs.Effects.{Effect, Sends, Closes, Waits, Answers, felt}
+use Rattle.cell_client.specs.declared.told.Told.{Told}
+use Rattle.cell_client.specs.declared.told.Told.TheVariants as told
+use Rattle.cell_client.specs.Effects.{Effect, Sends, Closes, Waits, Answers, felt}
 
 abbrev pub effect_of : Told → Effect
 effect_of (told.Sends output) = Sends output

@@ -2,7 +2,7 @@
 
 ghost use Rattle.std.specs.Prelude.{◌≡◌, ◌≢◌, None, Some, IfNone, IfOk, IfSome};
 ghost use Rattle.mms_pdu.specs.Heard.{pdu_heard};
-ghost use Rattle.cell_services.specs.Reads.{IsRead, IsReadingOf, edition_of, edition_read, unless_memory, wants_memory};
+ghost use Rattle.cell_client.specs.Reads.{IsRead, IsReadingOf, edition_of, edition_read, unless_memory, wants_memory};
 
 use mms_pdu::{Read, Refusal, read_pdu};
 use mms_types::{CellEvent, Edition, Memory};
@@ -40,7 +40,7 @@ pub struct Reading {
 }
 
 impl Model for Reading {
-    ghost use Rattle.cell_services.specs.Reads.{Kept};
+    ghost use Rattle.cell_client.specs.Reads.{Kept};
 
     ghost Value = { Kept };
 

@@ -2,23 +2,23 @@ use Rattle.std.proofs.Common.{ap, sym, ◌∙◌, ℕ}
 use Rattle.association.specs.Client.{Client as RoomyRow}
 use Rattle.mms_types.specs.Order.{key_of}
 use Rattle.cell_services.proofs.TokenLaws.{give_not, give_refused, give_served, still}
-use Rattle.cell_services.proofs.client.Client.give_back_named.Goals as goal
+use Rattle.cell_services.proofs.tokens.give_back_named.Goals as goal
 
 pub returns-in_ok-refuse-in-None-clause-served : goal.returns-in_ok-refuse-in-None-clause-served
 returns-in_ok-refuse-in-None-clause-served c _ =
-    give_refused c.args.self.now.row c.client.result c.args.now.0 c.args.semaphores.now c.named_mut.follows.lender-at-none c.refuse.new.self c.args.invoke c.args.asked.now
+    give_refused c.args.own.now.row c.client.result c.args.now.0 c.args.semaphores.now c.named_mut.follows.lender-at-none c.refuse.new.self c.args.invoke c.args.asked.now
     (c.client.ensures ∙ ap (λ (r : RoomyRow). r.row.client) c.part.ensures, c.in-None.ensures.value) c.named_mut.follows.holds-at-none c.in_ok-refuse-in-None.ensures.sent
 
 pub returns-in-Some-clause-served : goal.returns-in-Some-clause-served
 returns-in-Some-clause-served c =
-    give_served c.give_back.result c.args.self.now.row c.client.result c.args.semaphores.now (c.named_mut.follows.lender c.give_back.new.row) c.in-Some.row.now c.give_back.new.row c.give_back.new.self c.args.invoke
+    give_served c.give_back.result c.args.own.now.row c.client.result c.args.semaphores.now (c.named_mut.follows.lender c.give_back.new.row) c.in-Some.row.now c.give_back.new.row c.give_back.new.own c.args.invoke
     c.args.now c.args.asked.now (c.client.ensures ∙ ap (λ (r : RoomyRow). r.row.client) c.part.ensures, c.in-Some.ensures.value) (c.named_mut.follows.holds c.give_back.new.row) c.give_back.ensures.told
     c.give_back.ensures.given c.give_back.ensures.nobody
 
 pub returns-in-Some-clause-unchanged : goal.returns-in-Some-clause-unchanged
 returns-in-Some-clause-unchanged c =
     give_not c.give_back.result (key_of c.client.result c.args.asked.now.name) c.args.semaphores.now (c.named_mut.follows.lender c.give_back.new.row) c.in-Some.row.now c.give_back.new.row
-    c.args.self.now c.give_back.new.self c.in-Some.ensures.value (c.named_mut.follows.holds c.give_back.new.row) c.give_back.ensures.unchanged
+    c.args.own.now c.give_back.new.own c.in-Some.ensures.value (c.named_mut.follows.holds c.give_back.new.row) c.give_back.ensures.unchanged
 
 pub returns-in-Some-clause-same : goal.returns-in-Some-clause-same
 returns-in-Some-clause-same c =

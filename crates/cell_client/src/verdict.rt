@@ -3,9 +3,9 @@
 ghost use Rattle.std.specs.Prelude.{◌≡◌, nat_lt, Ok, Err, IfOk, OnOk, Result};
 ghost use Rattle.association.specs.Admission.{admission};
 ghost use Rattle.association.specs.Waiting.{is_waiting};
-ghost use Rattle.cell_services.specs.Association.{admitted, cancelled, concluded, idle_verdict, open_verdict, requested, verdict_by};
-ghost use Rattle.cell_services.specs.Meant.{meant};
-ghost use Rattle.cell_services.specs.Reads.{pdu_read, IsDeep};
+ghost use Rattle.cell_client.specs.Association.{admitted, cancelled, concluded, idle_verdict, open_verdict, requested, verdict_by};
+ghost use Rattle.cell_client.specs.Meant.{meant};
+ghost use Rattle.cell_client.specs.Reads.{pdu_read, IsDeep};
 
 use association::{ClientPart, Negotiated, NotAdmitted};
 use mms_pdu::{Read, Refusal, reject_for};

@@ -2,16 +2,16 @@ use Rattle.std.proofs.Common.{ap, sym, ◌∙◌, ℕ}
 use Rattle.association.specs.Client.{Client as RoomyRow}
 use Rattle.mms_types.specs.Order.{key_of}
 use Rattle.cell_services.proofs.TokenLaws.{still, take_refused, take_served}
-use Rattle.cell_services.proofs.client.Client.take_named.Goals as goal
+use Rattle.cell_services.proofs.tokens.take_named.Goals as goal
 
 pub returns-in-None-clause-served : goal.returns-in-None-clause-served
 returns-in-None-clause-served c =
-    take_refused c.refuse.result c.args.self.now.row c.client.result c.args.now.0 c.args.semaphores.now c.named_mut.follows.lender-at-none c.refuse.new.self c.args.invoke c.args.asked.now
+    take_refused c.refuse.result c.args.own.now.row c.client.result c.args.now.0 c.args.semaphores.now c.named_mut.follows.lender-at-none c.refuse.new.self c.args.invoke c.args.asked.now
     (c.client.ensures ∙ ap (λ (r : RoomyRow). r.row.client) c.part.ensures, c.in-None.ensures.value) c.named_mut.follows.holds-at-none c.refuse.ensures.sent
 
 pub returns-in-Some-clause-served : goal.returns-in-Some-clause-served
 returns-in-Some-clause-served c =
-    take_served c.take.result c.args.self.now.row c.client.result c.args.semaphores.now (c.named_mut.follows.lender c.take.new.row) c.in-Some.row.now c.take.new.row c.take.new.self c.args.invoke c.args.now
+    take_served c.take.result c.args.own.now.row c.client.result c.args.semaphores.now (c.named_mut.follows.lender c.take.new.row) c.in-Some.row.now c.take.new.row c.take.new.own c.args.invoke c.args.now
     c.args.asked.now (c.client.ensures ∙ ap (λ (r : RoomyRow). r.row.client) c.part.ensures, c.in-Some.ensures.value) (c.named_mut.follows.holds c.take.new.row) c.take.ensures.taken c.take.ensures.told
 
 pub returns-in-Some-clause-same : goal.returns-in-Some-clause-same

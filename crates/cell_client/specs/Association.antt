@@ -26,7 +26,7 @@ use Rattle.association.specs.Admission.{admission}
 use Rattle.association.specs.Client.{ClientRow}
 use Rattle.association.specs.Negotiation.{negotiation, values_of}
 use Rattle.association.specs.Waiting.{is_waiting}
-use Rattle.cell_services.specs.Effects.{Effect, Sends, Opens, Closes, Answers}
+use Rattle.cell_client.specs.Effects.{Effect, Sends, Opens, Closes, Answers}
 
 -- ---- what is sent
 

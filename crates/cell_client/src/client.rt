@@ -1,37 +1,30 @@
 //! The part of a client, and what becomes of it.
 
-ghost use Rattle.std.specs.Prelude.{◌≡◌, ◌≤◌, nat_le, length, is_none, is_some, true, false, OnOk, OnErr, OnSome, IfOk, IsOk, IfNone, IfSome, [], ◌∷◌, None, Some, if◌then◌else◌};
+ghost use Rattle.std.specs.Prelude.{◌≡◌, ◌≤◌, nat_le, length, is_none, is_some, true, false, OnOk, OnErr, OnSome, IfOk, IsOk, IfNone, IfSome, [], ◌∷◌, None, Some};
 ghost use Rattle.association.specs.Client.{closed_row, drained_row, new_row};
 ghost use Rattle.association.specs.Negotiation.{negotiation};
 ghost use Rattle.mms_pdu.specs.Pdus.{pdu_octets};
 ghost use Rattle.mms_types.specs.declared.pdu.Pdu.TheVariants as pdu;
-ghost use Rattle.variable_services.specs.Services.{read_answer, read_cause, write_after, write_answer, write_cause};
-ghost use Rattle.cell_services.specs.Acts.{IsActOf, IsDoneOn};
-ghost use Rattle.cell_services.specs.Association.{further_error, negotiated, sends, unknown_error, verdict_by, Takes};
-ghost use Rattle.cell_services.specs.Effects.{felt, felt_all, settled, Sends};
-ghost use Rattle.cell_services.specs.Meant.{effects_of, meant, row_after, uses_no_table, IsPlainlyHeard};
-ghost use Rattle.cell_services.specs.Reads.{pdu_read, IsDeep};
-ghost use Rattle.cell_services.specs.Services.{fits, identity, is_done, plain_answer, reads_or_writes, refuses, request_told, variables_written, write_told};
-ghost use Rattle.cell_services.specs.Serving.{size_of};
-ghost use Rattle.cell_services.specs.Telling.{effect_of, output_count, told_row, wait_count};
+ghost use Rattle.cell_client.specs.Association.{further_error, negotiated, sends, unknown_error, Takes};
+ghost use Rattle.cell_client.specs.Effects.{felt, felt_all, settled, Sends};
+ghost use Rattle.cell_client.specs.Meant.{act_verdict, effects_of, told_alone, verdict_read, uses_no_table};
+ghost use Rattle.cell_client.specs.Reads.{IsDeep};
+ghost use Rattle.cell_client.specs.Requests.{fits, identity, plain_answer, refuses, request_told, size_of};
+ghost use Rattle.cell_client.specs.Telling.{effect_of, output_count, told_row, wait_count};
 
-use crate::guards::owned_guards;
-use crate::service::{STATUS, identity};
+use crate::plain::{STATUS, identity};
 use crate::{Act, Found, Said, Told, verdict_of};
 use association::{ClientPart, Constants, outcome_of};
 use mms_pdu::{
     Read, Refusal, Writer, put_answer, put_cancel_error, put_conclude_error, put_confirmed_error,
     put_initiate_error, put_initiate_response, put_reject,
 };
-use mms_time::SemaphoreRow;
 use mms_types::{
-    Answer, CancelError, ConfirmedError, Initiate, Memory, Octets, Read as VariableRead, Refuse,
-    Reject, Request, ServiceError, What, Write,
+    Answer, CancelError, ConfirmedError, Initiate, Memory, Octets, Reject, Request, ServiceError,
+    What,
 };
-use object_names::Named;
 use std::alloc::Global;
 use std::marker::Model;
-use variable_services::VariableTables;
 
 /// The part of a client: its association, and what is to be sent to it. Contracts see it as they see a `ClientPart`.
 #[derive(Drop)]
@@ -50,7 +43,7 @@ impl Model for Client {
 }
 
 /// The negotiated size of a PDU, and 0 where there is no association.
-pub(crate) fn size_of(part: &ClientPart) -> u32
+pub fn size_of(part: &ClientPart) -> u32
     ensures { result ≡ size_of part.now.row.association }
 {
     match part.negotiated() {
@@ -90,7 +83,7 @@ impl Client {
     }
 
     /// The octets of a positive answer.
-    pub(crate) fn spelled_answer(
+    pub fn spelled_answer(
         &mut self,
         alloc: Global,
         invoke: u32,
@@ -201,12 +194,7 @@ impl Client {
     }
 
     /// Refuses a confirmed request.
-    pub(crate) fn refuse(
-        &mut self,
-        alloc: Global,
-        invoke: u32,
-        error: ServiceError,
-    ) -> Result<(), Memory>
+    pub fn refuse(&mut self, alloc: Global, invoke: u32, error: ServiceError) -> Result<(), Memory>
         ensures sent { OnOk result (self.new ≡ settled (felt (refuses invoke error) self.old.row)) }
         ensures kept { OnErr result (self.new ≡ self.old) }
     {
@@ -221,7 +209,7 @@ impl Client {
     }
 
     /// Answers a confirmed request, or refuses it where the answer is too long.
-    fn answer(
+    pub fn answer(
         &mut self,
         alloc: Global,
         size: u32,
@@ -285,8 +273,8 @@ impl Client {
 
     /// Answers a request that the row of the client alone answers. False for any other, where all stays as it was.
     fn serve(&mut self, alloc: Global, invoke: u32, asked: &Request) -> Result<bool, Memory>
-        ensures served { IfOk result (λ done. done ≡ true
-            → IsPlainlyHeard self.old.row self.new (Takes invoke asked.now)) }
+        ensures told { IfOk result (λ done. done ≡ true → self.new ≡ settled
+            (felt_all (told_alone self.old.row (Takes invoke asked.now)) self.old.row)) }
         ensures same { IfOk result (λ done. done ≡ false → self.new ≡ self.old) }
         ensures exact { IfOk result (λ done.
             done ≡ is_some (plain_answer self.old.row asked.now)) }
@@ -299,146 +287,22 @@ impl Client {
         }
     }
 
-    /// Answers a read of those variables, or refuses it.
-    fn read(
-        &mut self,
-        alloc: Global,
-        variables: &VariableTables,
-        invoke: u32,
-        asked: &VariableRead,
-    ) -> Result<bool, Memory>
-        ensures told { OnOk result (self.new ≡ settled (felt_all
-            (request_told (size_of self.old.row.association) invoke
-            (read_cause self.old.row.client asked.now variables.now)
-            (Some (Answer.Read (read_answer self.old.row.client asked.now variables.now))))
-            self.old.row)) }
-        ensures done { IfOk result (λ done. done ≡ true) }
-        ensures kept { OnErr result (self.new ≡ self.old) }
-    {
-        match variables.read(alloc, self.part.client(), asked) {
-            Err(Refuse::Memory) => Err(Memory::wanting()),
-            Err(Refuse::Service(error)) => {
-                self.refuse(alloc, invoke, error)?;
-                Ok(true)
-            }
-            Ok(read) => {
-                let size = size_of(&self.part);
-                let _answered = self.answer(alloc, size, invoke, &Answer::Read(read))?;
-                Ok(true)
-            }
-        }
-    }
-
-    /// Answers a write of those variables and writes them, or refuses it, where nothing is written. The client owns the
-    /// guards of those that have a flag.
-    fn write_owned(
-        &mut self,
-        alloc: Global,
-        variables: &mut VariableTables,
-        owned: &[bool],
-        invoke: u32,
-        asked: &Write,
-    ) -> Result<bool, Memory>
-        ensures told { OnOk result (self.new ≡ settled (felt_all
-            (request_told (size_of self.old.row.association) invoke
-            (write_cause self.old.row.client asked.now variables.old)
-            (Some (Answer.Write
-            (write_answer owned.now self.old.row.client asked.now variables.old))))
-            self.old.row)) }
-        ensures written { OnOk result (variables.new
-            ≡ (if is_done (size_of self.old.row.association) invoke
-            (write_cause self.old.row.client asked.now variables.old)
-            (Some (Answer.Write
-            (write_answer owned.now self.old.row.client asked.now variables.old)))
-            then write_after owned.now self.old.row.client asked.now variables.old
-            else variables.old)) }
-        ensures done { IfOk result (λ done. done ≡ true) }
-        ensures kept { OnErr result (self.new ≡ self.old) }
-        ensures same { OnErr result (variables.new ≡ variables.old) }
-    {
-        let client = self.part.client();
-        match variables.write_results(alloc, client, owned, asked) {
-            Err(Refuse::Memory) => Err(Memory::wanting()),
-            Err(Refuse::Service(error)) => {
-                self.refuse(alloc, invoke, error)?;
-                Ok(true)
-            }
-            Ok(results) => {
-                let values = asked.values.copy(alloc)?;
-                let size = size_of(&self.part);
-                if self.answer(alloc, size, invoke, &Answer::Write(results))? {
-                    variables.write(client, owned, asked, values);
-                }
-                Ok(true)
-            }
-        }
-    }
-
-    /// Answers a write of those variables and writes them, or refuses it, where nothing is written. Guards are looked
-    /// up among those semaphores.
-    fn write(
-        &mut self,
-        alloc: Global,
-        variables: &mut VariableTables,
-        semaphores: &Named<SemaphoreRow>,
-        invoke: u32,
-        asked: &Write,
-    ) -> Result<bool, Memory>
-        ensures told { OnOk result (self.new ≡ settled (felt_all (write_told
-            (size_of self.old.row.association) invoke self.old.row.client asked.now
-            variables.old semaphores.now) self.old.row)) }
-        ensures written { OnOk result (variables.new ≡ variables_written
-            (size_of self.old.row.association) invoke self.old.row.client asked.now
-            variables.old semaphores.now) }
-        ensures done { IfOk result (λ done. done ≡ true) }
-        ensures kept { OnErr result (self.new ≡ self.old) }
-        ensures same { OnErr result (variables.new ≡ variables.old) }
-    {
-        let client = self.part.client();
-        let owned = owned_guards(alloc, variables, semaphores, client, asked)?;
-        self.write_owned(alloc, variables, &owned, invoke, asked)
-    }
-
-    /// Serves a request that reads or writes variables, whose guards are looked up among those semaphores. False for
-    /// any other, where all stays as it was.
-    pub fn serve_on(
-        &mut self,
-        alloc: Global,
-        variables: &mut VariableTables,
-        semaphores: &Named<SemaphoreRow>,
-        invoke: u32,
-        asked: &Request,
-    ) -> Result<bool, Memory>
-        ensures served { IfOk result (λ done. done ≡ true → IsDoneOn self.old.row semaphores.now
-            variables.old variables.new self.new (Takes invoke asked.now)) }
-        ensures same { IfOk result (λ done. done ≡ false
-            → (self.new ≡ self.old) × (variables.new ≡ variables.old)) }
-        ensures exact { IfOk result (λ done. done ≡ reads_or_writes asked.now) }
-        ensures kept { OnErr result (self.new ≡ self.old) }
-        ensures written { OnErr result (variables.new ≡ variables.old) }
-    {
-        match asked {
-            Request::Read(asked) => self.read(alloc, variables, invoke, asked),
-            Request::Write(asked) => self.write(alloc, variables, semaphores, invoke, asked),
-            _ => Ok(false),
-        }
-    }
-
-    /// Hears what was read from the client: where no table is used, all of it is done. Otherwise that is answered which
-    /// is to be done on the tables, and all stays as it was, as it does without memory.
+    /// Hears what was read from the client: where no table is used, all of it is done, and the client is told all that
+    /// comes of it. Otherwise that is answered which is to be done on the tables, and all stays as it was, as it does
+    /// without memory.
     pub fn hear<'a>(
         &mut self,
         alloc: Global,
         read: &'a Result<Read, Refusal>,
     ) -> Result<Option<Act<'a>>, Memory>
         requires depth { IsDeep read.now }
-        ensures done { IfOk result (λ left. IfNone left
-            (IsPlainlyHeard self.old.row self.new (verdict_by self.old.row.association
-            self.old.row (pdu_read read.now)))) }
-        ensures left { IfOk result (λ left. IfSome left (λ act. IsActOf self.old.row
-            (verdict_by self.old.row.association self.old.row (pdu_read read.now)) act)) }
-        ensures exact { IfOk result (λ left. is_none left ≡ uses_no_table self.old.row
-            (verdict_by self.old.row.association self.old.row (pdu_read read.now))) }
+        ensures done { IfOk result (λ left. IfNone left (self.new ≡ settled
+            (felt_all (told_alone self.old.row (verdict_read self.old.row read.now))
+            self.old.row))) }
+        ensures left { IfOk result (λ left. IfSome left (λ act.
+            act_verdict act ≡ Some (verdict_read self.old.row read.now))) }
+        ensures exact { IfOk result (λ left.
+            is_none left ≡ uses_no_table self.old.row (verdict_read self.old.row read.now)) }
         ensures same { IfOk result (λ left. OnSome left (self.new ≡ self.old)) }
         ensures kept { OnErr result (self.new ≡ self.old) }
     {
@@ -497,7 +361,7 @@ impl Client {
     }
 
     /// Octets are sent to the client. They use the room for one output.
-    pub(crate) fn push(&mut self, octets: Octets)
+    pub fn push(&mut self, octets: Octets)
         requires room { 1 ≤ self.old.output_room }
         ensures { self.new ≡ told_row (Sends (What.Octets octets)) 1 0 self.old }
     {

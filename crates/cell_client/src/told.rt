@@ -1,10 +1,11 @@
 //! What clients are told.
 
-ghost use Rattle.std.specs.Prelude.{◌≡◌};
-ghost use Rattle.cell_services.specs.Telling.{is_output, is_wait};
+ghost use Rattle.std.specs.Prelude.{◌≡◌, ◌∷◌, [], IfOk};
+ghost use Rattle.cell_client.specs.Telling.{effect_of, effects_told, is_output, is_wait};
 
 use association::Waiting;
-use mms_types::What;
+use mms_types::{Memory, What};
+use std::alloc::Global;
 
 /// What a client is told by an event (ISO 9506-1, environment and general management).
 #[derive(Drop)]
@@ -39,4 +40,14 @@ impl Told {
             Told::Sends(_) | Told::Closes | Told::Answers(_) => false,
         }
     }
+}
+
+/// One client is told one thing.
+pub fn one_told(alloc: Global, client: u32, told: Told) -> Result<Vec<(u32, Told)>, Memory>
+    ensures { IfOk result (λ list.
+        effects_told list.items ≡ (client, effect_of told) ∷ []) }
+{
+    let mut list = Vec::new(alloc);
+    list.push((client, told))?;
+    Ok(list)
 }
