@@ -16,7 +16,7 @@ use Rattle.cell_run.specs.declared.status.Status.TheVariants as status
 use Rattle.cell_run.specs.Codes.{code_of}
 use Rattle.cell_run.specs.Outcome.{Completes, IsCut, IsFinal, PrintsBy, PrintsFor, WritesAll, WritesCut, WritesSome, report_of, status_for, status_of}
 use Rattle.cell_run.specs.Printed.{printed, printed_by}
-use Rattle.cell_run.specs.Ending.{Seen, Ends, EndsServing}
+use Rattle.cell_run.specs.Ending.{Seen, Ends, EndsServing, MayReadAhead}
 use Rattle.std.specs.Option.{option_map}
 use Rattle.cell_io.specs.Lines.{whole_lines}
 use Rattle.cell_io.specs.Held.{Held, IsLaterPart}
@@ -45,6 +45,29 @@ some : (command : Command) (left old new : Option (List ℕ)) → IfSome left (�
 some command None old new h = tt
 some command (Some text) old new h = record { printed = printed text; prints = prints command (opening_of_text text); written = h }
 
+-- one fault at most is counted where one is counted exactly where it is told
+pub once_of : (s : Status) (input rest : Seen) → (s ≡ status.ReadFault → Rose input.faults rest.faults) → (s ≢ status.ReadFault → rest.faults ≡ input.faults)
+    → (rest.faults ≡ input.faults) ⊎ Rose input.faults rest.faults
+once_of status.ReadFault input rest read same = inr (read refl)
+once_of status.Done input rest read same = inl (same (λ e. cc))
+once_of status.Usage input rest read same = inl (same (λ e. cc))
+once_of status.Bad input rest read same = inl (same (λ e. cc))
+once_of status.Memory input rest read same = inl (same (λ e. cc))
+once_of status.WriteFault input rest read same = inl (same (λ e. cc))
+once_of status.BadConfig input rest read same = inl (same (λ e. cc))
+once_of status.TooMuch input rest read same = inl (same (λ e. cc))
+
+-- of `run`, where nothing was met ahead
+pub unfailed_run : (workers : ℕ) (s : Status) (before now : ℕ) → (IsFinal s → now ≡ before) → s ≢ status.ReadFault → (MayReadAhead (Run workers) s → ⊥) → now ≡ before
+unfailed_run workers status.Done before now final n k = final tt
+unfailed_run workers status.Usage before now final n k = final tt
+unfailed_run workers status.Bad before now final n k = final tt
+unfailed_run workers status.BadConfig before now final n k = final tt
+unfailed_run workers status.TooMuch before now final n k = final tt
+unfailed_run workers status.Memory before now final n k = absurd (k tt)
+unfailed_run workers status.WriteFault before now final n k = absurd (k tt)
+unfailed_run workers status.ReadFault before now final n k = absurd (n refl)
+
 -- how it ends where the lines up to `end` are refused, or memory is wanting
 pub opening_ends : (command : Command) (s : Status) (input rest out after : Seen) → s ≢ status.Usage → (IsFinal s → IfSome input.octets (λ text. (s ≡ status_of text) × Appends out.octets after.octets (printed text)))
     → IfSome input.octets (λ text. AppendsPrefix out.octets after.octets (printed text)) → (s ≡ status.Done → IsAtEnd rest.octets) → (s ≡ status.ReadFault → Rose input.faults rest.faults)
@@ -56,7 +79,8 @@ opening_ends command s input rest out after known whole part ended read unfailed
   part = some command input.octets out.octets after.octets part;
   ended = ended;
   read = read;
-  unfailed = unfailed;
+  unfailed = λ n ahead. unfailed n;
+  once = once_of s input rest read unfailed;
   cut = cut;
   write = write;
   accepted = accepted;
@@ -107,16 +131,18 @@ cut_said command config f held p left now last old new later leads w = at left (
 -- how it ends where the lines up to `end` were read
 pub phases_end : (command : Command) (config : Config) (s : Status) (input rest out after : Seen) (a : Option Reading) → Becomes (option_map reading_of_text input.octets) (λ r. r) a → IfSome input.octets (Tells config)
     → s ≢ status.Usage → (IsFinal s → IfSome a (λ r. (s ≡ status_for r.refusal) × WritesAllOf command config r out.octets after.octets)) → IfSome a (λ r. WritesSomeOf command config r out.octets after.octets)
-    → (s ≡ status.Done → IsAtEnd rest.octets) → (s ≡ status.ReadFault → Rose input.faults rest.faults) → (s ≢ status.ReadFault → rest.faults ≡ input.faults)
+    → (s ≡ status.Done → IsAtEnd rest.octets) → (s ≡ status.ReadFault → Rose input.faults rest.faults) → (s ≢ status.ReadFault → (MayReadAhead command s → ⊥) → rest.faults ≡ input.faults)
+    → (rest.faults ≡ input.faults) ⊎ Rose input.faults rest.faults
     → (s ≡ status.ReadFault → IfSome input.octets (λ text. IsCut command text rest.octets out.octets after.octets)) → (s ≡ status.WriteFault → Rose out.faults after.faults) → (s ≢ status.WriteFault → after.faults ≡ out.faults)
     → EndsServing command s input rest out after
-phases_end command config s input rest out after a b tells known whole part ended read unfailed cut write accepted = record {
+phases_end command config s input rest out after a b tells known whole part ended read unfailed once cut write accepted = record {
   known = known;
   whole = λ final. all_said command config s input.octets a out.octets after.octets b tells (whole final);
   part = some_said command config input.octets a out.octets after.octets b tells part;
   ended = ended;
   read = read;
   unfailed = unfailed;
+  once = once;
   cut = cut;
   write = write;
   accepted = accepted;
@@ -125,6 +151,9 @@ phases_end command config s input rest out after a b tells known whole part ende
 -- nothing had failed before
 pub rose_first : (a b c : ℕ) → b ≡ a → Rose b c → Rose a c
 rose_first a b c h r = subst (λ (n : ℕ). Rose n c) h r
+
+pub once_first : (a b c : ℕ) → b ≡ a → (c ≡ b) ⊎ Rose b c → (c ≡ a) ⊎ Rose a c
+once_first a b c h r = subst (λ (n : ℕ). (c ≡ n) ⊎ Rose n c) h r
 
 -- a fault of the source is told as one
 pub told_fault : (s : Status) (e : RecordError) (X : Type 0) → (¬ (IsStated e) → (s ≡ status_for (Some e)) × X) → e ≡ refusal.ReadFault → s ≡ status.ReadFault

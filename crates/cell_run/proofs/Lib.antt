@@ -1,6 +1,8 @@
 pub mod Alongside
 pub mod Fronts
 pub mod Phases
+pub mod Beside
+pub mod Crossing
 pub mod Replayed
 pub mod Complete
 pub mod Endings

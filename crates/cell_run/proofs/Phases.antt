@@ -53,12 +53,12 @@ size-append (p ∷ ps) x = let rest = size-append ps x in omega (arith, rest)
 -- ---- what is written
 
 -- all phases were served, and then it is told why there are no more
-pub all_of : (command : Command) (config : Config) (s : Status) (rest0 restn : Option Reading) (phases bodies : List (List CellEvent)) (o : Option RecordError) (out0 out1 out2 : Option (List ℕ))
+pub all_told : (command : Command) (config : Config) (s : Status) (rest0 restn : Option Reading) (phases bodies : List (List CellEvent)) (o : Option RecordError) (out0 out1 : Option (List ℕ))
     → Becomes rest0 (with_phases phases) restn → IfSome restn (λ r. r ≡ record { phases = []; refusal = o }) → s ≡ status_for o → Interleaves bodies phases × Serves command bodies phases
-    → Appends out0 out1 (report_of config bodies) → Appends out1 out2 (last_line o) → IfSome rest0 (λ r. (s ≡ status_for r.refusal) × WritesAllOf command config r out0 out2)
-all_of command config s None restn phases bodies o out0 out1 out2 b e is serve p q = tt
-all_of command config s (Some x) None phases bodies o out0 out1 out2 b e is serve p q = absurd (cc b)
-all_of command config s (Some x) (Some r) phases bodies o out0 out1 out2 b e is serve p q =
+    → Appends out0 out1 (report_of config bodies ++ last_line o) → IfSome rest0 (λ r. (s ≡ status_for r.refusal) × WritesAllOf command config r out0 out1)
+all_told command config s None restn phases bodies o out0 out1 b e is serve p = tt
+all_told command config s (Some x) None phases bodies o out0 out1 b e is serve p = absurd (cc b)
+all_told command config s (Some x) (Some r) phases bodies o out0 out1 b e is serve p =
     let at : with_phases phases r ≡ x = cc b in
     let whole : record { phases = phases; refusal = o } ≡ x = ap (λ (l : List (List CellEvent)). record { phases = l; refusal = o }) (sym (append-nil phases)) ∙ ap (with_phases phases) (sym e) ∙ at in (
       is ∙ ap (λ (y : Reading). status_for y.refusal) whole,
@@ -70,9 +70,15 @@ all_of command config s (Some x) (Some r) phases bodies o out0 out1 out2 b e is 
           serve = subst (λ (y : Reading). Serves command bodies y.phases) whole serve.1;
           is = ap (λ (y : Reading). report_of config bodies ++ last_line y.refusal) whole;
         };
-        written = Appends-trans out0 out1 out2 (report_of config bodies) (last_line o) p q;
+        written = p;
       },
     )
+
+pub all_of : (command : Command) (config : Config) (s : Status) (rest0 restn : Option Reading) (phases bodies : List (List CellEvent)) (o : Option RecordError) (out0 out1 out2 : Option (List ℕ))
+    → Becomes rest0 (with_phases phases) restn → IfSome restn (λ r. r ≡ record { phases = []; refusal = o }) → s ≡ status_for o → Interleaves bodies phases × Serves command bodies phases
+    → Appends out0 out1 (report_of config bodies) → Appends out1 out2 (last_line o) → IfSome rest0 (λ r. (s ≡ status_for r.refusal) × WritesAllOf command config r out0 out2)
+all_of command config s rest0 restn phases bodies o out0 out1 out2 b e is serve p q =
+    all_told command config s rest0 restn phases bodies o out0 out2 b e is serve (Appends-trans out0 out1 out2 (report_of config bodies) (last_line o) p q)
 
 -- of these phases a prefix of the report was written
 pub some_of : (command : Command) (config : Config) (rest0 restn : Option Reading) (phases bodies : List (List CellEvent)) (out0 out1 : Option (List ℕ))
@@ -112,12 +118,13 @@ whole_front out0 out1 out2 text p q = record {
 pub whole_report : (out0 out1 : Option (List ℕ)) (text : List ℕ) → Appends out0 out1 text → AppendsPrefix out0 out1 text
 whole_report out0 out1 text p = record { written = text; rest = []; appended = p; parts = sym (append-nil text) }
 
-line_of : (command : Command) (config : Config) (rest0 restn : Option Reading) (phases bodies : List (List CellEvent)) (o : Option RecordError) (out0 out1 out2 : Option (List ℕ))
+-- and a prefix of that was written
+pub line_told : (command : Command) (config : Config) (rest0 restn : Option Reading) (phases bodies : List (List CellEvent)) (o : Option RecordError) (out0 out1 : Option (List ℕ))
     → Becomes rest0 (with_phases phases) restn → IfSome restn (λ r. r ≡ record { phases = []; refusal = o }) → Interleaves bodies phases × Serves command bodies phases
-    → Appends out0 out1 (report_of config bodies) → AppendsPrefix out1 out2 (last_line o) → IfSome rest0 (λ r. WritesSomeOf command config r out0 out2)
-line_of command config None restn phases bodies o out0 out1 out2 b e serve p q = tt
-line_of command config (Some x) None phases bodies o out0 out1 out2 b e serve p q = absurd (cc b)
-line_of command config (Some x) (Some r) phases bodies o out0 out1 out2 b e serve p q =
+    → AppendsPrefix out0 out1 (report_of config bodies ++ last_line o) → IfSome rest0 (λ r. WritesSomeOf command config r out0 out1)
+line_told command config None restn phases bodies o out0 out1 b e serve p = tt
+line_told command config (Some x) None phases bodies o out0 out1 b e serve p = absurd (cc b)
+line_told command config (Some x) (Some r) phases bodies o out0 out1 b e serve p =
     let at : with_phases phases r ≡ x = cc b in
     let whole : record { phases = phases; refusal = o } ≡ x = ap (λ (l : List (List CellEvent)). record { phases = l; refusal = o }) (sym (append-nil phases)) ∙ ap (with_phases phases) (sym e) ∙ at in
     record {
@@ -128,13 +135,22 @@ line_of command config (Some x) (Some r) phases bodies o out0 out1 out2 b e serv
         serve = subst (λ (y : Reading). Serves command bodies y.phases) whole serve.1;
         is = ap (λ (y : Reading). report_of config bodies ++ last_line y.refusal) whole;
       };
-      written = record {
-        written = report_of config bodies ++ q.written;
-        rest = q.rest;
-        appended = Appends-trans out0 out1 out2 (report_of config bodies) q.written p q.appended;
-        parts = ap (λ (l : List ℕ). report_of config bodies ++ l) q.parts ∙ sym (append_assoc (report_of config bodies) q.written q.rest);
-      };
+      written = p;
     }
+
+pub longer_part : (out0 out1 out2 : Option (List ℕ)) (text line : List ℕ) → Appends out0 out1 text → AppendsPrefix out1 out2 line → AppendsPrefix out0 out2 (text ++ line)
+longer_part out0 out1 out2 text line p q = record {
+  written = text ++ q.written;
+  rest = q.rest;
+  appended = Appends-trans out0 out1 out2 text q.written p q.appended;
+  parts = ap (λ (l : List ℕ). text ++ l) q.parts ∙ sym (append_assoc text q.written q.rest);
+}
+
+line_of : (command : Command) (config : Config) (rest0 restn : Option Reading) (phases bodies : List (List CellEvent)) (o : Option RecordError) (out0 out1 out2 : Option (List ℕ))
+    → Becomes rest0 (with_phases phases) restn → IfSome restn (λ r. r ≡ record { phases = []; refusal = o }) → Interleaves bodies phases × Serves command bodies phases
+    → Appends out0 out1 (report_of config bodies) → AppendsPrefix out1 out2 (last_line o) → IfSome rest0 (λ r. WritesSomeOf command config r out0 out2)
+line_of command config rest0 restn phases bodies o out0 out1 out2 b e serve p q =
+    line_told command config rest0 restn phases bodies o out0 out2 b e serve (longer_part out0 out1 out2 (report_of config bodies) (last_line o) p q)
 
 -- a prefix of the line that tells the refusal was written
 pub refusal_of : (command : Command) (config : Config) (rest0 restn : Option Reading) (phases bodies : List (List CellEvent)) (e : RecordError) (out0 out1 out2 : Option (List ℕ))
@@ -155,7 +171,7 @@ refusal_all command config s rest0 restn phases bodies e out0 out1 out2 b h serv
 
 -- ---- a phase more
 
-told_so : (config : Config) (bodies : List (List CellEvent)) (number : ℕ) (body : List CellEvent) (text : List ℕ) → text ≡ body_text config number (history config.clients bodies) body → number ≡ 1 + length bodies
+pub told_so : (config : Config) (bodies : List (List CellEvent)) (number : ℕ) (body : List CellEvent) (text : List ℕ) → text ≡ body_text config number (history config.clients bodies) body → number ≡ 1 + length bodies
     → report_of config bodies ++ text ≡ report_of config (bodies ++ body ∷ [])
 told_so config bodies number body text e n =
     ap (λ (l : List ℕ). report_of config bodies ++ l) (e ∙ ap (λ (k : ℕ). body_text config k (history config.clients bodies) body) n) ∙ sym (report-snoc config bodies body)

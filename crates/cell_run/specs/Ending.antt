@@ -1,10 +1,11 @@
 -- How a run ends (this profile's choice).
-use Rattle.std.specs.Prelude.{◌≡◌, ◌≢◌, ℕ, List, IfSome, Some, None}
+use Rattle.std.specs.Prelude.{◌≡◌, ◌≢◌, ◌⊎◌, ℕ, List, IfSome, Some, None}
 use Rattle.std.specs.Io.KnownBytes.{Appends, IsAtEnd}
 use Rattle.std.specs.declared.option.Option.{Option}
 use Rattle.cell_io.specs.Faults.{Rose}
 use Rattle.cell_io.specs.Prefix.{AppendsPrefix}
 use Rattle.cell_words.specs.declared.words.Command.{Command}
+use Rattle.cell_words.specs.declared.words.Command.TheVariants.{Replay, Run}
 use Rattle.cell_run.specs.declared.status.Status.{Status}
 use Rattle.cell_run.specs.declared.status.Status.TheVariants as status
 use Rattle.cell_run.specs.Codes.{code_of}
@@ -26,6 +27,14 @@ EndsUsage status.ReadFault out after = ⊥
 EndsUsage status.BadConfig out after = ⊥
 EndsUsage status.TooMuch out after = ⊥
 
+-- `run` reads the next phase while it serves one: where that one can't be served for want of memory, or written for a fault of the sink, no status tells a fault of the
+-- source that was met ahead of it
+abbrev pub MayReadAhead : Command → Status → Type 0
+MayReadAhead (Run workers) status.Memory = Unit {0}
+MayReadAhead (Run workers) status.WriteFault = Unit {0}
+MayReadAhead (Run workers) other = ⊥
+MayReadAhead Replay s = ⊥
+
 -- a command that serves a recording ends so
 pub record EndsServing (command : Command) (s : Status) (input rest out after : Seen) : Type 0 where
   pub known : s ≢ status.Usage
@@ -33,9 +42,11 @@ pub record EndsServing (command : Command) (s : Status) (input rest out after : 
   pub whole : IsFinal s → IfSome input.octets (λ text. (s ≡ status_of text) × WritesAll command text out.octets after.octets)
   pub part : IfSome input.octets (λ text. WritesSome command text out.octets after.octets)
   pub ended : s ≡ status.Done → IsAtEnd rest.octets
-  -- one fault of the source or of the sink is counted where it is told, and else none; one of the source where it stopped the reading
+  -- one fault of the source or of the sink is counted where it is told, and else none, but for one of the source that was met ahead; one of the source where it stopped
+  -- the reading
   pub read : s ≡ status.ReadFault → Rose input.faults rest.faults
-  pub unfailed : s ≢ status.ReadFault → rest.faults ≡ input.faults
+  pub unfailed : s ≢ status.ReadFault → (MayReadAhead command s → ⊥) → rest.faults ≡ input.faults
+  pub once : (rest.faults ≡ input.faults) ⊎ Rose input.faults rest.faults
   pub cut : s ≡ status.ReadFault → IfSome input.octets (λ text. IsCut command text rest.octets out.octets after.octets)
   pub write : s ≡ status.WriteFault → Rose out.faults after.faults
   pub accepted : s ≢ status.WriteFault → after.faults ≡ out.faults

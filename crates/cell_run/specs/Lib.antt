@@ -5,6 +5,7 @@ pub mod Printed
 pub mod Serving
 pub mod Codes
 pub mod Along
+pub mod Ahead
 pub mod Laying
 pub mod Drained
 pub mod Jobs

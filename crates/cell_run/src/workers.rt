@@ -1,27 +1,32 @@
 //! A recording, of which several workers serve each phase.
 
-ghost use Rattle.std.specs.Prelude.{◌≡◌, ◌≢◌, ◌≤◌, [], false, IfSome, None};
+ghost use denote.Param.Send.{IsSync};
+ghost use Rattle.std.specs.Prelude.{◌≡◌, ◌≢◌, ◌≤◌, ◌⊎◌, [], ◌++◌, List, false, IfErr, IfOk, IfSome, None, OnErr, OnOk, Some};
 ghost use Rattle.std.specs.Io.KnownBytes.{Appends, IsAtEnd};
-ghost use Rattle.cell_io.specs.Faults.{Rose};
+ghost use Rattle.cell_io.specs.Faults.{Rose, SteadyBut};
 ghost use Rattle.cell_io.specs.Held.{IsEndSeen, IsLaterPart};
 ghost use Rattle.cell_io.specs.Prefix.{AppendsPrefix};
 ghost use Rattle.cell_record.specs.Progress.{place_of, rest_in, rest_of};
+ghost use Rattle.mms_types.specs.declared.event.CellEvent.{CellEvent as EventOf};
+ghost use Rattle.cell_config.specs.declared.config.Config.{Config as ConfigOf};
+ghost use Rattle.cell_run.specs.Ahead.{HasRead, text_told};
 ghost use Rattle.cell_run.specs.Ending.{EndsServing};
 ghost use Rattle.cell_words.specs.declared.words.Command.{Command as CommandOf};
-ghost use Rattle.cell_run.specs.Outcome.{IsFinal, status_for};
-ghost use Rattle.cell_run.specs.Running.{HasRun, IsRun};
-ghost use Rattle.cell_run.specs.Serving.{WritesAllOf, WritesSomeOf, WritesToStop};
+ghost use Rattle.cell_run.specs.Outcome.{IsFinal, last_line, status_for};
+ghost use Rattle.cell_run.specs.Running.{HasRun, IsRun, MayRun};
+ghost use Rattle.cell_run.specs.Serving.{ServesPhase, WritesAllOf, WritesSomeOf, WritesToStop};
 
 use crate::crew::Crew;
 use crate::engine::PHASES;
 use crate::last_line::refuse;
 use crate::status::Status;
 use cell_io::{Gate, Sink, Source, WriteError};
-use cell_record::{Recording, write_phase};
+use cell_record::{Phase, RecordError, Recording, Told, write_phase};
 use cell_words::Command;
+use mms_types::Memory;
 use std::alloc::Global;
 use std::sync::Wait;
-use std::thread::Threads;
+use std::thread::{Threads, join_mut};
 
 /// Serves a recording phase by phase, each by so many workers, and writes the report of the history that came about. It
 /// may wait, and where it waits for ever it never returns.
@@ -47,7 +52,135 @@ pub fn run<R: Threads + Wait + Sync, S: Source, K: Sink, G: Gate + Sync>(
     run_phases(rt, alloc, &mut recording, &mut crew, input, out, gate)
 }
 
+/// What comes next of a recording.
+#[derive(Drop)]
+pub(crate) enum Next {
+    /// A phase.
+    Phase(Phase),
+    /// Its end, or why no more of it is served.
+    End(Option<RecordError>),
+}
+
+/// Reads the next phase of a recording.
+fn read_next<S: Source>(alloc: Global, recording: &mut Recording, input: &mut S) -> Next
+    ensures { HasRead recording.old (S.left input.old) (S.faults input.old) result recording.new (S.left input.new) (S.faults input.new) }
+{
+    match recording.next_phase(alloc, input) {
+        Ok(Some(phase)) => Next::Phase(phase),
+        Ok(None) => Next::End(None),
+        Err(refusal) => Next::End(Some(refusal)),
+    }
+}
+
+/// Writes what there is to tell of a phase, if there is one.
+fn write_told<K: Sink>(alloc: Global, out: &mut K, told: &Option<Told>) -> Result<(), WriteError>
+    ensures whole { OnOk result (Appends (K.held out.old) (K.held out.new) (text_told told.now)) }
+    ensures part { OnErr result (AppendsPrefix (K.held out.old) (K.held out.new) (text_told told.now)) }
+    ensures cause { IfErr result (λ e. e ≡ WriteError.Fault → Rose (K.faults out.old) (K.faults out.new)) }
+    ensures steady { SteadyBut WriteError.Fault (K.faults out.old) (K.faults out.new) result }
+{
+    match told {
+        Some(told) => write_phase(alloc, out, told),
+        None => Ok(()),
+    }
+}
+
+/// Writes what there is to tell of a phase, and reads the next one. Where the first is refused, nothing is read.
+fn write_and_read<S: Source, K: Sink>(
+    alloc: Global,
+    recording: &mut Recording,
+    input: &mut S,
+    out: &mut K,
+    told: &Option<Told>,
+) -> Result<Next, WriteError>
+    ensures whole { OnOk result (Appends (K.held out.old) (K.held out.new) (text_told told.now)) }
+    ensures part { OnErr result (AppendsPrefix (K.held out.old) (K.held out.new) (text_told told.now)) }
+    ensures cause { IfErr result (λ e. e ≡ WriteError.Fault → Rose (K.faults out.old) (K.faults out.new)) }
+    ensures steady { SteadyBut WriteError.Fault (K.faults out.old) (K.faults out.new) result }
+    ensures unread { OnErr result ((recording.new ≡ recording.old) × (input.new ≡ input.old)) }
+    ensures read { IfOk result (λ next. HasRead recording.old (S.left input.old) (S.faults input.old) next recording.new (S.left input.new) (S.faults input.new)) }
+{
+    write_told(alloc, out, told)?;
+    Ok(read_next(alloc, recording, input))
+}
+
+/// Writes what there is to tell of the last phase, and then why no more are served, where something refuses them.
+fn finish<K: Sink>(
+    alloc: Global,
+    out: &mut K,
+    told: &Option<Told>,
+    refusal: Option<RecordError>,
+) -> Status
+    ensures stated { IsFinal result → (result ≡ status_for refusal) × Appends (K.held out.old) (K.held out.new) (text_told told.now ++ last_line refusal) }
+    ensures partly { AppendsPrefix (K.held out.old) (K.held out.new) (text_told told.now ++ last_line refusal) }
+    ensures read { result ≡ Status.ReadFault → (refusal ≡ Some RecordError.ReadFault) × Appends (K.held out.old) (K.held out.new) (text_told told.now) }
+    ensures write { result ≡ Status.WriteFault → Rose (K.faults out.old) (K.faults out.new) }
+    ensures accepted { result ≢ Status.WriteFault → K.faults out.new ≡ K.faults out.old }
+    ensures known { result ≢ Status.Usage }
+{
+    match write_told(alloc, out, told) {
+        Ok(()) => {}
+        Err(WriteError::Fault) => return Status::WriteFault,
+        Err(WriteError::Memory) => return Status::Memory,
+    }
+    match refusal {
+        None => Status::Done,
+        Some(refusal) => refuse(alloc, out, refusal),
+    }
+}
+
+/// Has a crew serve a phase, and meanwhile writes what there is to tell of the one before, and reads the next one.
+fn serve_beside<R: Threads + Wait + Sync, S: Source, K: Sink, G: Gate + Sync>(
+    rt: &R,
+    alloc: Global,
+    recording: &mut Recording,
+    crew: &mut Crew,
+    input: &mut S,
+    out: &mut K,
+    gate: &G,
+    phase: Phase,
+    told: &Option<Told>,
+) -> (Result<Told, Memory>, Result<Next, WriteError>)
+    requires next { MayRun crew.old phase.events }
+    ensures told { (config : ConfigOf) (phases bodies : List (List EventOf)) → HasRun crew.old config phases bodies
+        → IfOk result.0 (λ told. ServesPhase config phases bodies phase.number phase.events told (HasRun crew.new)) }
+    ensures whole { OnOk result.1 (Appends (K.held out.old) (K.held out.new) (text_told told.now)) }
+    ensures part { OnErr result.1 (AppendsPrefix (K.held out.old) (K.held out.new) (text_told told.now)) }
+    ensures cause { IfErr result.1 (λ e. e ≡ WriteError.Fault → Rose (K.faults out.old) (K.faults out.new)) }
+    ensures steady { SteadyBut WriteError.Fault (K.faults out.old) (K.faults out.new) result.1 }
+    ensures unread { OnErr result.1 ((recording.new ≡ recording.old) × (input.new ≡ input.old)) }
+    ensures read { IfOk result.1 (λ next. HasRead recording.old (S.left input.old) (S.faults input.old) next recording.new (S.left input.new) (S.faults input.new)) }
+{
+    let mut phase = Some(phase);
+    let mut served = Err(Memory::wanting());
+    let mut ahead = Err(WriteError::Memory);
+    let mut serving = ||
+        requires { IsSync R.row × IsSync G.row × IfSome phase (λ p. MayRun crew.now p.events) }
+        ensures { IfSome phase.entry (λ p. (config : ConfigOf) (phases bodies : List (List EventOf)) → HasRun crew.entry.now config phases bodies
+            → IfOk served.exit (λ told. ServesPhase config phases bodies p.number p.events told (HasRun crew.exit.now))) }
+    {
+        if let Some(phase) = phase.take() {
+            served = crew.serve(rt, alloc, phase, gate);
+        }
+    };
+    let mut beside = ||
+        ensures whole { OnOk ahead.exit (Appends (K.held out.entry.now) (K.held out.exit.now) (text_told told.entry.now)) }
+        ensures part { OnErr ahead.exit (AppendsPrefix (K.held out.entry.now) (K.held out.exit.now) (text_told told.entry.now)) }
+        ensures cause { IfErr ahead.exit (λ e. e ≡ WriteError.Fault → Rose (K.faults out.entry.now) (K.faults out.exit.now)) }
+        ensures steady { SteadyBut WriteError.Fault (K.faults out.entry.now) (K.faults out.exit.now) ahead.exit }
+        ensures unread { OnErr ahead.exit ((recording.exit.now ≡ recording.entry.now) × (input.exit.now ≡ input.entry.now)) }
+        ensures read { IfOk ahead.exit (λ next. HasRead recording.entry.now (S.left input.entry.now) (S.faults input.entry.now) next recording.exit.now (S.left input.exit.now) (S.faults input.exit.now)) }
+    {
+        ahead = write_and_read(alloc, recording, input, out, told);
+    };
+    join_mut(rt, &mut serving, &mut beside);
+    (served, ahead)
+}
+
 /// Has a crew serve the phases of a recording of which only the lines up to `end` were read, and writes their report.
+/// While a phase is served, the report of the one before it is written, and the next one is read. What is read ahead of
+/// a phase is told once that is: where a phase can't be served or written, a fault of the source that was met ahead of
+/// it is told by no status.
 fn run_phases<R: Threads + Wait + Sync, S: Source, K: Sink, G: Gate + Sync>(
     rt: &R,
     alloc: Global,
@@ -73,25 +206,31 @@ fn run_phases<R: Threads + Wait + Sync, S: Source, K: Sink, G: Gate + Sync>(
     ensures stop { (command : CommandOf) → IsRun command → result ≡ Status.ReadFault
         → WritesToStop command recording.old.config (rest_in recording.old) recording.old.held (place_of recording.old) (S.left input.old) (S.left input.new) (K.held out.old) (K.held out.new) }
     ensures write { result ≡ Status.WriteFault → Rose (K.faults out.old) (K.faults out.new) }
-    ensures unfailed { result ≢ Status.ReadFault → S.faults input.new ≡ S.faults input.old }
+    ensures unfailed { IsFinal result → S.faults input.new ≡ S.faults input.old }
+    ensures once { (S.faults input.new ≡ S.faults input.old) ⊎ Rose (S.faults input.old) (S.faults input.new) }
     ensures accepted { result ≢ Status.WriteFault → K.faults out.new ≡ K.faults out.old }
     ensures left { IsLaterPart (S.left input.old) (S.left input.new) }
     ensures known { result ≢ Status.Usage }
 {
+    let mut told = None;
+    let mut next = read_next(alloc, recording, input);
     for _turn in 0..PHASES {
-        let phase = match recording.next_phase(alloc, input) {
-            Ok(Some(phase)) => phase,
-            Ok(None) => return Status::Done,
-            Err(refusal) => return refuse(alloc, out, refusal),
+        let phase = match next {
+            Next::Phase(phase) => phase,
+            Next::End(refusal) => return finish(alloc, out, &told, refusal),
         };
-        let Ok(told) = crew.serve(rt, alloc, phase, gate) else {
-            return Status::Memory;
-        };
-        match write_phase(alloc, out, &told) {
-            Ok(()) => {}
+        let (served, ahead) = serve_beside(
+            rt, alloc, recording, crew, input, out, gate, phase, &told,
+        );
+        next = match ahead {
+            Ok(next) => next,
             Err(WriteError::Fault) => return Status::WriteFault,
             Err(WriteError::Memory) => return Status::Memory,
-        }
+        };
+        let Ok(now) = served else {
+            return Status::Memory;
+        };
+        told = Some(now);
     }
     unreachable!()
 }

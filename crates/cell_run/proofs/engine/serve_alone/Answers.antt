@@ -3,7 +3,7 @@ use Rattle.cell_words.specs.declared.words.Command.TheVariants.{Replay}
 use Rattle.cell_run.specs.declared.status.Status.TheVariants as status
 use Rattle.cell_record.specs.Progress.{place_of, rest_in, rest_of}
 use Rattle.cell_run.proofs.Fronts.{cut_in_opening, none_written, opening_partly, opening_written}
-use Rattle.cell_run.proofs.Endings.{cut_said, done_or_memory, phases_end, opening_ends, rose_first, told_fault}
+use Rattle.cell_run.proofs.Endings.{cut_said, done_or_memory, phases_end, opening_ends, once_of, rose_first, told_fault}
 use Rattle.cell_run.proofs.engine.serve_alone.Goals as goal
 
 pub returns-in-Err-clause-ends : goal.returns-in-Err-clause-ends
@@ -25,7 +25,9 @@ returns-clause-ends g c =
     let s = c.serve_phases.ensures in
     let config = c.in-Ok.recording.config in
     phases_end Replay config c.serve_phases.result _ _ _ _ (rest_of c.in-Ok.recording (g.S.Source.left c.open.new.input)) c.in-Ok.ensures.begins c.in-Ok.ensures.tells s.known s.whole s.part s.ended
-    (λ e. rose_first _ _ _ c.in-Ok.ensures.steady (s.read e)) (λ n. s.unfailed n ∙ c.in-Ok.ensures.steady)
+    (λ e. rose_first _ _ _ c.in-Ok.ensures.steady (s.read e)) (λ n ahead. s.unfailed n ∙ c.in-Ok.ensures.steady)
+    (once_of c.serve_phases.result (record { octets = g.S.Source.left c.args.input.now; faults = g.S.Source.faults c.args.input.now })
+    (record { octets = g.S.Source.left c.serve_phases.new.input; faults = g.S.Source.faults c.serve_phases.new.input }) (λ e. rose_first _ _ _ c.in-Ok.ensures.steady (s.read e)) (λ n. s.unfailed n ∙ c.in-Ok.ensures.steady))
     (λ e. cut_said Replay config (rest_in c.in-Ok.recording) c.in-Ok.recording.held (place_of c.in-Ok.recording) (g.S.Source.left c.args.input.now) (g.S.Source.left c.open.new.input) (g.S.Source.left c.serve_phases.new.input)
     (g.K.Sink.held c.args.out.now) (g.K.Sink.held c.serve_phases.new.out) s.left c.in-Ok.ensures.leads (s.stop e)) s.write s.accepted
 

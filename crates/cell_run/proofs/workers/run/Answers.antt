@@ -3,7 +3,7 @@ use Rattle.cell_words.specs.declared.words.Command.TheVariants.{Run}
 use Rattle.cell_run.specs.declared.status.Status.TheVariants as status
 use Rattle.cell_record.specs.Progress.{place_of, rest_in, rest_of}
 use Rattle.cell_run.proofs.Fronts.{cut_in_opening, none_written, opening_partly, opening_written}
-use Rattle.cell_run.proofs.Endings.{cut_said, phases_end, opening_ends, rose_first, told_fault}
+use Rattle.cell_run.proofs.Endings.{cut_said, phases_end, opening_ends, once_first, rose_first, told_fault, unfailed_run}
 use Rattle.cell_run.proofs.workers.run.Goals as goal
 
 pub returns-in-Err : goal.returns-in-Err
@@ -33,7 +33,7 @@ returns g c =
     record {
       ends =
           phases_end (Run c.args.workers) config c.run_phases.result _ _ _ _ (rest_of c.in-Ok.recording (g.S.Source.left c.open.new.input)) c.in-Ok.ensures.begins c.in-Ok.ensures.tells s.known (s.whole (Run c.args.workers) tt) (s.part (Run c.args.workers) tt) s.ended
-          (λ e. rose_first _ _ _ c.in-Ok.ensures.steady (s.read e)) (λ n. s.unfailed n ∙ c.in-Ok.ensures.steady)
+          (λ e. rose_first _ _ _ c.in-Ok.ensures.steady (s.read e)) (unfailed_run c.args.workers c.run_phases.result _ _ (λ final. s.unfailed final ∙ c.in-Ok.ensures.steady)) (once_first _ _ _ c.in-Ok.ensures.steady s.once)
           (λ e. cut_said (Run c.args.workers) config (rest_in c.in-Ok.recording) c.in-Ok.recording.held (place_of c.in-Ok.recording) (g.S.Source.left c.args.input.now) (g.S.Source.left c.open.new.input) (g.S.Source.left c.run_phases.new.input)
           (g.K.Sink.held c.args.out.now) (g.K.Sink.held c.run_phases.new.out) s.left c.in-Ok.ensures.leads (s.stop (Run c.args.workers) tt e)) s.write s.accepted;
     }

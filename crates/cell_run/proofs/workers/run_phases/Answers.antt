@@ -1,144 +1,185 @@
-use Rattle.std.proofs.Common.{◌≡◌, ◌+◌, ◌∷◌, ◌++◌, [], length, None, ◌∙◌, arith, length-append}
-use Rattle.std.proofs.KnownBytes.{Appends-kept}
-use Rattle.cell_record.specs.Recording.{Reading, with_phase}
+use Rattle.std.proofs.Common.{◌≡◌, ◌+◌, ◌∷◌, ◌++◌, [], length, None, ◌∙◌, refl, subst, sym, arith, length-append}
+use Rattle.std.proofs.KnownBytes.{Appends-nil}
+use Rattle.std.specs.Io.KnownBytes.{IsAtEnd}
+use Rattle.cell_record.specs.Recording.{Reading}
 use Rattle.cell_record.specs.Progress.{rest_of}
-use Rattle.cell_record.proofs.Readings.{then}
 use Rattle.cell_record.specs.History.{Interleaves}
-use Rattle.cell_run.specs.Running.{run_interleaves, run_serves}
+use Rattle.cell_run.specs.Ahead.{HasRead, ReadsEnd, ReadsPhase, text_told}
 use Rattle.cell_run.specs.Bodies.{Serves}
-use Rattle.cell_run.proofs.Fronts.{with_phases, phases-then, later_then, leads_phases}
-use Rattle.cell_run.proofs.Phases.{some_of, refusal_all, refusal_of, whole_report, body_whole, body_part, interleaves_length, all_ms-append, size-append}
-use Rattle.cell_run.proofs.Endings.{told_fault}
+use Rattle.cell_run.specs.Outcome.{IsFinal, report_of}
+use Rattle.cell_run.specs.Running.{run_interleaves, run_serves}
+use Rattle.cell_run.specs.declared.workers.Next.{Next}
+use Rattle.cell_run.specs.declared.workers.Next.TheVariants as next
+use Rattle.cell_run.proofs.Beside.{behind_more, behind_none, done_end, end_all, end_some, may_run, once_end, once_read, owes, then_some, then_told, unfailed_end}
+use Rattle.cell_run.proofs.Endings.{once_first, rose_first}
+use Rattle.cell_run.proofs.Fronts.{later_then}
+use Rattle.cell_run.proofs.Phases.{interleaves_length, some_of, whole_report}
 use Rattle.cell_run.proofs.workers.run_phases.Goals as goal
 
-pub returns-in-Ok-None-clause-part : goal.returns-in-Ok-None-clause-part
-returns-in-Ok-None-clause-part g c = λ command asked.
+pub returns-in-End-clause-whole : goal.returns-in-End-clause-whole
+returns-in-End-clause-whole g c = λ command asked final.
     let d = c.loop-turn.invariant.done in
-    let serves : Interleaves d.1 d.0 × Serves command d.1 d.0 = (run_interleaves _ c.args.recording.now.config d.0 d.1 d.3, run_serves command d.0 d.1 asked) in
-    some_of command c.args.recording.now.config (rest_of c.args.recording.now (g.S.Source.left c.args.input.now)) (rest_of c.loop-turn.recording (g.S.Source.left c.loop-turn.input)) d.0 d.1 _ _ d.5 serves
-    (whole_report _ _ _ d.4)
+    let r = c.loop-turn.invariant.read in
+    let config = c.args.recording.now.config in
+    let serves : Interleaves d.1 d.0 × Serves command d.1 d.0 = (run_interleaves _ config d.0 d.1 d.3, run_serves command d.0 d.1 asked) in
+    let h = rw c.in-End.is at r.3 in
+    end_all command config c.finish.result (rest_of c.args.recording.now (g.S.Source.left c.args.input.now)) (rest_of r.0 r.1) d.0 d.1 c.in-End.refusal _ _ _ (text_told c.loop-turn.told) r.2.becomes h.comes.said serves d.4
+    c.finish.ensures.stated final
 
-pub returns-in-Err-clause-whole : goal.returns-in-Err-clause-whole
-returns-in-Err-clause-whole g c = λ command asked.
+pub returns-in-End-clause-part : goal.returns-in-End-clause-part
+returns-in-End-clause-part g c = λ command asked.
     let d = c.loop-turn.invariant.done in
-    let serves : Interleaves d.1 d.0 × Serves command d.1 d.0 = (run_interleaves _ c.args.recording.now.config d.0 d.1 d.3, run_serves command d.0 d.1 asked) in
-    refusal_all command c.args.recording.now.config c.refuse.result (rest_of c.args.recording.now (g.S.Source.left c.args.input.now)) (rest_of c.loop-turn.recording (g.S.Source.left c.loop-turn.input)) d.0 d.1 c.in-Err.refusal _ _ _
-    d.5 c.in-Err.ensures.refused serves d.4 c.refuse.ensures.stated
+    let r = c.loop-turn.invariant.read in
+    let config = c.args.recording.now.config in
+    let serves : Interleaves d.1 d.0 × Serves command d.1 d.0 = (run_interleaves _ config d.0 d.1 d.3, run_serves command d.0 d.1 asked) in
+    let h = rw c.in-End.is at r.3 in
+    end_some command config (rest_of c.args.recording.now (g.S.Source.left c.args.input.now)) (rest_of r.0 r.1) d.0 d.1 c.in-End.refusal _ _ _ (text_told c.loop-turn.told) r.2.becomes h.comes.said serves d.4
+    c.finish.ensures.partly
 
-pub returns-in-Err-clause-part : goal.returns-in-Err-clause-part
-returns-in-Err-clause-part g c = λ command asked.
-    let d = c.loop-turn.invariant.done in
-    let serves : Interleaves d.1 d.0 × Serves command d.1 d.0 = (run_interleaves _ c.args.recording.now.config d.0 d.1 d.3, run_serves command d.0 d.1 asked) in
-    refusal_of command c.args.recording.now.config (rest_of c.args.recording.now (g.S.Source.left c.args.input.now)) (rest_of c.loop-turn.recording (g.S.Source.left c.loop-turn.input)) d.0 d.1 c.in-Err.refusal _ _ _
-    d.5 c.in-Err.ensures.refused serves d.4 c.refuse.ensures.partly
+pub returns-in-End-clause-ended : goal.returns-in-End-clause-ended
+returns-in-End-clause-ended g c = λ done.
+    let r = c.loop-turn.invariant.read in
+    let h = rw c.in-End.is at r.3 in
+    let none = done_end c.finish.result c.in-End.refusal done (c.finish.ensures.stated (subst IsFinal (sym done) tt)).0 in
+    let e = h.comes.ended none in
+    subst IsAtEnd (sym e.1) (r.2.seen (r.2.over e.0))
 
-pub returns-in-Err-clause-stop : goal.returns-in-Err-clause-stop
-returns-in-Err-clause-stop g c = λ command asked fault.
-    let r = c.refuse.ensures.read fault in
+pub returns-in-End-clause-read : goal.returns-in-End-clause-read
+returns-in-End-clause-read g c = λ is.
+    let r = c.loop-turn.invariant.read in
+    let h = rw c.in-End.is at r.3 in
+    h.comes.fault (c.finish.ensures.read is).0 r.2.refusal
+
+pub returns-in-End-clause-stop : goal.returns-in-End-clause-stop
+returns-in-End-clause-stop g c = λ command asked is.
     let d = c.loop-turn.invariant.done in
-    let serves : Interleaves d.1 d.0 × Serves command d.1 d.0 = (run_interleaves _ c.args.recording.now.config d.0 d.1 d.3, run_serves command d.0 d.1 asked) in
-    let s = c.in-Err.ensures.stops r.0 c.loop-turn.invariant.refusal in
+    let r = c.loop-turn.invariant.read in
+    let h = rw c.in-End.is at r.3 in
+    let fault = c.finish.ensures.read is in
+    let s = h.comes.stops fault.0 r.2.refusal in
     let part : Reading = record { phases = s.events ∷ []; refusal = None } in
     record {
       done = d.0;
       events = s.events;
       end = s.end;
       most = s.most;
-      stops = d.6 (g.S.Source.left c.next_phase.new.input) s.end part s.stops;
+      stops = r.2.leads (g.S.Source.left c.loop-turn.input) s.end part s.stops;
       bodies = d.1;
-      interleave = serves.0;
-      serve = serves.1;
-      written = Appends-kept _ _ _ _ d.4 r.1;
+      interleave = run_interleaves _ c.args.recording.now.config d.0 d.1 d.3;
+      serve = run_serves command d.0 d.1 asked;
+      written = then_told _ _ _ _ _ d.4 fault.1;
     }
 
-pub returns-in-Err-clause-left : goal.returns-in-Err-clause-left
-returns-in-Err-clause-left g c = later_then _ _ _ c.loop-turn.invariant.left c.next_phase.ensures.left
+pub returns-in-End-clause-write : goal.returns-in-End-clause-write
+returns-in-End-clause-write g c = λ is. rose_first _ _ _ c.loop-turn.invariant.writes (c.finish.ensures.write is)
 
-pub returns-in_default-clause-left : goal.returns-in_default-clause-left
-returns-in_default-clause-left g c = later_then _ _ _ c.loop-turn.invariant.left c.next_phase.ensures.left
+pub returns-in-End-clause-accepted : goal.returns-in-End-clause-accepted
+returns-in-End-clause-accepted g c = λ n. c.finish.ensures.accepted n ∙ c.loop-turn.invariant.writes
 
-pub returns-in-Err-Fault-clause-left : goal.returns-in-Err-Fault-clause-left
-returns-in-Err-Fault-clause-left g c = later_then _ _ _ c.loop-turn.invariant.left c.next_phase.ensures.left
+pub returns-in-End-clause-unfailed : goal.returns-in-End-clause-unfailed
+returns-in-End-clause-unfailed g c = λ final.
+    let r = c.loop-turn.invariant.read in
+    let h = rw c.in-End.is at r.3 in
+    unfailed_end r.0 r.1 _ _ _ c.finish.result c.in-End.refusal h.comes final (c.finish.ensures.stated final).0
 
-pub returns-in-Err-Memory-clause-left : goal.returns-in-Err-Memory-clause-left
-returns-in-Err-Memory-clause-left g c = later_then _ _ _ c.loop-turn.invariant.left c.next_phase.ensures.left
+pub returns-in-End-clause-once : goal.returns-in-End-clause-once
+returns-in-End-clause-once g c =
+    let r = c.loop-turn.invariant.read in once_read r.0 _ r.1 _ _ _ _ r.3 r.2.refusal
 
-pub returns-in_default-clause-part : goal.returns-in_default-clause-part
-returns-in_default-clause-part g c = λ command asked.
+pub returns-in-End-clause-left : goal.returns-in-End-clause-left
+returns-in-End-clause-left g c = let r = c.loop-turn.invariant.read in later_then _ _ _ r.2.later r.3.later
+
+pub serve_beside-served-requires-clause-next : goal.serve_beside-served-requires-clause-next
+serve_beside-served-requires-clause-next g c κs within =
     let d = c.loop-turn.invariant.done in
-    let serves : Interleaves d.1 d.0 × Serves command d.1 d.0 = (run_interleaves _ c.args.recording.now.config d.0 d.1 d.3, run_serves command d.0 d.1 asked) in
-    some_of command c.args.recording.now.config (rest_of c.args.recording.now (g.S.Source.left c.args.input.now)) (rest_of c.loop-turn.recording (g.S.Source.left c.loop-turn.input)) d.0 d.1 _ _ d.5 serves
-    (whole_report _ _ _ d.4)
+    let r = c.loop-turn.invariant.read in
+    let h = rw c.in-Phase.is at r.3 in
+    may_run c.loop-turn.crew c.args.recording.now r.0 c.loop-turn.recording _ r.1 _ d.0 d.1 _ _ _ c.in-Phase.phase d.3 d.2 r.2 h.comes.0 h
+
+pub loop-turn-init : goal.loop-turn-init
+loop-turn-init g c =
+    let b = c.requires.begins in
+    let h = c.read_next-next.ensures in
+    record {
+      done = ([], [], refl, c.requires.fresh, record { written = []; appended = Appends-nil _; parts = refl });
+      read = (
+        c.args.recording.now,
+        g.S.Source.left c.args.input.now,
+        behind_none c.args.recording.now (g.S.Source.left c.args.input.now) b.0 b.1 b.2 b.3 c.requires.seen,
+        record { comes = h.comes; config = h.config; dated = h.dated; seen = h.seen; later = h.later },
+      );
+      few = omega arith;
+      writes = refl;
+    }
 
 pub returns-in-Err-Fault-clause-part : goal.returns-in-Err-Fault-clause-part
 returns-in-Err-Fault-clause-part g c = λ command asked.
     let d = c.loop-turn.invariant.done in
+    let r = c.loop-turn.invariant.read in
     let config = c.args.recording.now.config in
-    let es = c.in-Ok-Some.phase.events in
-    let phase = rw c.in-Ok-Some.field-0-is at c.in-Ok-Some.ensures.phase in
-    let number = rw c.in-Ok-Some.field-0-is at c.in-Ok-Some.ensures.number in
-    let t = c.in-Ok.ensures.told config d.0 d.1 d.3 in
-    let before = run_interleaves _ config d.0 d.1 d.3 in
-    let serves : Interleaves (d.1 ++ t.body ∷ []) (d.0 ++ es ∷ []) × Serves command (d.1 ++ t.body ∷ []) (d.0 ++ es ∷ []) = (run_interleaves _ config _ _ t.served, run_serves command _ _ asked) in
-    let many : c.in-Ok-Some.phase.number ≡ 1 + length d.1 = omega (arith, number.0, c.loop-turn.invariant.number, d.2, interleaves_length d.1 d.0 before) in
-    some_of command config (rest_of c.args.recording.now (g.S.Source.left c.args.input.now)) (rest_of c.next_phase.new.self (g.S.Source.left c.next_phase.new.input)) (d.0 ++ es ∷ []) (d.1 ++ t.body ∷ []) _ _
-    (then _ _ _ (with_phases d.0) (with_phase es) (with_phases (d.0 ++ es ∷ [])) (phases-then d.0 es) d.5 phase) serves
-    (body_part config d.1 c.in-Ok-Some.phase.number t.body _ _ _ _ t.text many d.4 c.in-Err-Fault.ensures.part)
+    let serves : Interleaves d.1 d.0 × Serves command d.1 d.0 = (run_interleaves _ config d.0 d.1 d.3, run_serves command d.0 d.1 asked) in
+    let part = rw c.in-Err-Fault.is at c.serve_beside-served.ensures.part in
+    some_of command config (rest_of c.args.recording.now (g.S.Source.left c.args.input.now)) (rest_of r.0 r.1) d.0 d.1 _ _ r.2.becomes serves (then_some _ _ _ (text_told c.loop-turn.told) _ d.4 part)
+
+pub returns-in-Err-Fault-clause-left : goal.returns-in-Err-Fault-clause-left
+returns-in-Err-Fault-clause-left g c =
+    let r = c.loop-turn.invariant.read in
+    let unread = rw c.in-Err-Fault.is at c.serve_beside-served.ensures.unread in
+    rw unread.1 (later_then _ _ _ r.2.later r.3.later)
 
 pub returns-in-Err-Memory-clause-part : goal.returns-in-Err-Memory-clause-part
 returns-in-Err-Memory-clause-part g c = λ command asked.
     let d = c.loop-turn.invariant.done in
+    let r = c.loop-turn.invariant.read in
     let config = c.args.recording.now.config in
-    let es = c.in-Ok-Some.phase.events in
-    let phase = rw c.in-Ok-Some.field-0-is at c.in-Ok-Some.ensures.phase in
-    let number = rw c.in-Ok-Some.field-0-is at c.in-Ok-Some.ensures.number in
-    let t = c.in-Ok.ensures.told config d.0 d.1 d.3 in
-    let before = run_interleaves _ config d.0 d.1 d.3 in
-    let serves : Interleaves (d.1 ++ t.body ∷ []) (d.0 ++ es ∷ []) × Serves command (d.1 ++ t.body ∷ []) (d.0 ++ es ∷ []) = (run_interleaves _ config _ _ t.served, run_serves command _ _ asked) in
-    let many : c.in-Ok-Some.phase.number ≡ 1 + length d.1 = omega (arith, number.0, c.loop-turn.invariant.number, d.2, interleaves_length d.1 d.0 before) in
-    some_of command config (rest_of c.args.recording.now (g.S.Source.left c.args.input.now)) (rest_of c.next_phase.new.self (g.S.Source.left c.next_phase.new.input)) (d.0 ++ es ∷ []) (d.1 ++ t.body ∷ []) _ _
-    (then _ _ _ (with_phases d.0) (with_phase es) (with_phases (d.0 ++ es ∷ [])) (phases-then d.0 es) d.5 phase) serves
-    (body_part config d.1 c.in-Ok-Some.phase.number t.body _ _ _ _ t.text many d.4 c.in-Err-Memory.ensures.part)
+    let serves : Interleaves d.1 d.0 × Serves command d.1 d.0 = (run_interleaves _ config d.0 d.1 d.3, run_serves command d.0 d.1 asked) in
+    let part = rw c.in-Err-Memory.is at c.serve_beside-served.ensures.part in
+    some_of command config (rest_of c.args.recording.now (g.S.Source.left c.args.input.now)) (rest_of r.0 r.1) d.0 d.1 _ _ r.2.becomes serves (then_some _ _ _ (text_told c.loop-turn.told) _ d.4 part)
 
-pub returns-in-Err-clause-unfailed : goal.returns-in-Err-clause-unfailed
-returns-in-Err-clause-unfailed g c = λ n. c.in-Err.ensures.steady (λ is. n (told_fault c.refuse.result c.in-Err.refusal _ c.refuse.ensures.unstated is)) ∙ c.loop-turn.invariant.reads
+pub returns-in-Err-Memory-clause-left : goal.returns-in-Err-Memory-clause-left
+returns-in-Err-Memory-clause-left g c =
+    let r = c.loop-turn.invariant.read in
+    let unread = rw c.in-Err-Memory.is at c.serve_beside-served.ensures.unread in
+    rw unread.1 (later_then _ _ _ r.2.later r.3.later)
+
+pub returns-in_default-clause-part : goal.returns-in_default-clause-part
+returns-in_default-clause-part g c = λ command asked.
+    let d = c.loop-turn.invariant.done in
+    let r = c.loop-turn.invariant.read in
+    let config = c.args.recording.now.config in
+    let serves : Interleaves d.1 d.0 × Serves command d.1 d.0 = (run_interleaves _ config d.0 d.1 d.3, run_serves command d.0 d.1 asked) in
+    let whole = rw c.in-Ok.is at c.serve_beside-served.ensures.whole in
+    some_of command config (rest_of c.args.recording.now (g.S.Source.left c.args.input.now)) (rest_of r.0 r.1) d.0 d.1 _ _ r.2.becomes serves (whole_report _ _ _ (then_told _ _ _ (text_told c.loop-turn.told) _ d.4 whole))
+
+pub returns-in_default-clause-left : goal.returns-in_default-clause-left
+returns-in_default-clause-left g c =
+    let r = c.loop-turn.invariant.read in
+    let h = rw c.in-Ok.is at c.serve_beside-served.ensures.read in
+    later_then _ _ _ (later_then _ _ _ r.2.later r.3.later) h.later
 
 pub loop-turn-preserved : goal.loop-turn-preserved
 loop-turn-preserved g c =
     let d = c.loop-turn.invariant.done in
+    let r = c.loop-turn.invariant.read in
     let config = c.args.recording.now.config in
-    let es = c.in-Ok-Some.phase.events in
-    let phase = rw c.in-Ok-Some.field-0-is at c.in-Ok-Some.ensures.phase in
-    let number = rw c.in-Ok-Some.field-0-is at c.in-Ok-Some.ensures.number in
-    let moment = rw c.in-Ok-Some.field-0-is at c.in-Ok-Some.ensures.moment in
-    let ended = rw c.in-Ok-Some.field-0-is at c.in-Ok-Some.ensures.ended in
-    let leads = rw c.in-Ok-Some.field-0-is at c.in-Ok-Some.ensures.leads in
-    let t = c.in-Ok.ensures.told config d.0 d.1 d.3 in
-    let before = run_interleaves _ config d.0 d.1 d.3 in
-    let many : c.in-Ok-Some.phase.number ≡ 1 + length d.1 = omega (arith, number.0, c.loop-turn.invariant.number, d.2, interleaves_length d.1 d.0 before) in
-    let one = length-append d.0 (es ∷ []) in
-    let clock = all_ms-append d.0 es in
-    let lines = rw c.in-Ok-Some.field-0-is at c.in-Ok-Some.ensures.lines in
-    let size = size-append d.0 es in
+    let phase = c.in-Phase.phase in
+    let h = rw c.in-Phase.is at r.3 in
+    let whole = rw c.in-Ok.is at c.serve_beside-served.ensures.whole in
+    let read = rw c.in-Ok.is at c.serve_beside-served.ensures.read in
+    let steady = rw c.in-Ok.is at c.serve_beside-served.ensures.steady in
+    let t = rw c.in-Ok-served.is at (c.serve_beside-served.ensures.told config d.0 d.1 d.3) in
+    let one = length-append d.0 (phase.events ∷ []) in
+    let same = interleaves_length d.1 d.0 (run_interleaves _ config d.0 d.1 d.3) in
+    let many : phase.number ≡ 1 + length d.1 = omega (arith, h.comes.0.number.0, r.2.number, d.2, same) in
     record {
       done = (
-        d.0 ++ es ∷ [],
+        d.0 ++ phase.events ∷ [],
         d.1 ++ t.body ∷ [],
         omega (arith, one, d.2),
         t.served,
-        body_whole config d.1 c.in-Ok-Some.phase.number t.body _ _ _ _ t.text many d.4 c.in-Ok-write_phase.ensures.whole,
-        then _ _ _ (with_phases d.0) (with_phase es) (with_phases (d.0 ++ es ∷ [])) (phases-then d.0 es) d.5 phase,
-        leads_phases c.args.recording.now c.loop-turn.recording c.next_phase.new.self _ _ _ d.0 es d.6 leads,
-        omega (arith, moment, d.7, clock),
-        omega (arith, lines, d.8, size),
+        owes config d.1 phase.number t.body _ _ _ t.text many (then_told _ _ _ (text_told c.loop-turn.told) _ d.4 whole),
       );
-      refusal = c.in-Ok-Some.ensures.open;
-      config = c.next_phase.ensures.config ∙ c.loop-turn.invariant.config;
-      over = ended;
-      seen = c.next_phase.ensures.seen c.loop-turn.invariant.seen;
-      left = later_then _ _ _ c.loop-turn.invariant.left c.next_phase.ensures.left;
-      number = omega (arith, number.1, number.0, c.loop-turn.invariant.number);
-      few = omega (arith, number.0, number.2, c.loop-turn.invariant.number);
-      reads = c.in-Ok-Some.ensures.steady ∙ c.loop-turn.invariant.reads;
-      writes = c.in-Ok-write_phase.ensures.steady ∙ c.loop-turn.invariant.writes;
+      read = (c.loop-turn.recording, g.S.Source.left c.loop-turn.input, behind_more c.args.recording.now r.0 c.loop-turn.recording _ r.1 _ d.0 _ _ _ phase r.2 h.comes.0 h, rw h.comes.1 at read);
+      few = omega (arith, h.comes.0.number.0, h.comes.0.number.2, r.2.number);
+      writes = steady ∙ c.loop-turn.invariant.writes;
     }

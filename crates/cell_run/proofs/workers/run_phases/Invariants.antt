@@ -1,30 +1,20 @@
-use Rattle.std.proofs.Common.{◌≡◌, ◌+◌, ◌≤◌, ◌<◌, ◌^◌, true, List, length, None}
-use Rattle.std.specs.Io.KnownBytes.{Appends}
-use Rattle.cell_io.specs.Held.{IsEndSeen, IsLaterPart}
+use Rattle.std.proofs.Common.{◌≡◌, ◌<◌, ◌^◌, ℕ, List, length}
+use Rattle.std.specs.declared.option.Option.{Option}
+use Rattle.cell_io.specs.Prefix.{AppendsBefore}
 use Rattle.mms_types.specs.declared.event.CellEvent.{CellEvent}
-use Rattle.cell_record.specs.Grammar.{all_ms}
-use Rattle.cell_record.specs.Progress.{place_of, rest_in, rest_of, Becomes}
-use Rattle.cell_record.specs.Stops.{Leads}
+use Rattle.cell_record.specs.Progress.{Progress}
+use Rattle.cell_run.specs.Ahead.{HasRead, text_told}
 use Rattle.cell_run.specs.Outcome.{report_of}
-use Rattle.cell_run.specs.Running.{HasRun, size_of}
-use Rattle.cell_run.proofs.Fronts.{with_phases}
+use Rattle.cell_run.specs.Running.{HasRun}
+use Rattle.cell_run.proofs.Beside.{Behind}
 use Rattle.cell_run.proofs.workers.run_phases.Given as goal
 
 abbrev pub invariant-loop-turn : goal.invariant-loop-turn
 invariant-loop-turn g l = record {
-  done : (phases : List (List CellEvent)) × (bodies : List (List CellEvent)) × (length phases ≡ l._turn) × HasRun l.crew l.initial.recording.config phases bodies
-      × Appends (g.K.Sink.held l.initial.out) (g.K.Sink.held l.out) (report_of l.initial.recording.config bodies)
-      × Becomes (rest_of l.initial.recording (g.S.Source.left l.initial.input)) (with_phases phases) (rest_of l.recording (g.S.Source.left l.input))
-      × Leads (rest_in l.initial.recording) l.initial.recording.held (place_of l.initial.recording) (g.S.Source.left l.initial.input) (with_phases phases) (rest_in l.recording) l.recording.held (place_of l.recording) (g.S.Source.left l.input)
-      × (l.recording.moment ≡ l.initial.recording.config.start.0 + all_ms phases)
-      × (size_of phases ≤ l.recording.held.given);
-  refusal : l.recording.refusal ≡ None;
-  config : l.recording.config ≡ l.initial.recording.config;
-  over : l.recording.over ≡ true → l.recording.held.ended ≡ true;
-  seen : IsEndSeen l.recording.held (g.S.Source.left l.input);
-  left : IsLaterPart (g.S.Source.left l.initial.input) (g.S.Source.left l.input);
-  number : l.recording.number ≡ l._turn;
+  done : (phases : List (List CellEvent)) × (bodies : List (List CellEvent)) × (length phases ≡ l._turn) × HasRun l.crew l.fn.recording.config phases bodies
+      × AppendsBefore (g.K.Sink.held l.fn.out) (g.K.Sink.held l.out) (text_told l.told) (report_of l.fn.recording.config bodies);
+  read : (p : Progress) × (left : Option (List ℕ)) × Behind l.fn.recording (g.S.Source.left l.fn.input) done.0 l._turn p left
+      × HasRead p left (g.S.Source.faults l.fn.input) l.next l.recording (g.S.Source.left l.input) (g.S.Source.faults l.input);
   few : l._turn < 2 ^ 32;
-  reads : g.S.Source.faults l.input ≡ g.S.Source.faults l.initial.input;
-  writes : g.K.Sink.faults l.out ≡ g.K.Sink.faults l.initial.out;
+  writes : g.K.Sink.faults l.out ≡ g.K.Sink.faults l.fn.out;
 }
