@@ -6,4 +6,9 @@ pub mod Losing
 pub mod Serving
 pub mod Bounding
 pub mod Unowned
+pub mod Marked
+pub mod Places
+pub mod Backwards
+pub mod Kept
+pub mod Least
 mod Worked

@@ -4,7 +4,7 @@ use Rattle.std.specs.List.{list_any}
 use Rattle.mms_types.specs.declared.moment.Moment.{Moment}
 use Rattle.pool_sem.specs.Pools.{loss_of, loss_of_one}
 use Rattle.token_sem.proofs.Unowned.{none_passes}
-use Rattle.token_sem.specs.Semaphore.{Loss, owned_by, waits_for}
+use Rattle.token_sem.specs.Semaphore.{owned_by, waits_for}
 use Rattle.token_sem.specs.declared.entry.SemEntry.{SemEntry}
 
 pub none_lost : (client : ℕ) (now : Moment) (es : List SemEntry) → list_any (owned_by client) es ≡ false

@@ -1,10 +1,10 @@
 //! What is done on the entries of a pool. What equal tokens have in common with it stands in `token_sem`.
 
-ghost use Rattle.std.specs.Prelude.{◌≡◌, ℕ, ◌+◌, ◌≤◌, ◌<◌, ◌||◌, None, Some, [], false, find, fold, length, map, option_map, slice_index_or, vec_capacity, vec_len};
-ghost use Rattle.std.specs.List.{list_any};
+ghost use Rattle.std.specs.Prelude.{◌≡◌, ℕ, ◌+◌, ◌≤◌, ◌<◌, None, Some, [], count_by, find, fold, length, map, option_map, reverse, vec_capacity, vec_len};
 ghost use Rattle.mms_types.specs.Moments.{IsDated};
-ghost use Rattle.token_sem.specs.Semaphore.{earlier, without};
-ghost use Rattle.pool_sem.specs.Pools.{after_freeing, after_freeing_of, free_token, grant_freeing, grant_leaving, grant_of, grant_to, granted_entry, has, has_claim, hung_to_preempt, is_claim, is_free, is_hung_of, loss_of_one, lower, names, next, outcome_later, owner_entry, owner_of, place_of, queued_entry, suits, token_state, token_told, wants};
+ghost use Rattle.token_sem.specs.Semaphore.{earlier, is_queued, without};
+ghost use Rattle.std.specs.List.{list_any};
+ghost use Rattle.pool_sem.specs.Pools.{NamesRise, after_freeing, after_freeing_of, grant_freeing, grant_leaving, grant_of, grant_to, granted_entry, has, has_claim, hung_to_preempt, is_claim, is_hung_of, loss_of_one, lower, names, next, outcome_later, owner_entry, owner_of, place_of, queued_entry, suits, token_state, token_told, wants};
 
 use crate::{PoolOutcome, TokenState};
 use mms_types::{Identifier, Moment};
@@ -37,20 +37,6 @@ fn wants(token: u32, entry: &SemEntry) -> bool
     ensures { result ≡ wants token entry.now }
 {
     entry.is_queued() && suits(entry.token, Some(token))
-}
-
-/// Whether an entry has the token.
-fn is_had(token: u32, entries: &[SemEntry]) -> bool
-    ensures { result ≡ list_any (has token) entries.now }
-{
-    entries.iter().any(|entry| has(token, entry))
-}
-
-/// Whether nobody has the token.
-fn is_free(token: u32, entries: &[SemEntry]) -> bool
-    ensures { result ≡ is_free token entries.now }
-{
-    !is_had(token, entries)
 }
 
 /// The entry that gets the token where it is freed.
@@ -140,7 +126,7 @@ fn free(entries: &mut Vec<SemEntry>, token: u32, now: Moment) -> Option<Grant>
 }
 
 /// The token that an entry had is freed: who gets it.
-pub(crate) fn free_of(entries: &mut Vec<SemEntry>, token: Option<u32>, now: Moment) -> Option<Grant>
+fn free_of(entries: &mut Vec<SemEntry>, token: Option<u32>, now: Moment) -> Option<Grant>
     requires { IsDated now }
     ensures grant { result ≡ grant_freeing token entries.old.items }
     ensures entries { entries.new.items ≡ after_freeing_of token now entries.old.items }
@@ -151,13 +137,40 @@ pub(crate) fn free_of(entries: &mut Vec<SemEntry>, token: Option<u32>, now: Mome
     }
 }
 
-/// The client's owner entry of that token.
-pub(crate) fn owner_of(client: u32, token: Option<u32>, entries: &[SemEntry]) -> Option<SemEntry>
-    ensures { result ≡ owner_of client token entries.now }
+/// The same, where it is known whether an entry waits.
+pub(crate) fn free_where(
+    entries: &mut Vec<SemEntry>,
+    token: Option<u32>,
+    waits: bool,
+    now: Moment,
+) -> Option<Grant>
+    requires waits { waits ≡ list_any is_queued entries.old.items }
+    requires now { IsDated now }
+    ensures grant { result ≡ grant_freeing token entries.old.items }
+    ensures entries { entries.new.items ≡ after_freeing_of token now entries.old.items }
 {
-    entries.iter().copied().find(|entry| {
+    if waits {
+        free_of(entries, token, now)
+    } else {
+        None
+    }
+}
+
+/// The client's last owner entry of that token: one that was made lately is met first.
+fn last_owner_of(client: u32, token: Option<u32>, entries: &[SemEntry]) -> Option<SemEntry>
+    ensures { result ≡ owner_of client token (reverse entries.now) }
+{
+    entries.iter().rev().copied().find(|entry| {
         entry.client == client && entry.is_owner() && names(token, entry.token)
     })
+}
+
+/// The client's owner entry of that token, of which there is one at most.
+pub(crate) fn owner_of(client: u32, token: Option<u32>, entries: &[SemEntry]) -> Option<SemEntry>
+    requires { (place : ℕ) → count_by (has place) entries.now ≤ 1 }
+    ensures { result ≡ owner_of client token entries.now }
+{
+    last_owner_of(client, token, entries)
 }
 
 /// Whether the entry has the client refused.
@@ -219,83 +232,6 @@ pub(crate) fn hung_to_preempt(
     match client {
         None => None,
         Some(client) => hung_of(client, asked, entries),
-    }
-}
-
-/// So many tokens are marked in one walk over the entries: as many as a pool has at most.
-const MARKED: usize = 256;
-
-/// Marks the token that the entry has, where it is one of the first.
-fn mark(had: &mut [bool; MARKED], entry: &SemEntry)
-    ensures { (token : ℕ) → token < MARKED → slice_index_or had.new token false
-        ≡ (slice_index_or had.old token false || has token entry.now) }
-{
-    let Some(token) = entry.token else {
-        return;
-    };
-    let place = token as usize;
-    if place < MARKED && entry.holds() {
-        had[place] = true;
-    }
-}
-
-/// Which of the first tokens an entry has.
-fn had_of(entries: &[SemEntry]) -> [bool; MARKED]
-    ensures { (token : ℕ) → token < MARKED → slice_index_or result token false
-        ≡ list_any (has token) entries.now }
-{
-    let mut had = [false; MARKED];
-    for entry in entries {
-        mark(&mut had, entry);
-    }
-    had
-}
-
-/// Whether nobody has the token: by its mark, where it is one of the first.
-fn is_free_by_mark(token: u32, had: &[bool; MARKED], entries: &[SemEntry]) -> bool
-    requires { (token : ℕ) → token < MARKED → slice_index_or had.now token false
-        ≡ list_any (has token) entries.now }
-    ensures { result ≡ is_free token entries.now }
-{
-    let place = token as usize;
-    if place < MARKED {
-        !had[place]
-    } else {
-        is_free(token, entries)
-    }
-}
-
-/// The least free token of so many.
-fn least_free(count: u32, entries: &[SemEntry]) -> Option<u32>
-    ensures { result ≡ free_token None count entries.now }
-{
-    let had = had_of(entries);
-    for token in 0..count {
-        if is_free_by_mark(token, &had, entries) {
-            return Some(token);
-        }
-    }
-    None
-}
-
-/// The token, where it is free and one of so many.
-fn free_one(token: u32, count: u32, entries: &[SemEntry]) -> Option<u32>
-    ensures { result ≡ free_token (Some token) count entries.now }
-{
-    if token < count && is_free(token, entries) {
-        Some(token)
-    } else {
-        None
-    }
-}
-
-/// The free token of so many that was named, or the least one where none was.
-pub(crate) fn free_token(asked: Option<u32>, count: u32, entries: &[SemEntry]) -> Option<u32>
-    ensures { result ≡ free_token asked count entries.now }
-{
-    match asked {
-        None => least_free(count, entries),
-        Some(token) => free_one(token, count, entries),
     }
 }
 
@@ -407,7 +343,11 @@ pub(crate) fn lose_owners(
 
 /// The place of the token of that name.
 pub(crate) fn place_of(name: &Identifier, tokens: &[Identifier]) -> Option<usize>
+    requires { NamesRise tokens.now }
     ensures place { result ≡ place_of name.now tokens.now }
 {
-    tokens.iter().position(|token| name == token)
+    match tokens.binary_search(name) {
+        Ok(place) => Some(place),
+        Err(_) => None,
+    }
 }

@@ -3,6 +3,7 @@
 
 mod entries;
 mod laws;
+mod marks;
 mod outcome;
 mod pool;
 

@@ -4,13 +4,14 @@ ghost use Rattle.std.specs.Option.{option_copied};
 ghost use Rattle.mms_types.specs.Moments.{IsDated};
 ghost use Rattle.token_sem.specs.declared.entry.SemEntry.{SemEntry};
 ghost use Rattle.token_sem.specs.declared.entry.TakeRefused.TheVariants.{Memory as OutOfMemory};
-ghost use Rattle.token_sem.specs.Semaphore.{deadline_at, first_deadline, is_hung, is_owner, is_queued, moment_and_entry, numbered, owned_by};
-ghost use Rattle.pool_sem.specs.Pools.{IsPool, NamesRise, after_cancel, after_expire, after_lose, after_relinquish, after_take, expired_of, has_claim, has_token, heir_of, is_place, is_placed, loss_of, makes_entry, outcome, owner_of, place_of, relinquish_answer, take_answer, token_got, token_state};
+ghost use Rattle.token_sem.specs.Semaphore.{deadline_at, first_deadline, holds, is_hung, is_owner, is_queued, moment_and_entry, numbered, owned_by};
+ghost use Rattle.pool_sem.specs.Pools.{IsPool, NamesRise, after_cancel, after_expire, after_leaving, after_lose, after_relinquish, after_take, expired_of, free_token, grant_leaving, has_claim, has_token, heir_of, is_place, is_placed, loss_of, makes_entry, outcome, owner_of, place_of, relinquish_answer, take_answer, token_got, token_state};
 
 use crate::entries::{
-    free_of, free_token, grant_to, has_claim, heir, hung_to_preempt, lose_owners, outcome_later,
+    free_where, grant_to, has_claim, heir, hung_to_preempt, lose_owners, outcome_later,
     owner_entry, owner_of, place_of, queued_entry, token_state,
 };
+use crate::marks::Marks;
 use crate::{PoolOutcome, TokenState};
 use mms_types::{Identifier, Identifiers, Memory, Moment};
 use std::alloc::Global;
@@ -29,6 +30,8 @@ pub struct PoolSem {
     tokens: Identifiers,
     made: u64,
     entries: Vec<SemEntry>,
+    /// Which tokens entries have, and whether any waits.
+    marks: Marks,
 }
 
 impl Model for PoolSem {
@@ -38,8 +41,11 @@ impl Model for PoolSem {
 
     ghost view = { λ p. record { tokens = p.tokens; made = p.made; entries = p.entries.items } };
 
+    ghost use Rattle.pool_sem.specs.Marks.{AreMarks};
+
     ghost invariant = { λ p.
-        IsPool (record { tokens = p.tokens; made = p.made; entries = p.entries.items }) };
+        IsPool (record { tokens = p.tokens; made = p.made; entries = p.entries.items })
+        × AreMarks p.marks p.entries.items };
 }
 
 impl PoolSem {
@@ -54,6 +60,7 @@ impl PoolSem {
             tokens: Identifiers::from(tokens),
             made: 0,
             entries: Vec::new(alloc),
+            marks: Marks::new(),
         }
     }
 
@@ -85,18 +92,78 @@ impl PoolSem {
         self.tokens.len() as u32
     }
 
+    /// The least free token.
+    fn least_free(&self) -> Option<u32>
+        ensures { result ≡ free_token None (length self.now.tokens) self.now.entries }
+    {
+        let token = self.marks.first_free();
+        if token < self.count() {
+            Some(token)
+        } else {
+            None
+        }
+    }
+
+    /// The token, where there is one of that place and it is free.
+    fn free_one(&self, token: u32) -> Option<u32>
+        ensures { result ≡ free_token (Some token) (length self.now.tokens) self.now.entries }
+    {
+        if token >= self.count() {
+            return None;
+        }
+        if self.marks.has(token) {
+            return None;
+        }
+        Some(token)
+    }
+
+    /// The free token that was named, or the least one where none was.
+    fn free_token(&self, asked: Option<u32>) -> Option<u32>
+        ensures { result ≡ free_token asked (length self.now.tokens) self.now.entries }
+    {
+        match asked {
+            None => self.least_free(),
+            Some(token) => self.free_one(token),
+        }
+    }
+
+    /// The client's owner entry of that token.
+    fn owner_of(&self, client: u32, token: Option<u32>) -> Option<SemEntry>
+        ensures owner { result ≡ owner_of client token self.now.entries }
+        ensures there { IfSome result (λ e. numbered e.number self.now.entries ≡ Some e) }
+        ensures holds { IfSome result (λ e. holds e ≡ true) }
+    {
+        owner_of(client, token, &self.entries)
+    }
+
+    /// The entry of one that has a token goes, and its token is freed: who gets it.
+    fn leave(&mut self, entry: &SemEntry, now: Moment) -> Option<Grant>
+        requires there { numbered entry.now.number self.old.entries ≡ Some entry.now }
+        requires holds { holds entry.now ≡ true }
+        requires now { IsDated now }
+        ensures grant { result ≡ grant_leaving entry.now self.old.entries }
+        ensures state { self.new
+            ≡ record self.old { entries = after_leaving entry.now now self.old.entries } }
+    {
+        remove(&mut self.entries, entry.number);
+        let waits = self.marks.waits();
+        let grant = free_where(&mut self.entries, entry.token, waits, now);
+        self.marks.free(entry.token, grant.is_some(), &self.entries);
+        grant
+    }
+
     /// What a request for a token comes to.
     fn outcome(&self, ask: &Ask, now: Moment) -> PoolOutcome
         requires { IsDated now }
         ensures { result ≡ outcome self.now ask.now now }
     {
-        if has_claim(ask.client, ask.token, &self.entries) {
+        if self.has_claim(ask.client, ask.token) {
             return PoolOutcome::Refused;
         }
         if let Some(hung) = hung_to_preempt(ask.preempt, ask.token, &self.entries) {
             return PoolOutcome::Preempts(hung.number, hung.token);
         }
-        match free_token(ask.token, self.count(), &self.entries) {
+        match self.free_token(ask.token) {
             Some(token) => PoolOutcome::Gets(token),
             None => outcome_later(ask.delay, now),
         }
@@ -145,6 +212,7 @@ impl PoolSem {
                     &mut self.entries,
                     owner_entry(number, ask, Some(token), now),
                 )?;
+                self.marks.set(token);
                 self.made = number;
                 Ok(Taken::Granted(grant_to(number, ask, Some(token))))
             }
@@ -156,11 +224,13 @@ impl PoolSem {
             }
             PoolOutcome::WaitsUntil(deadline) => {
                 add(&mut self.entries, queued_entry(number, ask, Some(deadline)))?;
+                self.marks.wait();
                 self.made = number;
                 Ok(Taken::Waits(number))
             }
             PoolOutcome::WaitsForEver => {
                 add(&mut self.entries, queued_entry(number, ask, None))?;
+                self.marks.wait();
                 self.made = number;
                 Ok(Taken::Waits(number))
             }
@@ -181,20 +251,24 @@ impl PoolSem {
         ensures answer { result ≡ relinquish_answer self.old client token }
         ensures state { self.new ≡ after_relinquish self.old client token now }
     {
-        let Some(owner) = owner_of(client, token, &self.entries) else {
+        let Some(owner) = self.owner_of(client, token) else {
             return Err(NotOwner);
         };
-        remove(&mut self.entries, owner.number);
-        Ok(free_of(&mut self.entries, owner.token, now))
+        Ok(self.leave(&owner, now))
     }
 
     /// Who is granted the token that the client gives back, if anyone is. None also where the client isn't its owner.
     pub fn heir(&self, client: u32, token: Option<u32>) -> Option<Grant>
         ensures { result ≡ heir_of (owner_of client token self.now.entries) self.now.entries }
     {
-        match owner_of(client, token, &self.entries) {
-            None => None,
-            Some(owner) => heir(&owner, &self.entries),
+        let waits = self.marks.waits();
+        if waits {
+            match self.owner_of(client, token) {
+                None => None,
+                Some(owner) => heir(&owner, &self.entries),
+            }
+        } else {
+            None
         }
     }
 
@@ -204,6 +278,7 @@ impl PoolSem {
         ensures { self.new ≡ after_cancel self.old entry }
     {
         remove(&mut self.entries, entry);
+        self.marks.look(&self.entries);
     }
 
     /// An entry's deadline ends: the entry goes, and where it had a token, that is granted to the entry that is served
@@ -220,11 +295,11 @@ impl PoolSem {
             unreachable!()
         };
         let waited = ended.is_queued();
-        remove(&mut self.entries, ended.number);
         let grant = if waited {
+            self.cancel(ended.number);
             None
         } else {
-            free_of(&mut self.entries, ended.token, now)
+            self.leave(&ended, now)
         };
         Expired {
             client: ended.client,
@@ -249,12 +324,14 @@ impl PoolSem {
     {
         if !self.owns(client) {
             lose_waiters(&mut self.entries, client);
+            self.marks.look(&self.entries);
             return Ok(Vec::new(alloc));
         }
         let owners = owners_of(alloc, client, &self.entries)?;
         let mut grants = Vec::with_capacity(alloc, owners.len())?;
         lose_waiters(&mut self.entries, client);
         lose_owners(&mut self.entries, &mut grants, &owners, now);
+        self.marks = Marks::of(&self.entries);
         Ok(grants)
     }
 
@@ -272,11 +349,26 @@ impl PoolSem {
         &self.entries
     }
 
+    /// Whether the client waits for a token of the pool.
+    fn is_waiting(&self, client: u32) -> bool
+        ensures { result ≡ has_claim client None self.now.entries }
+    {
+        let waits = self.marks.waits();
+        if waits {
+            has_claim(client, None, &self.entries)
+        } else {
+            false
+        }
+    }
+
     /// Whether the client waits for a token of the pool, or owns the one that it asks for.
     pub fn has_claim(&self, client: u32, asked: Option<u32>) -> bool
         ensures { result ≡ has_claim client asked self.now.entries }
     {
-        has_claim(client, asked, &self.entries)
+        match asked {
+            None => self.is_waiting(client),
+            Some(_) => has_claim(client, asked, &self.entries),
+        }
     }
 
     /// Whether a request for that token, or for any, that may preempt that client gets one at once: that of a hung
@@ -284,8 +376,7 @@ impl PoolSem {
     pub fn has_token(&self, preempt: Option<u32>, asked: Option<u32>) -> bool
         ensures { result ≡ has_token preempt asked self.now }
     {
-        hung_to_preempt(preempt, asked, &self.entries).is_some()
-            || free_token(asked, self.count(), &self.entries).is_some()
+        hung_to_preempt(preempt, asked, &self.entries).is_some() || self.free_token(asked).is_some()
     }
 
     /// Which token a request for that token, or for any, that may preempt that client gets at once. None where none is
@@ -295,7 +386,7 @@ impl PoolSem {
     {
         match hung_to_preempt(preempt, asked, &self.entries) {
             Some(hung) => hung.token,
-            None => free_token(asked, self.count(), &self.entries),
+            None => self.free_token(asked),
         }
     }
 
@@ -303,7 +394,7 @@ impl PoolSem {
     pub fn owns_token(&self, client: u32, token: Option<u32>) -> bool
         ensures { result ≡ is_some (owner_of client token self.now.entries) }
     {
-        owner_of(client, token, &self.entries).is_some()
+        self.owner_of(client, token).is_some()
     }
 
     /// Whether the client has an owner entry.
@@ -383,6 +474,7 @@ impl PoolSem {
             tokens: self.tokens.copy(alloc)?,
             made: self.made,
             entries,
+            marks: self.marks,
         })
     }
 }
