@@ -104,8 +104,7 @@ impl Vars {
     pub fn guard(&self, cell: u16) -> Option<&Identifier>
         ensures { option_copied result ≡ guard_at cell self.now }
     {
-        let _ = &self.variables;
-        match self.cells.get(&cell) {
+        match self.cell(cell) {
             None => None,
             Some(cell) => cell.guard.as_ref(),
         }

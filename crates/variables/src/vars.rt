@@ -44,10 +44,16 @@ impl Vars {
         self.variables.named(client, name)
     }
 
-    /// The cell of that number.
-    fn cell(&self, number: u16) -> Option<&Cell>
+    /// The cell of that number. Where cells are numbered from 0 in their order, it stands at the place of its number;
+    /// else it is found by hashing.
+    pub(crate) fn cell(&self, number: u16) -> Option<&Cell>
         ensures { option_copied result ≡ cell_at number self.now }
     {
+        if let Some((other, cell)) = self.cells.get_index(usize::from(number)) {
+            if *other == number {
+                return Some(cell);
+            }
+        }
         self.cells.get(&number)
     }
 
