@@ -10,6 +10,7 @@ use Rattle.cell_services.specs.declared.tables.Change.TheVariants.{Nothing, Pass
 use Rattle.mms_time.specs.Semaphores.{Rows, semaphore}
 use Rattle.mms_time.specs.Services.{take_after, makes_entry_of, relinquished, cancelled, deleted}
 use Rattle.mms_time.specs.Services as semaphores
+use Rattle.sem_ticks.specs.Renewed.{renewed}
 use Rattle.cell_services.specs.Tables.{Tables, last_moment, moment_of}
 use Rattle.cell_services.specs.Serving.{without_client, without_clients}
 
@@ -22,7 +23,7 @@ with_semaphores t rows = record t { semaphores = rows }
 abbrev pub changed : Change → Tables → Tables
 changed Nothing t = t
 changed (Passes ms) t = record t { now = t.now + ms }
-changed (Ticks ms rows clients) t = record { now = t.now + ms; variables = without_clients clients.items t.variables; semaphores = rows }
+changed (Ticks ms renewal clients) t = record { now = t.now + ms; variables = without_clients clients.items t.variables; semaphores = renewed renewal t.semaphores }
 changed (Writes client owned asked values) t = with_variables t (write_after owned.items client asked.now t.variables)
 changed (Defines client asked) t = with_variables t (define_after client asked.now t.variables)
 changed (DefinesList client asked) t = with_variables t (define_list_after client asked.now t.variables)
@@ -48,7 +49,7 @@ may_want other t = false
 abbrev pub MayChange : Change → Tables → Type 0
 MayChange Nothing t = Unit {0}
 MayChange (Passes ms) t = t.now + ms ≤ last_moment
-MayChange (Ticks ms rows clients) t = t.now + ms ≤ last_moment
+MayChange (Ticks ms renewal clients) t = t.now + ms ≤ last_moment
 MayChange (Writes client owned asked values) t = (write_cause client asked.now t.variables ≡ None) × (values ≡ asked.now.values)
 MayChange (Defines client asked) t = (live : Bool) × (define_cause live client asked.now t.variables ≡ None)
 MayChange (DefinesList client asked) t = (live : Bool) × (define_list_cause live client asked.now t.variables ≡ None)

@@ -299,20 +299,17 @@ fn aborted(alloc: Global, happened: &[Happening]) -> Result<Vec<u32>, Memory>
 /// What happened while so many milliseconds went by.
 fn ticked_plan<'a>(alloc: Global, ms: u32, ticked: Ticked) -> Result<Plan<'a>, Memory>
     ensures done { IfOk result (λ plan. (t : Rows)
-        → plan_done t plan.change plan.told.items ≡ passed ms t (state_of ticked)) }
+        → plan_done t plan.change plan.told.items ≡ passed ms t (state_of ticked t.semaphores)) }
     ensures may { IfOk result (λ plan. (t : Rows)
         → t.now + ms ≤ last_moment → MayChange plan.change t) }
 {
-    let Ticked {
-        semaphores,
-        happened,
-    } = ticked;
+    let Ticked { changed, happened } = ticked;
     let clients = aborted(alloc, &happened)?;
     let told = all_told(alloc, happened)?;
     Ok(Plan {
         change: Change::Ticks {
             ms,
-            semaphores,
+            changed,
             clients,
         },
         told,

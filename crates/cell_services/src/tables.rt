@@ -17,6 +17,7 @@ use mms_types::{
     RelinquishControl, TakeControl, Write,
 };
 use object_names::{Named, Selection};
+use sem_ticks::Renewed;
 use std::alloc::Global;
 use std::marker::Model;
 use variable_services::VariableTables;
@@ -55,10 +56,10 @@ pub enum Change<'a> {
     Nothing,
     /// So many milliseconds go by, and no deadline is met.
     Passes(u32),
-    /// So many milliseconds go by, after which there are these semaphores, and those clients were lost.
+    /// So many milliseconds go by, after which that has become of the semaphores, and those clients were lost.
     Ticks {
         ms: u32,
-        semaphores: Named<SemaphoreRow>,
+        changed: Renewed,
         clients: Vec<u32>,
     },
     /// A client writes variables, whose data were copied, and of which it owns these guards.
@@ -188,11 +189,11 @@ impl Change<'_> {
             Change::Passes(ms) => tables.clock.advance(ms),
             Change::Ticks {
                 ms,
-                semaphores,
+                changed,
                 clients,
             } => {
                 tables.clock.advance(ms);
-                tables.semaphores = semaphores;
+                changed.put(&mut tables.semaphores);
                 lose_variables(&mut tables.variables, &clients);
             }
             Change::Writes {
@@ -235,7 +236,7 @@ impl Drop for Change<'_> {
             Change::Passes(_ms) => {}
             Change::Ticks {
                 ms: _,
-                semaphores: _semaphores,
+                changed: _changed,
                 clients: _clients,
             } => {}
             Change::Writes {

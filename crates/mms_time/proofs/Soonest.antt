@@ -19,7 +19,7 @@ use Rattle.mms_time.specs.Semaphores.{Rows, entries_of}
 use Rattle.mms_time.specs.declared.due.Due.{Due}
 use Rattle.mms_time.specs.declared.row.SemaphoreRow.{SemaphoreRow}
 
-due_total : IsTotalOrder due_order
+pub due_total : IsTotalOrder due_order
 due_total =
     then_total (then_total (then_total (on_total (λ (d : NamedDeadline). d.at.0) nat_cmp_total) (on_total (λ (d : NamedDeadline). d.kind) nat_cmp_total)) (on_total (λ (d : NamedDeadline). d.key) keys_total))
     (on_total (λ (d : NamedDeadline). d.entry) nat_cmp_total)

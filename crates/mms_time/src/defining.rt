@@ -4,9 +4,8 @@ ghost use Rattle.std.specs.Prelude.{◌≡◌, ◌==◌, Bool, None, OnErr, OnOk
 ghost use Rattle.mms_time.specs.Semaphores.{entries_of};
 ghost use Rattle.mms_time.specs.Services.{define_after, define_cause, delete_cause, deleted};
 
-use crate::{Semaphore, SemaphoreRow};
+use crate::{Semaphore, SemaphoreRow, Semaphores};
 use mms_types::{DefineSemaphore, Key, Memory, ObjectName, ServiceError};
-use object_names::Named;
 use std::alloc::Global;
 use token_sem::TokenSem;
 
@@ -17,7 +16,7 @@ const MOST_SEMAPHORES: usize = 256;
 /// live, as `domain_live` tells; object-exists where there is one of that name; capability-unavailable where there are
 /// 256.
 pub fn define_semaphore_cause(
-    semaphores: &Named<SemaphoreRow>,
+    semaphores: &Semaphores,
     client: u32,
     asked: &DefineSemaphore,
     domain_live: bool,
@@ -41,7 +40,7 @@ pub fn define_semaphore_cause(
 #[tactic(auto, using(crate::proofs::Unopposed::nothing_against))]
 pub fn define_semaphore(
     alloc: Global,
-    semaphores: &mut Named<SemaphoreRow>,
+    semaphores: &mut Semaphores,
     client: u32,
     asked: &DefineSemaphore,
 ) -> Result<(), Memory>
@@ -73,7 +72,7 @@ impl SemaphoreRow {
 /// Why a semaphore is not deleted (ISO 9506-2, DeleteSemaphore): object-non-existent where it is missing;
 /// object-access-denied where it was configured; object-constraint-conflict where it has an entry.
 pub fn delete_semaphore_cause(
-    semaphores: &Named<SemaphoreRow>,
+    semaphores: &Semaphores,
     client: u32,
     name: &ObjectName,
 ) -> Option<ServiceError>
@@ -92,7 +91,7 @@ pub fn delete_semaphore_cause(
 }
 
 /// Deletes the semaphore of that name (ISO 9506-1, DeleteSemaphore). It takes no memory.
-pub fn delete_semaphore(semaphores: &mut Named<SemaphoreRow>, key: &Key)
+pub fn delete_semaphore(semaphores: &mut Semaphores, key: &Key)
     ensures { semaphores.new ≡ deleted key.now semaphores.old }
 {
     semaphores.remove(key);

@@ -6,9 +6,8 @@ ghost use Rattle.token_sem.specs.Semaphore.{deadline_at, first_deadline, least};
 ghost use Rattle.mms_time.specs.Deadlines.{deadline_in, deadlines_of, due_meant, due_order, due_sooner, expire_after, expired, expired_in, first_due, next_due, pick, without_due};
 ghost use Rattle.mms_time.specs.Semaphores.{changed_row, entries_of};
 
-use crate::{Semaphore, SemaphoreRow};
+use crate::{Semaphore, SemaphoreRow, Semaphores};
 use mms_types::{Key, Moment};
-use object_names::Named;
 use std::cmp::Ordering;
 use token_sem::{Deadline, Expired};
 
@@ -54,8 +53,10 @@ fn sooner_of<'a>(first: Option<Due<'a>>, next: Option<Due<'a>>) -> Option<Due<'a
 }
 
 impl SemaphoreRow {
-    /// The least deadline.
-    fn deadline(&self) -> Option<Deadline>
+    /// The least deadline of its entries: by moment, of one moment a control time-out before acceptable delays, then by
+    /// the entry's number. None where none of them has any. It takes no memory.
+    #[inline(always)]
+    pub fn deadline(&self) -> Option<Deadline>
         ensures least { result ≡ first_deadline (entries_of self.now) }
         ensures stands { IfSome result (λ d.
             deadline_at d.number (entries_of self.now) ≡ Some d.at) }
@@ -87,7 +88,7 @@ fn due_of<'a>(key: &'a Key, row: &SemaphoreRow) -> Option<Due<'a>>
 }
 
 /// The least deadline of all semaphores.
-fn first_due<'a>(semaphores: &'a Named<SemaphoreRow>) -> Option<Due<'a>>
+fn first_due<'a>(semaphores: &'a Semaphores) -> Option<Due<'a>>
     ensures least { option_map due_meant result ≡ first_due semaphores.now }
     ensures stands { IfSome result (λ due.
         deadline_in due.key.now due.entry semaphores.now ≡ Some due.at) }
@@ -105,7 +106,7 @@ fn first_due<'a>(semaphores: &'a Named<SemaphoreRow>) -> Option<Due<'a>>
 /// The least of all deadlines, where it is at most that moment: by moment, of one moment control time-outs before
 /// acceptable delays, then by name, then by the entry's number. None exactly where no deadline is at most that moment.
 /// It takes no memory.
-pub fn next_due<'a>(semaphores: &'a Named<SemaphoreRow>, until: Moment) -> Option<Due<'a>>
+pub fn next_due<'a>(semaphores: &'a Semaphores, until: Moment) -> Option<Due<'a>>
     ensures least { option_map due_meant result ≡ next_due until semaphores.now }
     ensures stands { IfSome result (λ due.
         deadline_in due.key.now due.entry semaphores.now ≡ Some due.at) }
@@ -117,8 +118,9 @@ pub fn next_due<'a>(semaphores: &'a Named<SemaphoreRow>, until: Moment) -> Optio
 }
 
 impl SemaphoreRow {
-    /// The deadline of an entry is met.
-    fn expire(&mut self, entry: u64, now: Moment) -> Expired
+    /// Meets the deadline of an entry of this semaphore, as `expire` meets it in the one that is named. It takes no
+    /// memory.
+    pub fn expire(&mut self, entry: u64, now: Moment) -> Expired
         requires due { deadline_at entry (entries_of self.old) ≡ Some now }
         requires now { IsDated now }
         ensures told { expired_in entry self.old ≡ Some result }
@@ -135,7 +137,7 @@ impl SemaphoreRow {
 /// controlTimeOut): the entry goes, and where it had a token, that is granted to the entry that is served next, or is
 /// free. It tells whose entry it was, whether it waited, whether its client is lost, and who gets the token. It takes
 /// no memory.
-pub fn expire(semaphores: &mut Named<SemaphoreRow>, key: &Key, entry: u64, now: Moment) -> Expired
+pub fn expire(semaphores: &mut Semaphores, key: &Key, entry: u64, now: Moment) -> Expired
     requires due { deadline_in key.now entry semaphores.old ≡ Some now }
     requires now { IsDated now }
     ensures told { expired key.now entry semaphores.old ≡ Some result }

@@ -6,9 +6,8 @@ ghost use Rattle.token_sem.specs.Semaphore.{owned_by};
 ghost use Rattle.mms_time.specs.Guards.{owns_guard};
 ghost use Rattle.mms_time.specs.Semaphores.{entries_of};
 
-use crate::{Semaphore, SemaphoreRow};
+use crate::{Semaphore, SemaphoreRow, Semaphores};
 use mms_types::Identifier;
-use object_names::Named;
 
 impl SemaphoreRow {
     /// Whether the client has an owner entry.
@@ -24,7 +23,7 @@ impl SemaphoreRow {
 
 /// Whether the client owns a token of the semaphore of the VMD of that name, which guards variables. False where there
 /// is no such semaphore; a hung token is owned by nobody. It takes no memory.
-pub fn owns_guard(semaphores: &Named<SemaphoreRow>, client: u32, guard: &Identifier) -> bool
+pub fn owns_guard(semaphores: &Semaphores, client: u32, guard: &Identifier) -> bool
     ensures { result ≡ owns_guard client guard.now semaphores.now }
 {
     match semaphores.of_vmd(guard) {

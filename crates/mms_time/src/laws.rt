@@ -13,8 +13,7 @@ ghost use Rattle.pool_sem.specs.Pools as pool;
 ghost use Rattle.mms_time.specs.Services.{ask_of, place_asked, relinquish_conditions_in, relinquish_grant_in, take_conditions_in};
 ghost use Rattle.mms_time.specs.declared.row.Semaphore.TheVariants.{Token, Pool};
 
-use crate::{Semaphore, SemaphoreRow};
-use object_names::Named;
+use crate::{Semaphore, SemaphoreRow, Semaphores};
 
 /// What holds of a semaphore.
 fn semaphore_is_sound(row: &SemaphoreRow)
@@ -33,7 +32,7 @@ fn semaphore_is_sound(row: &SemaphoreRow)
 /// Of every semaphore of a device it holds at any time, so after each call too: its entries are distinct and in order
 /// of number, no more tokens are owned or hung than there are, each token of a pool by one entry at most, and no entry
 /// waits for a token that is free.
-pub fn each_semaphore_is_sound(semaphores: &Named<SemaphoreRow>)
+pub fn each_semaphore_is_sound(semaphores: &Semaphores)
     ensures { All (λ row. IsSound row.1.semaphore) semaphores.now }
 {
     for place in 0..semaphores.len() {

@@ -24,7 +24,7 @@ pub use laws::{
 };
 pub use losing::{lose, lose_told};
 pub use opening::configured;
-pub use row::{Semaphore, SemaphoreRow};
+pub use row::{Semaphore, SemaphoreRow, Semaphores};
 pub use status::{
     report_pool_semaphore_status, report_semaphore_entry_status, report_semaphore_status,
 };

@@ -9,9 +9,8 @@ ghost use Rattle.token_sem.specs.Semaphore.{owned_by};
 ghost use Rattle.mms_time.specs.Semaphores.{changed_row, entries_of};
 ghost use Rattle.mms_time.specs.Loss.{all_changed, grants_of, grants_of_each, keyed, lost, lost_grants, owns_any, sorted_keys, without_client};
 
-use crate::{Semaphore, SemaphoreRow};
+use crate::{Semaphore, SemaphoreRow, Semaphores};
 use mms_types::{Key, Memory, Moment, Scope};
-use object_names::Named;
 use std::alloc::Global;
 use token_sem::Grant;
 
@@ -26,10 +25,7 @@ fn in_order<'a>(mut keys: Vec<&'a Key>) -> Vec<&'a Key>
 }
 
 /// The names of the semaphores, in order.
-fn sorted_keys<'a>(
-    alloc: Global,
-    semaphores: &'a Named<SemaphoreRow>,
-) -> Result<Vec<&'a Key>, Memory>
+fn sorted_keys<'a>(alloc: Global, semaphores: &'a Semaphores) -> Result<Vec<&'a Key>, Memory>
     ensures { IfOk result (λ keys.
         map (λ key. key.now) keys.items ≡ sorted_keys (keys_of semaphores.now)) }
 {
@@ -87,7 +83,7 @@ impl SemaphoreRow {
 }
 
 /// Whether the client owns a token of any of the semaphores.
-fn owns_any(semaphores: &Named<SemaphoreRow>, client: u32) -> bool
+fn owns_any(semaphores: &Semaphores, client: u32) -> bool
     ensures { result ≡ owns_any client semaphores.now }
 {
     for place in 0..semaphores.len() {
@@ -104,7 +100,7 @@ fn owns_any(semaphores: &Named<SemaphoreRow>, client: u32) -> bool
 /// Who is granted a token in the semaphore of that name where a client is lost.
 fn grants_at(
     alloc: Global,
-    semaphores: &Named<SemaphoreRow>,
+    semaphores: &Semaphores,
     key: &Key,
     client: u32,
     now: Moment,
@@ -133,7 +129,7 @@ fn keyed(alloc: Global, key: &Key, grants: &[Grant]) -> Result<Vec<(Key, Grant)>
 /// Who is granted a token where a client is lost, by name of semaphore and number of the client's entry.
 fn grants_of_each(
     alloc: Global,
-    semaphores: &Named<SemaphoreRow>,
+    semaphores: &Semaphores,
     client: u32,
     now: Moment,
 ) -> Result<Vec<(Key, Grant)>, Memory>
@@ -155,7 +151,7 @@ fn grants_of_each(
 #[tactic(auto, using(crate::proofs::Unowned::none_told))]
 pub fn lose_told(
     alloc: Global,
-    semaphores: &Named<SemaphoreRow>,
+    semaphores: &Semaphores,
     client: u32,
     now: Moment,
 ) -> Result<Vec<(Key, Grant)>, Memory>
@@ -174,7 +170,7 @@ pub fn lose_told(
 /// owns a token.
 fn lose_each(
     alloc: Global,
-    semaphores: &mut Named<SemaphoreRow>,
+    semaphores: &mut Semaphores,
     client: u32,
     now: Moment,
 ) -> Result<(), Memory>
@@ -193,7 +189,7 @@ fn lose_each(
 }
 
 /// A client that owns no token is lost. It takes no memory.
-fn lose_waiter(alloc: Global, semaphores: &mut Named<SemaphoreRow>, client: u32, now: Moment)
+fn lose_waiter(alloc: Global, semaphores: &mut Semaphores, client: u32, now: Moment)
     requires now { IsDated now }
     requires unowned { owns_any client semaphores.old ≡ false }
     ensures { semaphores.new ≡ lost client now semaphores.old }
@@ -212,7 +208,7 @@ fn lose_waiter(alloc: Global, semaphores: &mut Named<SemaphoreRow>, client: u32,
 /// client owns a token; then all is as before.
 pub fn lose(
     alloc: Global,
-    semaphores: &mut Named<SemaphoreRow>,
+    semaphores: &mut Semaphores,
     client: u32,
     now: Moment,
 ) -> Result<Vec<(Key, Grant)>, Memory>

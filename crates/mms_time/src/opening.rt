@@ -4,9 +4,8 @@ ghost use Rattle.std.specs.Prelude.{◌≡◌, IfOk};
 ghost use Rattle.object_names.specs.Listing.{sorted_names};
 ghost use Rattle.mms_time.specs.Opening.{ArePools, HasTokens, configured, pool_row};
 
-use crate::{Semaphore, SemaphoreRow};
+use crate::{Semaphore, SemaphoreRow, Semaphores};
 use mms_types::{Identifier, Key, Memory, PoolRow, Pools, Scope};
-use object_names::Named;
 use pool_sem::PoolSem;
 use std::alloc::Global;
 
@@ -43,11 +42,11 @@ fn pool(alloc: Global, row: &PoolRow) -> Result<SemaphoreRow, Memory>
 
 /// The pools of a configuration, in its order: semaphores of the VMD that can't be deleted, whose tokens are free
 /// (ISO 9506-1, pool semaphore). The one refusal is want of memory.
-pub fn configured(alloc: Global, pools: Pools) -> Result<Named<SemaphoreRow>, Memory>
+pub fn configured(alloc: Global, pools: Pools) -> Result<Semaphores, Memory>
     requires { ArePools pools }
     ensures { IfOk result (λ semaphores. semaphores ≡ configured pools) }
 {
-    let mut semaphores = Named::new(alloc);
+    let mut semaphores = Semaphores::new(alloc);
     for row in pools.into_vec() {
         let semaphore = pool(alloc, &row)?;
         let key = Key {

@@ -7,13 +7,12 @@ ghost use Rattle.mms_time.specs.Semaphores.{entries_of, names_in, semaphore};
 ghost use Rattle.mms_time.specs.Statuses.{entry_status, entry_status_answer, entry_status_cause, entry_statuses, is_in_state, is_listed, left_until, name_follows, pool_status, pool_status_answer, pool_status_cause, status, status_cause, status_in, token_status};
 
 use crate::tokens::name_at;
-use crate::{Semaphore, SemaphoreRow};
+use crate::{Semaphore, SemaphoreRow, Semaphores};
 use mms_types::{
     EntryClass, EntryNumber, EntryState, EntryStatus, EntryStatuses, Identifier, Listed, Memory,
     Moment, NamedToken, ObjectName, Octets, PoolStatus, Refuse, ReportPoolSemaphoreStatus,
     ReportSemaphoreEntryStatus, SemaphoreClass, SemaphoreStatus, ServiceError,
 };
-use object_names::Named;
 use pool_sem::{PoolSem, TokenState};
 use std::alloc::Global;
 use token_sem::{SemEntry, SemState};
@@ -71,7 +70,7 @@ impl SemaphoreRow {
 /// What a semaphore is and has (ISO 9506-2, ReportSemaphoreStatus). Object-non-existent where it is missing. It takes
 /// no memory.
 pub fn report_semaphore_status(
-    semaphores: &Named<SemaphoreRow>,
+    semaphores: &Semaphores,
     client: u32,
     name: &ObjectName,
 ) -> Result<SemaphoreStatus, ServiceError>
@@ -147,7 +146,7 @@ fn pool_status(
 /// where the semaphore is missing; type-inconsistent where it is a token semaphore.
 pub fn report_pool_semaphore_status(
     alloc: Global,
-    semaphores: &Named<SemaphoreRow>,
+    semaphores: &Semaphores,
     client: u32,
     asked: &ReportPoolSemaphoreStatus,
 ) -> Result<PoolStatus, Refuse>
@@ -269,7 +268,7 @@ fn entry_statuses(
 /// an answer can't tell, and which none of a device is.
 pub fn report_semaphore_entry_status(
     alloc: Global,
-    semaphores: &Named<SemaphoreRow>,
+    semaphores: &Semaphores,
     client: u32,
     now: Moment,
     asked: &ReportSemaphoreEntryStatus,

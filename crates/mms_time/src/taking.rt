@@ -14,12 +14,11 @@ ghost use Rattle.mms_time.specs.Services.{ask_of, cancel_after, cancelled, is_na
 ghost use Rattle.mms_time.specs.declared.row.Semaphore.TheVariants.{Token, Pool};
 
 use crate::tokens::{name_at, named_answer, place_asked};
-use crate::{Semaphore, SemaphoreRow};
+use crate::{Semaphore, SemaphoreRow, Semaphores};
 use mms_types::{
     Identifier, Key, Memory, Moment, Refuse, RelinquishControl, ServiceError, TakeControl,
     TakeControlAnswer,
 };
-use object_names::Named;
 use pool_sem::PoolSem;
 use std::alloc::Global;
 use token_sem::entries::numbered;
@@ -154,7 +153,7 @@ fn take_told(alloc: Global, semaphore: &Semaphore, asked: &TakeControl) -> Resul
 /// client is told the name of its token.
 pub fn take_control_told(
     alloc: Global,
-    semaphores: &Named<SemaphoreRow>,
+    semaphores: &Semaphores,
     client: u32,
     asked: &TakeControl,
 ) -> Result<TakeDone, Refuse>
@@ -331,7 +330,7 @@ impl SemaphoreRow {
 /// Asks for a token (ISO 9506-1, TakeControl): the client has it, or waits. The one refusal is want of memory, and only
 /// where an entry is made; then all is as before.
 pub fn take_control(
-    semaphores: &mut Named<SemaphoreRow>,
+    semaphores: &mut Semaphores,
     client: u32,
     invoke: u32,
     now: Moment,
@@ -418,7 +417,7 @@ fn relinquish_grant(semaphore: &Semaphore, client: u32, asked: &RelinquishContro
 /// object-state-conflict where the client owns none, or not that one. Nothing is given back yet, and no memory is
 /// taken.
 pub fn relinquish_control_told(
-    semaphores: &Named<SemaphoreRow>,
+    semaphores: &Semaphores,
     client: u32,
     asked: &RelinquishControl,
 ) -> Result<Option<Grant>, ServiceError>
@@ -434,7 +433,7 @@ pub fn relinquish_control_told(
 /// Gives the client's token of the semaphore of that name back (ISO 9506-1, RelinquishControl), of a pool the one that
 /// is named: it is granted to the entry that is served next with it, or is free. It takes no memory.
 pub fn relinquish_control(
-    semaphores: &mut Named<SemaphoreRow>,
+    semaphores: &mut Semaphores,
     key: &Key,
     client: u32,
     token: Option<&Identifier>,
@@ -460,7 +459,7 @@ fn waits(entries: &[SemEntry], number: u64) -> bool
 }
 
 /// Whether the entry of that number waits in the semaphore of that name.
-fn waits_at(semaphores: &Named<SemaphoreRow>, key: &Key, entry: u64) -> bool
+fn waits_at(semaphores: &Semaphores, key: &Key, entry: u64) -> bool
     ensures { result ≡ entry_waits (entry_in key.now entry semaphores.now) }
 {
     match semaphores.get(key) {
@@ -470,7 +469,7 @@ fn waits_at(semaphores: &Named<SemaphoreRow>, key: &Key, entry: u64) -> bool
 }
 
 /// Takes a queued entry out of the semaphore of that name.
-fn cancel_entry(semaphores: &mut Named<SemaphoreRow>, key: &Key, entry: u64)
+fn cancel_entry(semaphores: &mut Semaphores, key: &Key, entry: u64)
     requires { option_map is_queued (entry_in key.now entry semaphores.old) ≡ Some true }
     ensures { semaphores.new ≡ cancel_after key.now entry semaphores.old }
 {
@@ -481,7 +480,7 @@ fn cancel_entry(semaphores: &mut Named<SemaphoreRow>, key: &Key, entry: u64)
 
 /// Takes the entry of that number out of the semaphore of that name, where it waits there (ISO 9506-1, Cancel of a
 /// TakeControl). It takes no memory.
-pub fn cancel_take(semaphores: &mut Named<SemaphoreRow>, key: &Key, entry: u64)
+pub fn cancel_take(semaphores: &mut Semaphores, key: &Key, entry: u64)
     ensures { semaphores.new ≡ cancelled key.now entry semaphores.old }
 {
     if waits_at(semaphores, key, entry) {

@@ -6,9 +6,8 @@ ghost use Rattle.pool_sem.specs.Pools.{is_place};
 ghost use Rattle.mms_time.specs.Semaphores.{names_in};
 ghost use Rattle.mms_time.specs.Services.{grant_answer, grant_answer_in, is_named, name_at, named_answer, place_asked};
 
-use crate::{Semaphore, SemaphoreRow};
+use crate::{Semaphore, SemaphoreRow, Semaphores};
 use mms_types::{Identifier, Key, Memory, TakeControlAnswer};
-use object_names::Named;
 use pool_sem::PoolSem;
 use std::alloc::Global;
 use token_sem::Grant;
@@ -53,8 +52,9 @@ pub(crate) fn named_answer(name: Option<Identifier>) -> TakeControlAnswer
 }
 
 impl SemaphoreRow {
-    /// What is answered to whom a token was granted.
-    fn grant_answer(&self, alloc: Global, grant: &Grant) -> Result<TakeControlAnswer, Memory>
+    /// What the client is answered that was granted a token of this semaphore, as `grant_answer` tells it of the one that
+    /// is named. The one refusal is want of memory, and only where a name is told.
+    pub fn grant_answer(&self, alloc: Global, grant: &Grant) -> Result<TakeControlAnswer, Memory>
         ensures told { IfOk result (λ answer.
             answer ≡ grant_answer_in grant.now self.now.semaphore) }
         ensures wants { OnErr result
@@ -72,7 +72,7 @@ impl SemaphoreRow {
 /// is want of memory, and only where a name is told.
 pub fn grant_answer(
     alloc: Global,
-    semaphores: &Named<SemaphoreRow>,
+    semaphores: &Semaphores,
     key: &Key,
     grant: &Grant,
 ) -> Result<TakeControlAnswer, Memory>

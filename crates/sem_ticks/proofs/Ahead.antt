@@ -1,14 +1,13 @@
 -- After a tick every deadline lies later.
 use Rattle.std.proofs.Common.{◌≡◌, ◌≢◌, true, false, ℕ, zero, suc, ◌<◌, ◌⊎◌, inl, inr, Bool, nat_le, List, [], ◌∷◌, ◌++◌, map, slice_get, Option, None, Some, option_and_then, option_map, if◌then◌else◌, refl, sym, ◌∙◌, ap, subst, arith}
 use Rattle.std.specs.List.{All, cons_option, flat_map}
-use Rattle.std.specs.Map.{lookup, values_of}
+use Rattle.std.specs.Map.{lookup}
 use Rattle.std.proofs.lemmas.Map.Entries.{lookup_from_place}
-use Rattle.std.proofs.lemmas.Map.Views.{IfSome-lookup_from_All}
 use Rattle.mms_types.specs.KeyLaws.{keys_equal}
 use Rattle.mms_types.specs.Order.{key_eq}
 use Rattle.mms_types.specs.declared.key.Key.{Key}
 use Rattle.mms_types.specs.declared.moment.Moment.{Moment}
-use Rattle.token_sem.specs.Semaphore.{Sem, deadline_of, deadline_with, deadlines, is_queued, numbered}
+use Rattle.token_sem.specs.Semaphore.{deadline_of, deadline_with, deadlines, numbered}
 use Rattle.token_sem.specs.declared.entry.Deadline.{Deadline}
 use Rattle.token_sem.specs.declared.entry.SemEntry.{SemEntry}
 use Rattle.token_sem.proofs.Keeping.{Among}
@@ -102,7 +101,7 @@ not_none rows d is stands none =
     cc (sym some ∙ none)
 
 -- what is due is met
-due_stands : (until : Moment) (rows : Rows) (d : NamedDeadline) → next_due until rows ≡ Some d → Stands (all_deadlines rows) d
+pub due_stands : (until : Moment) (rows : Rows) (d : NamedDeadline) → next_due until rows ≡ Some d → Stands (all_deadlines rows) d
 due_stands until rows d is = by_first (first_due rows) refl is
   where
     by_first : (o : Option NamedDeadline) → first_due rows ≡ o → until_only until o ≡ Some d → Stands (all_deadlines rows) d

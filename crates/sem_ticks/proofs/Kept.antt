@@ -1,7 +1,7 @@
 -- What holds of the semaphores of a device at any time stays so.
-use Rattle.std.proofs.Common.{◌≡◌, ℕ, zero, suc, ◌<◌, ◌≤◌, Bool, true, false, not, cond, List, [], ◌∷◌, filter, length, Option, None, Some, IfSome, option_and_then, option_map, if◌then◌else◌, refl, sym, ◌∙◌, ap, subst, arith}
+use Rattle.std.proofs.Common.{◌≡◌, ℕ, zero, suc, Bool, true, false, not, cond, [], ◌∷◌, filter, Option, None, Some, IfSome, option_and_then, option_map, refl, sym, subst, arith}
 use Rattle.std.specs.List.{All, IsDistinct}
-use Rattle.std.specs.Map.{keys_of, lookup, set_value, values_of}
+use Rattle.std.specs.Map.{lookup, values_of}
 use Rattle.std.proofs.lemmas.Map.{keys-set_value}
 use Rattle.std.proofs.lemmas.Map.Made.{IsDistinct-keys_filter, keys_of-map_values}
 use Rattle.std.proofs.lemmas.Map.Views.{All-values-set_value, IfSome-lookup_from_All}
@@ -13,7 +13,7 @@ use Rattle.token_sem.specs.declared.entry.Expired.{Expired}
 use Rattle.token_sem.proofs.Keeping.{expire-keeps}
 use Rattle.token_sem.proofs.Losing.{lose-keeps}
 use Rattle.mms_time.specs.Deadlines.{NamedDeadline, expired, expire_after, next_due, without_due}
-use Rattle.mms_time.specs.Loss.{all_changed, lost, without_client, without_owners, without_waiters}
+use Rattle.mms_time.specs.Loss.{all_changed, lost, without_client}
 use Rattle.mms_time.specs.Semaphores.{IsSound, Rows, changed, changed_row, changed_to}
 use Rattle.mms_time.specs.declared.row.Semaphore.{Semaphore}
 use Rattle.mms_time.specs.declared.row.Semaphore.TheVariants.{Token, Pool}
@@ -21,7 +21,6 @@ use Rattle.pool_sem.proofs.Losing as pool-lose
 use Rattle.pool_sem.proofs.Freeing as pool-free
 use Rattle.mms_time.specs.declared.row.SemaphoreRow.{SemaphoreRow}
 use Rattle.mms_time.proofs.TwoSteps.{each_semaphore}
-use Rattle.sem_ticks.specs.Settling.{settle}
 use Rattle.sem_ticks.specs.Sound.{AreSound}
 use Rattle.sem_ticks.specs.Ticks.{Ticking, after_abort, entries_left, met, met_as, next_met, ticked_on}
 use Rattle.sem_ticks.proofs.Settling.{settle-keeps}

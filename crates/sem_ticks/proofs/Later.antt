@@ -1,5 +1,5 @@
 -- Every deadline lies ahead, whatever a request, a cancel or a loss does.
-use Rattle.std.proofs.Common.{◌≡◌, ℕ, zero, suc, ◌+◌, ◌<◌, ◌==◌, ◌⊎◌, inl, inr, Bool, true, false, not, cond, List, [], ◌∷◌, ◌++◌, map, filter, fold, length, get_or, Option, None, Some, option_map, option_to_list, if◌then◌else◌, refl, sym, ◌∙◌, ap, subst, arith}
+use Rattle.std.proofs.Common.{◌≡◌, ℕ, zero, suc, ◌+◌, ◌<◌, ◌==◌, ◌⊎◌, inl, inr, Bool, true, false, not, cond, List, [], ◌∷◌, ◌++◌, map, filter, fold, length, Option, None, Some, option_map, option_to_list, if◌then◌else◌, refl, subst, arith}
 use Rattle.std.specs.List.{All, cons_option, flat_map}
 use Rattle.std.specs.Map.{lookup, remove_entry, set_value, values_of}
 use Rattle.std.proofs.lemmas.Bool.Decides.{nat_tests}
@@ -11,7 +11,6 @@ use Rattle.mms_types.specs.declared.semaphore.DefineSemaphore.{DefineSemaphore}
 use Rattle.mms_types.specs.declared.semaphore.TakeControl.{TakeControl}
 use Rattle.token_sem.specs.Semaphore.{Loss, Sem, after_freeing, after_giving_back, after_take, deadline_after, deadline_of, deadline_with, deadlines, effect_of, entry_of, grant_of, granted_entry, granted_to, hung_entry, is_queued, loss_of_one, next, outcome, outcome_later, outcome_now, owned_by, owner_of, tokens_held, waits_for, without}
 use Rattle.token_sem.specs.declared.entry.Ask.{Ask}
-use Rattle.token_sem.specs.declared.entry.Deadline.{Deadline}
 use Rattle.token_sem.specs.declared.entry.Outcome.{Outcome}
 use Rattle.token_sem.specs.declared.entry.Outcome.TheVariants.{Refused, Preempts, Gets, TimesOut, WaitsUntil, WaitsForEver}
 use Rattle.token_sem.specs.declared.entry.SemEntry.{SemEntry}

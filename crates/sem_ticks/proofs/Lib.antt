@@ -1,9 +1,15 @@
 pub mod Ahead
+pub mod Become
+pub mod Drafting
 pub mod Fewer
+pub mod Gone
 pub mod Kept
 pub mod Later
+pub mod Made
+pub mod MetIn
+pub mod NextOf
 pub mod Requests
 pub mod Settling
 pub mod Twice
-mod Worked
 pub mod Unowned
+mod Worked

@@ -1,7 +1,7 @@
 -- What requests for semaphores do keeps what holds of them.
-use Rattle.std.proofs.Common.{◌≡◌, ℕ, zero, suc, ◌<◌, Bool, true, false, cond, List, [], ◌∷◌, ◌++◌, Option, None, Some, is_some, option_and_then, option_map, if◌then◌else◌, refl, sym, ◌∙◌, ap, subst, arith}
-use Rattle.std.specs.List.{All, AllByRecursion, IsDistinct, list_any}
-use Rattle.std.specs.Map.{keys_of, lookup, remove_entry, values_of}
+use Rattle.std.proofs.Common.{◌≡◌, ℕ, zero, suc, Bool, true, false, cond, List, [], ◌∷◌, Option, None, Some, is_some, option_and_then, option_map, if◌then◌else◌, refl, sym, ◌∙◌, ap, subst, arith}
+use Rattle.std.specs.List.{All, AllByRecursion, IsDistinct}
+use Rattle.std.specs.Map.{keys_of, remove_entry, values_of}
 use Rattle.std.proofs.lemmas.List.{map-append}
 use Rattle.std.proofs.lemmas.List.Elements.{All-append}
 use Rattle.std.proofs.lemmas.Map.Keys.{IsDistinct-push}
@@ -11,12 +11,9 @@ use Rattle.mms_types.specs.KeyLaws.{keys_equal}
 use Rattle.mms_types.specs.Order.{key_eq, key_of}
 use Rattle.mms_types.specs.declared.key.Key.{Key}
 use Rattle.mms_types.specs.declared.moment.Moment.{Moment}
-use Rattle.mms_types.specs.declared.object_name.ObjectName.{ObjectName}
 use Rattle.mms_types.specs.declared.semaphore.DefineSemaphore.{DefineSemaphore}
-use Rattle.mms_types.specs.declared.semaphore.RelinquishControl.{RelinquishControl}
 use Rattle.mms_types.specs.declared.semaphore.TakeControl.{TakeControl}
 use Rattle.token_sem.specs.Semaphore.{IsSem, is_queued, numbered}
-use Rattle.token_sem.specs.declared.entry.Ask.{Ask}
 use Rattle.token_sem.specs.declared.entry.SemEntry.{SemEntry}
 use Rattle.token_sem.proofs.Keeping.{cancel-keeps, relinquish-keeps}
 use Rattle.token_sem.proofs.Taking.{take-keeps}
@@ -25,7 +22,6 @@ use Rattle.mms_time.specs.Services.{ask_of, cancel_after, cancelled, define_afte
 use Rattle.mms_time.specs.declared.row.Semaphore.{Semaphore}
 use Rattle.mms_time.specs.declared.row.Semaphore.TheVariants.{Token, Pool}
 use Rattle.pool_sem.specs.Pools.{is_place}
-use Rattle.pool_sem.specs.Pools as pool
 use Rattle.pool_sem.proofs.Taking as pool-take
 use Rattle.pool_sem.proofs.Freeing as pool-free
 use Rattle.std.specs.Prelude.{length, nat_eq, nat_lt}

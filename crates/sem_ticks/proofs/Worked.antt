@@ -1,5 +1,5 @@
 -- Worked examples of time, typed by hand from the definitions.
-use Rattle.std.specs.Prelude.{◌≡◌, ℕ, Bool, true, false, List, [], ◌∷◌, Option, Some, None}
+use Rattle.std.specs.Prelude.{◌≡◌, ℕ, true, false, List, [], ◌∷◌, Option, Some, None, fold}
 use Rattle.std.proofs.Common.{refl}
 use Rattle.mms_types.specs.declared.key.Key.{Key}
 use Rattle.mms_types.specs.declared.key.Scope.TheVariants as scope
@@ -12,8 +12,9 @@ use Rattle.mms_time.specs.Semaphores.{Rows}
 use Rattle.mms_time.specs.declared.row.Semaphore.TheVariants.{Token}
 use Rattle.mms_time.specs.declared.row.SemaphoreRow.{SemaphoreRow}
 use Rattle.sem_ticks.specs.declared.granted.Granted.{Granted}
-use Rattle.sem_ticks.specs.Ticks.{Ticking, ticked, ticked_on}
-use Rattle.sem_ticks.specs.declared.ticks.Happening.{Happening}
+use Rattle.sem_ticks.specs.Drafts.{become, due_rows}
+use Rattle.sem_ticks.specs.Renewed.{put_at}
+use Rattle.sem_ticks.specs.Ticks.{ticked, ticked_on}
 use Rattle.sem_ticks.specs.declared.ticks.Happening.TheVariants.{WaitEnds, Grants, Aborts}
 
 abbrev at : ℕ → Moment
@@ -100,3 +101,23 @@ just_in_time = refl
 
 nothing_at_all : ticked (at 3600000) [] ≡ record { rows = []; happened = [] }
 nothing_at_all = refl
+
+-- what is put at places: the semaphore of the second place alone, and nothing past the end
+put_second : fold put_at aborting ((1, (row u_key 2 []).1) ∷ []) ≡ row t_key 2 (record (entry 1 1 Owner (Some 10) (Some (at 10))) { abort = Some true } ∷ entry 2 2 Queued None None ∷ []) ∷ row u_key 2 [] ∷ []
+put_second = refl
+
+put_both : fold put_at aborting ((1, (row u_key 2 []).1) ∷ (0, (row t_key 2 []).1) ∷ []) ≡ row t_key 2 [] ∷ row u_key 2 [] ∷ []
+put_both = refl
+
+put_past : fold put_at timed ((1, (row u_key 2 []).1) ∷ []) ≡ timed
+put_past = refl
+
+-- of two semaphores the one that is due becomes another
+one_becomes : become (row u_key 3 [] ∷ []) aborting ≡ row t_key 2 (record (entry 1 1 Owner (Some 10) (Some (at 10))) { abort = Some true } ∷ entry 2 2 Queued None None ∷ []) ∷ row u_key 3 [] ∷ []
+one_becomes = refl
+
+one_is_due : due_rows (at 10) aborting ≡ row t_key 2 (record (entry 1 1 Owner (Some 10) (Some (at 10))) { abort = Some true } ∷ entry 2 2 Queued None None ∷ []) ∷ []
+one_is_due = refl
+
+none_is_due : due_rows (at 9) aborting ≡ []
+none_is_due = refl

@@ -1,5 +1,8 @@
+pub mod Away
+pub mod Drafts
 pub mod Granted
 pub mod Meant
+pub mod Renewed
 pub mod Settling
 pub mod Sound
 pub mod Ticks

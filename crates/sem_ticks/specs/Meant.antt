@@ -1,11 +1,33 @@
 -- What code carries, in the words of ticks.
-use Rattle.mms_time.specs.Deadlines.{NamedDeadline}
-use Rattle.sem_ticks.specs.Ticks.{Ticking}
-use Rattle.sem_ticks.specs.declared.ticks.Next.{Next}
+use Rattle.std.specs.Prelude.{◌≡◌, List, ◌++◌, Some}
+use Rattle.token_sem.specs.declared.entry.Expired.{Expired}
+use Rattle.mms_time.specs.Deadlines.{NamedDeadline, expire_after, expired}
+use Rattle.mms_time.specs.Semaphores.{Rows}
+use Rattle.sem_ticks.specs.Drafts.{become, drafted}
+use Rattle.sem_ticks.specs.Renewed.{renewed}
+use Rattle.sem_ticks.specs.Ticks.{Ticking, expiry_told}
+use Rattle.sem_ticks.specs.declared.drafts.Draft.{Draft}
+use Rattle.sem_ticks.specs.declared.ticks.Happening.{Happening}
+use Rattle.sem_ticks.specs.declared.ticks.Meeting.{Meeting}
+use Rattle.sem_ticks.specs.declared.ticks.NextOf.{NextOf}
 use Rattle.sem_ticks.specs.declared.ticks.Ticked.{Ticked}
 
-abbrev pub next_meant : Next → NamedDeadline
+abbrev pub next_meant : NextOf → NamedDeadline
 next_meant next = record { at = next.at; kind = next.kind; key = next.key; entry = next.entry }
 
-abbrev pub state_of : Ticked → Ticking
-state_of ticked = record { rows = ticked.semaphores; happened = ticked.happened.items }
+abbrev pub meeting_of : Meeting → Ticking
+meeting_of meeting = record { rows = meeting.semaphores; happened = meeting.happened.items }
+
+-- drafts of a table
+abbrev pub drafting_of : Rows → List Draft → List Happening → Ticking
+drafting_of rows drafts happened = record { rows = become (drafted drafts) rows; happened = happened }
+
+-- what became of a table
+abbrev pub state_of : Ticked → Rows → Ticking
+state_of ticked rows = record { rows = renewed ticked.changed rows; happened = ticked.happened.items }
+
+-- a deadline is met, and what became of its entry is told: that is all but the abort
+pub record IsMet (s : Ticking) (d : NamedDeadline) (x : Expired) (t : Ticking) : Type 0 where
+  pub found : expired d.key d.entry s.rows ≡ Some x
+  pub rows : t.rows ≡ expire_after d.key d.entry d.at s.rows
+  pub told : t.happened ≡ s.happened ++ expiry_told t.rows d.key x

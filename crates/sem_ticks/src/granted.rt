@@ -8,9 +8,8 @@ ghost use Rattle.mms_time.specs.Loss.{owns_any};
 ghost use Rattle.mms_time.specs.Services.{is_named, relinquish_cause, relinquish_grant};
 ghost use Rattle.sem_ticks.specs.Granted.{all_granted, granted, lost_granted, relinquish_granted};
 
-use mms_time::{SemaphoreRow, grant_answer, relinquish_control_told};
+use mms_time::{Semaphores, grant_answer, relinquish_control_told};
 use mms_types::{Key, Memory, Moment, Refuse, RelinquishControl, TakeControlAnswer};
-use object_names::Named;
 use std::alloc::Global;
 use token_sem::Grant;
 
@@ -28,7 +27,7 @@ pub struct Granted {
 /// A grant in the semaphore of that name, with what is answered. Memory is wanted only where a name is told.
 pub(crate) fn with_answer(
     alloc: Global,
-    semaphores: &Named<SemaphoreRow>,
+    semaphores: &Semaphores,
     key: &Key,
     grant: &Grant,
 ) -> Result<Granted, Memory>
@@ -46,7 +45,7 @@ pub(crate) fn with_answer(
 /// Grants, each in the semaphore of its name, with what is answered.
 fn all_granted(
     alloc: Global,
-    semaphores: &Named<SemaphoreRow>,
+    semaphores: &Semaphores,
     grants: &[(Key, Grant)],
 ) -> Result<Vec<Granted>, Memory>
     ensures told { IfOk result (λ told. told.items ≡ all_granted semaphores.now grants.now) }
@@ -64,7 +63,7 @@ fn all_granted(
 /// where nobody is granted the token.
 pub fn relinquish_told(
     alloc: Global,
-    semaphores: &Named<SemaphoreRow>,
+    semaphores: &Semaphores,
     client: u32,
     asked: &RelinquishControl,
 ) -> Result<Option<Granted>, Refuse>
@@ -87,7 +86,7 @@ pub fn relinquish_told(
 /// changes. Memory is wanted only where the client owns a token.
 pub fn lose_told(
     alloc: Global,
-    semaphores: &Named<SemaphoreRow>,
+    semaphores: &Semaphores,
     client: u32,
     now: Moment,
 ) -> Result<Vec<Granted>, Memory>

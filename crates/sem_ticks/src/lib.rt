@@ -2,10 +2,15 @@
 //! own moment, one after the other, also those that arise meanwhile.
 #![tactic(auto)]
 
+mod away;
+mod drafts;
 mod granted;
 mod laws;
+mod meeting;
+mod renewed;
 mod ticks;
 
 pub use granted::{Granted, lose_told, relinquish_told};
 pub use laws::{every_deadline_lies_ahead, the_semaphores_stay_sound, two_ticks_are_one};
+pub use renewed::Renewed;
 pub use ticks::{Happening, Ticked, tick};

@@ -4,13 +4,15 @@ ghost use Rattle.std.specs.Prelude.{◌≡◌, ◌≢◌, ◌++◌, ◌∷◌, �
 ghost use Rattle.mms_types.specs.Moments.{IsDated};
 ghost use Rattle.mms_time.specs.Deadlines.{NamedDeadline, deadline_in, next_due};
 ghost use Rattle.mms_time.specs.Loss.{lost};
-ghost use Rattle.sem_ticks.specs.Meant.{next_meant, state_of};
+ghost use Rattle.sem_ticks.specs.Meant.{meeting_of, next_meant, state_of};
 ghost use Rattle.sem_ticks.specs.Ticks.{abort_told, after_abort, expiry_told, met, ticked};
 
+use crate::drafts::due_places;
 use crate::granted::{Granted, lose_told, with_answer};
-use mms_time::{SemaphoreRow, expire, lose, next_due};
+use crate::meeting::ticked_in_drafts;
+use crate::renewed::Renewed;
+use mms_time::{Semaphores, expire, lose, next_due};
 use mms_types::{Key, Memory, Moment};
-use object_names::Named;
 use std::alloc::Global;
 use token_sem::Expired;
 
@@ -25,18 +27,25 @@ pub enum Happening {
     Aborts(u32),
 }
 
-/// Semaphores after some time, and what happened meanwhile, in order.
+/// What became of semaphores in some time, and what happened meanwhile, in order.
 #[derive(Drop)]
 pub struct Ticked {
-    /// The semaphores.
-    pub semaphores: Named<SemaphoreRow>,
+    /// What became of them.
+    pub changed: Renewed,
     /// What happened.
     pub happened: Vec<Happening>,
 }
 
+/// A copy of all semaphores, on which deadlines are met, and what happened.
+#[derive(Drop)]
+struct Meeting {
+    semaphores: Semaphores,
+    happened: Vec<Happening>,
+}
+
 /// A deadline, with a name of its own.
 #[derive(Drop)]
-struct Next {
+struct NextOf {
     at: Moment,
     kind: u8,
     key: Key,
@@ -44,11 +53,7 @@ struct Next {
 }
 
 /// The least deadline, where it is at most that moment.
-fn next_of(
-    alloc: Global,
-    semaphores: &Named<SemaphoreRow>,
-    until: Moment,
-) -> Result<Option<Next>, Memory>
+fn next_of(alloc: Global, semaphores: &Semaphores, until: Moment) -> Result<Option<NextOf>, Memory>
     ensures least { IfOk result (λ next.
         option_map next_meant next ≡ next_due until semaphores.now) }
     ensures stands { IfOk result (λ next. IfSome next (λ d.
@@ -56,7 +61,7 @@ fn next_of(
 {
     match next_due(semaphores, until) {
         None => Ok(None),
-        Some(due) => Ok(Some(Next {
+        Some(due) => Ok(Some(NextOf {
             at: due.at,
             kind: due.kind,
             key: due.key.copy(alloc)?,
@@ -68,7 +73,7 @@ fn next_of(
 /// Tells what became of an entry whose deadline was met.
 fn tell_expiry(
     alloc: Global,
-    semaphores: &Named<SemaphoreRow>,
+    semaphores: &Semaphores,
     happened: &mut Vec<Happening>,
     key: &Key,
     expired: &Expired,
@@ -101,7 +106,7 @@ fn tell_grants(happened: &mut Vec<Happening>, grants: Vec<Granted>) -> Result<()
 /// Aborts the association of a client, which is lost, where that is to be done.
 fn abort(
     alloc: Global,
-    semaphores: &mut Named<SemaphoreRow>,
+    semaphores: &mut Semaphores,
     happened: &mut Vec<Happening>,
     aborts: bool,
     client: u32,
@@ -122,12 +127,12 @@ fn abort(
 }
 
 /// Meets a deadline.
-fn meet(alloc: Global, ticked: &mut Ticked, next: &Next) -> Result<(), Memory>
+fn meet(alloc: Global, ticked: &mut Meeting, next: &NextOf) -> Result<(), Memory>
     requires stands { deadline_in next.now.key next.now.entry ticked.old.semaphores
         ≡ Some next.now.at }
     requires dated { IsDated next.now.at }
-    ensures { OnOk result (met (state_of ticked.old) (next_meant next.now)
-        ≡ Some (state_of ticked.new)) }
+    ensures { OnOk result (met (meeting_of ticked.old) (next_meant next.now)
+        ≡ Some (meeting_of ticked.new)) }
 {
     let expired = expire(&mut ticked.semaphores, &next.key, next.entry, next.at);
     tell_expiry(
@@ -147,16 +152,12 @@ fn meet(alloc: Global, ticked: &mut Ticked, next: &Next) -> Result<(), Memory>
     )
 }
 
-/// Meets each deadline that is at most that moment, on a copy of the semaphores.
-fn met_until(
-    alloc: Global,
-    semaphores: &Named<SemaphoreRow>,
-    until: Moment,
-) -> Result<Ticked, Memory>
+/// Meets each deadline that is at most that moment, on a copy of all semaphores.
+fn met_in_copy(alloc: Global, semaphores: &Semaphores, until: Moment) -> Result<Meeting, Memory>
     requires { IsDated until }
-    ensures { IfOk result (λ t. state_of t ≡ ticked until semaphores.now) }
+    ensures { IfOk result (λ t. meeting_of t ≡ ticked until semaphores.now) }
 {
-    let mut ticked = Ticked {
+    let mut ticked = Meeting {
         semaphores: semaphores.copy(alloc)?,
         happened: Vec::new(alloc),
     };
@@ -166,24 +167,42 @@ fn met_until(
     Ok(ticked)
 }
 
+/// What became of all semaphores, which are copied.
+fn ticked_in_copy(alloc: Global, semaphores: &Semaphores, until: Moment) -> Result<Ticked, Memory>
+    requires { IsDated until }
+    ensures { IfOk result (λ t. state_of t semaphores.now ≡ ticked until semaphores.now) }
+{
+    let Meeting {
+        semaphores,
+        happened,
+    } = met_in_copy(alloc, semaphores, until)?;
+    Ok(Ticked {
+        changed: Renewed::All(semaphores),
+        happened,
+    })
+}
+
 /// Lets time go by up to a moment (ISO 9506-1, TakeControl, acceptableDelay, controlTimeOut and abortOnTimeOut): every
 /// deadline that is at most that moment is met at its own moment, one after the other, also those that arise meanwhile;
 /// of one moment control time-outs come before acceptable delays, then they come by name, then by the entry's number.
-/// The semaphores given stay as they are. None exactly where no deadline is at most that moment, so that nothing
-/// happens; then no memory is taken. The one refusal is want of memory.
-pub fn tick(
-    alloc: Global,
-    semaphores: &Named<SemaphoreRow>,
-    until: Moment,
-) -> Result<Option<Ticked>, Memory>
+/// The semaphores given stay as they are; what becomes of them can be put into their table. Those alone are copied of
+/// which a deadline is at most that moment, unless a client is aborted that has more in the semaphores. None exactly
+/// where no deadline is at most that moment, so that nothing happens; then no memory is taken. The one refusal is want
+/// of memory.
+pub fn tick(alloc: Global, semaphores: &Semaphores, until: Moment) -> Result<Option<Ticked>, Memory>
     requires { IsDated until }
-    ensures met { IfOk result (λ met. IfSome met (λ t. state_of t ≡ ticked until semaphores.now)) }
+    ensures met { IfOk result (λ met. IfSome met (λ t.
+        state_of t semaphores.now ≡ ticked until semaphores.now)) }
     ensures some { IfOk result (λ met. OnSome met (next_due until semaphores.now ≢ None)) }
     ensures none { IfOk result (λ met. IfNone met (next_due until semaphores.now ≡ None)) }
     ensures wants { OnErr result (next_due until semaphores.now ≢ None) }
 {
-    if next_due(semaphores, until).is_none() {
+    let due = due_places(alloc, semaphores, until)?;
+    if due.as_slice().is_empty() {
         return Ok(None);
     }
-    Ok(Some(met_until(alloc, semaphores, until)?))
+    match ticked_in_drafts(alloc, semaphores, due, until)? {
+        Some(ticked) => Ok(Some(ticked)),
+        None => Ok(Some(ticked_in_copy(alloc, semaphores, until)?)),
+    }
 }
