@@ -1,5 +1,5 @@
 -- What a client is told by an event, and what becomes of its row (ISO 9506-1, environment and general management).
-use Rattle.std.specs.Prelude.{ℕ, List, [], ◌∷◌, map}
+use Rattle.std.specs.Prelude.{ℕ, Option, None, Some, List, [], ◌∷◌, filter_map, map}
 use Rattle.mms_types.specs.declared.event.What.{What}
 use Rattle.association.specs.declared.negotiation.Negotiated.{Negotiated}
 use Rattle.association.specs.declared.waiting.Waiting.{Waiting}
@@ -41,3 +41,15 @@ tell client effects = map (λ effect. (client, effect)) effects
 -- a client's row; between events there is no room in it that is promised
 abbrev pub settled : ClientRow → RoomyRow
 settled row = record { row = row; output_room = 0; waiting_room = 0 }
+
+-- the request that waits by an effect
+abbrev pub wait_of : Effect → Option Waiting
+wait_of (Waits request) = Some request
+wait_of (Sends output) = None
+wait_of (Opens values) = None
+wait_of Closes = None
+wait_of (Answers invoke) = None
+wait_of Drains = None
+
+abbrev pub waits_told : List (ℕ × Effect) → List Waiting
+waits_told told = filter_map (λ t. wait_of t.1) told

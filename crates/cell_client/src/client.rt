@@ -1,15 +1,16 @@
 //! The part of a client, and what becomes of it.
 
-ghost use Rattle.std.specs.Prelude.{◌≡◌, ◌≤◌, nat_le, length, is_none, is_some, true, false, OnOk, OnErr, OnSome, IfOk, IsOk, IfNone, IfSome, [], ◌∷◌, None, Some};
+ghost use Rattle.std.specs.Prelude.{◌≡◌, ◌≤◌, nat_le, length, is_none, is_some, true, false, OnOk, OnErr, OnSome, IfOk, IsOk, IfNone, IfSome, [], ◌∷◌, Option, None, Some};
 ghost use Rattle.association.specs.Client.{closed_row, drained_row, new_row};
 ghost use Rattle.association.specs.Negotiation.{negotiation};
 ghost use Rattle.mms_pdu.specs.Pdus.{pdu_octets};
+ghost use Rattle.mms_types.specs.Serves.{Serves};
 ghost use Rattle.mms_types.specs.declared.pdu.Pdu.TheVariants as pdu;
-ghost use Rattle.cell_client.specs.Association.{further_error, negotiated, sends, unknown_error, Takes};
+ghost use Rattle.cell_client.specs.Association.{further_error, negotiated, other_error, sends, unknown_error, Takes};
 ghost use Rattle.cell_client.specs.Effects.{felt, felt_all, settled, Sends};
 ghost use Rattle.cell_client.specs.Meant.{act_verdict, effects_of, told_alone, verdict_read, uses_no_table};
 ghost use Rattle.cell_client.specs.Reads.{IsDeep};
-ghost use Rattle.cell_client.specs.Requests.{fits, identity, plain_answer, refuses, request_told, size_of};
+ghost use Rattle.cell_client.specs.Requests.{fits, identity, is_done, plain_answer, refuses, request_told, size_of};
 ghost use Rattle.cell_client.specs.Telling.{effect_of, output_count, told_row, wait_count};
 
 use crate::plain::{STATUS, identity};
@@ -20,8 +21,8 @@ use mms_pdu::{
     put_initiate_error, put_initiate_response, put_reject,
 };
 use mms_types::{
-    Answer, CancelError, ConfirmedError, Initiate, Memory, Octets, Reject, Request, ServiceError,
-    What,
+    Answer, CancelError, ConfirmedError, Initiate, Memory, Octets, Refuse, Reject, Request,
+    ServiceError, What,
 };
 use std::alloc::Global;
 use std::marker::Model;
@@ -230,6 +231,62 @@ impl Client {
         self.part.reserve(1, 0)?;
         self.part.push(What::Octets(octets));
         Ok(true)
+    }
+
+    /// Spells the answer to a confirmed request, and makes room for it. None where it is longer than was negotiated: the
+    /// request is refused.
+    pub fn ready(
+        &mut self,
+        alloc: Global,
+        invoke: u32,
+        answer: &Answer,
+    ) -> Result<Option<Octets>, Memory>
+        ensures fits { IfOk result (λ ready. is_some ready
+            ≡ fits (size_of self.old.row.association) invoke (Some answer.now)) }
+        ensures octets { IfOk result (λ ready. IfSome ready (λ octets.
+            octets ≡ pdu_octets (pdu.ConfirmedResponse invoke answer.now))) }
+        ensures room { IfOk result (λ ready. OnSome ready (self.new
+            ≡ record { row = self.old.row; output_room = 1; waiting_room = 0 })) }
+        ensures refused { IfOk result (λ ready. IfNone ready (self.new
+            ≡ settled (felt (refuses invoke other_error) self.old.row))) }
+        ensures kept { OnErr result (self.new ≡ self.old) }
+    {
+        let octets = self.spelled_answer(alloc, invoke, answer)?;
+        if octets.len() > size_of(&self.part) as usize {
+            self.refuse(alloc, invoke, ServiceError::OTHER)?;
+            return Ok(None);
+        }
+        self.part.reserve(1, 0)?;
+        Ok(Some(octets))
+    }
+
+    /// Answers a confirmed request by what its service says, or refuses it: for its cause, or where the answer is longer
+    /// than was negotiated. Whether it is answered.
+    pub fn settle(
+        &mut self,
+        alloc: Global,
+        invoke: u32,
+        said: &Result<Answer, Refuse>,
+    ) -> Result<bool, Memory>
+        ensures told { OnOk result ((why : Option ServiceError) (answer : Option Answer)
+            → Serves said.now why answer → self.new ≡ settled (felt_all
+            (request_told (size_of self.old.row.association) invoke why answer) self.old.row)) }
+        ensures done { IfOk result (λ done. (why : Option ServiceError) (answer : Option Answer)
+            → Serves said.now why answer
+            → done ≡ is_done (size_of self.old.row.association) invoke why answer) }
+        ensures kept { OnErr result (self.new ≡ self.old) }
+    {
+        match said {
+            Err(Refuse::Memory) => Err(Memory::wanting()),
+            Err(Refuse::Service(error)) => {
+                self.refuse(alloc, invoke, *error)?;
+                Ok(false)
+            }
+            Ok(answer) => {
+                let size = size_of(&self.part);
+                self.answer(alloc, size, invoke, answer)
+            }
+        }
     }
 
     /// Answers a confirmed request, or refuses it where the answer is longer than was negotiated.

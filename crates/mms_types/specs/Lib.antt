@@ -1,4 +1,5 @@
 pub mod Actors
+pub mod Areas
 pub mod Spelling
 pub mod Order
 pub mod KeyLaws

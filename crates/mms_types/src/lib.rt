@@ -2,6 +2,7 @@
 #![tactic(auto)]
 
 mod access_result;
+mod area;
 mod boxed;
 mod cells;
 mod copying;
@@ -32,6 +33,7 @@ mod variable;
 pub use access_result::{
     AccessResult, AccessResults, DataAccessError, DataList, WriteAnswer, WriteResult, WriteResults,
 };
+pub use area::{AreaRequest, DeviceRequest, SemaphoreRequest, VariableRequest};
 pub use boxed::Boxed;
 pub use cells::{CellRow, Cells, NamedCell, NamedCells, PoolRow, Pools};
 pub use data::{BitString, Data, DataKind};

@@ -1,0 +1,40 @@
+-- Which request it is that an area looks at (this profile's choice).
+use Rattle.mms_types.specs.declared.pdu.Request.{Request}
+use Rattle.mms_types.specs.declared.pdu.Request.TheVariants as request
+use Rattle.mms_types.specs.declared.area.AreaRequest.{AreaRequest}
+use Rattle.mms_types.specs.declared.area.AreaRequest.TheVariants.{Device, Variables, Semaphores}
+use Rattle.mms_types.specs.declared.area.DeviceRequest.{DeviceRequest}
+use Rattle.mms_types.specs.declared.area.DeviceRequest.TheVariants as device
+use Rattle.mms_types.specs.declared.area.SemaphoreRequest.{SemaphoreRequest}
+use Rattle.mms_types.specs.declared.area.SemaphoreRequest.TheVariants as semaphores
+use Rattle.mms_types.specs.declared.area.VariableRequest.{VariableRequest}
+use Rattle.mms_types.specs.declared.area.VariableRequest.TheVariants as variables
+
+abbrev pub device_request : DeviceRequest → Request
+device_request (device.Status x) = request.Status x.now
+device_request (device.GetNameList x) = request.GetNameList x.now
+device_request device.Identify = request.Identify
+
+abbrev pub variable_request : VariableRequest → Request
+variable_request (variables.Read x) = request.Read x.now
+variable_request (variables.Write x) = request.Write x.now
+variable_request (variables.GetVariableAccessAttributes x) = request.GetVariableAccessAttributes x.now
+variable_request (variables.DefineNamedVariable x) = request.DefineNamedVariable x.now
+variable_request (variables.DeleteVariableAccess x) = request.DeleteVariableAccess x.now
+variable_request (variables.DefineNamedVariableList x) = request.DefineNamedVariableList x.now
+variable_request (variables.GetNamedVariableListAttributes x) = request.GetNamedVariableListAttributes x.now
+variable_request (variables.DeleteNamedVariableList x) = request.DeleteNamedVariableList x.now
+
+abbrev pub semaphore_request : SemaphoreRequest → Request
+semaphore_request (semaphores.TakeControl x) = request.TakeControl x.now
+semaphore_request (semaphores.RelinquishControl x) = request.RelinquishControl x.now
+semaphore_request (semaphores.DefineSemaphore x) = request.DefineSemaphore x.now
+semaphore_request (semaphores.DeleteSemaphore x) = request.DeleteSemaphore x.now
+semaphore_request (semaphores.ReportSemaphoreStatus x) = request.ReportSemaphoreStatus x.now
+semaphore_request (semaphores.ReportPoolSemaphoreStatus x) = request.ReportPoolSemaphoreStatus x.now
+semaphore_request (semaphores.ReportSemaphoreEntryStatus x) = request.ReportSemaphoreEntryStatus x.now
+
+abbrev pub request_of : AreaRequest → Request
+request_of (Device asked) = device_request asked
+request_of (Variables asked) = variable_request asked
+request_of (Semaphores asked) = semaphore_request asked

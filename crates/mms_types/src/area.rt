@@ -1,0 +1,105 @@
+//! Requests, as the areas of the device look at them that serve them.
+
+ghost use Rattle.std.specs.Prelude.{◌≡◌};
+ghost use Rattle.mms_types.specs.Areas.{request_of};
+
+use crate::{
+    DefineNamedVariable, DefineNamedVariableList, DefineSemaphore, DeleteNames, GetNameList,
+    ObjectName, Read, RelinquishControl, ReportPoolSemaphoreStatus, ReportSemaphoreEntryStatus,
+    Request, Spec, Status, TakeControl, Write,
+};
+
+/// What is asked of the device itself (ISO 9506-1, VMD support).
+#[derive(Clone, Copy)]
+pub enum DeviceRequest<'a> {
+    Status(&'a Status),
+    GetNameList(&'a GetNameList),
+    Identify,
+}
+
+/// What is asked of variables and of their lists (ISO 9506-1, variable access).
+#[derive(Clone, Copy)]
+pub enum VariableRequest<'a> {
+    Read(&'a Read),
+    Write(&'a Write),
+    GetVariableAccessAttributes(&'a Spec),
+    DefineNamedVariable(&'a DefineNamedVariable),
+    DeleteVariableAccess(&'a DeleteNames),
+    DefineNamedVariableList(&'a DefineNamedVariableList),
+    GetNamedVariableListAttributes(&'a ObjectName),
+    DeleteNamedVariableList(&'a DeleteNames),
+}
+
+/// What is asked of semaphores (ISO 9506-1, semaphore management).
+#[derive(Clone, Copy)]
+pub enum SemaphoreRequest<'a> {
+    TakeControl(&'a TakeControl),
+    RelinquishControl(&'a RelinquishControl),
+    DefineSemaphore(&'a DefineSemaphore),
+    DeleteSemaphore(&'a ObjectName),
+    ReportSemaphoreStatus(&'a ObjectName),
+    ReportPoolSemaphoreStatus(&'a ReportPoolSemaphoreStatus),
+    ReportSemaphoreEntryStatus(&'a ReportSemaphoreEntryStatus),
+}
+
+/// A request, by the area of the device that serves it.
+#[derive(Clone, Copy)]
+pub enum AreaRequest<'a> {
+    Device(DeviceRequest<'a>),
+    Variables(VariableRequest<'a>),
+    Semaphores(SemaphoreRequest<'a>),
+}
+
+impl Request {
+    /// What is asked, by the area that serves it.
+    pub fn area(&self) -> AreaRequest<'_>
+        ensures { request_of result ≡ self.now }
+    {
+        match self {
+            Request::Status(asked) => AreaRequest::Device(DeviceRequest::Status(asked)),
+            Request::GetNameList(asked) => AreaRequest::Device(DeviceRequest::GetNameList(asked)),
+            Request::Identify => AreaRequest::Device(DeviceRequest::Identify),
+            Request::Read(asked) => AreaRequest::Variables(VariableRequest::Read(asked)),
+            Request::Write(asked) => AreaRequest::Variables(VariableRequest::Write(asked)),
+            Request::GetVariableAccessAttributes(asked) => {
+                AreaRequest::Variables(VariableRequest::GetVariableAccessAttributes(asked))
+            }
+            Request::DefineNamedVariable(asked) => {
+                AreaRequest::Variables(VariableRequest::DefineNamedVariable(asked))
+            }
+            Request::DeleteVariableAccess(asked) => {
+                AreaRequest::Variables(VariableRequest::DeleteVariableAccess(asked))
+            }
+            Request::DefineNamedVariableList(asked) => {
+                AreaRequest::Variables(VariableRequest::DefineNamedVariableList(asked))
+            }
+            Request::GetNamedVariableListAttributes(asked) => {
+                AreaRequest::Variables(VariableRequest::GetNamedVariableListAttributes(asked))
+            }
+            Request::DeleteNamedVariableList(asked) => {
+                AreaRequest::Variables(VariableRequest::DeleteNamedVariableList(asked))
+            }
+            Request::TakeControl(asked) => {
+                AreaRequest::Semaphores(SemaphoreRequest::TakeControl(asked.get()))
+            }
+            Request::RelinquishControl(asked) => {
+                AreaRequest::Semaphores(SemaphoreRequest::RelinquishControl(asked))
+            }
+            Request::DefineSemaphore(asked) => {
+                AreaRequest::Semaphores(SemaphoreRequest::DefineSemaphore(asked))
+            }
+            Request::DeleteSemaphore(name) => {
+                AreaRequest::Semaphores(SemaphoreRequest::DeleteSemaphore(name))
+            }
+            Request::ReportSemaphoreStatus(name) => {
+                AreaRequest::Semaphores(SemaphoreRequest::ReportSemaphoreStatus(name))
+            }
+            Request::ReportPoolSemaphoreStatus(asked) => {
+                AreaRequest::Semaphores(SemaphoreRequest::ReportPoolSemaphoreStatus(asked))
+            }
+            Request::ReportSemaphoreEntryStatus(asked) => {
+                AreaRequest::Semaphores(SemaphoreRequest::ReportSemaphoreEntryStatus(asked))
+            }
+        }
+    }
+}
