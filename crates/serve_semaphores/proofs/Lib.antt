@@ -1,0 +1,4 @@
+pub mod DefiningLaws
+pub mod OthersLaws
+pub mod ServedLaws
+pub mod TokenLaws
