@@ -1,22 +1,16 @@
 -- Who is told something beside the client that is heard.
-use Rattle.std.specs.Prelude.{◌≡◌, ◌≢◌, ◌==◌, ◌||◌, ◌⊎◌, ℕ, Bool, true, false, Option, None, Some, List, [], ◌∷◌, ◌++◌, map, refl, if◌then◌else◌}
-use Rattle.std.specs.List.{flat_map, list_any}
-use Rattle.std.proofs.Common.{ap, ap₂, sym, inl, inr, ◌∙◌, arith}
-use Rattle.std.proofs.lemmas.Bool.Decides.{nat_tests}
+use Rattle.std.specs.Prelude.{◌≡◌, ◌≢◌, ◌==◌, ◌||◌, ◌⊎◌, ℕ, Bool, true, false, Option, None, Some, List, [], ◌∷◌, map, option_to_list, refl, if◌then◌else◌}
+use Rattle.std.specs.List.{list_any}
+use Rattle.std.proofs.Common.{ap, ap₂, sym, inl, inr, ◌∙◌}
+use Rattle.mms_types.specs.Areas.{device_request, semaphore_request, variable_request}
+use Rattle.mms_types.specs.declared.area.DeviceRequest.{DeviceRequest}
+use Rattle.mms_types.specs.declared.area.SemaphoreRequest.{SemaphoreRequest}
+use Rattle.mms_types.specs.declared.area.VariableRequest.{VariableRequest}
 use Rattle.mms_types.specs.declared.moment.Moment.{Moment}
 use Rattle.mms_types.specs.declared.pdu.Request.{Request}
-use Rattle.mms_types.specs.declared.pdu.Request.TheVariants as request
-use Rattle.mms_types.specs.declared.pdu.Answer.TheVariants as answer
-use Rattle.mms_types.specs.declared.semaphore.RelinquishControl.{RelinquishControl}
-use Rattle.mms_types.specs.declared.semaphore.TakeControl.{TakeControl}
-use Rattle.mms_types.specs.declared.service_error.ServiceError.{ServiceError}
 use Rattle.sem_ticks.specs.declared.granted.Granted.{Granted}
 use Rattle.sem_ticks.specs.Granted.{lost_granted}
 use Rattle.mms_time.specs.Semaphores.{Rows}
-use Rattle.mms_time.specs.Services.{relinquish_cause, take_told}
-use Rattle.sem_ticks.specs.Granted.{relinquish_granted}
-use Rattle.mms_time.specs.declared.taking.TakeDone.{TakeDone}
-use Rattle.mms_time.specs.declared.taking.TakeDone.TheVariants.{Answered, Waits as Waiting}
 use Rattle.sem_ticks.specs.declared.ticks.Happening.{Happening}
 use Rattle.sem_ticks.specs.declared.ticks.Happening.TheVariants as happens
 use Rattle.association.specs.Client.{ClientRow, negotiated_of}
@@ -31,10 +25,19 @@ use Rattle.cell_client.specs.declared.verdict.Found.{Found}
 use Rattle.cell_client.specs.declared.verdict.Found.TheVariants as found
 use Rattle.cell_client.specs.Meant.{meant}
 use Rattle.cell_services.specs.Others.{AlsoTells, client_of, grant_clients}
-use Rattle.cell_services.specs.Services.{grants_told, relinquish_outcome, take_outcome}
-use Rattle.cell_client.specs.Requests.{fits, is_done, size_of}
-use Rattle.cell_services.specs.Serving.{all_told, also_lost, also_told, is_served, loss_also}
-use Rattle.cell_services.specs.Tables.{Tables, moment_of}
+use Rattle.cell_services.specs.AreaLaws.{device_alone, in_device, in_semaphores, in_variables, variables_alone}
+use Rattle.cell_services.specs.Device as device
+use Rattle.cell_services.specs.Requests.{told_in}
+use Rattle.cell_services.specs.Services.{InArea, OfDevice, OfSemaphores, OfVariables, area_of, cause_of, effect_of, grants_told}
+use Rattle.cell_client.specs.Areas.{also_in}
+use Rattle.cell_client.specs.Facts.{Facts}
+use Rattle.cell_client.specs.Requests.{is_done, size_of}
+use Rattle.cell_services.specs.Serving.{all_told, also_lost, also_told, loss_also}
+use Rattle.cell_services.specs.Tables.{Tables, own_semaphores, own_variables}
+use Rattle.parted_state.specs.Area.{no_table}
+use Rattle.serve_semaphores.specs.Semaphores as semaphores
+use Rattle.serve_semaphores.specs.Tokens.{is_the_one}
+use Rattle.serve_variables.specs.Variables as variables
 
 -- ---- grants, and what happens
 
@@ -66,7 +69,7 @@ loss_reaches rows now client clients is t same at k =
     ∙ grants_reach (lost_granted client now rows) k
     ∙ ap (list_any (λ (c : ℕ). c == k)) (sym is)
 
--- ---- a request is served
+-- ---- a request is served: others are told what its area says
 
 abbrev nobody : List (ℕ × Effect)
 nobody = []
@@ -75,57 +78,53 @@ chosen_none : (b : Bool) → (if b then nobody else nobody) ≡ nobody
 chosen_none true = refl
 chosen_none false = refl
 
--- by its cause, and who is granted the token
-abbrev also_of : Tables → ClientRow → ℕ → RelinquishControl → Option ServiceError → Option (Option Granted) → List (ℕ × Effect)
-also_of t row invoke x c g =
-    if is_done (size_of row.association) invoke c (relinquish_outcome t row.client x g).answer then (relinquish_outcome t row.client x g).also else []
+-- the one that there is
+the_one : (told : Option ℕ) (k : ℕ) → is_the_one told k ≡ list_any (λ c. c == k) (option_to_list told)
+the_one None k = refl
+the_one (Some c) k = by_test (c == k)
+  where
+    by_test : (b : Bool) → b ≡ (b || false)
+    by_test true = refl
+    by_test false = refl
 
-also_is : (t : Tables) (rows : Rows) (row : ClientRow) (invoke : ℕ) (x : RelinquishControl) (c : Option ServiceError) (g : Option (Option Granted))
-    → t.semaphores ≡ rows → relinquish_cause row.client x rows ≡ c → relinquish_granted row.client x rows ≡ g
-    → also_told t row (Takes invoke (request.RelinquishControl x)) ≡ also_of t row invoke x c g
-also_is t rows row invoke x c g same cause grant =
-    ap₂ (λ (d : Option ServiceError) (h : Option (Option Granted)). also_of t row invoke x d h)
-    (ap (λ (r : Rows). relinquish_cause row.client x r) same ∙ cause) (ap (λ (r : Rows). relinquish_granted row.client x r) same ∙ grant)
+-- what is told besides
+abbrev also_of : Tables → ClientRow → ℕ → InArea → List (ℕ × Effect)
+also_of t row invoke a =
+    if is_done (size_of row.association) invoke (cause_of t row a) (effect_of t row invoke a).answer then (effect_of t row invoke a).also else []
 
--- refused: nobody else is told anything
-pub none_if_refused : (rows : Rows) (row : ClientRow) (invoke : ℕ) (x : RelinquishControl) (e : ServiceError) (clients : List ℕ)
-    → relinquish_cause row.client x rows ≡ Some e → clients ≡ []
-    → (t : Tables) → t.semaphores ≡ rows → AlsoTells t row (Takes invoke (request.RelinquishControl x)) clients
-none_if_refused rows row invoke x e clients cause none t same k other =
-    ap (λ (l : List (ℕ × Effect)). is_told l k) (also_is t rows row invoke x (Some e) (relinquish_granted row.client x rows) same cause refl)
-    ∙ ap (list_any (λ (c : ℕ). c == k)) (sym none)
+module _ (t : Tables) (row : ClientRow) (invoke : ℕ) (asked : Request) where
+  also_as : (a : InArea) → area_of asked ≡ a → also_told t row (Takes invoke asked) ≡ also_of t row invoke a
+  also_as a is = ap (also_of t row invoke) is
 
--- the token is granted to nobody
-pub none_if_free : (rows : Rows) (row : ClientRow) (invoke : ℕ) (x : RelinquishControl) (clients : List ℕ)
-    → relinquish_cause row.client x rows ≡ None → relinquish_granted row.client x rows ≡ Some None → clients ≡ []
-    → (t : Tables) → t.semaphores ≡ rows → AlsoTells t row (Takes invoke (request.RelinquishControl x)) clients
-none_if_free rows row invoke x clients cause grant none t same k other =
-    ap (λ (l : List (ℕ × Effect)). is_told l k)
-    (also_is t rows row invoke x None (Some None) same cause grant ∙ chosen_none (fits (size_of row.association) invoke (Some answer.RelinquishControl)))
-    ∙ ap (list_any (λ (c : ℕ). c == k)) (sym none)
+  pub device_tells : (x : DeviceRequest) (clients : List ℕ) → device_request x ≡ asked → clients ≡ [] → AlsoTells t row (Takes invoke asked) clients
+  device_tells x clients is none k other =
+      ap (λ (l : List (ℕ × Effect)). is_told l k)
+      (also_as (OfDevice (device.request_in x)) (ap area_of (sym is) ∙ in_device x)
+      ∙ ap (λ (l : List (ℕ × Effect)). if is_done (size_of row.association) invoke (cause_of t row (OfDevice (device.request_in x)))
+      (effect_of t row invoke (OfDevice (device.request_in x))).answer then l else [])
+      (device_alone x (told_in no_table t row (device.request_in x)) row invoke)
+      ∙ chosen_none _)
+      ∙ ap (list_any (λ (c : ℕ). c == k)) (sym none)
 
--- it is granted, and the answer fits
-pub one_if_granted : (rows : Rows) (row : ClientRow) (invoke : ℕ) (x : RelinquishControl) (g : Granted) (clients : List ℕ)
-    → relinquish_cause row.client x rows ≡ None → relinquish_granted row.client x rows ≡ Some (Some g)
-    → fits (size_of row.association) invoke (Some answer.RelinquishControl) ≡ true → clients ≡ g.client ∷ []
-    → (t : Tables) → t.semaphores ≡ rows → AlsoTells t row (Takes invoke (request.RelinquishControl x)) clients
-one_if_granted rows row invoke x g clients cause grant fit one t same k other =
-    ap (λ (l : List (ℕ × Effect)). is_told l k)
-    (also_is t rows row invoke x None (Some (Some g)) same cause grant
-    ∙ ap (λ (b : Bool). if b then grants_told (g ∷ []) else []) fit)
-    ∙ grants_reach (g ∷ []) k
-    ∙ ap (list_any (λ (c : ℕ). c == k)) (sym one)
+  pub variables_tell : (x : VariableRequest) (clients : List ℕ) → variable_request x ≡ asked → clients ≡ [] → AlsoTells t row (Takes invoke asked) clients
+  variables_tell x clients is none k other =
+      ap (λ (l : List (ℕ × Effect)). is_told l k)
+      (also_as (OfVariables (variables.request_in x)) (ap area_of (sym is) ∙ in_variables x)
+      ∙ ap (λ (l : List (ℕ × Effect)). if is_done (size_of row.association) invoke (cause_of t row (OfVariables (variables.request_in x)))
+      (effect_of t row invoke (OfVariables (variables.request_in x))).answer then l else [])
+      (variables_alone x (told_in own_variables t row (variables.request_in x)) t.variables row invoke)
+      ∙ chosen_none _)
+      ∙ ap (list_any (λ (c : ℕ). c == k)) (sym none)
 
--- it would be granted, and the answer is too long
-pub none_if_too_long : (rows : Rows) (row : ClientRow) (invoke : ℕ) (x : RelinquishControl) (g : Granted) (clients : List ℕ)
-    → relinquish_cause row.client x rows ≡ None → relinquish_granted row.client x rows ≡ Some (Some g)
-    → fits (size_of row.association) invoke (Some answer.RelinquishControl) ≡ false → clients ≡ []
-    → (t : Tables) → t.semaphores ≡ rows → AlsoTells t row (Takes invoke (request.RelinquishControl x)) clients
-none_if_too_long rows row invoke x g clients cause grant fit none t same k other =
-    ap (λ (l : List (ℕ × Effect)). is_told l k)
-    (also_is t rows row invoke x None (Some (Some g)) same cause grant
-    ∙ ap (λ (b : Bool). if b then grants_told (g ∷ []) else []) fit)
-    ∙ ap (list_any (λ (c : ℕ). c == k)) (sym none)
+  pub semaphores_tell : (x : SemaphoreRequest) (rows : Rows) (told : Option ℕ) (clients : List ℕ) → semaphore_request x ≡ asked → t.semaphores ≡ rows
+      → ((facts : Facts) (k : ℕ) → row.client ≢ k → list_any (λ told. told.0 == k) (also_in (semaphores.request_in x) facts row invoke rows) ≡ is_the_one told k)
+      → clients ≡ option_to_list told → AlsoTells t row (Takes invoke asked) clients
+  semaphores_tell x rows told clients is same reach are k other =
+      ap (λ (l : List (ℕ × Effect)). is_told l k) (also_as (OfSemaphores (semaphores.request_in x)) (ap area_of (sym is) ∙ in_semaphores x))
+      ∙ ap (λ (r : Rows). is_told (also_in (semaphores.request_in x) (told_in own_semaphores t row (semaphores.request_in x)) row invoke r) k) same
+      ∙ reach (told_in own_semaphores t row (semaphores.request_in x)) k other
+      ∙ the_one told k
+      ∙ ap (list_any (λ (c : ℕ). c == k)) (sym are)
 
 -- ---- what is heard
 
@@ -149,28 +148,3 @@ pub open_loss : (rows : Rows) (now : Moment) (row : ClientRow) (v : Negotiated) 
     → (t : Tables) → t.semaphores ≡ rows → t.now ≡ now.0 → (k : ℕ) → is_told (also_lost row.association row.client t) k ≡ list_any (λ c. c == k) clients
 open_loss rows now row v client clients is own reach t same at k =
     ap (λ (l : List (ℕ × Effect)). is_told l k) (also_open row.association v is row.client t) ∙ ap (λ (n : ℕ). is_told (loss_also n t) k) (sym own) ∙ reach t same at k
-
--- a request for a token tells its own client alone
-take_also : (t : Tables) (row : ClientRow) (invoke : ℕ) (x : TakeControl) (b : Bool) (taken : Option TakeDone) (k : ℕ) → row.client ≢ k
-    → is_told (if b then (take_outcome t row.client invoke x taken).also else []) k ≡ false
-take_also t row invoke x false taken k other = refl
-take_also t row invoke x true None k other = refl
-take_also t row invoke x true (Some (Answered told)) k other = refl
-take_also t row invoke x true (Some (Waiting entry)) k other = by_test (row.client == k) refl
-  where
-    by_test : (b : Bool) → (row.client == k) ≡ b → (b || false) ≡ false
-    by_test false is = refl
-    by_test true is = absurd (other (grind (arith, nat_tests)))
-
--- no other request but one that gives a token back tells another client anything
-other_none : (t : Tables) (row : ClientRow) (invoke : ℕ) (asked : Request) (k : ℕ) → ((x : RelinquishControl) → asked ≡ request.RelinquishControl x → ⊥) → row.client ≢ k
-    → is_told (also_told t row (Takes invoke asked)) k ≡ false
-other_none t row invoke (request.RelinquishControl x) k never other = absurd (never x refl)
-other_none t row invoke (request.TakeControl x) k never other =
-    take_also t row invoke x (is_served t row invoke (request.TakeControl x)) (take_told row.client x t.semaphores) k other
-other_none t row invoke asked k never other = ap (λ (l : List (ℕ × Effect)). is_told l k) (chosen_none (is_served t row invoke asked))
-
-pub none_if_other : (row : ClientRow) (invoke : ℕ) (asked : Request) (clients : List ℕ) → ((x : RelinquishControl) → asked ≡ request.RelinquishControl x → ⊥) → clients ≡ []
-    → (t : Tables) → AlsoTells t row (Takes invoke asked) clients
-none_if_other row invoke asked clients never none t k other =
-    other_none t row invoke asked k never other ∙ ap (list_any (λ (c : ℕ). c == k)) (sym none)

@@ -1,6 +1,5 @@
 pub mod AlsoLaws
-pub mod GuardLaws
+pub mod AreaLaws
 pub mod PlanLaws
 pub mod TimeLaws
-pub mod TokenLaws
 mod Worked

@@ -15,19 +15,13 @@ use Rattle.cell_client.specs.Effects.{Effect, felt_all, settled, tell}
 use Rattle.cell_client.specs.declared.acts.Act.{Act}
 use Rattle.cell_client.specs.Meant.{act_verdict, told_alone, uses_no_table}
 use Rattle.cell_client.specs.Association.{Verdict, Tells, Takes, Concludes, Cancels, Aborts}
-use Rattle.cell_services.specs.Services.{Outcome, answers, cause, effect, owned_guards, variables_written, write_told}
+use Rattle.cell_services.specs.Services.{Outcome, answers, cause, effect}
 use Rattle.cell_client.specs.Requests.{plain_answer, fits, is_done, request_told, size_of}
-use Rattle.mms_time.specs.Semaphores.{Rows}
 use Rattle.cell_services.specs.Serving.{hears, own_told}
 use Rattle.cell_services.specs.Meant.{no_tables, row_after, IsPlainlyHeard}
-use Rattle.mms_types.specs.declared.pdu.Answer.TheVariants as answer
-use Rattle.mms_types.specs.declared.variable.Read.{Read}
-use Rattle.mms_types.specs.declared.variable.Write.{Write}
-use Rattle.variable_services.specs.declared.tables.VariableTables.{VariableTables}
-use Rattle.variable_services.specs.Services.{read_answer, read_cause, write_after, write_answer, write_cause}
-use Rattle.cell_services.specs.Acts.{IsActOf, IsDoneOn}
+use Rattle.cell_services.specs.Acts.{IsActOf}
 
-append_none : {A : Type 0} (xs : List A) → xs ++ [] ≡ xs
+pub append_none : {A : Type 0} (xs : List A) → xs ++ [] ≡ xs
 append_none [] = refl
 append_none {A} (x ∷ xs) = ap (λ (l : List A). x ∷ l) (append_none xs)
 
@@ -79,97 +73,6 @@ plainly_answered row new invoke asked a is told = record {
     at : Tables → List (ℕ × Effect) → Done Tables Effect
     at x l = record { tables = x; told = l }
 
--- ---- reads and writes of variables
-
-read_heard : (t : Tables) (row : ClientRow) (client invoke : ℕ) (x : Read) → hears t row client (Takes invoke (request.Read x))
-    ≡ record { tables = t; told = tell client (request_told (size_of row.association) invoke (read_cause row.client x t.variables) (Some (answer.Read (read_answer row.client x t.variables)))) }
-read_heard t row client invoke x =
-    by_test (is_done (size_of row.association) invoke (read_cause row.client x t.variables) (Some (answer.Read (read_answer row.client x t.variables))))
-    ∙ ap (λ (l : List (ℕ × Effect)). at t l) (append_none told)
-  where
-    at : Tables → List (ℕ × Effect) → Done Tables Effect
-    at u l = record { tables = u; told = l }
-
-    told : List (ℕ × Effect)
-    told = tell client (request_told (size_of row.association) invoke (read_cause row.client x t.variables) (Some (answer.Read (read_answer row.client x t.variables))))
-
-    by_test : (b : Bool) → at (if b then t else t) (told ++ (if b then [] else [])) ≡ at t (told ++ [])
-    by_test true = refl
-    by_test false = refl
-
-write_heard : (t : Tables) (row : ClientRow) (client invoke : ℕ) (x : Write) → hears t row client (Takes invoke (request.Write x))
-    ≡ record {
-      tables = record t { variables = variables_written (size_of row.association) invoke row.client x t.variables t.semaphores };
-      told = tell client (write_told (size_of row.association) invoke row.client x t.variables t.semaphores);
-    }
-write_heard t row client invoke x =
-    by_test (is_done (size_of row.association) invoke (write_cause row.client x t.variables) (Some (answer.Write (write_answer owned row.client x t.variables))))
-    ∙ ap (λ (l : List (ℕ × Effect)). at (record t { variables = variables_written (size_of row.association) invoke row.client x t.variables t.semaphores }) l) (append_none told)
-  where
-    owned : List Bool
-    owned = owned_guards row.client x t.variables t.semaphores
-
-    at : Tables → List (ℕ × Effect) → Done Tables Effect
-    at u l = record { tables = u; told = l }
-
-    written : Bool → Tables
-    written b = record t { variables = if b then write_after owned row.client x t.variables else t.variables }
-
-    told : List (ℕ × Effect)
-    told = tell client (write_told (size_of row.association) invoke row.client x t.variables t.semaphores)
-
-    by_test : (b : Bool) → at (if b then record t { variables = write_after owned row.client x t.variables } else t) (told ++ (if b then [] else [])) ≡ at (written b) (told ++ [])
-    by_test true = refl
-    by_test false = refl
-
-pub read_done : (row : ClientRow) (semaphores : Rows) (variables : VariableTables) (new : RoomyRow) (invoke : ℕ) (x : Read)
-    → new ≡ settled (felt_all (request_told (size_of row.association) invoke (read_cause row.client x variables) (Some (answer.Read (read_answer row.client x variables)))) row)
-    → IsDoneOn row semaphores variables variables new (Takes invoke (request.Read x))
-read_done row semaphores variables new invoke x is = record {
-  effects = request_told (size_of row.association) invoke (read_cause row.client x variables) (Some (answer.Read (read_answer row.client x variables)));
-  is = is;
-  done = λ t client same beside. read_heard t row client invoke x
-      ∙ ap (λ (v : VariableTables). at t client v) same;
-}
-  where
-    at : Tables → ℕ → VariableTables → Done Tables Effect
-    at t client v = record {
-      tables = record t { variables = v };
-      told = tell client (request_told (size_of row.association) invoke (read_cause row.client x v) (Some (answer.Read (read_answer row.client x v))));
-    }
-
-pub write_done : (row : ClientRow) (semaphores : Rows) (was now : VariableTables) (new : RoomyRow) (invoke : ℕ) (x : Write)
-    → new ≡ settled (felt_all (write_told (size_of row.association) invoke row.client x was semaphores) row)
-    → now ≡ variables_written (size_of row.association) invoke row.client x was semaphores
-    → IsDoneOn row semaphores was now new (Takes invoke (request.Write x))
-write_done row semaphores was now new invoke x is becomes = record {
-  effects = write_told (size_of row.association) invoke row.client x was semaphores;
-  is = is;
-  done = λ t client same beside. write_heard t row client invoke x
-      ∙ ap₂ (λ (v : VariableTables) (rows : Rows). at t client v rows) same beside
-      ∙ ap (λ (v : VariableTables). with_told t client v) (sym becomes);
-}
-  where
-    with_told : Tables → ℕ → VariableTables → Done Tables Effect
-    with_told t client v = record {
-      tables = record t { variables = v };
-      told = tell client (write_told (size_of row.association) invoke row.client x was semaphores);
-    }
-
-    at : Tables → ℕ → VariableTables → Rows → Done Tables Effect
-    at t client v rows = record {
-      tables = record t { variables = variables_written (size_of row.association) invoke row.client x v rows };
-      told = tell client (write_told (size_of row.association) invoke row.client x v rows);
-    }
-
-pub write_served : (result : Result Bool Memory) (row : ClientRow) (semaphores : Rows) (was now : VariableTables) (new : RoomyRow) (invoke : ℕ) (x : Write) (asked : Request)
-    → request.Write x ≡ asked → OnOk result (new ≡ settled (felt_all (write_told (size_of row.association) invoke row.client x was semaphores) row))
-    → OnOk result (now ≡ variables_written (size_of row.association) invoke row.client x was semaphores)
-    → IfOk result (λ done. done ≡ true → IsDoneOn row semaphores was now new (Takes invoke asked))
-write_served (Ok done) row semaphores was now new invoke x asked same told written =
-    λ is. subst (λ (r : Request). IsDoneOn row semaphores was now new (Takes invoke r)) same (write_done row semaphores was now new invoke x told written)
-write_served (Err memory) row semaphores was now new invoke x asked same told written = tt
-
 pub plainly_told : (row : ClientRow) (new : RoomyRow) (effects : List Effect) → new ≡ settled (felt_all effects row) → IsPlainlyHeard row new (Tells effects)
 plainly_told row new effects told = record { is = told; alone = λ t client. ap (λ (l : List (ℕ × Effect)). at t l) (append_none (tell client effects)) }
   where
@@ -215,15 +118,9 @@ heard_plainly (Err memory) row new v told exact = tt
 heard_plainly (Ok (Some a)) row new v told exact = tt
 heard_plainly (Ok None) row new v told exact = heard_alone row new v (sym exact) told
 
-left_of : (row : ClientRow) (v : Verdict) (a : Act) → act_verdict a ≡ Some v → IsActOf row v a
+pub left_of : (row : ClientRow) (v : Verdict) (a : Act) → act_verdict a ≡ Some v → IsActOf row v a
 left_of row v (act.Request invoke asked) is = request_left row invoke asked v (cc is)
 left_of row v act.Conclusion is = conclusion_left row v (cc is)
 left_of row v (act.Cancel invoke) is = cancel_left row invoke v (cc is)
 left_of row v act.Abort is = abort_left row v (cc is)
 left_of row v act.Loss is = absurd (cc is)
-
-pub left_so : (result : Result (Option Act) Memory) (row : ClientRow) (v : Verdict) → IfOk result (λ left. IfSome left (λ a. act_verdict a ≡ Some v))
-    → IfOk result (λ left. IfSome left (λ a. IsActOf row v a))
-left_so (Err memory) row v left = tt
-left_so (Ok None) row v left = tt
-left_so (Ok (Some a)) row v left = left_of row v a left

@@ -12,8 +12,10 @@ use Rattle.mms_types.specs.declared.service_error.ServiceError.{ServiceError}
 use Rattle.association.specs.Client.{ClientRow}
 use Rattle.cell_client.specs.Requests.{identity, operational}
 use Rattle.cell_client.specs.Association.{missing_error}
-use Rattle.cell_services.specs.Facts.{Names, Live}
-use Rattle.cell_services.specs.Requests.{RequestIn, answers}
+use Rattle.cell_client.specs.Areas.{RequestIn, answers}
+use Rattle.cell_client.specs.Facts.{Names, Live}
+use Rattle.mms_types.specs.declared.area.DeviceRequest.{DeviceRequest}
+use Rattle.mms_types.specs.declared.area.DeviceRequest.TheVariants as request
 
 -- ---- Status, Identify
 
@@ -67,3 +69,10 @@ get_name_list x = record {
   cause = λ facts none row. scope_cause facts.live x.scope;
   effect = λ facts none row invoke. answers none (Some (answer.GetNameList (listed (facts.names (scope_of row.client x.scope) x.after))));
 }
+
+-- ---- each of them, as it is looked at
+
+abbrev pub request_in : DeviceRequest → RequestIn (Unit {0})
+request_in (request.Status x) = status
+request_in (request.GetNameList x) = get_name_list x.now
+request_in request.Identify = identify

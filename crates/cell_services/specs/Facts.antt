@@ -1,4 +1,4 @@
--- What the tables tell requests of areas that aren't theirs (this profile's choice): questions, the tables that these are for, and the answers as facts.
+-- What the tables tell requests of areas that aren't theirs (this profile's choice): the tables that questions are for, and the answers as facts.
 use Rattle.std.specs.Prelude.{ℕ, Bool, false, List, [], ◌∷◌, Option, is_some, if◌then◌else◌}
 use Rattle.std.specs.List.{list_any}
 use Rattle.mms_types.specs.declared.moment.Moment.{Moment}
@@ -9,28 +9,8 @@ use Rattle.object_names.specs.Listing.{names_after}
 use Rattle.variables.specs.Access.{flags_of}
 use Rattle.mms_time.specs.Guards.{owns_guard}
 use Rattle.parted_state.specs.Area.{Tells}
+pub use Rattle.cell_client.specs.Facts.{Question, Now, Live, Owned, Names, Facts, no_facts}
 use Rattle.cell_services.specs.Tables.{Tables, moment_of, clock_table, variables_table, domains_table, programs_table, conditions_table, journals_table, semaphores_table}
-
-pub data Question : Type 0 where
-  -- the moment
-  Now : Question
-  -- whether the domain of a name is live, where the name of one is written in the request
-  Live : Bool → Question
-  -- of each variable, in order, whether that client owns a token of the semaphore that guards it: by their guards, where one has any
-  Owned : ℕ → List (Option (List ℕ)) → Question
-  -- the names of a class of objects
-  Names : ObjectClass → Question
-
-pub record Facts : Type 0 where
-  pub now : Moment
-  pub live : Bool
-  pub owned : List Bool
-  -- in a scope, from the one on that comes after that name, in order of octets
-  pub names : Scope → Option (List ℕ) → List (List ℕ)
-
--- where nobody asks: no domain is live, nobody owns a token, and there are no names
-abbrev pub no_facts : Facts
-no_facts = record { now = record { 0 = 0 }; live = false; owned = []; names = λ s after. [] }
 
 -- ---- whom a question is for
 

@@ -1,13 +1,11 @@
 pub mod Acts
+pub mod AreaLaws
 pub mod Changes
 pub mod Device
 pub mod Facts
 pub mod Meant
 pub mod Others
 pub mod Requests
-pub mod Semaphores
 pub mod Services
 pub mod Serving
 pub mod Tables
-pub mod Tokens
-pub mod Variables

@@ -1,37 +1,12 @@
--- A confirmed request to an area of the device (ISO 9506-1): what it asks, why it is refused, and what it does otherwise.
-use Rattle.std.specs.Prelude.{ℕ, Bool, true, false, List, [], ◌++◌, Option, Some}
+-- A confirmed request to an area, among all tables of the device (this profile's choice).
+use Rattle.std.specs.Prelude.{ℕ, List, ◌++◌, Option}
 use Rattle.std.specs.List.{flat_map}
-use Rattle.mms_types.specs.declared.object_name.ObjectName.{ObjectName}
-use Rattle.mms_types.specs.declared.object_name.ObjectName.TheVariants as name
 use Rattle.mms_types.specs.declared.service_error.ServiceError.{ServiceError}
-use Rattle.mms_types.specs.declared.pdu.Answer.{Answer}
 use Rattle.association.specs.Client.{ClientRow}
 use Rattle.parted_state.specs.Area.{Own, facts_told}
-use Rattle.cell_client.specs.Effects.{Effect}
-use Rattle.cell_services.specs.Facts.{Question, Facts, tables_for, tells}
+pub use Rattle.cell_client.specs.Areas.{OutcomeIn, RequestIn, answers, changes, is_of_domain}
+use Rattle.cell_services.specs.Facts.{Facts, tables_for, tells}
 use Rattle.cell_services.specs.Tables.{Tables}
-
--- what a request does that is not refused: its table or tables after it, its answer or none yet, and what else is told to whom
-pub record OutcomeIn (A : Type 0) : Type 0 where
-  pub tables : A
-  pub answer : Option Answer
-  pub also : List (ℕ × Effect)
-
--- A request of a client to an area with the table A: what its words ask other tables, what its own table shows to be asked besides; the first condition for which it is
--- refused, and what it does otherwise, under its invokeID, both by what the others tell it.
-pub record RequestIn (A : Type 0) : Type 0 where
-  pub words : List Question
-  pub more : A → ClientRow → List Question
-  pub cause : Facts → A → ClientRow → Option ServiceError
-  pub effect : Facts → A → ClientRow → ℕ → OutcomeIn A
-
--- a request is answered, and nothing changes
-abbrev pub answers : {A : Type 0} → A → Option Answer → OutcomeIn A
-answers own told = record { tables = own; answer = told; also = [] }
-
--- a request is answered, and its table becomes this
-abbrev pub changes : {A : Type 0} → A → Answer → OutcomeIn A
-changes new told = record { tables = new; answer = Some told; also = [] }
 
 -- ---- among all tables of the device
 
@@ -55,10 +30,3 @@ module _ {A : Type 0} (own : Own Tables A) where
 
   abbrev pub effect_in : Tables → ClientRow → ℕ → RequestIn A → OutcomeIn Tables
   effect_in t row invoke r = among t (r.effect (told_in t row r) (own.of t) row invoke)
-
--- ---- names of domains that are written in requests
-
-abbrev pub is_of_domain : ObjectName → Bool
-is_of_domain (name.Domain domain item) = true
-is_of_domain (name.Vmd item) = false
-is_of_domain (name.Association item) = false

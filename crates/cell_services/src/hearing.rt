@@ -1,10 +1,9 @@
 //! What is heard from a client, and what is left of it to be done on the tables.
 
-ghost use Rattle.std.specs.Prelude.{◌≡◌, is_none, OnErr, OnSome, IfOk, IfNone, IfSome};
+ghost use Rattle.std.specs.Prelude.{◌≡◌, is_none, Some, OnErr, OnSome, IfOk, IfNone, IfSome};
 ghost use Rattle.cell_client.specs.Association.{verdict_by};
-ghost use Rattle.cell_client.specs.Meant.{uses_no_table};
+ghost use Rattle.cell_client.specs.Meant.{act_verdict, uses_no_table};
 ghost use Rattle.cell_client.specs.Reads.{pdu_read, IsDeep};
-ghost use Rattle.cell_services.specs.Acts.{IsActOf};
 ghost use Rattle.cell_services.specs.Meant.{IsPlainlyHeard};
 
 use cell_client::{Act, Client};
@@ -23,8 +22,8 @@ pub fn hear<'a>(
     ensures done { IfOk result (λ left. IfNone left
         (IsPlainlyHeard own.old.row own.new (verdict_by own.old.row.association
         own.old.row (pdu_read read.now)))) }
-    ensures left { IfOk result (λ left. IfSome left (λ act. IsActOf own.old.row
-        (verdict_by own.old.row.association own.old.row (pdu_read read.now)) act)) }
+    ensures left { IfOk result (λ left. IfSome left (λ act. act_verdict act
+        ≡ Some (verdict_by own.old.row.association own.old.row (pdu_read read.now)))) }
     ensures exact { IfOk result (λ left. is_none left ≡ uses_no_table own.old.row
         (verdict_by own.old.row.association own.old.row (pdu_read read.now))) }
     ensures same { IfOk result (λ left. OnSome left (own.new ≡ own.old)) }

@@ -1,22 +1,20 @@
-//! The services of the device on its tables (ISO 9506-1, the virtual manufacturing device): why a request is refused,
-//! what it does, how tables change, and who is told what. Nothing here knows of parts that callers share.
+//! The services of the device on its tables (ISO 9506-1, the virtual manufacturing device): requests by area, with what
+//! the tables of other areas tell them; a client that is lost, time that goes by, and who is told what. Nothing here
+//! knows of parts that callers share.
 #![tactic(auto)]
 
-mod access;
+mod areas;
 mod clock;
-mod guards;
+mod device;
 mod hearing;
 mod others;
 mod planning;
-mod semaphores;
-mod service;
 mod tables;
-mod tokens;
 
-pub use access::serve_variables;
+pub use areas::{serve_semaphores, serve_variables};
 pub use clock::Clock;
+pub use device::serve_device;
 pub use hearing::hear;
 pub use others::{also_told, happened_to, is_lossy, loss_told};
 pub use planning::{Plan, planned, time_planned};
 pub use tables::{Change, Tables};
-pub use tokens::serve_tokens;

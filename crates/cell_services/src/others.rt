@@ -1,22 +1,21 @@
 //! Who is told something by what another client does, or by time.
 
-ghost use Rattle.std.specs.Prelude.{◌≡◌, ◌≢◌, ◌==◌, ℕ, IfOk, OnErr, Some, [], map};
+ghost use Rattle.std.specs.Prelude.{◌≡◌, ◌≢◌, ◌==◌, ℕ, IfOk, OnErr, [], map, option_to_list};
 ghost use Rattle.std.specs.List.{list_any};
 ghost use Rattle.mms_types.specs.Moments.{IsDated};
 ghost use Rattle.parted_state.specs.Served.{is_told};
 ghost use Rattle.cell_client.specs.Meant.{meant};
 ghost use Rattle.cell_client.specs.Association.{Takes};
 ghost use Rattle.cell_services.specs.Others.{AlsoTells, client_of, grant_clients, is_abort};
-ghost use Rattle.cell_client.specs.Requests.{fits, size_of};
 ghost use Rattle.cell_services.specs.Serving.{all_told, also_lost, loss_also};
 ghost use Rattle.cell_services.specs.Tables.{Tables as Rows};
 
 use association::ClientPart;
-use cell_client::{Found, answer_within, size_of};
-use mms_time::SemaphoreRow;
-use mms_types::{Answer, Memory, Moment, Refuse, RelinquishControl, Request};
-use object_names::Named;
+use cell_client::Found;
+use mms_time::Semaphores;
+use mms_types::{AreaRequest, Memory, Moment, Request};
 use sem_ticks::{Granted, Happening, lose_told};
+use serve_semaphores::tells;
 use std::alloc::Global;
 
 /// The clients of grants.
@@ -26,44 +25,10 @@ fn grant_clients(alloc: Global, grants: &[Granted]) -> Result<Vec<u32>, Memory>
     Ok(grants.iter().map(|grant| grant.client).collect(alloc)?)
 }
 
-/// A positive answer without contents is not longer than the association of a client allows.
-fn is_answered(alloc: Global, part: &ClientPart, invoke: u32) -> Result<bool, Memory>
-    ensures { IfOk result (λ b. b ≡ fits (size_of part.now.row.association) invoke
-        (Some Answer.RelinquishControl)) }
-{
-    let told = answer_within(alloc, size_of(part), invoke, &Answer::RelinquishControl)?;
-    Ok(told.is_some())
-}
-
-/// Who is granted the token that a client gives back.
-fn relinquish_told(
-    alloc: Global,
-    semaphores: &Named<SemaphoreRow>,
-    part: &ClientPart,
-    invoke: u32,
-    asked: &RelinquishControl,
-) -> Result<Vec<u32>, Memory>
-    ensures { IfOk result (λ clients. (t : Rows) → t.semaphores ≡ semaphores.now
-        → AlsoTells t part.now.row (Takes invoke (Request.RelinquishControl asked.now))
-        clients.items) }
-{
-    match sem_ticks::relinquish_told(alloc, semaphores, part.client(), asked) {
-        Err(Refuse::Memory) => Err(Memory::wanting()),
-        Err(Refuse::Service(_)) | Ok(None) => Ok(Vec::new(alloc)),
-        Ok(Some(grant)) => {
-            if is_answered(alloc, part, invoke)? {
-                Ok(vec![in alloc; grant.client]?)
-            } else {
-                Ok(Vec::new(alloc))
-            }
-        }
-    }
-}
-
 /// The clients that are granted a token where a client is lost.
 fn lost_told(
     alloc: Global,
-    semaphores: &Named<SemaphoreRow>,
+    semaphores: &Semaphores,
     now: Moment,
     client: u32,
 ) -> Result<Vec<u32>, Memory>
@@ -76,10 +41,20 @@ fn lost_told(
     Ok(clients)
 }
 
+/// The client that there is.
+fn listed(alloc: Global, told: Option<u32>) -> Result<Vec<u32>, Memory>
+    ensures { IfOk result (λ clients. clients.items ≡ option_to_list told) }
+{
+    match told {
+        None => Ok(Vec::new(alloc)),
+        Some(client) => Ok(vec![in alloc; client]?),
+    }
+}
+
 /// The clients that are told something beside the one whose request is taken.
 fn request_told(
     alloc: Global,
-    semaphores: &Named<SemaphoreRow>,
+    semaphores: &Semaphores,
     part: &ClientPart,
     invoke: u32,
     asked: &Request,
@@ -87,11 +62,11 @@ fn request_told(
     ensures { IfOk result (λ clients. (t : Rows) → t.semaphores ≡ semaphores.now
         → AlsoTells t part.now.row (Takes invoke asked.now) clients.items) }
 {
-    match asked {
-        Request::RelinquishControl(asked) => {
-            relinquish_told(alloc, semaphores, part, invoke, asked)
+    match asked.area() {
+        AreaRequest::Semaphores(asked) => {
+            listed(alloc, tells(alloc, semaphores, part, invoke, asked)?)
         }
-        _ => Ok(Vec::new(alloc)),
+        AreaRequest::Device(_) | AreaRequest::Variables(_) => Ok(Vec::new(alloc)),
     }
 }
 
@@ -99,7 +74,7 @@ fn request_told(
 /// open: who asks takes them as a set, of whose parts it needs.
 pub fn also_told(
     alloc: Global,
-    semaphores: &Named<SemaphoreRow>,
+    semaphores: &Semaphores,
     now: Moment,
     part: &ClientPart,
     found: &Found<'_>,
@@ -118,7 +93,7 @@ pub fn also_told(
 /// The clients that are told something beside the one that is lost. Their order is left open, as that of `also_told`.
 pub fn loss_told(
     alloc: Global,
-    semaphores: &Named<SemaphoreRow>,
+    semaphores: &Semaphores,
     now: Moment,
     part: &ClientPart,
 ) -> Result<Vec<u32>, Memory>

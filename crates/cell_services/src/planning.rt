@@ -1,8 +1,9 @@
 //! What is done on the tables is planned first: all is read and made that may want memory, and nothing changes.
 
-ghost use Rattle.std.specs.Prelude.{◌≡◌, ◌≢◌, ◌≤◌, ◌+◌, ◌++◌, ◌∷◌, [], nat_le, length, IfOk, OnErr, OnOk, None, Some};
+ghost use Rattle.std.specs.Prelude.{◌≡◌, ◌≢◌, ◌≤◌, ◌+◌, ◌++◌, ◌∷◌, [], false, true, IfOk, OnErr, OnOk, None, Some};
 ghost use Rattle.std.specs.Option.{option_map};
-ghost use Rattle.cell_services.specs.Acts.{act_done, outcome_of, plan_done, request_done};
+ghost use Rattle.cell_services.specs.Acts.{act_done, grants_somebody, plan_done, IsLeft};
+ghost use Rattle.serve_semaphores.specs.Tokens.{grants_nobody};
 ghost use Rattle.sem_ticks.specs.Meant.{state_of};
 ghost use Rattle.mms_time.specs.Deadlines.{next_due};
 ghost use Rattle.cell_services.specs.Tables.{Tables as Rows, last_moment, moment_after};
@@ -13,15 +14,14 @@ ghost use Rattle.cell_client.specs.Requests.{refuses};
 ghost use Rattle.cell_services.specs.Serving.{aborted, aborted_one, all_told, happening_told, hears, loses, loss_also, passed, passes, tables_cancelled, waiting_of};
 ghost use Rattle.cell_client.specs.Telling.{effect_of, effects_told};
 
-use crate::semaphores::{tell_grant, tell_grants};
-use crate::service::{Outcome, served};
 use crate::{Change, Tables};
 use association::{ClientPart, Waiting};
 use cell_client::{
     Act, Told, answer_within, cancel_response, conclude_response, one_told, refusal, size_of,
 };
-use mms_types::{Answer, Memory, Moment, Refuse, Request, ServiceError, What};
-use sem_ticks::{Happening, Ticked, lose_told, tick};
+use mms_types::{Answer, Memory, Moment, Refuse, RelinquishControl, Request, ServiceError, What};
+use sem_ticks::{Happening, Ticked, lose_told, relinquish_told, tick};
+use serve_semaphores::{tell_grant, tell_grants};
 use std::alloc::Global;
 
 /// What is to be done, of which nothing is done yet.
@@ -51,66 +51,46 @@ fn refused<'a>(
     })
 }
 
-/// Before all else that a plan tells, a client is told something.
-fn with_first<'a>(client: u32, first: Told, done: Plan<'a>) -> Result<Plan<'a>, Memory>
-    ensures told { IfOk result (λ plan. effects_told plan.told.items
-        ≡ (client, effect_of first) ∷ effects_told done.entry.told.items) }
-    ensures change { IfOk result (λ plan. plan.change ≡ done.entry.change) }
-{
-    let Plan { change, mut told } = done;
-    told.insert(0, (client, first))?;
-    Ok(Plan { change, told })
-}
-
-/// A request is answered and done, or it is refused where the answer is too long, and nothing changes.
-fn answered<'a>(
+/// A token is given back that somebody is granted, which that one is told.
+fn grant_plan<'a>(
     alloc: Global,
+    tables: &Tables,
     client: u32,
-    size: u32,
+    part: &ClientPart,
     invoke: u32,
-    answer: &Answer,
-    done: Plan<'a>,
+    asked: &'a RelinquishControl,
 ) -> Result<Plan<'a>, Memory>
-    ensures done { IfOk result (λ plan. (t : Rows)
-        → plan_done t plan.change plan.told.items ≡ request_done t client size invoke None
-        (outcome_of t done.entry.change (Some answer.now) done.entry.told.items)) }
-    ensures may { IfOk result (λ plan. (t : Rows)
-        → MayChange done.entry.change t → MayChange plan.change t) }
+    requires grants { grants_nobody part.now.row.client asked.now tables.now.semaphores ≡ false }
+    ensures done { IfOk result (λ plan. plan_done tables.now plan.change plan.told.items
+        ≡ hears tables.now part.now.row client
+        (Takes invoke (Request.RelinquishControl asked.now))) }
+    ensures may { IfOk result (λ plan. (t : Rows) → MayChange plan.change t) }
 {
-    match answer_within(alloc, size, invoke, answer) {
-        Err(error) => Err(error),
-        Ok(None) => refused(alloc, client, invoke, ServiceError::OTHER),
-        Ok(Some(answered)) => with_first(client, answered, done),
+    let own = part.client();
+    let answer = Answer::RelinquishControl;
+    let Some(answered) = answer_within(alloc, size_of(part), invoke, &answer)? else {
+        return refused(alloc, client, invoke, ServiceError::OTHER);
+    };
+    let mut told = one_told(alloc, client, answered)?;
+    match relinquish_told(alloc, &tables.semaphores, own, asked) {
+        Err(Refuse::Memory) => Err(Memory::wanting()),
+        Ok(Some(grant)) => {
+            tell_grant(alloc, &mut told, grant)?;
+            let key = asked.name.key(alloc, own)?;
+            Ok(Plan {
+                change: Change::Relinquishes {
+                    client: own,
+                    key,
+                    asked,
+                },
+                told,
+            })
+        }
+        Ok(None) | Err(Refuse::Service(_)) => unreachable!(),
     }
 }
 
-/// A request that is not refused is done, and answered where it has an answer yet.
-fn settled<'a>(
-    alloc: Global,
-    client: u32,
-    size: u32,
-    invoke: u32,
-    outcome: Outcome<'a>,
-) -> Result<Plan<'a>, Memory>
-    ensures done { IfOk result (λ plan. (t : Rows)
-        → plan_done t plan.change plan.told.items ≡ request_done t client size invoke None
-        (outcome_of t outcome.entry.change outcome.entry.answer outcome.entry.also.items)) }
-    ensures may { IfOk result (λ plan. (t : Rows)
-        → MayChange outcome.entry.change t → MayChange plan.change t) }
-{
-    let Outcome {
-        change,
-        answer,
-        also,
-    } = outcome;
-    let done = Plan { change, told: also };
-    match answer {
-        None => Ok(done),
-        Some(answer) => answered(alloc, client, size, invoke, &answer, done),
-    }
-}
-
-/// A confirmed request is served, or refused.
+/// Plans what is left of a confirmed request: it gives a token back that somebody is granted.
 fn request_plan<'a>(
     alloc: Global,
     tables: &Tables,
@@ -119,14 +99,16 @@ fn request_plan<'a>(
     invoke: u32,
     asked: &'a Request,
 ) -> Result<Plan<'a>, Memory>
+    requires grants { grants_somebody part.now.row.client asked.now tables.now.semaphores ≡ true }
     ensures done { IfOk result (λ plan. plan_done tables.now plan.change plan.told.items
         ≡ hears tables.now part.now.row client (Takes invoke asked.now)) }
-    ensures may { IfOk result (λ plan. MayChange plan.change tables.now) }
+    ensures may { IfOk result (λ plan. (t : Rows) → MayChange plan.change t) }
 {
-    match served(alloc, tables, part, invoke, asked) {
-        Err(Refuse::Memory) => Err(Memory::wanting()),
-        Err(Refuse::Service(refusal)) => refused(alloc, client, invoke, refusal),
-        Ok(outcome) => settled(alloc, client, size_of(part), invoke, outcome),
+    match asked {
+        Request::RelinquishControl(asked) => {
+            grant_plan(alloc, tables, client, part, invoke, asked)
+        }
+        _ => unreachable!(),
     }
 }
 
@@ -335,7 +317,8 @@ pub fn time_planned<'a>(alloc: Global, tables: &Tables, ms: u32) -> Result<Plan<
     }
 }
 
-/// Plans what a client with that part does on the tables. Nothing changes here.
+/// Plans what a client with that part does on the tables, where that isn't done on its part and one table alone. Nothing
+/// changes here.
 pub fn planned<'a>(
     alloc: Global,
     tables: &Tables,
@@ -343,6 +326,7 @@ pub fn planned<'a>(
     part: &ClientPart,
     act: &Act<'a>,
 ) -> Result<Plan<'a>, Memory>
+    requires left { IsLeft act.now part.now.row tables.now }
     ensures done { IfOk result (λ plan. plan_done tables.now plan.change plan.told.items
         ≡ act_done tables.now part.now.row client act.now) }
     ensures may { IfOk result (λ plan. MayChange plan.change tables.now) }

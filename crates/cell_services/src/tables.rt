@@ -8,15 +8,8 @@ ghost use Rattle.cell_services.specs.Serving.{without_client, without_clients};
 ghost use Rattle.cell_services.specs.Tables.{moment_of};
 
 use crate::Clock;
-use mms_time::{
-    SemaphoreRow, cancel_take, define_semaphore, delete_semaphore, lose, relinquish_control,
-    take_control,
-};
-use mms_types::{
-    DataList, DefineNamedVariable, DefineNamedVariableList, DefineSemaphore, Key, Memory, Moment,
-    RelinquishControl, TakeControl, Write,
-};
-use object_names::{Named, Selection};
+use mms_time::{Semaphores, cancel_take, lose, relinquish_control};
+use mms_types::{Key, Memory, Moment, RelinquishControl};
 use sem_ticks::Renewed;
 use std::alloc::Global;
 use std::marker::Model;
@@ -30,7 +23,7 @@ pub struct Tables {
     /// Cells, named variables and lists of variables.
     pub variables: VariableTables,
     /// Semaphores.
-    pub semaphores: Named<SemaphoreRow>,
+    pub semaphores: Semaphores,
 }
 
 impl Model for Tables {
@@ -62,33 +55,6 @@ pub enum Change<'a> {
         changed: Renewed,
         clients: Vec<u32>,
     },
-    /// A client writes variables, whose data were copied, and of which it owns these guards.
-    Writes {
-        client: u32,
-        owned: Vec<bool>,
-        asked: &'a Write,
-        values: DataList,
-    },
-    /// A client defines a variable.
-    Defines {
-        client: u32,
-        asked: &'a DefineNamedVariable,
-    },
-    /// A client defines a list of variables.
-    DefinesList {
-        client: u32,
-        asked: &'a DefineNamedVariableList,
-    },
-    /// These names of variables are deleted.
-    Deletes(Selection<'a>),
-    /// These names of lists are deleted.
-    DeletesLists(Selection<'a>),
-    /// A client asks for a token by a request of that invokeID.
-    Takes {
-        client: u32,
-        invoke: u32,
-        asked: &'a TakeControl,
-    },
     /// A client gives a token of the semaphore of that name back.
     Relinquishes {
         client: u32,
@@ -100,13 +66,6 @@ pub enum Change<'a> {
         key: Key,
         entry: u64,
     },
-    /// A client defines a semaphore.
-    DefinesSemaphore {
-        client: u32,
-        asked: &'a DefineSemaphore,
-    },
-    /// The semaphore of that name is deleted.
-    DeletesSemaphore(Key),
     /// A client is lost.
     Loses(u32),
 }
@@ -128,7 +87,7 @@ impl Tables {
         Tables {
             clock: Clock::new(Moment(0)),
             variables: VariableTables::empty(alloc),
-            semaphores: Named::new(alloc),
+            semaphores: Semaphores::new(alloc),
         }
     }
 
@@ -152,20 +111,7 @@ impl Tables {
         Ok(())
     }
 
-    /// Lets the semaphores change by a request. Without memory all is as before; an entry alone wants any.
-    fn take(&mut self, client: u32, invoke: u32, asked: &TakeControl) -> Result<(), Memory>
-        ensures done { OnOk result (self.new
-            ≡ changed (Change.Takes client invoke asked.entry) self.old) }
-        ensures kept { OnErr result (self.new ≡ self.old) }
-        ensures wants { OnErr result
-            (may_want (Change.Takes client invoke asked.entry) self.old ≡ true) }
-    {
-        let now = self.moment();
-        take_control(&mut self.semaphores, client, invoke, now, asked)
-    }
-
-    /// Lets the tables change. Without memory they are as before; what makes a row or an entry, and a loss, alone want
-    /// any.
+    /// Lets the tables change. Without memory they are as before; a loss alone wants any.
     pub fn change(&mut self, alloc: Global, change: Change<'_>) -> Result<(), Memory>
         requires may { MayChange change self.old }
         ensures done { OnOk result (self.new ≡ changed change.entry self.old) }
@@ -196,33 +142,12 @@ impl Change<'_> {
                 changed.put(&mut tables.semaphores);
                 lose_variables(&mut tables.variables, &clients);
             }
-            Change::Writes {
-                client,
-                owned,
-                asked,
-                values,
-            } => tables.variables.write(client, &owned, asked, values),
-            Change::Defines { client, asked } => tables.variables.define(alloc, client, asked)?,
-            Change::DefinesList { client, asked } => {
-                tables.variables.define_list(alloc, client, asked)?
-            }
-            Change::Deletes(selection) => tables.variables.vars.delete(&selection),
-            Change::DeletesLists(selection) => tables.variables.lists.delete(&selection),
-            Change::Takes {
-                client,
-                invoke,
-                asked,
-            } => tables.take(client, invoke, asked)?,
             Change::Relinquishes { client, key, asked } => {
                 let now = tables.moment();
                 let token = asked.token.as_ref();
                 relinquish_control(&mut tables.semaphores, &key, client, token, now)
             }
             Change::Cancels { key, entry } => cancel_take(&mut tables.semaphores, &key, entry),
-            Change::DefinesSemaphore { client, asked } => {
-                define_semaphore(alloc, &mut tables.semaphores, client, asked)?
-            }
-            Change::DeletesSemaphore(key) => delete_semaphore(&mut tables.semaphores, &key),
             Change::Loses(client) => tables.lose(alloc, client)?,
         }
         Ok(())
@@ -239,27 +164,6 @@ impl Drop for Change<'_> {
                 changed: _changed,
                 clients: _clients,
             } => {}
-            Change::Writes {
-                client: _,
-                owned: _owned,
-                asked: _,
-                values: _values,
-            } => {}
-            Change::Defines {
-                client: _,
-                asked: _,
-            } => {}
-            Change::DefinesList {
-                client: _,
-                asked: _,
-            } => {}
-            Change::Deletes(_selection) => {}
-            Change::DeletesLists(_selection) => {}
-            Change::Takes {
-                client: _,
-                invoke: _,
-                asked: _,
-            } => {}
             Change::Relinquishes {
                 client: _,
                 key: _key,
@@ -269,11 +173,6 @@ impl Drop for Change<'_> {
                 key: _key,
                 entry: _,
             } => {}
-            Change::DefinesSemaphore {
-                client: _,
-                asked: _,
-            } => {}
-            Change::DeletesSemaphore(_key) => {}
             Change::Loses(_client) => {}
         }
     }

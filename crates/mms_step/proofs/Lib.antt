@@ -2,7 +2,6 @@ pub mod AllParts
 pub mod Changed
 pub mod Enough
 pub mod Guarded
-pub mod Guarding
 pub mod Holding
 pub mod Needed
 pub mod Others
@@ -14,7 +13,8 @@ pub mod TokensKept
 pub mod TwoTicks
 pub mod ToldLaws
 pub mod ServeLaws
-pub mod TokenLaws
+pub mod InPlace
+pub mod Ready
 pub mod Answering
 pub mod Asked
 mod Configured

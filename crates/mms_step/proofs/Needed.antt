@@ -102,7 +102,7 @@ nobody_told hand (suc n) = missing_both hand (parted.told_places cell [] n) [] �
 
 -- ---- each event
 
-many : (hand : List (Option Part)) → length (state_in hand).clients ≡ clients_among (length hand)
+pub many : (hand : List (Option Part)) → length (state_in hand).clients ≡ clients_among (length hand)
 many hand = device.shown_many cell is_device hand
 
 row_held : (hand : List (Option Part)) (client : ℕ) (part : RoomyRow) → 1 ≤ client → client ≤ clients_among (length hand) → held_at hand (client_place client) ≡ Some (Client part)

@@ -36,9 +36,9 @@ use Rattle.cell_services.specs.Meant.{no_tables, row_after, IsPlainlyHeard}
 use Rattle.cell_client.specs.Association.{Verdict, verdict, verdict_by}
 use Rattle.cell_services.specs.Serving.{hears, own_told}
 use Rattle.cell_client.specs.declared.acts.Act.{Act}
-use Rattle.cell_services.specs.Acts.{act_done}
+use Rattle.cell_services.specs.Acts.{act_done, IsLeft}
 use Rattle.cell_client.specs.Meant.{verdict_read}
-use Rattle.mms_step.specs.Tasks.{on_both, row_held, task_done, AreDone, HoldsOwn, IsHeardInPlace, IsTimely}
+use Rattle.mms_step.specs.Tasks.{row_held, task_done, HoldsOwn, IsHeardInPlace, IsLeftTo, IsTimely}
 use Rattle.mms_step.specs.Lifting.{clocked, varied, tabled, with_semaphores}
 use Rattle.variable_services.specs.declared.tables.VariableTables.{VariableTables}
 use Rattle.mms_step.specs.Partition.{cell, parts_of, client_part, client_place, clients_among, client_in, clock_in, clock_or, semaphores_in, semaphores_or, semaphores_place, variables_in, variables_or, on_client, on_clock, on_semaphores, on_variables, row_in, IsClient}
@@ -502,6 +502,11 @@ pub done_kept : (a : Task) (t u : Tables) (hand : List (Option Part)) → HoldsO
 done_kept (task.Client client act) t u hand own = ap (λ (o : Option Part). act_done t (row_in o) client act) (beside_client u hand client own.1)
 done_kept (task.Time ms) t u hand own = refl
 
+pub left_kept : (a : Task) (t u w : Tables) (hand : List (Option Part)) → HoldsOwn a hand → t ≡ w → IsLeftTo a w hand → IsLeftTo a t (tabled u hand)
+left_kept (task.Client client act) t u w hand own same left =
+    subst (λ (o : Option Part). IsLeft act (row_in o) t) (sym (beside_client u hand client own.1)) (subst (IsLeft act (row_held hand client)) (sym same) left)
+left_kept (task.Time ms) t u w hand own same left = tt
+
 -- ---- what a client is told by an event that uses no table
 
 -- a client's part that is held without room
@@ -546,7 +551,7 @@ module _ (s : State) (hand : List (Option Part)) (of : IsHandOf hand (parts_of s
       ∙ ap (told_all cell (clients_among (length hand)) (tell client (own_told no_tables (row_held hand client) v))) (sym tables_kept)
       ∙ ap (λ (d : Done Tables Effect). put_in_place cell d hand) (sym (heard.alone (tables_shown cell hand)))
 
--- ---- a request that is served on the variables and the part of its client
+-- ---- a part that is taken out beside a client's
 
 change_set : (g : Option Part → Option Part) (hand : List (Option Part)) (i j : ℕ) (y : Option Part) → i ≢ j → change g (set hand i y) j ≡ set (change g hand j) i y
 change_set g [] i j y other = refl
@@ -605,66 +610,11 @@ module _ (s : State) (hand : List (Option Part)) (of : IsHandOf hand (parts_of s
           (same_place hand (varied variables hand) (sym (length-change (option_map (on_variables (λ was. variables))) hand 1))))
           ∙ ap (varied variables) (semaphores_same hand)
 
-  -- once both parts are put back, all is in place that the request does
-  pub served_in_place : (client : ℕ) (v : Verdict) (out gone there new : List (Option Part)) (part table after now : Part)
-      → 1 ≤ client → client ≤ clients_among (length hand) → IsClient (held_at hand (client_place client))
-      → Some part ≡ held_at hand (client_place client) → out ≡ set hand (client_place client) None → Some table ≡ held_at out 1 → gone ≡ set out 1 None
-      → (rows : Rows) → rows ≡ semaphores_in (held_at gone (semaphores_place (clients_among (length hand)))) → AreDone rows v part table after now → there ≡ set gone 1 (Some now) → new ≡ set there (client_place client) (Some after)
-      → new ≡ put_in_place cell (hears (tables_shown cell hand) (row_held hand client) client v) hand
-  served_in_place client v out gone there new part table after now some few held own taken second left rows beside is put back =
-      both_changed (felt_all is.done.effects) (on_variables (λ was. is.become)) hand out gone there new (client_place client) 1 part table is.own is.after (λ same. omega (arith, same))
-      own taken second left is.is_own is.done.is
-      (put ∙ ap (λ (p : Part). set gone 1 (Some p)) (is.is_now ∙ ap (on_variables (λ was. is.become)) (sym is.is_table)))
-      (back ∙ ap (λ (p : Part). set there (client_place client) (Some p)) is.is_after)
-      ∙ done_in_place client is.done.effects is.become some few held
-      ∙ ap (λ (d : Done Tables Effect). put_in_place cell d hand)
-      (sym (is.done.done (tables_shown cell hand) client (shown ∙ ap variables_in (sym second ∙ ap Some is.is_table)) (stand_by ∙ sym beside))
-      ∙ ap (λ (r : ClientRow). hears (tables_shown cell hand) r client v) (ap (λ (p : Part). row_in (Some p)) (sym is.is_own) ∙ ap row_in own))
-    where
-      shown : (tables_shown cell hand).variables ≡ variables_in (held_at out 1)
-      shown =
-          ap (λ (t : Tables). t.variables) (sym (shown_own hand))
-          ∙ ap variables_in (sym (ap (λ (l : List (Option Part)). held_at l 1) taken ∙ held_after_set hand (client_place client) 1 None (λ same. omega (arith, same))))
-
-      stand_by : (tables_shown cell hand).semaphores ≡ semaphores_in (held_at gone (behind_clients hand))
-      stand_by =
-          ap (λ (t : Tables). t.semaphores) (sym (shown_own hand))
-          ∙ ap semaphores_in
-          (sym (held_after_set hand (client_place client) (behind_clients hand) None (λ same. omega (arith, same, few)))
-          ∙ ap (λ (l : List (Option Part)). held_at l (behind_clients hand)) (sym taken)
-          ∙ sym (held_after_set out 1 (behind_clients hand) None (λ same. omega (arith, same)))
-          ∙ ap (λ (l : List (Option Part)). held_at l (behind_clients hand)) (sym left))
-
 -- both parts are put back as they were
 pub both_back : (hand out gone there new : List (Option Part)) (place other : ℕ) (part table : Part) → Some part ≡ held_at hand place → out ≡ set hand place None
     → Some table ≡ held_at out other → gone ≡ set out other None → there ≡ set gone other (Some table) → new ≡ set there place (Some part) → new ≡ hand
 both_back hand out gone there new place other part table own taken second left put back =
     as_it_was hand there new place part own (as_it_was out gone there other table second left put ∙ taken) back
-
--- what is decided by two parts that were taken, one after the other, is decided by those that are held
-pub decided_by_held : (serves : Part → Part → Bool) (hand out : List (Option Part)) (place other : ℕ) (part table own one : Part) → Some part ≡ held_at hand place → out ≡ set hand place None
-    → Some table ≡ held_at out other → own ≡ part → one ≡ table → serves own one ≡ on_both serves (held_at hand place) (held_at hand other)
-decided_by_held serves hand out place other part table own one held taken second same still =
-    ap (λ (p : Part). serves p one) same ∙ ap (λ (t : Part). serves part t) still
-    ∙ ap (λ (o : Option Part). on_both serves (Some part) o) (was_held hand place other (second ∙ ap (λ (l : List (Option Part)). held_at l other) taken))
-    ∙ ap (λ (o : Option Part). on_both serves o (held_at hand other)) held
-  where
-    was_held : (hand : List (Option Part)) (place other : ℕ) → Some table ≡ held_at (set hand place None) other → Some table ≡ held_at hand other
-    was_held [] place other e = e
-    was_held (h ∷ hand) zero zero e = absurd (cc e)
-    was_held (h ∷ hand) zero (suc other) e = e
-    was_held (h ∷ hand) (suc place) zero e = e
-    was_held (h ∷ hand) (suc place) (suc other) e = was_held hand place other e
-
--- a part is put back where there is no other
-pub one_back : (hand out gone new : List (Option Part)) (place other : ℕ) (part : Part) → Some part ≡ held_at hand place → out ≡ set hand place None
-    → None ≡ held_at out other → gone ≡ set out other None → new ≡ set gone place (Some part) → new ≡ hand
-one_back hand out gone new place other part own taken free left back = as_it_was hand gone new place part own (left ∙ stays out other (sym free) ∙ taken) back
-  where
-    stays : (hand : List (Option Part)) (i : ℕ) → held_at hand i ≡ None → set hand i None ≡ hand
-    stays [] i e = refl
-    stays (h ∷ hand) zero e = ap (λ (o : Option Part). o ∷ hand) (sym e)
-    stays (h ∷ hand) (suc i) e = ap (λ (l : List (Option Part)). h ∷ l) (stays hand i e)
 
 -- ---- a client hears, with its part taken out
 

@@ -1,5 +1,5 @@
 -- Requests are answered, at once or when they wait no more (ISO 9506-1, environment and general management, and TakeControl).
-use Rattle.std.specs.Prelude.{◌≡◌, ◌⊎◌, ℕ, ◌≤◌, Option, None, Some, List, [], ◌∷◌, filter_map, length, Contains}
+use Rattle.std.specs.Prelude.{◌≡◌, ◌⊎◌, ℕ, ◌≤◌, List, [], ◌∷◌, length, Contains}
 use Rattle.mms_types.specs.declared.event.What.{What}
 use Rattle.mms_types.specs.declared.event.What.TheVariants.{Octets}
 use Rattle.mms_types.specs.declared.pdu.Answer.{Answer}
@@ -10,7 +10,8 @@ use Rattle.mms_pdu.specs.Pdus.{pdu_octets}
 use Rattle.association.specs.declared.waiting.Waiting.{Waiting}
 use Rattle.sem_ticks.specs.declared.granted.Granted.{Granted}
 use Rattle.cell_client.specs.Association.{confirmed_error}
-use Rattle.cell_client.specs.Effects.{Effect, Sends, Opens, Closes, Waits, Answers, Drains}
+use Rattle.cell_client.specs.Effects.{Effect, Sends, Waits, Answers}
+pub use Rattle.cell_client.specs.Effects.{wait_of, waits_told}
 use Rattle.mms_step.specs.State.{State}
 use Rattle.mms_step.specs.Step.{outbox_of}
 
@@ -25,18 +26,6 @@ abbrev pub IsAnswered : State → Granted → Type 0
 IsAnswered s g = 1 ≤ g.client → g.client ≤ length s.clients → Contains (outbox_of s g.client) (grant_answer g)
 
 -- ---- any request
-
--- the request that waits by an effect
-abbrev pub wait_of : Effect → Option Waiting
-wait_of (Waits request) = Some request
-wait_of (Sends output) = None
-wait_of (Opens values) = None
-wait_of Closes = None
-wait_of (Answers invoke) = None
-wait_of Drains = None
-
-abbrev pub waits_told : List (ℕ × Effect) → List Waiting
-waits_told told = filter_map (λ t. wait_of t.1) told
 
 -- A request of that invokeID is answered by one output, and no request waits; or it waits, and nothing else is told.
 abbrev pub AnswersOrWaits : ℕ → ℕ → List Effect → List (ℕ × Effect) → Type 0

@@ -112,6 +112,13 @@ on_semaphores f other = other
 abbrev pub IsClient : Option Part → Type 0
 IsClient part = part ≡ Some (Client (client_in part))
 
+-- the variables are, and the semaphores
+abbrev pub IsVariables : Option Part → Type 0
+IsVariables part = part ≡ Some (Variables (variables_in part))
+
+abbrev pub IsSemaphores : Option Part → Type 0
+IsSemaphores part = part ≡ Some (Semaphores (semaphores_in part))
+
 -- ---- the device, as tables and clients
 
 -- Where a part isn't held, its table is empty in what is shown.

@@ -1,26 +1,22 @@
 -- What is done on the tables that are lifted out of held parts (this profile's choice).
-use Rattle.std.specs.Prelude.{◌≡◌, ◌==◌, ◌&&◌, Bool, true, false, ℕ, ◌+◌, ◌≤◌, List, Option, Some}
+use Rattle.std.specs.Prelude.{◌≡◌, Bool, true, false, ℕ, ◌+◌, ◌≤◌, List, [], Option, Some}
 use Rattle.std.specs.Option.{option_map}
 use Rattle.part_table.specs.Held.{held_at}
-use Rattle.mms_types.specs.declared.pdu.Request.{Request}
-use Rattle.mms_types.specs.declared.pdu.Request.TheVariants as request
 use Rattle.association.specs.Client.{ClientRow, Client as RoomyRow}
-use Rattle.mms_time.specs.Semaphores.{Rows}
-use Rattle.variable_services.specs.declared.tables.VariableTables.{VariableTables}
+use Rattle.parted_state.specs.Area.{Own}
 use Rattle.parted_state.specs.Served.{Done, change}
-use Rattle.cell_services.specs.Acts.{act_done, IsDoneAmong, IsDoneOn}
+use Rattle.cell_services.specs.Acts.{act_done, IsDoneIn, IsLeft}
 use Rattle.cell_client.specs.Association.{Verdict}
 use Rattle.cell_client.specs.Effects.{Effect, settled, tell}
 use Rattle.cell_services.specs.Meant.{no_tables, row_after}
-use Rattle.cell_services.specs.Services.{reads_or_writes}
 use Rattle.cell_services.specs.Serving.{hears, own_told, passes}
 use Rattle.cell_services.specs.Tables.{Tables, last_moment}
-use Rattle.cell_services.specs.Tokens.{tells_alone}
 use Rattle.mms_step.specs.declared.part.Part.{Part}
-use Rattle.mms_step.specs.declared.part.Part.TheVariants.{Client, Clock, Semaphores, Variables}
+use Rattle.mms_step.specs.declared.part.Part.TheVariants.{Client, Clock}
 use Rattle.mms_step.specs.declared.serving.Task.{Task}
 use Rattle.mms_step.specs.declared.serving.Task.TheVariants as task
-use Rattle.mms_step.specs.Partition.{client_place, on_client, row_in, semaphores_place, IsClient}
+use Rattle.mms_step.specs.Needs.{verdict_need}
+use Rattle.mms_step.specs.Partition.{client_place, on_client, row_in, IsClient}
 
 -- ---- tasks
 
@@ -46,32 +42,31 @@ abbrev pub IsTimely : Task → Tables → Type 0
 IsTimely (task.Client client act) t = Unit {0}
 IsTimely (task.Time ms) t = t.now + ms ≤ last_moment
 
+-- it is left to be done on several tables, or tells several clients
+abbrev pub IsLeftTo : Task → Tables → List (Option Part) → Type 0
+IsLeftTo (task.Client client act) t hand = IsLeft act (row_held hand client) t
+IsLeftTo (task.Time ms) t hand = Unit {0}
+
 -- ---- what is done in place
 
--- the part of the client and that of the variables, before and after it, beside these semaphores
-pub record AreDone (semaphores : Rows) (v : Verdict) (part table new now : Part) : Type 0 where
-  pub own : RoomyRow
-  pub after : RoomyRow
-  pub was : VariableTables
-  pub become : VariableTables
-  pub is_own : part ≡ Client own
-  pub is_table : table ≡ Variables was
-  pub is_after : new ≡ Client after
-  pub is_now : now ≡ Variables become
-  pub done : IsDoneOn own.row semaphores was become after v
+-- what octets of a client come to is ready to be done: its row has its number, and nothing is needed that isn't held
+pub record IsReady (n client : ℕ) (v : Verdict) (hand : List (Option Part)) : Type 0 where
+  pub number : (row_held hand client).client ≡ client
+  pub needed : verdict_need n hand (row_held hand client) v ≡ []
 
--- the part of a client and that of the semaphores, before and after it, at that moment
-pub record AreDoneAmong (client now : ℕ) (v : Verdict) (part table new become : Part) : Type 0 where
-  pub own : RoomyRow
+-- With these tables a verdict is done on the part of its client and that of one area's table: those parts after it
+pub record AreDone {A : Type 0} (own : Own Tables A) (wrap : A → Part) (t : Tables) (v : Verdict) (part new now : Part) : Type 0 where
+  pub before : RoomyRow
   pub after : RoomyRow
-  pub was : Rows
-  pub rows : Rows
-  pub is_own : part ≡ Client own
-  pub is_table : table ≡ Semaphores was
+  pub become : A
+  pub is_own : part ≡ Client before
   pub is_after : new ≡ Client after
-  pub is_become : become ≡ Semaphores rows
-  pub of_client : own.row.client ≡ client
-  pub done : IsDoneAmong own.row now was rows after v
+  pub is_now : now ≡ wrap become
+  pub done : IsDoneIn own t before.row become after v
+
+abbrev pub is_clock : Option Part → Bool
+is_clock (Some (Clock clock)) = true
+is_clock other = false
 
 -- a client's part in which no room is promised
 abbrev pub IsRoomless : Part → Type 0
@@ -82,37 +77,3 @@ IsRoomless other = Unit {0}
 pub record IsHeardInPlace (client : ℕ) (v : Verdict) (hand new : List (Option Part)) : Type 0 where
   pub is : new ≡ change (option_map (on_client (row_after v))) hand (client_place client)
   pub alone : (t : Tables) → hears t (row_held hand client) client v ≡ record { tables = t; told = tell client (own_told no_tables (row_held hand client) v) }
-
--- ---- which requests are served in place
-
-abbrev pub is_clock : Option Part → Bool
-is_clock (Some (Clock clock)) = true
-is_clock other = false
-
--- on the part of a client of that number and that of the semaphores: what its client alone is told of
-abbrev pub serves_tokens : ℕ → Request → Part → Part → Bool
-serves_tokens client asked (Client own) (Semaphores rows) = (own.row.client == client) && tells_alone own.row.client asked rows
-serves_tokens client asked part table = false
-
--- on the part of a client and that of the variables
-abbrev pub serves_variables : Request → Part → Part → Bool
-serves_variables asked (Client own) (Variables table) = reads_or_writes asked
-serves_variables asked part table = false
-
--- where both parts are held
-abbrev pub on_both : (Part → Part → Bool) → Option Part → Option Part → Bool
-on_both serves (Some part) (Some table) = serves part table
-on_both serves part table = false
-
-abbrev pub tokens_in_place : ℕ → ℕ → Request → List (Option Part) → Bool
-tokens_in_place clients client asked hand =
-    is_clock (held_at hand 0) && on_both (serves_tokens client asked) (held_at hand (client_place client)) (held_at hand (semaphores_place clients))
-
-abbrev pub variables_in_place : ℕ → Request → List (Option Part) → Bool
-variables_in_place client asked hand = on_both (serves_variables asked) (held_at hand (client_place client)) (held_at hand 1)
-
--- a client's request, where there are so many clients
-abbrev pub in_place : ℕ → ℕ → Request → List (Option Part) → Bool
-in_place clients client (request.TakeControl x) hand = tokens_in_place clients client (request.TakeControl x) hand
-in_place clients client (request.RelinquishControl x) hand = tokens_in_place clients client (request.RelinquishControl x) hand
-in_place clients client asked hand = variables_in_place client asked hand

@@ -1,7 +1,6 @@
 //! One event on the parts that are held.
 
 ghost use Rattle.std.specs.Prelude.{◌≡◌, ℕ, ◌+◌, ◌<◌, ◌≤◌, false, true, [], is_none, length, slice_set, None, Some, Result, OnOk, OnErr, OnSome, IfOk, IfNone, IfSome};
-ghost use Rattle.std.specs.Box.{box_value};
 ghost use Rattle.std.specs.Option.{option_map};
 ghost use Rattle.mms_types.specs.Actors.{IsAmong};
 ghost use Rattle.mms_types.specs.declared.event.CellEvent.TheVariants.{Drain};
@@ -18,24 +17,22 @@ ghost use Rattle.mms_step.specs.Step.{step, IsInTime};
 ghost use Rattle.mms_step.specs.Partition.{cell, parts_of, clients_among, clock_in, client_place, outbox_held, on_client, IsClient};
 ghost use Rattle.mms_step.specs.Needs.{need};
 ghost use Rattle.cell_client.specs.Reads.{IsDeep, IsReadOf, IsReadingOf};
-ghost use Rattle.cell_services.specs.Acts.{act_done, IsActOf};
-ghost use Rattle.cell_client.specs.Meant.{verdict_read, uses_no_table};
-ghost use Rattle.mms_step.specs.Tasks.{in_place, row_held, serves_variables, variables_in_place, AreDone, HoldsOwn, IsHeardInPlace};
+ghost use Rattle.cell_client.specs.Meant.{act_verdict, verdict_read, uses_no_table};
+ghost use Rattle.cell_client.specs.Requests.{plain_answer};
+ghost use Rattle.mms_step.specs.Tasks.{row_held, IsHeardInPlace, IsReady};
 ghost use Rattle.cell_services.specs.Serving.{hears};
 ghost use Rattle.mms_step.specs.After.{after};
 
-use crate::needs::{client_held, semaphores_held};
+use crate::areas::{serve_on_device, serve_on_semaphores, serve_on_variables};
+use crate::needs::client_held;
 use crate::passing::tick;
 use crate::serving::{Task, serve};
-use crate::tables::{BEFORE_CLIENTS, VARIABLES, clients_of};
-use crate::tokens::serve_on_semaphores;
+use crate::tables::{BEFORE_CLIENTS, clients_of};
 use crate::{Cell, Part};
 use cell_client::{Act, Reading, wants_memory};
-use cell_services::{hear, serve_variables};
+use cell_services::hear;
 use mms_pdu::{Read, Refusal, read_pdu_to};
-use mms_time::SemaphoreRow;
-use mms_types::{CellEvent, Edition, Memory, Request, What};
-use object_names::Named;
+use mms_types::{AreaRequest, CellEvent, Edition, Memory, Request, What};
 use part_table::Hand;
 use std::alloc::Global;
 
@@ -62,22 +59,6 @@ pub(crate) fn put_client(held: &mut Hand<Cell>, client: u32, part: Box<Part>)
     held.put(BEFORE_CLIENTS + client, part);
 }
 
-/// Takes the part of the variables out of its place, where it is held.
-fn take_variables(held: &mut Hand<Cell>) -> Option<Box<Part>>
-    ensures part { option_map box_value result ≡ held_at held.old 1 }
-    ensures left { held.new ≡ slice_set held.old 1 None }
-{
-    held.take(u32::from(VARIABLES))
-}
-
-/// Puts the part of the variables into its place.
-fn put_variables(held: &mut Hand<Cell>, part: Box<Part>)
-    requires place { 1 < length held.old }
-    ensures { held.new ≡ slice_set held.old 1 (Some part.value) }
-{
-    held.put(u32::from(VARIABLES), part);
-}
-
 /// Lets a client hear what was read from it. Where no table is used, all of it is done; otherwise that is answered
 /// which is to be done on the tables, and all is as before, as it is without memory.
 fn hear_own<'a>(
@@ -92,9 +73,8 @@ fn hear_own<'a>(
     ensures done { IfOk result (λ left. IfNone left
         (IsHeardInPlace client (verdict_read (row_held held.old client) read.now)
         held.old held.new)) }
-    ensures left { IfOk result (λ left. IfSome left
-        (IsActOf (row_held held.old client)
-        (verdict_read (row_held held.old client) read.now))) }
+    ensures left { IfOk result (λ left. IfSome left (λ act.
+        act_verdict act ≡ Some (verdict_read (row_held held.old client) read.now))) }
     ensures exact { IfOk result (λ left. is_none left ≡ uses_no_table
         (row_held held.old client) (verdict_read (row_held held.old client) read.now)) }
     ensures same { IfOk result (λ left. OnSome left (held.new ≡ held.old)) }
@@ -109,103 +89,8 @@ fn hear_own<'a>(
     heard
 }
 
-/// Serves a request that reads or writes variables on the part of its client and theirs, beside those semaphores. False
-/// exactly for any other request, and where they are other parts; then all is as before.
-fn serve_parts(
-    alloc: Global,
-    part: &mut Part,
-    table: &mut Part,
-    semaphores: &Named<SemaphoreRow>,
-    invoke: u32,
-    asked: &Request,
-) -> Result<bool, Memory>
-    ensures served { IfOk result (λ done. done ≡ true
-        → AreDone semaphores.now (Takes invoke asked.now) part.old table.old part.new table.new) }
-    ensures same { IfOk result (λ done. done ≡ false
-        → (part.new ≡ part.old) × (table.new ≡ table.old)) }
-    ensures exact { IfOk result (λ done.
-        done ≡ serves_variables asked.now part.old table.old) }
-    ensures kept { OnErr result (part.new ≡ part.old) }
-    ensures left { OnErr result (table.new ≡ table.old) }
-{
-    match (part, table) {
-        (Part::Client(own), Part::Variables(variables)) => {
-            serve_variables(alloc, own, variables, semaphores, invoke, asked)
-        }
-        _ => Ok(false),
-    }
-}
-
-/// Serves a client's request that reads or writes variables, which are asked most, on its part and theirs as they are
-/// held, without lifting tables; guards are looked up among the semaphores where these are held. False for any other
-/// request, and where the variables aren't held; then all is as before.
-fn serve_on_variables(
-    alloc: Global,
-    held: &mut Hand<Cell>,
-    clients: u32,
-    client: u32,
-    invoke: u32,
-    asked: &Request,
-) -> Result<bool, Memory>
-    requires of { (s : State) × IsHandOf held.old (parts_of s) }
-    requires many { clients ≡ clients_among (length held.old) }
-    requires few { clients ≤ 64 }
-    requires among { (1 ≤ client) × (client ≤ clients) }
-    requires held { IsClient (held_at held.old (client_place client)) }
-    ensures served { IfOk result (λ done. done ≡ true → held.new ≡ put_in_place cell
-        (hears (tables_shown cell held.old) (row_held held.old client) client
-        (Takes invoke asked.now)) held.old) }
-    ensures same { IfOk result (λ done. done ≡ false → held.new ≡ held.old) }
-    ensures exact { IfOk result (λ done.
-        done ≡ variables_in_place client asked.now held.old) }
-    ensures kept { OnErr result (held.new ≡ held.old) }
-{
-    let mut part = take_client(held, client);
-    let Some(mut table) = take_variables(held) else {
-        put_client(held, client, part);
-        return Ok(false);
-    };
-    let none = Named::new(alloc);
-    let semaphores = semaphores_held(held, clients, &none);
-    let done = serve_parts(alloc, &mut part, &mut table, semaphores, invoke, asked);
-    put_variables(held, table);
-    put_client(held, client, part);
-    done
-}
-
-/// Serves a request of a client on the parts as they are held, where it is one that is asked most: it reads or writes
-/// variables, or it is for a token or gives one back. False for any other request, and where it has to be served on
-/// tables that are lifted; then all is as before.
-fn serve_in_place(
-    alloc: Global,
-    held: &mut Hand<Cell>,
-    clients: u32,
-    client: u32,
-    invoke: u32,
-    asked: &Request,
-) -> Result<bool, Memory>
-    requires of { (s : State) × IsHandOf held.old (parts_of s) }
-    requires many { clients ≡ clients_among (length held.old) }
-    requires few { clients ≤ 64 }
-    requires among { (1 ≤ client) × (client ≤ clients) }
-    requires held { IsClient (held_at held.old (client_place client)) }
-    ensures served { IfOk result (λ done. done ≡ true → held.new ≡ put_in_place cell
-        (hears (tables_shown cell held.old) (row_held held.old client) client
-        (Takes invoke asked.now)) held.old) }
-    ensures same { IfOk result (λ done. done ≡ false → held.new ≡ held.old) }
-    ensures exact { IfOk result (λ done. done ≡ in_place clients client asked.now held.old) }
-    ensures kept { OnErr result (held.new ≡ held.old) }
-{
-    match asked {
-        Request::TakeControl(_) | Request::RelinquishControl(_) => {
-            serve_on_semaphores(alloc, held, clients, client, invoke, asked)
-        }
-        _ => serve_on_variables(alloc, held, clients, client, invoke, asked),
-    }
-}
-
-/// Serves a request of a client whose part is held.
-fn finish_request(
+/// Serves a request of a client, of which all is held that it needs.
+fn serve_request(
     alloc: Global,
     held: &mut Hand<Cell>,
     clients: u32,
@@ -218,43 +103,27 @@ fn finish_request(
     requires few { clients ≤ 64 }
     requires among { (1 ≤ client) × (client ≤ clients) }
     requires held { IsClient (held_at held.old (client_place client)) }
+    requires ready { IsReady clients client (Takes invoke asked.now) held.old }
+    requires tables { plain_answer (row_held held.old client) asked.now ≡ None }
     ensures put { OnOk result (held.new ≡ put_in_place cell
         (hears (tables_shown cell held.old) (row_held held.old client) client
         (Takes invoke asked.now)) held.old) }
     ensures kept { OnErr result (held.new ≡ held.old) }
 {
-    match serve_in_place(alloc, held, clients, client, invoke, asked) {
-        Err(error) => Err(error),
-        Ok(true) => Ok(()),
-        Ok(false) => {
+    match asked.area() {
+        AreaRequest::Device(asked) => {
+            serve_on_device(alloc, held, clients, client, invoke, asked)
+        }
+        AreaRequest::Variables(asked) => {
+            serve_on_variables(alloc, held, clients, client, invoke, asked)
+        }
+        AreaRequest::Semaphores(tokens) => {
+            if serve_on_semaphores(alloc, held, clients, client, invoke, tokens)? {
+                return Ok(());
+            }
             let act = Act::Request { invoke, asked };
             serve(alloc, held, clients, &Task::Client(client, act))
         }
-    }
-}
-
-/// Does what is left of what a client sent, whose part is held.
-fn finish(
-    alloc: Global,
-    held: &mut Hand<Cell>,
-    clients: u32,
-    client: u32,
-    act: &Act<'_>,
-) -> Result<(), Memory>
-    requires of { (s : State) × IsHandOf held.old (parts_of s) }
-    requires many { clients ≡ clients_among (length held.old) }
-    requires few { clients ≤ 64 }
-    requires among { (1 ≤ client) × (client ≤ clients) }
-    requires held { IsClient (held_at held.old (client_place client)) }
-    ensures put { OnOk result (held.new ≡ put_in_place cell (act_done
-        (tables_shown cell held.old) (row_held held.old client) client act.now) held.old) }
-    ensures kept { OnErr result (held.new ≡ held.old) }
-{
-    match *act {
-        Act::Request { invoke, asked } => {
-            finish_request(alloc, held, clients, client, invoke, asked)
-        }
-        _ => serve(alloc, held, clients, &Task::Client(client, *act)),
     }
 }
 
@@ -272,6 +141,8 @@ fn hear_read(
     requires among { (1 ≤ client) × (client ≤ clients) }
     requires depth { IsDeep read.now }
     requires held { IsClient (held_at held.old (client_place client)) }
+    requires ready { IsReady clients client (verdict_read (row_held held.old client) read.now)
+        held.old }
     ensures heard { OnOk result (held.new ≡ put_in_place cell
         (hears (tables_shown cell held.old) (row_held held.old client) client
         (verdict_read (row_held held.old client) read.now)) held.old) }
@@ -279,7 +150,10 @@ fn hear_read(
 {
     match hear_own(alloc, held, client, read)? {
         None => Ok(()),
-        Some(act) => finish(alloc, held, clients, client, &act),
+        Some(Act::Request { invoke, asked }) => {
+            serve_request(alloc, held, clients, client, invoke, asked)
+        }
+        Some(act) => serve(alloc, held, clients, &Task::Client(client, act)),
     }
 }
 
@@ -297,6 +171,9 @@ fn hear_told(
     requires among { (1 ≤ client) × (client ≤ clients) }
     requires depth { IsDeep read.now }
     requires held { IsClient (held_at held.old (client_place client)) }
+    requires ready { (told : Result Pdu Refusal) × Hears (λ r. r.pdu) read.now told
+        × IsReady clients client (verdict_by (row_held held.old client).association
+        (row_held held.old client) told) held.old }
     ensures heard { (told : Result Pdu Refusal) → Hears (λ r. r.pdu) read.now told
         → OnOk result (held.new ≡ put_in_place cell
         (hears (tables_shown cell held.old) (row_held held.old client) client
@@ -324,6 +201,8 @@ fn hear_octets(
     requires few { clients ≤ 64 }
     requires among { (1 ≤ client) × (client ≤ clients) }
     requires held { IsClient (held_at held.old (client_place client)) }
+    requires ready { IsReady clients client (verdict_by (row_held held.old client).association
+        (row_held held.old client) (pdu_heard edition octets.now)) held.old }
     ensures heard { OnOk result (held.new ≡ put_in_place cell
         (hears (tables_shown cell held.old) (row_held held.old client) client
         (verdict_by (row_held held.old client).association (row_held held.old client)
@@ -350,6 +229,8 @@ fn hear_from(
     requires among { (1 ≤ client) × (client ≤ clients) }
     requires reading { IsReadOf reading.now octets.now }
     requires held { IsClient (held_at held.old (client_place client)) }
+    requires ready { IsReady clients client (verdict (row_held held.old client) octets.now)
+        held.old }
     ensures heard { OnOk result (held.new ≡ put_in_place cell
         (hears (tables_shown cell held.old) (row_held held.old client) client
         (verdict (row_held held.old client) octets.now)) held.old) }

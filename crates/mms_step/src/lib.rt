@@ -3,6 +3,7 @@
 #![tactic(auto)]
 
 mod applying;
+mod areas;
 mod asks;
 mod cell;
 pub mod laws;
@@ -14,7 +15,6 @@ mod passing;
 mod serving;
 mod tables;
 mod telling;
-mod tokens;
 
 pub use applying::{apply, apply_read, drain};
 pub use cell::Cell;

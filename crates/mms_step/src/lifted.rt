@@ -9,8 +9,7 @@ ghost use Rattle.mms_step.specs.Partition.{clients_among, clock_in, clock_or, se
 use crate::tables::semaphores as semaphores_part;
 use crate::{Cell, Part};
 use cell_services::{Clock, Tables};
-use mms_time::SemaphoreRow;
-use object_names::Named;
+use mms_time::Semaphores;
 use part_table::Hand;
 use std::alloc::Global;
 use std::mem;
@@ -49,7 +48,7 @@ fn exchange_variables(held: &mut Hand<Cell>, variables: &mut VariableTables)
 }
 
 /// Exchanges the semaphores with those of the part, where they are held, with so many clients.
-fn exchange_semaphores(held: &mut Hand<Cell>, clients: u32, semaphores: &mut Named<SemaphoreRow>)
+fn exchange_semaphores(held: &mut Hand<Cell>, clients: u32, semaphores: &mut Semaphores)
     requires many { clients ≡ clients_among (length held.old) }
     requires few { clients ≤ 64 }
     ensures part { held.new ≡ with_semaphores semaphores.old held.old }

@@ -29,9 +29,8 @@ use association::ClientPart;
 use cell_client::{Found, Reading, read, verdict_of};
 use cell_services::{also_told, happened_to, is_lossy, loss_told};
 use mms_pdu::{Read, Refusal};
-use mms_time::SemaphoreRow;
+use mms_time::Semaphores;
 use mms_types::{CellEvent, Memory, Moment, Request};
-use object_names::Named;
 use part_table::Hand;
 use parted_state::Parts;
 use sem_ticks::{Happening, tick};
@@ -140,7 +139,7 @@ pub(crate) fn client_held(held: &Hand<Cell>, client: u32) -> &ClientPart
 }
 
 /// The moment, where the clock is held, and else 0.
-fn now_held(held: &Hand<Cell>) -> Moment
+pub(crate) fn now_held(held: &Hand<Cell>) -> Moment
     ensures moment { result.0 ≡ clock_in (held_at held.now 0) }
     ensures dated { IsDated result }
 {
@@ -168,8 +167,8 @@ pub(crate) fn variables_held<'a>(
 pub(crate) fn semaphores_held<'a>(
     held: &'a Hand<Cell>,
     clients: u32,
-    none: &'a Named<SemaphoreRow>,
-) -> &'a Named<SemaphoreRow>
+    none: &'a Semaphores,
+) -> &'a Semaphores
     requires few { clients ≤ 64 }
     requires none { none.now ≡ [] }
     ensures { result.now ≡ semaphores_in (held_at held.now (semaphores_place clients)) }
@@ -216,7 +215,7 @@ fn also_need(
     ensures { IfOk result (λ parts. IsSetOf parts
         (missing held.now (also_parts clients held.now part.now.row (meant found.now)))) }
 {
-    let none = Named::new(alloc);
+    let none = Semaphores::new(alloc);
     let semaphores = semaphores_held(held, clients, &none);
     let told = also_told(alloc, semaphores, now_held(held), part, found)?;
     Ok(untold(&told, clients, held))
@@ -317,7 +316,7 @@ fn need_lost(
     if !missing.is_empty() {
         return Ok(missing);
     }
-    let none = Named::new(alloc);
+    let none = Semaphores::new(alloc);
     let semaphores = semaphores_held(held, clients, &none);
     let told = loss_told(alloc, semaphores, now_held(held), part)?;
     Ok(untold(&told, clients, held))
@@ -359,7 +358,7 @@ fn need_happened(
 #[tactic(auto, using(crate::proofs::Asked::nothing_due))]
 fn happening_until(
     alloc: Global,
-    semaphores: &Named<SemaphoreRow>,
+    semaphores: &Semaphores,
     until: Moment,
 ) -> Result<Vec<Happening>, Memory>
     requires { IsDated until }
@@ -378,7 +377,7 @@ fn need_time(alloc: Global, clients: u32, held: &Hand<Cell>, ms: u32) -> Result<
     requires time { clock_in (held_at held.now 0) + ms ≤ last_moment }
     ensures { IfOk result (λ parts. IsSetOf parts (time_need clients held.now ms)) }
 {
-    let none = Named::new(alloc);
+    let none = Semaphores::new(alloc);
     let semaphores = semaphores_held(held, clients, &none);
     let until = Moment(now_held(held).0 + u64::from(ms));
     let happened = happening_until(alloc, semaphores, until)?;

@@ -13,9 +13,8 @@ use association::Constants;
 use cell_client::Client;
 use cell_config::Config;
 use cell_services::Clock;
-use mms_time::SemaphoreRow;
+use mms_time::Semaphores;
 use mms_types::Memory;
-use object_names::Named;
 use std::alloc::Global;
 use variable_services::VariableTables;
 
@@ -42,7 +41,7 @@ fn variables(alloc: Global, config: &Config) -> Result<VariableTables, Memory>
 }
 
 /// The pools that are configured.
-fn semaphores(alloc: Global, config: &Config) -> Result<Named<SemaphoreRow>, Memory>
+fn semaphores(alloc: Global, config: &Config) -> Result<Semaphores, Memory>
     requires config { IsConfig config.now }
     ensures { IfOk result (λ semaphores. semaphores ≡ pools.configured config.now.pools) }
 {

@@ -2,8 +2,7 @@
 
 use cell_client::Client;
 use cell_services::Clock;
-use mms_time::SemaphoreRow;
-use object_names::Named;
+use mms_time::Semaphores;
 use variable_services::VariableTables;
 
 /// A part of the device. With n clients there are n + 7 of them, in this order, with a part for each client.
@@ -23,7 +22,7 @@ pub enum Part {
     /// Part 5 + c, of client c.
     Client(Client),
     /// Part 6 + n: semaphores.
-    Semaphores(Named<SemaphoreRow>),
+    Semaphores(Semaphores),
 }
 
 impl Drop for Part {

@@ -14,9 +14,8 @@ ghost use Rattle.mms_step.specs.Tasks.{is_clock};
 use crate::needs::semaphores_held;
 use crate::serving::{Task, serve};
 use crate::{Cell, Part};
-use mms_time::next_due;
+use mms_time::{Semaphores, next_due};
 use mms_types::{Memory, Moment};
-use object_names::Named;
 use part_table::Hand;
 use std::alloc::Global;
 
@@ -33,7 +32,7 @@ fn is_quiet(alloc: Global, held: &Hand<Cell>, clients: u32, ms: u32) -> bool
     let Some(Part::Clock(clock)) = held.get(0) else {
         return false;
     };
-    let none = Named::new(alloc);
+    let none = Semaphores::new(alloc);
     let until = Moment(clock.now().0 + u64::from(ms));
     next_due(semaphores_held(held, clients, &none), until).is_none()
 }

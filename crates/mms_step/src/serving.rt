@@ -6,7 +6,7 @@ ghost use Rattle.parted_state.specs.Lifted.{put_in_place, tables_shown};
 ghost use Rattle.mms_step.specs.State.{State};
 ghost use Rattle.cell_services.specs.Acts.{all_done, plan_done};
 ghost use Rattle.cell_services.specs.Changes.{MayChange};
-ghost use Rattle.mms_step.specs.Tasks.{task_done, HoldsOwn, IsTimely};
+ghost use Rattle.mms_step.specs.Tasks.{task_done, HoldsOwn, IsLeftTo, IsTimely};
 ghost use Rattle.mms_step.specs.Partition.{cell, clients_among, parts_of};
 ghost use Rattle.mms_step.specs.Rooms.{room_to, with_rooms, IsSettled};
 
@@ -38,6 +38,7 @@ fn plan<'a>(
 ) -> Result<Plan<'a>, Memory>
     requires own { HoldsOwn task.now held.now }
     requires time { IsTimely task.now tables.now }
+    requires left { IsLeftTo task.now tables.now held.now }
     ensures done { IfOk result (λ plan. plan_done tables.now plan.change plan.told.items
         ≡ task_done tables.now held.now task.now) }
     ensures may { IfOk result (λ plan. MayChange plan.change tables.now) }
@@ -67,6 +68,7 @@ fn done(
     requires settled { IsSettled (clients + 1) held.old }
     requires own { HoldsOwn task.now held.old }
     requires time { IsTimely task.now tables.old }
+    requires left { IsLeftTo task.now tables.old held.old }
     ensures done { IfOk result (λ told.
         all_done tables.new told.items ≡ task_done tables.old held.old task.now) }
     ensures rooms { IfOk result (λ told.
@@ -97,6 +99,7 @@ pub(crate) fn serve(
     requires few { clients ≤ 64 }
     requires own { HoldsOwn task.now held.old }
     requires time { IsTimely task.now (tables_shown cell held.old) }
+    requires left { IsLeftTo task.now (tables_shown cell held.old) held.old }
     ensures put { OnOk result (held.new
         ≡ put_in_place cell (task_done (tables_shown cell held.old) held.old task.now) held.old) }
     ensures kept { OnErr result (held.new ≡ held.old) }

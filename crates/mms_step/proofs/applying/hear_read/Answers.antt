@@ -1,14 +1,20 @@
-use Rattle.std.proofs.Common.{ap, ◌∙◌, List, Option, arith}
-use Rattle.std.proofs.lemmas.Result.{on_ok_weaker}
+use Rattle.std.proofs.Common.{◌≡◌, false, is_none, Some, ap, sym, ◌∙◌, List, Option, arith, subst}
+use Rattle.std.proofs.lemmas.Result.{on_err_weaker, on_ok_weaker}
 use Rattle.parted_state.specs.Lifted.{put_in_place, tables_shown}
 use Rattle.parted_state.specs.Served.{Done}
 use Rattle.mms_step.specs.declared.part.Part.{Part}
-use Rattle.cell_services.specs.Acts.{act_done, IsActOf}
-use Rattle.cell_client.specs.Meant.{verdict_read}
-use Rattle.mms_step.specs.Tasks.{row_held}
+use Rattle.cell_client.specs.declared.acts.Act.{Act}
+use Rattle.cell_client.specs.declared.acts.Act.TheVariants as act
+use Rattle.cell_client.specs.Association.{Verdict, Takes}
+use Rattle.cell_client.specs.Meant.{act_verdict, uses_no_table, verdict_read}
+use Rattle.cell_services.specs.Acts.{act_done}
+use Rattle.cell_services.specs.Serving.{hears}
+use Rattle.mms_step.specs.Tasks.{row_held, IsReady}
 use Rattle.cell_client.specs.Effects.{Effect}
 use Rattle.mms_step.specs.Partition.{cell}
 use Rattle.cell_services.specs.Tables.{Tables}
+use Rattle.cell_services.proofs.PlanLaws.{left_of}
+use Rattle.mms_step.proofs.Ready.{not_plain, takes_left}
 use Rattle.mms_step.proofs.ServeLaws.{alone_in_place, if_none, if_some, on_some}
 use Rattle.mms_step.proofs.applying.hear_read.Goals as goal
 
@@ -19,14 +25,48 @@ returns-in-None-clause-heard c =
     alone_in_place c.requires.of.0 c.args.held.now c.requires.of.1 c.args.client (verdict_read (row_held c.args.held.now c.args.client) c.args.read.now) c.hear_own.new.held
     c.requires.among.0 (omega (arith, few, many)) c.requires.held (if_none c.in_ok-hear_own.field-0 c.in-None.is c.in_ok-hear_own.ensures.done)
 
-pub returns-in-Some-clause-heard : goal.returns-in-Some-clause-heard
-returns-in-Some-clause-heard c =
+pub serve_request-requires-clause-ready : goal.serve_request-requires-clause-ready
+serve_request-requires-clause-ready c =
+    let same = on_some c.in_ok-hear_own.field-0 (act.Request c.in-Some-Request.invoke c.in-Some-Request.asked) (c.in-Some-Request.is ∙ ap Some c.in-Some-Request.field-0-is) c.in_ok-hear_own.ensures.same in
+    subst (λ (h : List (Option Part)). IsReady c.args.clients c.args.client (Takes c.in-Some-Request.invoke c.in-Some-Request.asked.now) h) (sym same)
+    (subst (λ (v : Verdict). IsReady c.args.clients c.args.client v c.args.held.now)
+    (sym (takes_left (verdict_read (row_held c.args.held.now c.args.client) c.args.read.now) c.in_ok-hear_own.field-0 c.in-Some-Request.invoke c.in-Some-Request.asked (c.in-Some-Request.is ∙ ap Some c.in-Some-Request.field-0-is)
+    c.in_ok-hear_own.ensures.left))
+    c.requires.ready)
+
+pub serve_request-requires-clause-tables : goal.serve_request-requires-clause-tables
+serve_request-requires-clause-tables c =
+    let same = on_some c.in_ok-hear_own.field-0 (act.Request c.in-Some-Request.invoke c.in-Some-Request.asked) (c.in-Some-Request.is ∙ ap Some c.in-Some-Request.field-0-is) c.in_ok-hear_own.ensures.same in
+    not_plain (row_held c.hear_own.new.held c.args.client) c.in-Some-Request.invoke c.in-Some-Request.asked.now
+    (subst (λ (h : List (Option Part)). uses_no_table (row_held h c.args.client) (Takes c.in-Some-Request.invoke c.in-Some-Request.asked.now) ≡ false) (sym same)
+    (subst (λ (v : Verdict). uses_no_table (row_held c.args.held.now c.args.client) v ≡ false)
+    (sym (takes_left (verdict_read (row_held c.args.held.now c.args.client) c.args.read.now) c.in_ok-hear_own.field-0 c.in-Some-Request.invoke c.in-Some-Request.asked (c.in-Some-Request.is ∙ ap Some c.in-Some-Request.field-0-is)
+    c.in_ok-hear_own.ensures.left))
+    (sym c.in_ok-hear_own.ensures.exact ∙ ap (λ (o : Option Act). is_none o) (c.in-Some-Request.is ∙ ap Some c.in-Some-Request.field-0-is))))
+
+pub returns-in-Some-Request-clause-heard : goal.returns-in-Some-Request-clause-heard
+returns-in-Some-Request-clause-heard c =
+    let same = on_some c.in_ok-hear_own.field-0 (act.Request c.in-Some-Request.invoke c.in-Some-Request.asked) (c.in-Some-Request.is ∙ ap Some c.in-Some-Request.field-0-is) c.in_ok-hear_own.ensures.same in
+    on_ok_weaker c.serve_request.result
+    (λ put. put
+    ∙ ap (λ (h : List (Option Part)). put_in_place cell (hears (tables_shown cell h) (row_held h c.args.client) c.args.client (Takes c.in-Some-Request.invoke c.in-Some-Request.asked.now)) h) same
+    ∙ ap (λ (v : Verdict). put_in_place cell (hears (tables_shown cell c.args.held.now) (row_held c.args.held.now c.args.client) c.args.client v) c.args.held.now)
+    (takes_left (verdict_read (row_held c.args.held.now c.args.client) c.args.read.now) c.in_ok-hear_own.field-0 c.in-Some-Request.invoke c.in-Some-Request.asked (c.in-Some-Request.is ∙ ap Some c.in-Some-Request.field-0-is)
+    c.in_ok-hear_own.ensures.left))
+    c.serve_request.ensures.put
+
+pub returns-in-Some : goal.returns-in-Some
+returns-in-Some c =
     let same = on_some c.in_ok-hear_own.field-0 c.in-Some.act c.in-Some.is c.in_ok-hear_own.ensures.same in
     let left = if_some
-    (IsActOf (row_held c.args.held.now c.args.client) (verdict_read (row_held c.args.held.now c.args.client) c.args.read.now))
+    (λ (a : Act). act_verdict a ≡ Some (verdict_read (row_held c.args.held.now c.args.client) c.args.read.now))
     c.in_ok-hear_own.field-0 c.in-Some.act c.in-Some.is c.in_ok-hear_own.ensures.left in
-    on_ok_weaker c.finish.result
-    (λ put. put
-    ∙ ap (λ (h : List (Option Part)). put_in_place cell (act_done (tables_shown cell h) (row_held h c.args.client) c.args.client c.in-Some.act) h) same
-    ∙ ap (λ (d : Done Tables Effect). put_in_place cell d c.args.held.now) (left (tables_shown cell c.args.held.now) c.args.client))
-    c.finish.ensures.put
+    record {
+      heard = on_ok_weaker c.serve.result
+          (λ put. put
+          ∙ ap (λ (h : List (Option Part)). put_in_place cell (act_done (tables_shown cell h) (row_held h c.args.client) c.args.client c.in-Some.act) h) same
+          ∙ ap (λ (d : Done Tables Effect). put_in_place cell d c.args.held.now)
+          (left_of (row_held c.args.held.now c.args.client) (verdict_read (row_held c.args.held.now c.args.client) c.args.read.now) c.in-Some.act left (tables_shown cell c.args.held.now) c.args.client))
+          c.serve.ensures.put;
+      kept = on_err_weaker c.serve.result (λ kept. kept ∙ same) c.serve.ensures.kept;
+    }

@@ -1,0 +1,152 @@
+-- A request that is served on the table of its area and the row of its client is what it does among all tables.
+use Rattle.std.specs.Prelude.{◌≡◌, ℕ, Bool, true, false, Some, List, ◌++◌, [], if◌then◌else◌, refl}
+use Rattle.std.proofs.Common.{ap, ap₂, sym, ◌∙◌, subst}
+use Rattle.mms_types.specs.Areas.{semaphore_request, variable_request}
+use Rattle.mms_types.specs.declared.area.SemaphoreRequest.{SemaphoreRequest}
+use Rattle.mms_types.specs.declared.area.SemaphoreRequest.TheVariants as semaphores
+use Rattle.mms_types.specs.declared.area.VariableRequest.{VariableRequest}
+use Rattle.mms_types.specs.declared.area.VariableRequest.TheVariants as variables
+use Rattle.mms_types.specs.declared.moment.Moment.{Moment}
+use Rattle.mms_types.specs.declared.name_list.GetNameList.{GetNameList}
+use Rattle.mms_types.specs.declared.pdu.Answer.{Answer}
+use Rattle.mms_types.specs.declared.pdu.Answer.TheVariants as answer
+use Rattle.mms_types.specs.declared.pdu.Request.{Request}
+use Rattle.mms_types.specs.declared.pdu.Request.TheVariants as request
+use Rattle.association.specs.Client.{ClientRow, Client as RoomyRow}
+use Rattle.parted_state.specs.Area.{Own, no_table}
+use Rattle.parted_state.specs.Served.{Done}
+use Rattle.variable_services.specs.declared.tables.VariableTables.{VariableTables}
+use Rattle.mms_time.specs.Guards.{owns_guard}
+use Rattle.mms_time.specs.Semaphores.{Rows}
+use Rattle.variables.specs.Access.{flags_of}
+use Rattle.cell_client.specs.Areas.{RequestIn, IsServedIn, also_in, is_done_in, own_told_in, table_in}
+use Rattle.cell_client.specs.Association.{Takes}
+use Rattle.cell_client.specs.Effects.{Effect, felt_all, settled, tell}
+use Rattle.cell_client.specs.Facts.{Facts}
+use Rattle.serve_variables.specs.Variables as variable
+use Rattle.serve_variables.specs.Variables.{guards_asked, TellOwned}
+use Rattle.serve_semaphores.specs.Semaphores as semaphore
+use Rattle.cell_services.specs.Acts.{IsDoneIn}
+use Rattle.cell_services.specs.Device.{listed, scope_cause, scope_of}
+use Rattle.cell_services.specs.Facts.{names_in}
+use Rattle.cell_services.specs.AreaLaws.{in_semaphores, in_variables}
+use Rattle.cell_services.proofs.PlanLaws.{append_none}
+use Rattle.cell_services.proofs.TimeLaws.{moment_given}
+use Rattle.cell_services.specs.Requests.{told_in}
+use Rattle.cell_services.specs.Services.{InArea, OfSemaphores, OfVariables, area_of, cause_of, effect_of}
+use Rattle.cell_services.specs.Serving.{hears}
+use Rattle.cell_services.specs.Tables.{Tables, moment_of, own_semaphores, own_variables}
+use Rattle.cell_client.specs.Requests.{is_done, request_told, size_of}
+
+-- what a request of an area does among all tables
+abbrev heard_in : Tables → ClientRow → ℕ → InArea → Done Tables Effect
+heard_in t row invoke a = record {
+  tables = if is_done (size_of row.association) invoke (cause_of t row a) (effect_of t row invoke a).answer then (effect_of t row invoke a).tables else t;
+  told = tell row.client (request_told (size_of row.association) invoke (cause_of t row a) (effect_of t row invoke a).answer)
+      ++ (if is_done (size_of row.association) invoke (cause_of t row a) (effect_of t row invoke a).answer then (effect_of t row invoke a).also else []);
+}
+
+module _ {A : Type 0} (own : Own Tables A) (stays : (t : Tables) → own.put (own.of t) t ≡ t) (r : RequestIn A) (t : Tables) (row : ClientRow) (invoke : ℕ) where
+  abbrev facts : Facts
+  facts = told_in own t row r
+
+  abbrev at : Tables → List (ℕ × Effect) → Done Tables Effect
+  at u told = record { tables = u; told = told }
+
+  -- its table is put among the others
+  in_place : (now : A) (new : RoomyRow) (is : IsServedIn r facts invoke row (own.of t) now new)
+      → at (if is_done_in r facts row invoke (own.of t) then own.put (r.effect facts (own.of t) row invoke).tables t else t)
+      (tell row.client (own_told_in r facts row invoke (own.of t)) ++ also_in r facts row invoke (own.of t))
+      ≡ at (own.put now t) (tell row.client is.effects)
+  in_place now new is = ap₂ at (by_test (is_done_in r facts row invoke (own.of t)) ∙ ap (λ (a : A). own.put a t) (sym is.table)) is.told
+    where
+      by_test : (b : Bool) → (if b then own.put (r.effect facts (own.of t) row invoke).tables t else t)
+          ≡ own.put (if b then (r.effect facts (own.of t) row invoke).tables else own.of t) t
+      by_test true = refl
+      by_test false = sym (stays t)
+
+-- ---- each area
+
+-- what a request is heard as, by its area
+heard_as : (t : Tables) (row : ClientRow) (invoke : ℕ) (asked : Request) (a : InArea) → area_of asked ≡ a → hears t row row.client (Takes invoke asked) ≡ heard_in t row invoke a
+heard_as t row invoke asked a is = ap (heard_in t row invoke) is
+
+-- no domain is live, and who owns guards is told by the semaphores
+variables_live : (x : VariableRequest) (t : Tables) (row : ClientRow) → (told_in own_variables t row (variable.request_in x)).live ≡ false
+variables_live (variables.Write x) t row = refl
+variables_live other t row = refl
+
+variables_owned : (x : VariableRequest) (t : Tables) (row : ClientRow) (owned : List Bool)
+    → TellOwned x row.client t.variables (flags_of (λ guard. owns_guard row.client guard t.semaphores) (guards_asked x row.client t.variables)) owned
+    → TellOwned x row.client t.variables (told_in own_variables t row (variable.request_in x)).owned owned
+variables_owned (variables.Write x) t row owned tell = tell
+variables_owned other t row owned tell = tt
+
+module _ (x : VariableRequest) (t : Tables) (row : ClientRow) (invoke : ℕ) where
+  variables_done : (now : VariableTables) (new : RoomyRow) → IsServedIn (variable.request_in x) (told_in own_variables t row (variable.request_in x)) invoke row t.variables now new
+      → IsDoneIn own_variables t row now new (Takes invoke (variable_request x))
+  variables_done now new is = record {
+    effects = is.effects;
+    is = is.is;
+    done = heard_as t row invoke (variable_request x) (OfVariables (variable.request_in x)) (in_variables x)
+        ∙ in_place own_variables (λ u. refl) (variable.request_in x) t row invoke now new is;
+  }
+
+  pub variables_served : (owned : List Bool) (was now : VariableTables) (rows : Rows) (new : RoomyRow)
+      → ((facts : Facts) → facts.live ≡ false → TellOwned x row.client was facts.owned owned → IsServedIn (variable.request_in x) facts invoke row was now new)
+      → TellOwned x row.client was (flags_of (λ guard. owns_guard row.client guard rows) (guards_asked x row.client was)) owned
+      → t.variables ≡ was → t.semaphores ≡ rows → IsDoneIn own_variables t row now new (Takes invoke (variable_request x))
+  variables_served owned was now rows new served tell stood beside =
+      variables_done now new
+      (subst (λ (v : VariableTables). (facts : Facts) → facts.live ≡ false → TellOwned x row.client v facts.owned owned → IsServedIn (variable.request_in x) facts invoke row v now new)
+      (sym stood) served (told_in own_variables t row (variable.request_in x)) (variables_live x t row)
+      (variables_owned x t row owned
+      (subst (λ (r : Rows). TellOwned x row.client t.variables (flags_of (λ guard. owns_guard row.client guard r) (guards_asked x row.client t.variables)) owned) (sym beside)
+      (subst (λ (v : VariableTables). TellOwned x row.client v (flags_of (λ guard. owns_guard row.client guard rows) (guards_asked x row.client v)) owned) (sym stood) tell))))
+
+-- at the moment of the device
+semaphores_now : (x : SemaphoreRequest) (t : Tables) (row : ClientRow) → (told_in own_semaphores t row (semaphore.request_in x)).now ≡ moment_of t
+semaphores_now (semaphores.TakeControl x) t row = refl
+semaphores_now other t row = refl
+
+semaphores_live : (x : SemaphoreRequest) (t : Tables) (row : ClientRow) → (told_in own_semaphores t row (semaphore.request_in x)).live ≡ false
+semaphores_live (semaphores.TakeControl x) t row = refl
+semaphores_live other t row = refl
+
+pub semaphores_served : (x : SemaphoreRequest) (t : Tables) (row : ClientRow) (invoke : ℕ) (moment : Moment) (was now : Rows) (new : RoomyRow)
+    → ((facts : Facts) → facts.now ≡ moment → facts.live ≡ false → IsServedIn (semaphore.request_in x) facts invoke row was now new)
+    → t.semaphores ≡ was → t.now ≡ moment.0 → IsDoneIn own_semaphores t row now new (Takes invoke (semaphore_request x))
+semaphores_served x t row invoke moment was now new served stood at =
+    let is : IsServedIn (semaphore.request_in x) (told_in own_semaphores t row (semaphore.request_in x)) invoke row t.semaphores now new =
+    subst (λ (rows : Rows). IsServedIn (semaphore.request_in x) (told_in own_semaphores t row (semaphore.request_in x)) invoke row rows now new) (sym stood)
+    (served (told_in own_semaphores t row (semaphore.request_in x)) (semaphores_now x t row ∙ sym (moment_given t moment (sym at))) (semaphores_live x t row)) in
+    record {
+      effects = is.effects;
+      is = is.is;
+      done = heard_as t row invoke (semaphore_request x) (OfSemaphores (semaphore.request_in x)) (in_semaphores x)
+          ∙ in_place own_semaphores (λ u. refl) (semaphore.request_in x) t row invoke now new is;
+    }
+
+-- ---- names are listed
+
+module _ (x : GetNameList) (t : Tables) (row : ClientRow) (invoke : ℕ) where
+  abbrev names : Answer
+  names = answer.GetNameList (listed (names_in t (scope_of row.client x.scope) x.class x.after))
+
+  pub names_served : (new : RoomyRow) → new ≡ settled (felt_all (request_told (size_of row.association) invoke (scope_cause false x.scope) (Some names)) row)
+      → IsDoneIn no_table t row tt new (Takes invoke (request.GetNameList x))
+  names_served new is = record {
+    effects = request_told (size_of row.association) invoke (scope_cause false x.scope) (Some names);
+    is = is;
+    done = by_test (is_done (size_of row.association) invoke (scope_cause false x.scope) (Some names)) ∙ ap (at t) (append_none _);
+  }
+    where
+      at : Tables → List (ℕ × Effect) → Done Tables Effect
+      at u told = record { tables = u; told = told }
+
+      told : List (ℕ × Effect)
+      told = tell row.client (request_told (size_of row.association) invoke (scope_cause false x.scope) (Some names))
+
+      by_test : (b : Bool) → at (if b then t else t) (told ++ (if b then [] else [])) ≡ at t (told ++ [])
+      by_test true = refl
+      by_test false = refl

@@ -1,0 +1,75 @@
+-- A request is in the area that looks at it, which tells what it asks besides.
+use Rattle.std.specs.Prelude.{◌≡◌, ℕ, Bool, true, false, [], ◌++◌, is_some, refl}
+use Rattle.std.specs.List.{flat_map, list_any}
+use Rattle.mms_types.specs.Areas.{device_request, semaphore_request, variable_request}
+use Rattle.mms_types.specs.declared.area.DeviceRequest.{DeviceRequest}
+use Rattle.mms_types.specs.declared.area.DeviceRequest.TheVariants as device
+use Rattle.mms_types.specs.declared.area.SemaphoreRequest.{SemaphoreRequest}
+use Rattle.mms_types.specs.declared.area.SemaphoreRequest.TheVariants as semaphores
+use Rattle.mms_types.specs.declared.area.VariableRequest.{VariableRequest}
+use Rattle.mms_types.specs.declared.area.VariableRequest.TheVariants as variables
+use Rattle.association.specs.Client.{ClientRow}
+use Rattle.mms_time.specs.Semaphores.{Rows}
+use Rattle.variable_services.specs.declared.tables.VariableTables.{VariableTables}
+use Rattle.cell_client.specs.Facts.{Facts}
+use Rattle.serve_variables.specs.Variables as variable
+use Rattle.serve_variables.specs.Variables.{guards_asked}
+use Rattle.serve_semaphores.specs.Semaphores as semaphore
+use Rattle.cell_services.specs.Device as of_device
+use Rattle.cell_services.specs.Facts.{guard_tables, tables_for}
+use Rattle.cell_services.specs.Services.{OfDevice, OfSemaphores, OfVariables, area_of}
+
+pub in_device : (x : DeviceRequest) → area_of (device_request x) ≡ OfDevice (of_device.request_in x)
+in_device (device.Status x) = refl
+in_device (device.GetNameList x) = refl
+in_device device.Identify = refl
+
+pub in_variables : (x : VariableRequest) → area_of (variable_request x) ≡ OfVariables (variable.request_in x)
+in_variables (variables.Read x) = refl
+in_variables (variables.Write x) = refl
+in_variables (variables.GetVariableAccessAttributes x) = refl
+in_variables (variables.DefineNamedVariable x) = refl
+in_variables (variables.DeleteVariableAccess x) = refl
+in_variables (variables.DefineNamedVariableList x) = refl
+in_variables (variables.GetNamedVariableListAttributes x) = refl
+in_variables (variables.DeleteNamedVariableList x) = refl
+
+pub in_semaphores : (x : SemaphoreRequest) → area_of (semaphore_request x) ≡ OfSemaphores (semaphore.request_in x)
+in_semaphores (semaphores.TakeControl x) = refl
+in_semaphores (semaphores.RelinquishControl x) = refl
+in_semaphores (semaphores.DefineSemaphore x) = refl
+in_semaphores (semaphores.DeleteSemaphore x) = refl
+in_semaphores (semaphores.ReportSemaphoreStatus x) = refl
+in_semaphores (semaphores.ReportPoolSemaphoreStatus x) = refl
+in_semaphores (semaphores.ReportSemaphoreEntryStatus x) = refl
+
+-- ---- what their own tables show to be asked besides
+
+none_behind : (b : Bool) → guard_tables b ++ [] ≡ guard_tables b
+none_behind true = refl
+none_behind false = refl
+
+-- by a write, whether its client owns the guards, where a variable has one
+pub more_variables : (x : VariableRequest) (v : VariableTables) (row : ClientRow)
+    → flat_map tables_for ((variable.request_in x).more v row) ≡ guard_tables (list_any is_some (guards_asked x row.client v))
+more_variables (variables.Write x) v row = none_behind (list_any is_some (guards_asked (variables.Write x) row.client v))
+more_variables other v row = refl
+
+-- by others, nothing
+pub more_semaphores : (x : SemaphoreRequest) (rows : Rows) (row : ClientRow) → flat_map tables_for ((semaphore.request_in x).more rows row) ≡ []
+more_semaphores (semaphores.TakeControl x) rows row = refl
+more_semaphores other rows row = refl
+
+pub more_device : (x : DeviceRequest) (row : ClientRow) → flat_map tables_for ((of_device.request_in x).more tt row) ≡ []
+more_device device.Identify row = refl
+more_device other row = refl
+
+-- ---- a request for variables tells nobody else anything
+
+pub variables_alone : (x : VariableRequest) (facts : Facts) (v : VariableTables) (row : ClientRow) (invoke : ℕ) → ((variable.request_in x).effect facts v row invoke).also ≡ []
+variables_alone (variables.Read x) facts v row invoke = refl
+variables_alone other facts v row invoke = refl
+
+pub device_alone : (x : DeviceRequest) (facts : Facts) (row : ClientRow) (invoke : ℕ) → ((of_device.request_in x).effect facts tt row invoke).also ≡ []
+device_alone device.Identify facts row invoke = refl
+device_alone other facts row invoke = refl

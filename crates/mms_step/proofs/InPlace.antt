@@ -1,0 +1,182 @@
+-- A request is served on the table of its area and the part of its client.
+use Rattle.std.specs.Prelude.{◌≡◌, ℕ, ◌≤◌, true, Option, Some, None, List, length, is_some, refl}
+use Rattle.std.specs.Option.{option_map}
+use Rattle.std.proofs.Common.{set, ap, ap₂, sym, ◌∙◌, subst, arith}
+use Rattle.part_table.specs.Held.{held_at, IsHandOf}
+use Rattle.part_table.specs.HeldLaws.{held_of_list}
+use Rattle.parted_state.specs.Area.{no_table}
+use Rattle.parted_state.specs.Lifted.{with_tables, tables_shown, told_all, put_in_place}
+use Rattle.parted_state.specs.LiftedLaws.{held_else}
+use Rattle.parted_state.specs.Served.{Done, change}
+use Rattle.association.specs.Client.{ClientRow, Client as RoomyRow}
+use Rattle.mms_time.specs.Semaphores.{Rows}
+use Rattle.variable_services.specs.declared.tables.VariableTables.{VariableTables}
+use Rattle.cell_client.specs.Association.{Verdict}
+use Rattle.cell_client.specs.Effects.{Effect, felt_all, settled, tell}
+use Rattle.cell_services.specs.Acts.{IsDoneIn}
+use Rattle.cell_services.specs.Serving.{hears}
+use Rattle.cell_services.specs.Tables.{Tables, own_semaphores, own_variables}
+use Rattle.mms_step.specs.declared.part.Part.{Part}
+use Rattle.mms_step.specs.declared.part.Part.TheVariants.{Client, Semaphores, Variables}
+use Rattle.mms_step.specs.State.{State}
+use Rattle.mms_step.specs.Lifting.{varied, with_semaphores}
+use Rattle.mms_step.specs.Needs.{is_held}
+use Rattle.mms_step.specs.Partition.{cell, parts_of, client_in, client_part, client_place, clients_among, clock_in, on_client, on_semaphores, on_variables, row_in, semaphores_in, semaphores_place, variables_in, IsClient, IsSemaphores, IsVariables}
+use Rattle.mms_step.specs.Rooms.{no_room, with_room}
+use Rattle.mms_step.specs.Tasks.{row_held, AreDone, IsRoomless}
+use Rattle.mms_step.proofs.Changed.{client_arm}
+use Rattle.mms_step.proofs.Holding.{client_at, clients_counted, held_part}
+use Rattle.mms_step.proofs.ServeLaws.{behind_clients, both_changed, change_as, done_in_place, first_two, held_after_set, part_settled, put_tables, shown_own, told_row_at, two_same, varied_same}
+
+-- ---- a held part of a state has no room
+
+roomless : (part : Part) → with_room no_room part ≡ part → IsRoomless part
+roomless (Client own) same = let none : settled own.row ≡ own = cc same in sym none
+roomless other same = tt
+
+-- ---- what is heard of a client, with its number
+
+module _ (t after : Tables) (client : ℕ) (v : Verdict) (row its : ClientRow) (is : its ≡ row) (number : row.client ≡ client) (effects : List Effect) where
+  heard_so : hears t its its.client v ≡ record { tables = after; told = tell its.client effects } → hears t row client v ≡ record { tables = after; told = tell client effects }
+  heard_so done =
+      ap₂ (λ (r : ClientRow) (k : ℕ). hears t r k v) (sym is) (sym number ∙ ap (λ (r : ClientRow). r.client) (sym is))
+      ∙ done
+      ∙ ap (λ (k : ℕ). at k) (ap (λ (r : ClientRow). r.client) is ∙ number)
+    where
+      at : ℕ → Done Tables Effect
+      at k = record { tables = after; told = tell k effects }
+
+module _ (s : State) (hand : List (Option Part)) (of : IsHandOf hand (parts_of s)) where
+  pub held_roomless : (place : ℕ) (part : Part) → Some part ≡ held_at hand place → IsRoomless part
+  held_roomless place part held = roomless part (part_settled s place part (held_of_list hand (parts_of s) place part of (sym held)))
+
+  -- ---- tables of which the semaphores alone became others
+
+  done_among : (client : ℕ) (effects : List Effect) (rows : Rows) → 1 ≤ client → client ≤ clients_among (length hand) → IsClient (held_at hand (client_place client))
+      → change (option_map (on_client (felt_all effects))) (with_semaphores rows hand) (client_place client)
+      ≡ put_in_place cell (record { tables = record (tables_shown cell hand) { semaphores = rows }; told = tell client effects }) hand
+  done_among client effects rows some few held =
+      let counted = clients_counted s hand of in
+      let found = client_at s client some (omega (arith, few, counted)) in
+      let is_on : is_held hand (client_place client) ≡ true = ap (λ (o : Option Part). is_some o) held in
+      let there : held_at hand (client_place client) ≡ Some (client_part found.0) =
+      held_part hand (parts_of s) (client_place client) (client_part found.0) of is_on found.1 in
+      let row : held_at (with_semaphores rows hand) (client_place client) ≡ Some (client_part found.0) =
+      held_else (option_map (on_semaphores (λ was. rows))) hand (semaphores_place (clients_among (length hand))) (client_place client) (λ same. omega (arith, same, few)) ∙ there in
+      change_as (option_map (on_client (felt_all effects))) (λ o. Some (client_part (felt_all effects found.0))) (with_semaphores rows hand) (client_place client)
+      (ap (option_map (on_client (felt_all effects))) row)
+      ∙ sym (told_row_at (clients_among (length hand)) effects client (with_semaphores rows hand) found.0 some few row)
+      ∙ ap (told_all cell (clients_among (length hand)) (tell client effects)) (sym lowered)
+    where
+      lowered : with_tables cell (clients_among (length hand)) (record (tables_shown cell hand) { semaphores = rows }) hand ≡ with_semaphores rows hand
+      lowered =
+          put_tables s hand of (record (tables_shown cell hand) { semaphores = rows })
+          ∙ ap (λ (t : Tables). with_semaphores rows (first_two t.now t.variables hand)) (sym (shown_own hand))
+          ∙ ap (with_semaphores rows) (two_same hand)
+
+  -- ---- once both parts are put back, all is in place that the request does
+
+  module _ (client : ℕ) (v : Verdict) (out gone there new : List (Option Part)) (part table after now : Part) (some : 1 ≤ client) (few : client ≤ clients_among (length hand))
+      (held : IsClient (held_at hand (client_place client))) (number : (row_held hand client).client ≡ client)
+      (own : Some part ≡ held_at hand (client_place client)) (taken : out ≡ set hand (client_place client) None) where
+    own_row : (before : RoomyRow) → part ≡ Client before → before.row ≡ row_held hand client
+    own_row before is = ap (λ (p : Part). row_in (Some p)) (sym is) ∙ ap row_in own
+
+    pub variables_served : Some table ≡ held_at out 1 → IsVariables (held_at hand 1) → gone ≡ set out 1 None
+        → (rows : Rows) → rows ≡ semaphores_in (held_at gone (semaphores_place (clients_among (length hand))))
+        → ((t : Tables) → t.variables ≡ variables_in (Some table) → t.semaphores ≡ rows → AreDone own_variables Variables t v part after now)
+        → there ≡ set gone 1 (Some now) → new ≡ set there (client_place client) (Some after)
+        → new ≡ put_in_place cell (hears (tables_shown cell hand) (row_held hand client) client v) hand
+    variables_served second there_is left rows beside served put back =
+        let before = ap (λ (l : List (Option Part)). held_at l 1) taken ∙ held_after_set hand (client_place client) 1 None (λ same. omega (arith, same)) in
+        let is_table : IsVariables (Some table) = subst IsVariables (sym (second ∙ before)) there_is in
+        let is = served (tables_shown cell hand) (shown ∙ ap variables_in (sym second)) (stand_by ∙ sym beside) in
+        let table_is : table ≡ Variables (variables_in (Some table)) = cc is_table in
+        both_changed (felt_all is.done.effects) (on_variables (λ was. is.become)) hand out gone there new (client_place client) 1 part table is.before is.after (λ same. omega (arith, same))
+        own taken second left is.is_own is.done.is
+        (put ∙ ap (λ (p : Part). set gone 1 (Some p)) (is.is_now ∙ ap (on_variables (λ was. is.become)) (sym table_is)))
+        (back ∙ ap (λ (p : Part). set there (client_place client) (Some p)) is.is_after)
+        ∙ done_in_place s hand of client is.done.effects is.become some few held
+        ∙ ap (λ (d : Done Tables Effect). put_in_place cell d hand)
+        (sym (heard_so (tables_shown cell hand) (record (tables_shown cell hand) { variables = is.become }) client v (row_held hand client) is.before.row (own_row is.before is.is_own) number
+        is.done.effects is.done.done))
+      where
+        shown : (tables_shown cell hand).variables ≡ variables_in (held_at out 1)
+        shown =
+            ap (λ (t : Tables). t.variables) (sym (shown_own hand))
+            ∙ ap variables_in (sym (ap (λ (l : List (Option Part)). held_at l 1) taken ∙ held_after_set hand (client_place client) 1 None (λ same. omega (arith, same))))
+
+        stand_by : (tables_shown cell hand).semaphores ≡ semaphores_in (held_at gone (behind_clients hand))
+        stand_by =
+            ap (λ (t : Tables). t.semaphores) (sym (shown_own hand))
+            ∙ ap semaphores_in
+            (sym (held_after_set hand (client_place client) (behind_clients hand) None (λ same. omega (arith, same, few)))
+            ∙ ap (λ (l : List (Option Part)). held_at l (behind_clients hand)) (sym taken)
+            ∙ sym (held_after_set out 1 (behind_clients hand) None (λ same. omega (arith, same)))
+            ∙ ap (λ (l : List (Option Part)). held_at l (behind_clients hand)) (sym left))
+
+    pub semaphores_served : (n : ℕ) → n ≡ clients_among (length hand) → Some table ≡ held_at out (semaphores_place n) → IsSemaphores (held_at hand (semaphores_place n)) → gone ≡ set out (semaphores_place n) None
+        → (moment : ℕ) → moment ≡ clock_in (held_at hand 0)
+        → ((t : Tables) → t.semaphores ≡ semaphores_in (Some table) → t.now ≡ moment → AreDone own_semaphores Semaphores t v part after now)
+        → there ≡ set gone (semaphores_place n) (Some now) → new ≡ set there (client_place client) (Some after)
+        → new ≡ put_in_place cell (hears (tables_shown cell hand) (row_held hand client) client v) hand
+    semaphores_served n many second there_is left moment dated served put back =
+        let before = ap (λ (l : List (Option Part)). held_at l (semaphores_place n)) taken
+        ∙ held_after_set hand (client_place client) (semaphores_place n) None (λ same. omega (arith, same, many, few)) in
+        let is_table : IsSemaphores (Some table) = subst IsSemaphores (sym (second ∙ before)) there_is in
+        let is = served (tables_shown cell hand) (stood ∙ ap semaphores_in (sym second)) (at ∙ sym dated) in
+        let table_is : table ≡ Semaphores (semaphores_in (Some table)) = cc is_table in
+        both_changed (felt_all is.done.effects) (on_semaphores (λ was. is.become)) hand out gone there new (client_place client) (semaphores_place n) part table is.before is.after
+        (λ same. omega (arith, same, many, few)) own taken second left is.is_own is.done.is
+        (put ∙ ap (λ (p : Part). set gone (semaphores_place n) (Some p)) (is.is_now ∙ ap (on_semaphores (λ was. is.become)) (sym table_is)))
+        (back ∙ ap (λ (p : Part). set there (client_place client) (Some p)) is.is_after)
+        ∙ ap (λ (m : ℕ). change (option_map (on_client (felt_all is.done.effects))) (change (option_map (on_semaphores (λ was. is.become))) hand (semaphores_place m)) (client_place client)) many
+        ∙ done_among client is.done.effects is.become some few held
+        ∙ ap (λ (d : Done Tables Effect). put_in_place cell d hand)
+        (sym (heard_so (tables_shown cell hand) (record (tables_shown cell hand) { semaphores = is.become }) client v (row_held hand client) is.before.row (own_row is.before is.is_own) number
+        is.done.effects is.done.done))
+      where
+        at : (tables_shown cell hand).now ≡ clock_in (held_at hand 0)
+        at = ap (λ (t : Tables). t.now) (sym (shown_own hand))
+
+        stood : (tables_shown cell hand).semaphores ≡ semaphores_in (held_at out (semaphores_place n))
+        stood =
+            ap (λ (t : Tables). t.semaphores) (sym (shown_own hand))
+            ∙ ap (λ (m : ℕ). semaphores_in (held_at hand (semaphores_place m))) (sym many)
+            ∙ ap semaphores_in
+            (sym (ap (λ (l : List (Option Part)). held_at l (semaphores_place n)) taken ∙ held_after_set hand (client_place client) (semaphores_place n) None (λ same. omega (arith, same, many, few))))
+
+  -- no table becomes another
+  pub device_served : (client : ℕ) (v : Verdict) (out new : List (Option Part)) (part after : Part) → 1 ≤ client → client ≤ clients_among (length hand)
+      → IsClient (held_at hand (client_place client)) → (row_held hand client).client ≡ client
+      → Some part ≡ held_at hand (client_place client) → out ≡ set hand (client_place client) None → IsClient (Some after)
+      → IsDoneIn no_table (tables_shown cell hand) (row_in (Some part)) tt (client_in (Some after)) v → new ≡ set out (client_place client) (Some after)
+      → new ≡ put_in_place cell (hears (tables_shown cell hand) (row_held hand client) client v) hand
+  device_served client v out new part after some few held number own taken is_after done back =
+      let is : part ≡ Client (client_in (held_at hand (client_place client))) = cc (own ∙ held) in
+      let after_is : after ≡ Client (client_in (Some after)) = cc is_after in
+      client_arm (on_client (felt_all done.effects)) hand out new (client_place client) part part (client_in (held_at hand (client_place client))) (client_in (Some after)) own taken refl is
+      (ap Client (done.is ∙ ap (λ (p : Part). settled (felt_all done.effects (row_in (Some p)))) is)) (back ∙ ap (λ (p : Part). set out (client_place client) (Some p)) after_is)
+      ∙ ap (λ (h : List (Option Part)). change (option_map (on_client (felt_all done.effects))) h (client_place client)) (sym unvaried)
+      ∙ done_in_place s hand of client done.effects (tables_shown cell hand).variables some few held
+      ∙ ap (λ (d : Done Tables Effect). put_in_place cell d hand)
+      (sym (heard_so (tables_shown cell hand) (tables_shown cell hand) client v (row_held hand client) (row_in (Some part)) (ap row_in own) number done.effects done.done))
+    where
+      unvaried : varied (tables_shown cell hand).variables hand ≡ hand
+      unvaried = ap (λ (t : Tables). varied t.variables hand) (sym (shown_own hand)) ∙ varied_same hand
+
+  -- what is shown of tables while the part of a client is taken out
+  pub variables_beside : (client : ℕ) (out : List (Option Part)) (v : VariableTables) → out ≡ set hand (client_place client) None → v ≡ variables_in (held_at out 1) → (tables_shown cell hand).variables ≡ v
+  variables_beside client out v taken is =
+      ap (λ (t : Tables). t.variables) (sym (shown_own hand))
+      ∙ ap variables_in (sym (ap (λ (l : List (Option Part)). held_at l 1) taken ∙ held_after_set hand (client_place client) 1 None (λ same. omega (arith, same))))
+      ∙ sym is
+
+  pub semaphores_beside : (client n : ℕ) (out : List (Option Part)) (rows : Rows) → n ≡ clients_among (length hand) → client ≤ n → out ≡ set hand (client_place client) None
+      → rows ≡ semaphores_in (held_at out (semaphores_place n)) → (tables_shown cell hand).semaphores ≡ rows
+  semaphores_beside client n out rows many few taken is =
+      ap (λ (t : Tables). t.semaphores) (sym (shown_own hand))
+      ∙ ap (λ (m : ℕ). semaphores_in (held_at hand (semaphores_place m))) (sym many)
+      ∙ ap semaphores_in
+      (sym (ap (λ (l : List (Option Part)). held_at l (semaphores_place n)) taken ∙ held_after_set hand (client_place client) (semaphores_place n) None (λ same. omega (arith, same, few))))
+      ∙ sym is

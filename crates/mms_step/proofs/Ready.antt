@@ -1,0 +1,121 @@
+-- What a client's octets come to is ready to be done where nothing is needed that isn't held.
+use Rattle.std.specs.Prelude.{◌≡◌, ℕ, ◌+◌, ◌-◌, ◌≤◌, Bool, true, false, not, ◌&&◌, Option, Some, None, List, [], ◌∷◌, ◌++◌, is_some, length, slice_get, IfSome, if◌then◌else◌, refl}
+use Rattle.std.proofs.Common.{ap, sym, ◌∙◌, subst, arith}
+use Rattle.mms_types.specs.Areas.{semaphore_request, variable_request}
+use Rattle.mms_types.specs.declared.area.SemaphoreRequest.{SemaphoreRequest}
+use Rattle.mms_types.specs.declared.area.SemaphoreRequest.TheVariants as semaphores
+use Rattle.mms_types.specs.declared.area.VariableRequest.{VariableRequest}
+use Rattle.mms_types.specs.declared.event.CellEvent.TheVariants.{Heard}
+use Rattle.mms_types.specs.declared.pdu.Answer.{Answer}
+use Rattle.mms_types.specs.declared.pdu.Request.{Request}
+use Rattle.association.specs.Client.{ClientRow}
+use Rattle.part_table.specs.Held.{held_at, IsHandOf}
+use Rattle.parted_state.specs.Cut.{are_held, missing}
+use Rattle.parted_state.specs.CutLaws as laws
+use Rattle.parted_state.specs.DeviceLaws.{table_at}
+use Rattle.mms_time.specs.Semaphores.{Rows}
+use Rattle.cell_client.specs.Association.{Verdict, Takes, verdict}
+use Rattle.cell_client.specs.declared.acts.Act.{Act}
+use Rattle.cell_client.specs.declared.acts.Act.TheVariants as act
+use Rattle.cell_client.specs.Meant.{act_verdict, uses_no_table}
+use Rattle.std.specs.Borrow.{Bor}
+use Rattle.cell_client.specs.Requests.{plain_answer}
+use Rattle.serve_semaphores.specs.Semaphores as semaphore
+use Rattle.serve_semaphores.specs.Tokens.{tells_alone}
+use Rattle.serve_variables.specs.Variables as variable
+use Rattle.cell_services.specs.Acts.{grants_somebody}
+use Rattle.cell_services.specs.AreaLaws.{in_semaphores, in_variables}
+use Rattle.cell_services.specs.Services.{InArea, OfSemaphores, OfVariables, area_of, asks_of}
+use Rattle.mms_step.specs.declared.part.Part.{Part}
+use Rattle.mms_step.specs.declared.part.Part.TheVariants.{Semaphores, Variables}
+use Rattle.mms_step.specs.AfterLaws.{is_device}
+use Rattle.mms_step.specs.Needs.{footprint, is_held, need, placed, two_stages, verdict_need}
+use Rattle.mms_step.specs.Partition.{cell, parts_of, client_part, client_place, clients_among, row_in, semaphores_in, semaphores_place, variables_in, IsClient, IsSemaphores, IsVariables}
+use Rattle.mms_step.specs.State.{State}
+use Rattle.mms_step.specs.Tasks.{row_held, IsReady}
+use Rattle.mms_step.proofs.Enough.{words_held, OfState}
+use Rattle.mms_step.proofs.Holding.{client_at, clients_counted, held_part}
+use Rattle.mms_step.proofs.Needed.{many, need_heard}
+
+-- ---- from what is needed
+
+-- where nothing is missing of two stages, the first place of the first is held
+first_there : (hand : List (Option Part)) (place : ℕ) (stage rest : List ℕ) → two_stages hand (place ∷ stage) rest ≡ [] → is_held hand place ≡ true
+first_there hand place stage rest none =
+    by_test (is_held hand place) (laws.held_parted hand (place ∷ stage) (if_held (are_held hand (place ∷ stage))) (laws.none_missing hand ((place ∷ stage) ++ if_held (are_held hand (place ∷ stage))) none)).0
+  where
+    if_held : Bool → List ℕ
+    if_held b = if b then rest else []
+
+    by_test : (b : Bool) → (b && are_held hand stage) ≡ true → b ≡ true
+    by_test true e = refl
+    by_test false e = absurd (cc e)
+
+-- of a request that is in that area
+in_area : (hand : List (Option Part)) (n : ℕ) (a b : InArea) → a ≡ b → (rest : List ℕ) → two_stages hand (placed n (asks_of a)) rest ≡ [] → two_stages hand (placed n (asks_of b)) rest ≡ []
+in_area hand n a b same rest none = subst (λ (k : InArea). two_stages hand (placed n (asks_of k)) rest ≡ []) same none
+
+module _ (s : State) (hand : List (Option Part)) (of : IsHandOf hand (parts_of s)) where
+  pub variables_there : (n client invoke : ℕ) (x : VariableRequest) (asked : Request) → variable_request x ≡ asked → IsReady n client (Takes invoke asked) hand → IsVariables (held_at hand 1)
+  variables_there n client invoke x asked is ready =
+      let area : area_of asked ≡ OfVariables (variable.request_in x) = ap area_of (sym is) ∙ in_variables x in
+      let there = held_part hand (parts_of s) 1 (Variables s.variables) of (first_there hand 1 _ _ (in_area hand n (area_of asked) (OfVariables (variable.request_in x)) area _ ready.needed)) refl in
+      there ∙ sym (ap (λ (o : Option Part). Some (Variables (variables_in o))) there)
+
+  pub semaphores_there : (n client invoke : ℕ) (x : SemaphoreRequest) (asked : Request) → n ≡ clients_among (length hand) → semaphore_request x ≡ asked
+      → IsReady n client (Takes invoke asked) hand → IsSemaphores (held_at hand (semaphores_place n))
+  semaphores_there n client invoke x asked counted is ready =
+      let area : area_of asked ≡ OfSemaphores (semaphore.request_in x) = ap area_of (sym is) ∙ in_semaphores x in
+      let place : slice_get (parts_of s) (semaphores_place n) ≡ Some (Semaphores s.semaphores) =
+      ap (λ (m : ℕ). slice_get (parts_of s) (semaphores_place m)) (counted ∙ clients_counted s hand of) ∙ table_at cell is_device s 6 in
+      let there = held_part hand (parts_of s) (semaphores_place n) (Semaphores s.semaphores) of
+      (first_there hand (semaphores_place n) _ _ (in_area hand n (area_of asked) (OfSemaphores (semaphore.request_in x)) area _ ready.needed)) place in
+      there ∙ sym (ap (λ (o : Option Part). Some (Semaphores (semaphores_in o))) there)
+
+-- what is not done alone is a token that somebody is granted
+pub granted_left : (x : SemaphoreRequest) (client : ℕ) (rows : Rows) (asked : Request) → semaphore_request x ≡ asked → tells_alone client x rows ≡ false → grants_somebody client asked rows ≡ true
+granted_left (semaphores.RelinquishControl x) client rows asked is alone =
+    subst (λ (r : Request). grants_somebody client r rows ≡ true) is (ap not alone)
+granted_left other client rows asked is alone = absurd (cc alone)
+
+-- what is left of what a client sent is its request
+pub takes_left : (v : Verdict) (left : Option Act) (invoke : ℕ) (asked : Bor Request) → left ≡ Some (act.Request invoke asked) → IfSome left (λ a. act_verdict a ≡ Some v) → Takes invoke asked.now ≡ v
+takes_left v None invoke asked is told = absurd (cc is)
+takes_left v (Some a) invoke asked is told =
+    let same : a ≡ act.Request invoke asked = cc is in
+    let both : Some (Takes invoke asked.now) ≡ Some v = ap act_verdict (sym same) ∙ told in
+    cc both
+
+-- a request that uses tables isn't answered by the row of its client alone
+pub not_plain : (row : ClientRow) (invoke : ℕ) (asked : Request) → uses_no_table row (Takes invoke asked) ≡ false → plain_answer row asked ≡ None
+not_plain row invoke asked uses = by_value (plain_answer row asked) uses
+  where
+    by_value : (o : Option Answer) → is_some o ≡ false → o ≡ None
+    by_value None e = refl
+    by_value (Some a) e = absurd (cc e)
+
+-- ---- at the beginning
+
+pub ready_to_hear : (hand : List (Option Part)) (client : ℕ) (octets : List ℕ) → OfState hand → (1 ≤ client) × (client ≤ clients_among (length hand)) → IsClient (held_at hand (client_place client))
+    → need (Heard client octets) hand ≡ [] → IsReady (clients_among (length hand)) client (verdict (row_held hand client) octets) hand
+ready_to_hear hand client octets (s, sound, of) among held enough = record { number = number; needed = needed }
+  where
+    row : (row : ClientRow) × (slice_get (parts_of s) (client_place client) ≡ Some (client_part row)) × (slice_get s.clients (client - 1) ≡ Some row)
+    row = let counted = clients_counted s hand of in client_at s client among.0 (omega (arith, counted, among.1))
+
+    there : held_at hand (client_place client) ≡ Some (client_part row.0)
+    there = held_part hand (parts_of s) (client_place client) (client_part row.0) of (ap (λ (o : Option Part). is_some o) held) row.1
+
+    number : (row_held hand client).client ≡ client
+    number =
+        let its : client - 1 + 1 ≡ client = omega (arith, among.0) in
+        ap (λ (o : Option Part). (row_in o).client) there ∙ (sound.1.rows (client - 1) row.0 row.2).number ∙ its
+
+    needed : verdict_need (clients_among (length hand)) hand (row_held hand client) (verdict (row_held hand client) octets) ≡ []
+    needed =
+        ap (λ (r : ClientRow). verdict_need (clients_among (length hand)) hand r (verdict r octets)) (ap row_in there)
+        ∙ sym (need_heard hand client octets (clients_among (length hand)) (record { row = row.0; output_room = 0; waiting_room = 0 }) refl words among.0 among.1 there)
+        ∙ enough
+      where
+        words : missing hand (footprint (clients_among (length hand)) (Heard client octets)) ≡ []
+        words = ap (λ (n : ℕ). missing hand (footprint n (Heard client octets))) (sym (many hand)) ∙ words_held hand (Heard client octets) enough

@@ -1,0 +1,296 @@
+//! A request of a client is served on its part and that of its area's table, as they are held.
+
+ghost use Rattle.std.specs.Prelude.{◌≡◌, ℕ, ◌<◌, ◌≤◌, false, true, length, slice_set, None, Some, OnErr, OnOk, IfOk};
+ghost use Rattle.mms_types.specs.Areas.{device_request, semaphore_request, variable_request};
+ghost use Rattle.mms_types.specs.Moments.{IsDated};
+ghost use Rattle.part_table.specs.Held.{held_at, IsHandOf};
+ghost use Rattle.parted_state.specs.Lifted.{put_in_place, tables_shown};
+ghost use Rattle.cell_client.specs.Association.{Takes};
+ghost use Rattle.cell_client.specs.Requests.{plain_answer};
+ghost use Rattle.parted_state.specs.Area.{no_table};
+ghost use Rattle.cell_services.specs.Acts.{IsDoneIn};
+ghost use Rattle.cell_services.specs.Serving.{hears};
+ghost use Rattle.cell_services.specs.Tables.{Tables, own_semaphores, own_variables};
+ghost use Rattle.serve_semaphores.specs.Tokens.{tells_alone};
+ghost use Rattle.mms_step.specs.State.{State};
+ghost use Rattle.mms_step.specs.Partition.{cell, parts_of, clients_among, client_in, client_place, row_in, semaphores_in, semaphores_place, variables_in, IsClient, IsSemaphores, IsVariables};
+ghost use Rattle.mms_step.specs.Tasks.{row_held, AreDone, IsRoomless};
+
+use crate::applying::{put_client, take_client};
+use crate::needs::{now_held, semaphores_held, variables_held};
+use crate::tables::{VARIABLES, semaphores as semaphores_part};
+use crate::{Cell, Part};
+use mms_time::Semaphores;
+use mms_types::{DeviceRequest, Memory, Moment, SemaphoreRequest, VariableRequest};
+use part_table::Hand;
+use std::alloc::Global;
+use variable_services::VariableTables;
+
+/// Takes the part of the variables, which is held, out of its place.
+fn take_variables(held: &mut Hand<Cell>) -> Box<Part>
+    requires held { IsVariables (held_at held.old 1) }
+    ensures part { Some result.value ≡ held_at held.old 1 }
+    ensures left { held.new ≡ slice_set held.old 1 None }
+    ensures place { 1 < length held.new }
+{
+    let Some(part) = held.take(u32::from(VARIABLES)) else {
+        unreachable!()
+    };
+    part
+}
+
+/// Takes the part of the semaphores, which is held, out of its place, with so many clients.
+fn take_semaphores(held: &mut Hand<Cell>, clients: u32) -> Box<Part>
+    requires few { clients ≤ 64 }
+    requires held { IsSemaphores (held_at held.old (semaphores_place clients)) }
+    ensures part { Some result.value ≡ held_at held.old (semaphores_place clients) }
+    ensures left { held.new ≡ slice_set held.old (semaphores_place clients) None }
+    ensures place { semaphores_place clients < length held.new }
+{
+    let Some(part) = held.take(u32::from(semaphores_part(clients))) else {
+        unreachable!()
+    };
+    part
+}
+
+/// Puts the part of the variables into its place.
+fn put_variables(held: &mut Hand<Cell>, part: Box<Part>)
+    requires place { 1 < length held.old }
+    ensures { held.new ≡ slice_set held.old 1 (Some part.value) }
+{
+    held.put(u32::from(VARIABLES), part);
+}
+
+/// Puts the part of the semaphores into its place, with so many clients.
+fn put_semaphores(held: &mut Hand<Cell>, clients: u32, part: Box<Part>)
+    requires few { clients ≤ 64 }
+    requires place { semaphores_place clients < length held.old }
+    ensures { held.new ≡ slice_set held.old (semaphores_place clients) (Some part.value) }
+{
+    held.put(u32::from(semaphores_part(clients)), part);
+}
+
+/// Serves a request for variables on the part of its client and theirs, beside those semaphores.
+fn variables_in_parts(
+    alloc: Global,
+    part: &mut Part,
+    table: &mut Part,
+    semaphores: &Semaphores,
+    invoke: u32,
+    asked: VariableRequest<'_>,
+) -> Result<(), Memory>
+    requires client { IsClient (Some part.old) }
+    requires variables { IsVariables (Some table.old) }
+    requires settled { IsRoomless part.old }
+    ensures served { OnOk result ((t : Tables) → t.variables ≡ variables_in (Some table.old)
+        → t.semaphores ≡ semaphores.now → AreDone own_variables Part.Variables t
+        (Takes invoke (variable_request asked.entry)) part.old part.new table.new) }
+    ensures kept { OnErr result (part.new ≡ part.old) }
+    ensures same { OnErr result (table.new ≡ table.old) }
+{
+    match (part, table) {
+        (Part::Client(own), Part::Variables(variables)) => {
+            cell_services::serve_variables(alloc, own, variables, semaphores, invoke, asked)
+        }
+        _ => unreachable!(),
+    }
+}
+
+/// Serves a client's request for variables, which are held; guards are looked up among the semaphores where these are.
+pub(crate) fn serve_on_variables(
+    alloc: Global,
+    held: &mut Hand<Cell>,
+    clients: u32,
+    client: u32,
+    invoke: u32,
+    asked: VariableRequest<'_>,
+) -> Result<(), Memory>
+    requires of { (s : State) × IsHandOf held.old (parts_of s) }
+    requires many { clients ≡ clients_among (length held.old) }
+    requires few { clients ≤ 64 }
+    requires among { (1 ≤ client) × (client ≤ clients) }
+    requires held { IsClient (held_at held.old (client_place client)) }
+    requires number { (row_held held.old client).client ≡ client }
+    requires table { IsVariables (held_at held.old 1) }
+    ensures put { OnOk result (held.new ≡ put_in_place cell
+        (hears (tables_shown cell held.old) (row_held held.old client) client
+        (Takes invoke (variable_request asked.entry))) held.old) }
+    ensures kept { OnErr result (held.new ≡ held.old) }
+{
+    let mut part = take_client(held, client);
+    let mut table = take_variables(held);
+    let none = Semaphores::new(alloc);
+    let semaphores = semaphores_held(held, clients, &none);
+    let done = variables_in_parts(alloc, &mut part, &mut table, semaphores, invoke, asked);
+    put_variables(held, table);
+    put_client(held, client, part);
+    done
+}
+
+/// Serves a request for semaphores on the part of its client and theirs, at that moment. False exactly where it gives a
+/// token back that somebody is granted; then all is as before.
+fn semaphores_in_parts(
+    alloc: Global,
+    part: &mut Part,
+    table: &mut Part,
+    now: Moment,
+    invoke: u32,
+    asked: SemaphoreRequest<'_>,
+) -> Result<bool, Memory>
+    requires now { IsDated now }
+    requires client { IsClient (Some part.old) }
+    requires semaphores { IsSemaphores (Some table.old) }
+    requires settled { IsRoomless part.old }
+    ensures served { IfOk result (λ done. done ≡ true → (t : Tables)
+        → t.semaphores ≡ semaphores_in (Some table.old) → t.now ≡ now.0
+        → AreDone own_semaphores Part.Semaphores t
+        (Takes invoke (semaphore_request asked.entry)) part.old part.new table.new) }
+    ensures unchanged { IfOk result (λ done. done ≡ false
+        → (part.new ≡ part.old) × (table.new ≡ table.old)) }
+    ensures exact { IfOk result (λ done. done ≡ tells_alone (row_in (Some part.old)).client
+        asked.entry (semaphores_in (Some table.old))) }
+    ensures kept { OnErr result (part.new ≡ part.old) }
+    ensures same { OnErr result (table.new ≡ table.old) }
+{
+    match (part, table) {
+        (Part::Client(own), Part::Semaphores(rows)) => {
+            cell_services::serve_semaphores(alloc, own, rows, now, invoke, asked)
+        }
+        _ => unreachable!(),
+    }
+}
+
+/// Serves a client's request for semaphores, which are held, as is the clock. False exactly where it gives a token back
+/// that somebody is granted; then all is as before.
+pub(crate) fn serve_on_semaphores(
+    alloc: Global,
+    held: &mut Hand<Cell>,
+    clients: u32,
+    client: u32,
+    invoke: u32,
+    asked: SemaphoreRequest<'_>,
+) -> Result<bool, Memory>
+    requires of { (s : State) × IsHandOf held.old (parts_of s) }
+    requires many { clients ≡ clients_among (length held.old) }
+    requires few { clients ≤ 64 }
+    requires among { (1 ≤ client) × (client ≤ clients) }
+    requires held { IsClient (held_at held.old (client_place client)) }
+    requires number { (row_held held.old client).client ≡ client }
+    requires table { IsSemaphores (held_at held.old (semaphores_place clients)) }
+    ensures put { IfOk result (λ done. done ≡ true → held.new ≡ put_in_place cell
+        (hears (tables_shown cell held.old) (row_held held.old client) client
+        (Takes invoke (semaphore_request asked.entry))) held.old) }
+    ensures same { IfOk result (λ done. done ≡ false → held.new ≡ held.old) }
+    ensures exact { IfOk result (λ done. done ≡ tells_alone (row_held held.old client).client
+        asked.entry (tables_shown cell held.old).semaphores) }
+    ensures kept { OnErr result (held.new ≡ held.old) }
+{
+    let now = now_held(held);
+    let mut part = take_client(held, client);
+    let mut table = take_semaphores(held, clients);
+    let done = semaphores_in_parts(alloc, &mut part, &mut table, now, invoke, asked);
+    put_semaphores(held, clients, table);
+    put_client(held, client, part);
+    done
+}
+
+/// Serves a request to the device itself on the part of its client, with those tables.
+fn device_in_part(
+    alloc: Global,
+    part: &mut Part,
+    variables: &VariableTables,
+    semaphores: &Semaphores,
+    invoke: u32,
+    asked: DeviceRequest<'_>,
+) -> Result<(), Memory>
+    requires client { IsClient (Some part.old) }
+    requires tables { plain_answer (row_in (Some part.old)) (device_request asked) ≡ None }
+    ensures served { OnOk result ((t : Tables) → t.variables ≡ variables.now
+        → t.semaphores ≡ semaphores.now → IsDoneIn no_table t (row_in (Some part.old)) tt
+        (client_in (Some part.new)) (Takes invoke (device_request asked.entry))) }
+    ensures client { IsClient (Some part.new) }
+    ensures kept { OnErr result (part.new ≡ part.old) }
+{
+    match part {
+        Part::Client(own) => {
+            cell_services::serve_device(alloc, own, variables, semaphores, invoke, asked)
+        }
+        _ => unreachable!(),
+    }
+}
+
+/// The same, where the semaphores are those that are held.
+fn device_beside(
+    alloc: Global,
+    held: &Hand<Cell>,
+    clients: u32,
+    part: &mut Part,
+    variables: &VariableTables,
+    invoke: u32,
+    asked: DeviceRequest<'_>,
+) -> Result<(), Memory>
+    requires few { clients ≤ 64 }
+    requires client { IsClient (Some part.old) }
+    requires tables { plain_answer (row_in (Some part.old)) (device_request asked) ≡ None }
+    ensures served { OnOk result ((t : Tables) → t.variables ≡ variables.now → t.semaphores
+        ≡ semaphores_in (held_at held.now (semaphores_place clients)) → IsDoneIn no_table t
+        (row_in (Some part.old)) tt (client_in (Some part.new))
+        (Takes invoke (device_request asked.entry))) }
+    ensures client { IsClient (Some part.new) }
+    ensures kept { OnErr result (part.new ≡ part.old) }
+{
+    let none = Semaphores::new(alloc);
+    let semaphores = semaphores_held(held, clients, &none);
+    device_in_part(alloc, part, variables, semaphores, invoke, asked)
+}
+
+/// The same, where the variables are those that are held, too.
+fn device_on(
+    alloc: Global,
+    held: &Hand<Cell>,
+    clients: u32,
+    part: &mut Part,
+    invoke: u32,
+    asked: DeviceRequest<'_>,
+) -> Result<(), Memory>
+    requires few { clients ≤ 64 }
+    requires client { IsClient (Some part.old) }
+    requires tables { plain_answer (row_in (Some part.old)) (device_request asked) ≡ None }
+    ensures served { OnOk result ((t : Tables) → t.variables ≡ variables_in (held_at held.now 1)
+        → t.semaphores ≡ semaphores_in (held_at held.now (semaphores_place clients))
+        → IsDoneIn no_table t (row_in (Some part.old)) tt (client_in (Some part.new))
+        (Takes invoke (device_request asked.entry))) }
+    ensures client { IsClient (Some part.new) }
+    ensures kept { OnErr result (part.new ≡ part.old) }
+{
+    let none = VariableTables::empty(alloc);
+    let variables = variables_held(held, &none);
+    device_beside(alloc, held, clients, part, variables, invoke, asked)
+}
+
+/// Serves a client's request to the device itself, which the tables tell that are held.
+pub(crate) fn serve_on_device(
+    alloc: Global,
+    held: &mut Hand<Cell>,
+    clients: u32,
+    client: u32,
+    invoke: u32,
+    asked: DeviceRequest<'_>,
+) -> Result<(), Memory>
+    requires of { (s : State) × IsHandOf held.old (parts_of s) }
+    requires many { clients ≡ clients_among (length held.old) }
+    requires few { clients ≤ 64 }
+    requires among { (1 ≤ client) × (client ≤ clients) }
+    requires held { IsClient (held_at held.old (client_place client)) }
+    requires number { (row_held held.old client).client ≡ client }
+    requires tables { plain_answer (row_held held.old client) (device_request asked) ≡ None }
+    ensures put { OnOk result (held.new ≡ put_in_place cell
+        (hears (tables_shown cell held.old) (row_held held.old client) client
+        (Takes invoke (device_request asked.entry))) held.old) }
+    ensures kept { OnErr result (held.new ≡ held.old) }
+{
+    let mut part = take_client(held, client);
+    let done = device_on(alloc, held, clients, &mut part, invoke, asked);
+    put_client(held, client, part);
+    done
+}
