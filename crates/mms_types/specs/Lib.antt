@@ -9,6 +9,7 @@ pub mod Classes
 pub mod AccessErrors
 pub mod DeleteScopes
 pub mod Semaphores
+pub mod DomainStates
 pub mod Errors
 pub mod FirstCause
 pub mod Serves

@@ -3,11 +3,13 @@
 
 mod access_result;
 mod area;
+mod asked;
 mod boxed;
 mod cells;
 mod copying;
 mod data;
 mod depth;
+mod domain;
 mod equal;
 mod event;
 mod identifier;
@@ -30,39 +32,111 @@ mod status;
 mod type_spec;
 mod variable;
 
-pub use access_result::{
-    AccessResult, AccessResults, DataAccessError, DataList, WriteAnswer, WriteResult, WriteResults,
-};
-pub use area::{AreaRequest, DeviceRequest, SemaphoreRequest, VariableRequest};
+pub use access_result::AccessResult;
+pub use access_result::AccessResults;
+pub use access_result::DataAccessError;
+pub use access_result::DataList;
+pub use access_result::WriteAnswer;
+pub use access_result::WriteResult;
+pub use access_result::WriteResults;
+pub use area::AreaRequest;
+pub use area::DeviceRequest;
+pub use area::SemaphoreRequest;
+pub use area::VariableRequest;
+pub use asked::Also;
+pub use asked::Asked;
+pub use asked::Reply;
 pub use boxed::Boxed;
-pub use cells::{CellRow, Cells, NamedCell, NamedCells, PoolRow, Pools};
-pub use data::{BitString, Data, DataKind};
-pub use event::{CellEvent, Events, Output, What};
-pub use identifier::{BadName, Edition, Identifier, Unnamed, copied_name};
+pub use cells::CellRow;
+pub use cells::Cells;
+pub use cells::NamedCell;
+pub use cells::NamedCells;
+pub use cells::PoolRow;
+pub use cells::Pools;
+pub use data::BitString;
+pub use data::Data;
+pub use data::DataKind;
+pub use domain::DomainAttributes;
+pub use domain::DomainState;
+pub use domain::InitiateDownloadSequence;
+pub use domain::InitiateUploadSequenceAnswer;
+pub use domain::Segment;
+pub use domain::TerminateDownloadSequence;
+pub use domain::Texts;
+pub use event::CellEvent;
+pub use event::Events;
+pub use event::Output;
+pub use event::What;
+pub use identifier::BadName;
+pub use identifier::Edition;
+pub use identifier::Identifier;
+pub use identifier::Unnamed;
+pub use identifier::copied_name;
 pub use identifiers::Identifiers;
-pub use initiate::{Initiate, InitiateAnswer, InitiateDetail, ParameterOptions, ServiceOptions};
-pub use key::{Key, Scope};
-pub use laws::{
-    equal_is_the_same, errors_have_their_numbers, keys_stand_in_order, options_have_their_numbers,
-};
+pub use initiate::Initiate;
+pub use initiate::InitiateAnswer;
+pub use initiate::InitiateDetail;
+pub use initiate::ParameterOptions;
+pub use initiate::ServiceOptions;
+pub use key::Key;
+pub use key::Scope;
+pub use laws::equal_is_the_same;
+pub use laws::errors_have_their_numbers;
+pub use laws::keys_stand_in_order;
+pub use laws::options_have_their_numbers;
 pub use listed::Listed;
 pub use memory::Memory;
 pub use moment::Moment;
-pub use name_list::{GetNameList, GetNameListAnswer, ObjectClass, ObjectScope};
-pub use object_name::{ObjectName, ObjectNames};
+pub use name_list::GetNameList;
+pub use name_list::GetNameListAnswer;
+pub use name_list::ObjectClass;
+pub use name_list::ObjectScope;
+pub use object_name::ObjectName;
+pub use object_name::ObjectNames;
 pub use octets::Octets;
-pub use pdu::{Answer, Pdu, Reject, RejectReason, Request};
+pub use pdu::Answer;
+pub use pdu::Pdu;
+pub use pdu::Reject;
+pub use pdu::RejectReason;
+pub use pdu::Request;
 pub use refuse::Refuse;
-pub use semaphore::{
-    DefineSemaphore, EntryClass, EntryNumber, EntryState, EntryStatus, EntryStatuses, NamedToken,
-    NamedTokens, PoolStatus, RelinquishControl, ReportPoolSemaphoreStatus,
-    ReportSemaphoreEntryStatus, SemaphoreClass, SemaphoreEntries, SemaphoreStatus, TakeControl,
-    TakeControlAnswer,
-};
-pub use service_error::{CancelError, ConfirmedError, ServiceError, StateInfo};
-pub use status::{IdentifyAnswer, Status, StatusAnswer};
-pub use type_spec::{Component, TypeKind, TypeSpec};
-pub use variable::{
-    Access, DefineNamedVariable, DefineNamedVariableList, DeleteNames, DeleteScope, Deleted,
-    ListAttributes, Read, ReadAnswer, Spec, Specs, VariableAttributes, Write,
-};
+pub use semaphore::DefineSemaphore;
+pub use semaphore::EntryClass;
+pub use semaphore::EntryNumber;
+pub use semaphore::EntryState;
+pub use semaphore::EntryStatus;
+pub use semaphore::EntryStatuses;
+pub use semaphore::NamedToken;
+pub use semaphore::NamedTokens;
+pub use semaphore::PoolStatus;
+pub use semaphore::RelinquishControl;
+pub use semaphore::ReportPoolSemaphoreStatus;
+pub use semaphore::ReportSemaphoreEntryStatus;
+pub use semaphore::SemaphoreClass;
+pub use semaphore::SemaphoreEntries;
+pub use semaphore::SemaphoreStatus;
+pub use semaphore::TakeControl;
+pub use semaphore::TakeControlAnswer;
+pub use service_error::CancelError;
+pub use service_error::ConfirmedError;
+pub use service_error::ServiceError;
+pub use service_error::StateInfo;
+pub use status::IdentifyAnswer;
+pub use status::Status;
+pub use status::StatusAnswer;
+pub use type_spec::Component;
+pub use type_spec::TypeKind;
+pub use type_spec::TypeSpec;
+pub use variable::Access;
+pub use variable::DefineNamedVariable;
+pub use variable::DefineNamedVariableList;
+pub use variable::DeleteNames;
+pub use variable::DeleteScope;
+pub use variable::Deleted;
+pub use variable::ListAttributes;
+pub use variable::Read;
+pub use variable::ReadAnswer;
+pub use variable::Spec;
+pub use variable::Specs;
+pub use variable::VariableAttributes;
+pub use variable::Write;
