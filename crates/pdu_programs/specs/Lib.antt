@@ -1,0 +1,4 @@
+pub mod Texts
+pub mod Download
+pub mod Upload
+pub mod Attributes
