@@ -1,4 +1,5 @@
 pub mod Admission
+pub mod Asked
 pub mod Client
 pub mod Negotiation
 pub mod Waiting

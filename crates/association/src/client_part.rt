@@ -1,14 +1,16 @@
-ghost use Rattle.std.specs.Prelude.{◌≡◌, ◌≢◌, ◌↔◌, ◌<◌, ◌≤◌, ◌+◌, ◌-◌, ◌==◌, not, false, [], OnOk, OnErr, IfOk, IfSome, IsOk, IsSome, length, slice_get, vec_len, vec_capacity};
+ghost use Rattle.std.specs.Prelude.{◌≡◌, ◌≢◌, ◌↔◌, ◌<◌, ◌≤◌, ◌+◌, ◌-◌, ◌==◌, not, false, true, [], OnOk, OnErr, OnSome, IfNone, option_map, IfOk, IfSome, IsOk, IsSome, length, slice_get, vec_len, vec_capacity};
 ghost use Rattle.std.specs.Option.{option_copied};
 ghost use Rattle.association.specs.Admission.{admission, row_with_admitted};
-ghost use Rattle.association.specs.Client.{closed_row, drained_row, negotiated_of, new_row, opened_row, row_with_output, row_with_waiting, row_without_waiting};
+ghost use Rattle.association.specs.Asked.{asked_of, is_asked, is_open, AskedAreNumbered};
+ghost use Rattle.association.specs.Client.{closed_row, drained_row, negotiated_of, new_row, next_ask, opened_row, row_settled, row_with_asked, row_with_output, row_with_waiting, row_without_waiting};
 ghost use Rattle.association.specs.Negotiation.{negotiation, values_of};
 ghost use Rattle.association.specs.Waiting.{is_waiting, AreDistinct};
 
 use crate::negotiation::{outcome_of, values};
+use crate::unanswered::{find_asked, remove_asked};
 use crate::waiting::{has_waiting, remove_waiting};
-use crate::{Association, Constants, Negotiated, Waiting};
-use mms_types::{Initiate, InitiateAnswer, Key, Memory, ServiceError, What};
+use crate::{Association, Constants, Negotiated, Unanswered, Waiting};
+use mms_types::{Asked, Identifier, Initiate, InitiateAnswer, Key, Memory, ServiceError, What};
 use std::alloc::Global;
 use std::marker::Model;
 use std::mem;
@@ -41,22 +43,27 @@ fn make_room(outbox: &mut Vec<What>, outputs: usize) -> Result<(), Memory>
 
 /// The part of the device that belongs to one client. Contracts see its row, which is the client's
 /// number, the association, the requests that wait at the server in the order in which they came,
-/// what is to be sent to the client in order, and the constants; and beside it the numbers of
-/// outputs and of waiting requests for which there is room, as `reserve` made it. All but `reserve`
-/// take no memory.
+/// the server's requests that the client has not answered, in the order in which they were made,
+/// and the number of the next one, what is to be sent to the client in order, and the constants;
+/// and beside it the numbers of outputs, of waiting requests and of the server's requests for which
+/// there is room, as `reserve` and `reserve_asked` made it. All but these two take no memory.
 #[derive(Drop)]
 pub struct ClientPart {
     client: u32,
     association: Association,
     waiting: Vec<Waiting>,
+    asked: Vec<Unanswered>,
+    given: u32,
     outbox: Vec<What>,
     constants: Constants,
     output_room: usize,
     waiting_room: usize,
+    asked_room: usize,
 }
 
 impl Model for ClientPart {
     ghost use Rattle.std.specs.Prelude.{◌+◌, ◌≤◌, vec_len, vec_capacity};
+    ghost use Rattle.association.specs.Asked.{AskedAreNumbered};
     ghost use Rattle.association.specs.Client.{Client};
     ghost use Rattle.association.specs.Waiting.{AreDistinct};
 
@@ -67,38 +74,46 @@ impl Model for ClientPart {
         client = part.client;
         association = part.association;
         waiting = part.waiting.items;
+        asked = part.asked.items;
+        next_invoke = part.given + 1;
         outbox = part.outbox.items;
         constants = part.constants;
       };
       output_room = part.output_room;
       waiting_room = part.waiting_room;
+      asked_room = part.asked_room;
     } };
 
     ghost invariant = { λ part.
         (vec_len part.outbox + part.output_room ≤ vec_capacity part.outbox)
         × (vec_len part.waiting + part.waiting_room ≤ vec_capacity part.waiting)
-        × AreDistinct part.waiting.items };
+        × (vec_len part.asked + part.asked_room ≤ vec_capacity part.asked)
+        × AreDistinct part.waiting.items
+        × AskedAreNumbered part.association part.asked.items (part.given + 1) };
 }
 
 impl ClientPart {
-    /// The part of a client of that number, with which there is no association. Nothing waits, and
-    /// there is no room for anything.
+    /// The part of a client of that number, with which there is no association. Nothing waits,
+    /// nothing is asked, and there is no room for anything.
     pub fn new(alloc: Global, client: u32, device: Constants) -> ClientPart
         ensures { result ≡ record {
           row = new_row client device;
           output_room = 0;
-          waiting_room =
-              0;
+          waiting_room = 0;
+          asked_room = 0;
         } }
     {
         ClientPart {
             client,
             association: Association::Idle,
             waiting: Vec::new(alloc),
+            asked: Vec::new(alloc),
+            given: 0,
             outbox: Vec::new(alloc),
             constants: device,
             output_room: 0,
             waiting_room: 0,
+            asked_room: 0,
         }
     }
 
@@ -162,12 +177,15 @@ impl ClientPart {
         Ok(())
     }
 
-    /// Makes room for so many outputs and so many waiting requests; room for more that there was is
-    /// given up. Without memory for it all stays as it was. It takes no memory where there is room
-    /// for as many.
+    /// Makes room for so many outputs and so many waiting requests; all other room that there was
+    /// is given up, that for requests of the server too. Without memory for it all stays as it was.
+    /// It takes no memory where there is room for as many.
     pub fn reserve(&mut self, outputs: usize, waiting: usize) -> Result<(), Memory>
-        ensures made { OnOk result (
-            self.new ≡ record self.old { output_room = outputs; waiting_room = waiting }) }
+        ensures made { OnOk result (self.new ≡ record self.old {
+          output_room = outputs;
+          waiting_room = waiting;
+          asked_room = 0;
+        }) }
         ensures kept { OnErr result (self.new ≡ self.old) }
         ensures enough { outputs ≤ self.old.output_room → waiting ≤ self.old.waiting_room
             → IsOk result }
@@ -176,15 +194,21 @@ impl ClientPart {
         self.waiting.reserve(waiting)?;
         self.output_room = outputs;
         self.waiting_room = waiting;
+        self.asked_room = 0;
         Ok(())
     }
 
-    /// Gives up the room that is left.
+    /// Gives up the room that is left, of all kinds.
     pub fn release(&mut self)
-        ensures { self.new ≡ record self.old { output_room = 0; waiting_room = 0 } }
+        ensures { self.new ≡ record self.old {
+          output_room = 0;
+          waiting_room = 0;
+          asked_room = 0;
+        } }
     {
         self.output_room = 0;
         self.waiting_room = 0;
+        self.asked_room = 0;
     }
 
     /// Appends an output to what is to be sent. It uses the room for one.
@@ -270,13 +294,92 @@ impl ClientPart {
         remove_waiting(&mut self.waiting, invoke)
     }
 
-    /// The association is gone (ISO 9506-1, Conclude and Abort): the negotiated values and the
-    /// requests that wait are forgotten. What is to be sent stays, and so does the room.
+    /// Makes room for so many requests of the server, beside the room that `reserve` made; room for
+    /// more of them that there was is given up. Without memory for it all stays as it was. It takes
+    /// no memory where there is room for as many.
+    pub fn reserve_asked(&mut self, more: usize) -> Result<(), Memory>
+        ensures made { OnOk result (self.new ≡ record self.old { asked_room = more }) }
+        ensures kept { OnErr result (self.new ≡ self.old) }
+        ensures enough { more ≤ self.old.asked_room → IsOk result }
+    {
+        self.asked.reserve(more)?;
+        self.asked_room = more;
+        Ok(())
+    }
+
+    /// What `ask` would answer: the number of the server's next request. The numbers of an
+    /// association count from 1, whatever is asked. None exactly where the next one would pass
+    /// 4,294,967,295.
+    pub fn next_ask(&self) -> Option<u32>
+        ensures { result ≡ next_ask self.now.row }
+    {
+        self.given.checked_add(1)
+    }
+
+    /// The server asks that of a domain, in an open association: the request is unanswered from
+    /// here on, and its number is told. It uses the room for one. None exactly where the number
+    /// would pass 4,294,967,295; then nothing is asked, and all stays as it was.
+    pub fn ask(&mut self, kind: Asked, domain: Identifier) -> Option<u32>
+        requires room { 0 < self.old.asked_room }
+        requires open { is_open self.old.row.association ≡ true }
+        ensures told { result ≡ next_ask self.old.row }
+        ensures asked { OnSome result (self.new ≡ record self.old {
+          row = row_with_asked self.old.row kind domain;
+          asked_room = self.old.asked_room - 1;
+        }) }
+        ensures kept { IfNone result (self.new ≡ self.old) }
+    {
+        let invoke = self.next_ask()?;
+        self.asked.push_reserved(Unanswered {
+            invoke,
+            kind,
+            domain,
+        });
+        self.asked_room -= 1;
+        self.given = invoke;
+        Some(invoke)
+    }
+
+    /// How many requests of the server are unanswered. Their numbers are distinct and below the
+    /// next one; without an association there are none, and the next one is 1.
+    pub fn unanswered(&self) -> usize
+        ensures count { result ≡ length self.now.row.asked }
+        ensures numbered { AskedAreNumbered self.now.row.association self.now.row.asked
+            self.now.row.next_invoke }
+    {
+        self.asked.len()
+    }
+
+    /// What the server's request of that number asks, and of which domain. None exactly where no
+    /// request of that number is unanswered.
+    pub fn asked(&self, invoke: u32) -> Option<(Asked, &Identifier)>
+        ensures { option_map (λ asked. (asked.0, asked.1.now)) result
+            ≡ asked_of invoke self.now.row.asked }
+    {
+        let row = find_asked(&self.asked, invoke)?;
+        Some((row.kind, &row.domain))
+    }
+
+    /// The server's request of that number is unanswered no more. False exactly where it was not
+    /// unanswered, and then all stays as it was. Its number is not given again.
+    pub fn settled(&mut self, invoke: u32) -> bool
+        ensures found { result ≡ is_asked invoke self.old.row.asked }
+        ensures row { self.new ≡ record self.old { row = row_settled self.old.row invoke } }
+        ensures kept { result ≡ false → self.new ≡ self.old }
+    {
+        remove_asked(&mut self.asked, invoke)
+    }
+
+    /// The association is gone (ISO 9506-1, Conclude and Abort): the negotiated values, the
+    /// requests that wait and those that are unanswered are forgotten, and the numbers of the
+    /// server's requests begin again at 1. What is to be sent stays, and so does the room.
     pub fn close(&mut self)
         ensures { self.new ≡ record self.old { row = closed_row self.old.row } }
     {
         self.association = Association::Idle;
         self.waiting.clear();
+        self.asked.clear();
+        self.given = 0;
     }
 
     /// Hands on what is to be sent, in order. Nothing is then left to be sent, and there is no room

@@ -40,7 +40,7 @@ tell client effects = map (λ effect. (client, effect)) effects
 
 -- a client's row; between events there is no room in it that is promised
 abbrev pub settled : ClientRow → RoomyRow
-settled row = record { row = row; output_room = 0; waiting_room = 0 }
+settled row = record { row = row; output_room = 0; waiting_room = 0; asked_room = 0 }
 
 -- the request that waits by an effect
 abbrev pub wait_of : Effect → Option Waiting

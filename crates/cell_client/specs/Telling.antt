@@ -42,4 +42,5 @@ told_row effect outputs waiting client = record {
   row = felt effect client.row;
   output_room = client.output_room - outputs;
   waiting_room = client.waiting_room - waiting;
+  asked_room = client.asked_room;
 }

@@ -246,7 +246,7 @@ impl Client {
         ensures octets { IfOk result (λ ready. IfSome ready (λ octets.
             octets ≡ pdu_octets (pdu.ConfirmedResponse invoke answer.now))) }
         ensures room { IfOk result (λ ready. OnSome ready (self.new
-            ≡ record { row = self.old.row; output_room = 1; waiting_room = 0 })) }
+            ≡ record { row = self.old.row; output_room = 1; waiting_room = 0; asked_room = 0 })) }
         ensures refused { IfOk result (λ ready. IfNone ready (self.new
             ≡ settled (felt (refuses invoke other_error) self.old.row))) }
         ensures kept { OnErr result (self.new ≡ self.old) }
@@ -386,7 +386,7 @@ impl Client {
     /// where there is room for as many.
     pub fn reserve(&mut self, outputs: usize, waiting: usize) -> Result<(), Memory>
         ensures made { OnOk result (self.new
-            ≡ record { row = self.old.row; output_room = outputs; waiting_room = waiting }) }
+            ≡ record { row = self.old.row; output_room = outputs; waiting_room = waiting; asked_room = 0 }) }
         ensures kept { OnErr result (self.new ≡ self.old) }
         ensures enough { outputs ≤ self.old.output_room → waiting ≤ self.old.waiting_room
             → IsOk result }

@@ -114,7 +114,7 @@ ready_to_hear hand client octets (s, sound, of) among held enough = record { num
     needed : verdict_need (clients_among (length hand)) hand (row_held hand client) (verdict (row_held hand client) octets) ≡ []
     needed =
         ap (λ (r : ClientRow). verdict_need (clients_among (length hand)) hand r (verdict r octets)) (ap row_in there)
-        ∙ sym (need_heard hand client octets (clients_among (length hand)) (record { row = row.0; output_room = 0; waiting_room = 0 }) refl words among.0 among.1 there)
+        ∙ sym (need_heard hand client octets (clients_among (length hand)) (record { row = row.0; output_room = 0; waiting_room = 0; asked_room = 0 }) refl words among.0 among.1 there)
         ∙ enough
       where
         words : missing hand (footprint (clients_among (length hand)) (Heard client octets)) ≡ []

@@ -278,7 +278,7 @@ one_told n client t rest hand some few clients =
         → option_map (telling t) (option_map (with_room (room_to ((client, t) ∷ rest) client)) held)
         ≡ option_map (with_room (room_to rest client)) (option_map (part_told cell (effect_of t)) held)
     here None may = refl
-    here (Some (Client r)) may = ap₂ (λ (m w : ℕ). Some (Client (record { row = felt (effect_of t) r.row; output_room = m; waiting_room = w }))) left fewer
+    here (Some (Client r)) may = ap₂ (λ (m w : ℕ). Some (Client (record { row = felt (effect_of t) r.row; output_room = m; waiting_room = w; asked_room = 0 }))) left fewer
     here (Some other) may = absurd may
 
 -- for which there is room

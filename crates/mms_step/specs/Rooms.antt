@@ -22,7 +22,7 @@ no_room = record { outputs = 0; waiting = 0 }
 
 -- a client's part with so much room
 abbrev pub with_room : Room → Part → Part
-with_room room (Client client) = Client (record { row = client.row; output_room = room.outputs; waiting_room = room.waiting })
+with_room room (Client client) = Client (record { row = client.row; output_room = room.outputs; waiting_room = room.waiting; asked_room = 0 })
 with_room room other = other
 
 abbrev pub room_or_same : Option Room → Part → Part

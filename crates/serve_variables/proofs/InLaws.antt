@@ -75,12 +75,12 @@ module _ {A : Type 0} (r : RequestIn A) (facts : Facts) (row : ClientRow) (invok
   pub done : (told : Answer) (now : A) (ready : Option (List ℕ)) (octets : List ℕ) (own new : RoomyRow) → (r.effect facts was row invoke).also ≡ []
       → r.cause facts was row ≡ None → (r.effect facts was row invoke).answer ≡ Some told → now ≡ (r.effect facts was row invoke).tables
       → ready ≡ Some octets → is_some ready ≡ fits (size_of row.association) invoke (Some told)
-      → IfSome ready (λ o. o ≡ pdu_octets (pdu.ConfirmedResponse invoke told)) → OnSome ready (own ≡ record { row = row; output_room = 1; waiting_room = 0 })
+      → IfSome ready (λ o. o ≡ pdu_octets (pdu.ConfirmedResponse invoke told)) → OnSome ready (own ≡ record { row = row; output_room = 1; waiting_room = 0; asked_room = 0 })
       → new ≡ told_row (Sends (what.Octets octets)) 1 0 own → IsServedIn r facts invoke row was now new
   done told now ready octets own new nobody cause answer becomes some fit spelled room is = settles now new nobody
       (is ∙ ap₂ (λ (o : List ℕ) (client : RoomyRow). told_row (Sends (what.Octets o)) 1 0 client)
       (subst (λ (o : Option (List ℕ)). IfSome o (λ p. p ≡ pdu_octets (pdu.ConfirmedResponse invoke told))) some spelled)
-      (subst (λ (o : Option (List ℕ)). OnSome o (own ≡ record { row = row; output_room = 1; waiting_room = 0 })) some room)
+      (subst (λ (o : Option (List ℕ)). OnSome o (own ≡ record { row = row; output_room = 1; waiting_room = 0; asked_room = 0 })) some room)
       ∙ sym (ap (λ (effects : List Effect). settled (felt_all effects row)) (told_by told cause answer
       ∙ ap (λ (b : Bool). if b then answer_told invoke (Some told) else refuses invoke other_error ∷ []) fitting)))
       (becomes ∙ sym (done_by told cause answer ∙ ap (λ (b : Bool). if b then (r.effect facts was row invoke).tables else was) fitting))
