@@ -24,7 +24,7 @@ use Rattle.cell_client.specs.Association.{Takes}
 use Rattle.cell_client.specs.Effects.{Effect, felt_all, settled, tell}
 use Rattle.cell_client.specs.Facts.{Facts}
 use Rattle.serve_variables.specs.Variables as variable
-use Rattle.serve_variables.specs.Variables.{guards_asked, TellOwned}
+use Rattle.serve_variables.specs.Variables.{guards_asked}
 use Rattle.serve_semaphores.specs.Semaphores as semaphore
 use Rattle.cell_services.specs.Acts.{IsDoneIn}
 use Rattle.cell_services.specs.Device.{listed, scope_cause, scope_of}
@@ -76,11 +76,10 @@ variables_live : (x : VariableRequest) (t : Tables) (row : ClientRow) → (told_
 variables_live (variables.Write x) t row = refl
 variables_live other t row = refl
 
-variables_owned : (x : VariableRequest) (t : Tables) (row : ClientRow) (owned : List Bool)
-    → TellOwned x row.client t.variables (flags_of (λ guard. owns_guard row.client guard t.semaphores) (guards_asked x row.client t.variables)) owned
-    → TellOwned x row.client t.variables (told_in own_variables t row (variable.request_in x)).owned owned
-variables_owned (variables.Write x) t row owned tell = tell
-variables_owned other t row owned tell = tt
+variables_owned : (x : VariableRequest) (t : Tables) (row : ClientRow)
+    → (told_in own_variables t row (variable.request_in x)).owned ≡ flags_of (λ guard. owns_guard row.client guard t.semaphores) (guards_asked x row.client t.variables)
+variables_owned (variables.Write x) t row = refl
+variables_owned other t row = refl
 
 module _ (x : VariableRequest) (t : Tables) (row : ClientRow) (invoke : ℕ) where
   variables_done : (now : VariableTables) (new : RoomyRow) → IsServedIn (variable.request_in x) (told_in own_variables t row (variable.request_in x)) invoke row t.variables now new
@@ -92,17 +91,17 @@ module _ (x : VariableRequest) (t : Tables) (row : ClientRow) (invoke : ℕ) whe
         ∙ in_place own_variables (λ u. refl) (variable.request_in x) t row invoke now new is;
   }
 
-  pub variables_served : (owned : List Bool) (was now : VariableTables) (rows : Rows) (new : RoomyRow)
-      → ((facts : Facts) → facts.live ≡ false → TellOwned x row.client was facts.owned owned → IsServedIn (variable.request_in x) facts invoke row was now new)
-      → TellOwned x row.client was (flags_of (λ guard. owns_guard row.client guard rows) (guards_asked x row.client was)) owned
+  pub variables_served : (was now : VariableTables) (rows : Rows) (new : RoomyRow)
+      → ((facts : Facts) → facts.live ≡ false → facts.owned ≡ flags_of (λ guard. owns_guard row.client guard rows) (guards_asked x row.client was)
+      → IsServedIn (variable.request_in x) facts invoke row was now new)
       → t.variables ≡ was → t.semaphores ≡ rows → IsDoneIn own_variables t row now new (Takes invoke (variable_request x))
-  variables_served owned was now rows new served tell stood beside =
+  variables_served was now rows new served stood beside =
       variables_done now new
-      (subst (λ (v : VariableTables). (facts : Facts) → facts.live ≡ false → TellOwned x row.client v facts.owned owned → IsServedIn (variable.request_in x) facts invoke row v now new)
+      (subst (λ (v : VariableTables). (facts : Facts) → facts.live ≡ false → facts.owned ≡ flags_of (λ guard. owns_guard row.client guard rows) (guards_asked x row.client v)
+      → IsServedIn (variable.request_in x) facts invoke row v now new)
       (sym stood) served (told_in own_variables t row (variable.request_in x)) (variables_live x t row)
-      (variables_owned x t row owned
-      (subst (λ (r : Rows). TellOwned x row.client t.variables (flags_of (λ guard. owns_guard row.client guard r) (guards_asked x row.client t.variables)) owned) (sym beside)
-      (subst (λ (v : VariableTables). TellOwned x row.client v (flags_of (λ guard. owns_guard row.client guard rows) (guards_asked x row.client v)) owned) (sym stood) tell))))
+      (variables_owned x t row
+      ∙ ap (λ (r : Rows). flags_of (λ guard. owns_guard row.client guard r) (guards_asked x row.client t.variables)) beside))
 
 -- at the moment of the device
 semaphores_now : (x : SemaphoreRequest) (t : Tables) (row : ClientRow) → (told_in own_semaphores t row (semaphore.request_in x)).now ≡ moment_of t

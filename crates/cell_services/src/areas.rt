@@ -3,10 +3,7 @@
 ghost use Rattle.std.specs.Prelude.{◌≡◌, false, true, IfOk, OnErr, OnOk};
 ghost use Rattle.mms_types.specs.Areas.{semaphore_request, variable_request};
 ghost use Rattle.mms_types.specs.Moments.{IsDated};
-ghost use Rattle.std.specs.Option.{option_copied};
 ghost use Rattle.mms_time.specs.Guards.{owns_guard};
-ghost use Rattle.variables.specs.Access.{flags_of, is_owned};
-ghost use Rattle.serve_variables.specs.Variables.{guards_asked, TellOwned};
 ghost use Rattle.serve_semaphores.specs.Tokens.{tells_alone};
 ghost use Rattle.cell_client.specs.Association.{Takes};
 ghost use Rattle.cell_client.specs.Effects.{settled};
@@ -16,57 +13,22 @@ ghost use Rattle.cell_services.specs.Tables.{Tables as Rows, own_semaphores, own
 use cell_client::Client;
 use mms_time::{Semaphores, owns_guard};
 use mms_types::{Identifier, Memory, Moment, SemaphoreRequest, VariableRequest};
-use serve_variables::{guards, is_guarded};
 use std::alloc::Global;
 use variable_services::VariableTables;
+use variables::OwnsGuards;
 
-/// Whether a client owns a token of the semaphore that guards a variable, where one does.
-fn owns_its_guard(client: u32, semaphores: &Semaphores, guard: Option<&Identifier>) -> bool
-    ensures { result
-        ≡ is_owned (λ name. owns_guard client name semaphores.now) (option_copied guard.entry) }
-{
-    match guard {
-        None => false,
-        Some(guard) => owns_guard(semaphores, client, guard),
-    }
+/// The guards of which a client owns a token, as they are looked up among the semaphores.
+#[derive(Drop)]
+struct GuardsOf<'a> {
+    client: u32,
+    semaphores: &'a Semaphores,
 }
 
-/// For each variable that a request writes, whether the client owns its guard.
-fn flags(
-    alloc: Global,
-    variables: &VariableTables,
-    semaphores: &Semaphores,
-    client: u32,
-    asked: VariableRequest<'_>,
-) -> Result<Vec<bool>, Memory>
-    ensures { IfOk result (λ flags. flags.items
-        ≡ flags_of (λ guard. owns_guard client guard semaphores.now)
-        (guards_asked asked.entry client variables.now)) }
-{
-    let mut flags = Vec::new(alloc);
-    for guard in guards(alloc, variables, client, asked)? {
-        flags.push(owns_its_guard(client, semaphores, guard))?;
-    }
-    Ok(flags)
-}
+impl<'a> OwnsGuards for GuardsOf<'a> {
+    ghost owns = { λ by guard. owns_guard by.client guard by.semaphores.now };
 
-/// Flags that tell a request which guards its client owns: none where no variable has a guard, and then no memory is
-/// taken.
-fn owned_guards(
-    alloc: Global,
-    variables: &VariableTables,
-    semaphores: &Semaphores,
-    client: u32,
-    asked: VariableRequest<'_>,
-) -> Result<Vec<bool>, Memory>
-    ensures { IfOk result (λ owned. TellOwned asked.entry client variables.now
-        (flags_of (λ guard. owns_guard client guard semaphores.now)
-        (guards_asked asked.entry client variables.now)) owned.items) }
-{
-    if is_guarded(variables, client, asked) {
-        flags(alloc, variables, semaphores, client, asked)
-    } else {
-        Ok(Vec::new(alloc))
+    fn owns(&self, guard: &Identifier) -> bool {
+        owns_guard(self.semaphores, self.client, guard)
     }
 }
 
@@ -88,8 +50,8 @@ pub fn serve_variables(
     ensures same { OnErr result (variables.new ≡ variables.old) }
 {
     let client = own.part().client();
-    let owned = owned_guards(alloc, variables, semaphores, client, asked)?;
-    serve_variables::serve(alloc, own, variables, false, &owned, invoke, asked)
+    let by = GuardsOf { client, semaphores };
+    serve_variables::serve(alloc, own, variables, false, &by, invoke, asked)
 }
 
 /// Serves a request for semaphores on these and the part of its client, at that moment. False exactly where it gives a

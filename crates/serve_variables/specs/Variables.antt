@@ -1,6 +1,6 @@
 -- Requests for variables and their lists (ISO 9506-1, variable access): the services on the tables that hold them, with whether the domain of a new name is live, and who
 -- owns the guards of a write.
-use Rattle.std.specs.Prelude.{◌≡◌, ℕ, Bool, false, ◌||◌, List, [], ◌∷◌, Option, None, Some, is_some}
+use Rattle.std.specs.Prelude.{ℕ, Bool, false, ◌||◌, List, [], ◌∷◌, Option, None, Some, is_some}
 use Rattle.std.specs.List.{list_any}
 use Rattle.std.specs.Option.{option_map}
 use Rattle.mms_types.specs.declared.object_name.ObjectName.{ObjectName}
@@ -129,12 +129,3 @@ request_in (request.DeleteNamedVariableList x) = delete_lists x.now
 abbrev pub guards_asked : VariableRequest → ℕ → VariableTables → List (Option (List ℕ))
 guards_asked (request.Write x) client v = variable.guards client x.now v
 guards_asked other client v = []
-
--- flags by which a write of a client does what it does by these
-pub record AreFlags (client : ℕ) (x : Write) (v : VariableTables) (owned flags : List Bool) : Type 0 where
-  pub answer : variable.write_answer flags client x v ≡ variable.write_answer owned client x v
-  pub after : variable.write_after flags client x v ≡ variable.write_after owned client x v
-
-abbrev pub TellOwned : VariableRequest → ℕ → VariableTables → List Bool → List Bool → Type 0
-TellOwned (request.Write x) client v owned flags = AreFlags client x.now v owned flags
-TellOwned other client v owned flags = Unit {0}

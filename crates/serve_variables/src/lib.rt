@@ -12,5 +12,5 @@ mod serving;
 mod writing;
 
 pub use domains::names_domain;
-pub use guarding::{guards, is_guarded};
+pub use guarding::is_guarded;
 pub use serving::serve;

@@ -1,6 +1,6 @@
 -- The services for variables and variable lists: why each is refused, what it answers, and the tables after it (ISO 9506-1 and ISO 9506-2,
 -- variable access).
-use Rattle.std.specs.Prelude.{ℕ, nat_eq, Bool, true, false, not, ◌&&◌, List, [], ◌∷◌, Option, None, Some, is_none, unwrap_or, length, if◌then◌else◌}
+use Rattle.std.specs.Prelude.{ℕ, nat_eq, Bool, true, false, not, ◌&&◌, List, [], ◌∷◌, Option, None, Some, is_none, unwrap_or, length, if◌then◌else◌, Result, Ok, Err}
 use Rattle.std.specs.List.{zip}
 use Rattle.mms_types.specs.Datum.{Datum}
 use Rattle.mms_types.specs.Errors.{first_of, type_inconsistent, object_non_existent}
@@ -26,6 +26,8 @@ use Rattle.mms_types.specs.declared.variable.Write.{Write}
 use Rattle.object_names.specs.Deletion.{selects}
 use Rattle.variables.specs.Access.{flagged, flags_of, reads, writes}
 use Rattle.variables.specs.Access as cells
+use Rattle.variables.specs.NewValues as news
+use Rattle.variables.specs.declared.rows.NewValue.{NewValue}
 use Rattle.variables.specs.Definitions as variables
 use Rattle.variables.specs.Rows as rows
 use Rattle.variables.specs.Start.{start}
@@ -83,6 +85,15 @@ write_answer owns client asked t = (writes client (flagged owns (pairs client as
 
 abbrev pub write_after : List Bool → ℕ → Write → VariableTables → VariableTables
 write_after owns client asked t = record t { vars = (writes client (flagged owns (pairs client asked t)) t.vars).0 }
+
+-- the answer, where the new values of the cells are told beside it
+abbrev pub answer_of : {A B E : Type 0} → Result (A × B) E → Result A E
+answer_of (Ok told) = Ok told.0
+answer_of (Err error) = Err error
+
+-- with these new values of cells
+abbrev pub with_new_values : List NewValue → VariableTables → VariableTables
+with_new_values values t = record t { vars = news.with_new_values values t.vars }
 
 -- ---- GetVariableAccessAttributes, GetNamedVariableListAttributes
 

@@ -1,17 +1,17 @@
 //! Read, Write, GetVariableAccessAttributes and DefineNamedVariable.
 
-ghost use Rattle.std.specs.Prelude.{◌≡◌, ◌≢◌, Bool, IfErr, IfOk, None, OnErr, OnOk, Some, map};
+ghost use Rattle.std.specs.Prelude.{◌≡◌, Bool, IfErr, IfOk, None, OnErr, OnOk, Some};
 ghost use Rattle.mms_types.specs.Serves.{Serves};
-ghost use Rattle.std.specs.Option.{option_copied};
-ghost use Rattle.variable_services.specs.Services.{accessed, attributes_answer, attributes_cause, define_after, define_cause, guards, is_guarded, read_answer, read_cause, write_after, write_answer, write_cause};
+ghost use Rattle.variable_services.specs.Services.{accessed, answer_of, attributes_answer, attributes_cause, define_after, define_cause, guards_owned, is_guarded, read_answer, read_cause, with_new_values, write_after, write_answer, write_cause};
 
 use crate::VariableTables;
 use crate::tables::accessed;
 use mms_types::{
-    DataList, DefineNamedVariable, Identifier, Memory, Read, ReadAnswer, Refuse, ServiceError,
-    Spec, VariableAttributes, Write, WriteAnswer,
+    DefineNamedVariable, Memory, Read, ReadAnswer, Refuse, ServiceError, Spec, VariableAttributes,
+    Write, WriteAnswer,
 };
 use std::alloc::Global;
+use variables::{NewValues, OwnsGuards};
 
 impl VariableTables {
     /// What a client reads (ISO 9506-2, Read). Object-non-existent where the list that it names is missing.
@@ -43,25 +43,9 @@ impl VariableTables {
         }
     }
 
-    /// The guard of each variable that a client's write names, in order: there are none where the list that it names
-    /// is missing, and then no memory is taken. The one refusal is want of memory.
-    pub fn guards(
-        &self,
-        alloc: Global,
-        client: u32,
-        asked: &Write,
-    ) -> Result<Vec<Option<&Identifier>>, Memory>
-        ensures found { IfOk result (λ found. map option_copied found.items
-            ≡ guards client asked.now self.now) }
-        ensures wants { OnErr result (accessed client asked.now.access self.now ≢ None) }
-    {
-        match accessed(&self.lists, client, &asked.access) {
-            None => Ok(Vec::new(alloc)),
-            Some(variables) => self.vars.guards(alloc, client, variables),
-        }
-    }
-
-    /// The variables that a client writes, or why none is written.
+    /// The variables that a client writes, or why none is written (ISO 9506-2, Write): object-non-existent where the
+    /// list that the write names is missing, and then type-inconsistent where there are more or fewer data than
+    /// variables.
     fn to_write<'a>(&'a self, client: u32, asked: &'a Write) -> Result<&'a [Spec], ServiceError>
         ensures variables { IfOk result (λ variables.
             accessed client asked.now.access self.now ≡ Some variables.now) }
@@ -78,50 +62,36 @@ impl VariableTables {
         Ok(variables)
     }
 
-    /// Why variables are not written (ISO 9506-2, Write): object-non-existent where the list that the write names is
-    /// missing, and then type-inconsistent where there are more or fewer data than variables.
-    pub fn write_cause(&self, client: u32, asked: &Write) -> Option<ServiceError>
-        ensures { result ≡ write_cause client asked.now self.now }
-    {
-        match self.to_write(client, asked) {
-            Ok(_) => None,
-            Err(error) => Some(error),
-        }
-    }
-
-    /// What becomes of the variables that a client writes (ISO 9506-2, Write); nothing is written yet. `owns` tells of
-    /// them in order whether the client owns a token of the guard; where it ends before them, of the others it owns
-    /// none. Refused for its cause, as `write_cause` has it.
-    pub fn write_results(
+    /// What becomes of the variables that a client writes (ISO 9506-2, Write), and the new values by which all is as
+    /// after that write; nothing is written yet. Object-non-existent where the list that it names is missing, and then
+    /// type-inconsistent where there are more or fewer data than variables.
+    pub fn write_results<O: OwnsGuards>(
         &self,
         alloc: Global,
         client: u32,
-        owns: &[bool],
+        by: &O,
         asked: &Write,
-    ) -> Result<WriteAnswer, Refuse>
-        ensures { Serves result (write_cause client asked.now self.now)
-            (Some (write_answer owns.now client asked.now self.now)) }
+    ) -> Result<(WriteAnswer, NewValues), Refuse>
+        ensures answer { Serves (answer_of result) (write_cause client asked.now self.now)
+            (Some (write_answer (guards_owned (O.owns by.now) client asked.now self.now)
+            client asked.now self.now)) }
+        ensures values { IfOk result (λ told. with_new_values told.1 self.now ≡ write_after
+            (guards_owned (O.owns by.now) client asked.now self.now) client asked.now self.now) }
     {
         match self.to_write(client, asked) {
             Err(error) => Err(Refuse::Service(error)),
             Ok(variables) => {
                 let values = asked.values.as_slice();
-                Ok(self.vars.results(alloc, client, owns, variables, values)?)
+                Ok(self.vars.results(alloc, client, by, variables, values)?)
             }
         }
     }
 
-    /// Writes variables, whose data, copied, are given. `owns` tells of them in order whether the client owns a token
-    /// of the guard; where it ends before them, of the others it owns none. It takes no memory.
-    pub fn write(&mut self, client: u32, owns: &[bool], asked: &Write, values: DataList)
-        requires cause { write_cause client asked.now self.old ≡ None }
-        requires copied { values ≡ asked.now.values }
-        ensures { self.new ≡ write_after owns.now client asked.now self.old }
+    /// Puts new values into their cells, one after the other. It takes no memory.
+    pub fn write(&mut self, values: NewValues)
+        ensures { self.new ≡ with_new_values values self.old }
     {
-        let Some(variables) = accessed(&self.lists, client, &asked.access) else {
-            unreachable!()
-        };
-        self.vars.write(client, owns, variables, values);
+        self.vars.write(values);
     }
 
     /// What a variable is (ISO 9506-2, GetVariableAccessAttributes). Object-non-existent where its name or its cell is

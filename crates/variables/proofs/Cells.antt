@@ -1,13 +1,10 @@
 -- Cells are found by numbers of 16 bits, and one that is changed keeps its number.
-use Rattle.std.proofs.Common.{◌≡◌, ℕ, ◌≤◌, Bool, true, false, cond, nat_eq, List, [], ◌∷◌, Option, None, Some, refl, sym, ap, subst, ◌∙◌, arith, if◌then◌else◌}
+use Rattle.std.proofs.Common.{◌≡◌, ℕ, ◌≤◌, Bool, true, false, cond, nat_eq, List, [], ◌∷◌, None, Some, refl, sym, ap, subst, ◌∙◌, arith, if◌then◌else◌}
 use Rattle.std.proofs.lemmas.Bool.Decides.{nat_tests}
 use Rattle.std.specs.List.{IsDistinct, AllByRecursion}
 use Rattle.std.specs.Map.{lookup, set_value, keys_of}
-use Rattle.std.specs.Option.{option_map, option_and_then}
 use Rattle.variables.specs.declared.rows.Cell.{Cell}
-use Rattle.mms_types.specs.declared.variable.Spec.{Spec}
-use Rattle.variables.specs.Rows.{Rows, cell_at, number_named, number_told}
-use Rattle.variables.specs.Access.{change_cell, change_named}
+use Rattle.variables.specs.Access.{change_cell}
 use Rattle.variables.specs.Bounds.{AreSmall}
 
 -- a number of more bits is that of no cell
@@ -69,13 +66,3 @@ changed_there number f (row ∷ rows) none = by_first (nat_eq number row.0) refl
 pub small_changed : (number : ℕ) (f : Cell → Cell) (cells : List (ℕ × Cell)) → AreSmall cells → AreSmall (change_cell number f cells)
 small_changed number f [] small = small
 small_changed number f (row ∷ rows) small = (small.0, small_changed number f rows small.1)
-
--- a number that is told is changed where its cell is there
-pub changed_told : (client : ℕ) (s : Spec) (number : ℕ) (f : Cell → Cell) (rows : Rows) → number_told client s rows ≡ Some number
-    → record rows { cells = change_cell number f rows.cells } ≡ change_named (number_named client s rows) f rows
-changed_told client s number f rows told =
-    by_cell (cell_at number rows) refl ∙ ap (λ (o : Option ℕ). change_named (option_and_then (λ n. option_map (λ _. n) (cell_at n rows)) o) f rows) (sym told)
-  where
-    by_cell : (o : Option Cell) → cell_at number rows ≡ o → record rows { cells = change_cell number f rows.cells } ≡ change_named (option_map (λ _. number) (cell_at number rows)) f rows
-    by_cell None e = rw e (ap (λ (cells : List (ℕ × Cell)). record rows { cells = cells }) (changed_there number f rows.cells e))
-    by_cell (Some cell) e = rw e refl

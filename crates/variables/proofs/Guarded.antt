@@ -1,18 +1,17 @@
--- Where no cell has a guard, no variable has one; and a write leaves guards as they are.
+-- Where no cell has a guard, no variable has one; and a new value leaves guards as they are.
 use Rattle.std.proofs.Common.{◌≡◌, ℕ, Bool, true, false, ◌||◌, is_some, nat_eq, List, [], ◌∷◌, map, Option, None, Some, refl, ap, ◌∙◌, if◌then◌else◌}
 use Rattle.std.specs.List.{list_any}
 use Rattle.std.specs.Map.{lookup}
 use Rattle.std.specs.Option.{option_and_then}
 use Rattle.mms_types.specs.Datum.{Datum}
-use Rattle.mms_types.specs.Shape.{Shape}
 use Rattle.mms_types.specs.declared.cells.CellRow.{CellRow}
 use Rattle.mms_types.specs.declared.variable.Spec.{Spec}
 use Rattle.variables.specs.declared.rows.Cell.{Cell}
 use Rattle.variables.specs.Rows.{Rows, cell_at, number_told}
-use Rattle.variables.specs.Access.{are_guarded, change_cell, guard_in, guard_named, with_value}
+use Rattle.variables.specs.Access.{are_guarded, change_cell, guard_in, guard_named}
 use Rattle.variables.specs.Bounds.{has_guard}
+use Rattle.variables.specs.NewValues.{with_data}
 use Rattle.variables.specs.Start.{cell_row}
-use Rattle.variables.proofs.Writing.{same_type}
 
 -- ---- no guard
 
@@ -52,14 +51,14 @@ pub guard_of_rows : (rows : List CellRow) → list_any (λ row. is_some row.guar
 guard_of_rows [] = refl
 guard_of_rows (row ∷ rows) = ap (λ (b : Bool). is_some row.guard || b) (guard_of_rows rows)
 
--- ---- a write
+-- ---- a new value
 
-guard_kept : (b owns : Bool) (value : Datum) (cell : Cell) → (if b then with_value owns value cell else cell).guard ≡ cell.guard
-guard_kept true owns value cell = ap (λ (kept : Shape × Option (List ℕ)). kept.1) (same_type owns value cell)
-guard_kept false owns value cell = refl
+guard_kept : (b : Bool) (value : Datum) (cell : Cell) → (if b then with_data value cell else cell).guard ≡ cell.guard
+guard_kept true value cell = refl
+guard_kept false value cell = refl
 
-pub guards_kept : (number : ℕ) (owns : Bool) (value : Datum) (cells : List (ℕ × Cell)) → has_guard (change_cell number (with_value owns value) cells) ≡ has_guard cells
-guards_kept number owns value [] = refl
-guards_kept number owns value (row ∷ rows) =
-    ap (λ (o : Option (List ℕ)). is_some o || has_guard (change_cell number (with_value owns value) rows)) (guard_kept (nat_eq number row.0) owns value row.1)
-    ∙ ap (λ (b : Bool). is_some row.1.guard || b) (guards_kept number owns value rows)
+pub guards_kept : (number : ℕ) (value : Datum) (cells : List (ℕ × Cell)) → has_guard (change_cell number (with_data value) cells) ≡ has_guard cells
+guards_kept number value [] = refl
+guards_kept number value (row ∷ rows) =
+    ap (λ (o : Option (List ℕ)). is_some o || has_guard (change_cell number (with_data value) rows)) (guard_kept (nat_eq number row.0) value row.1)
+    ∙ ap (λ (b : Bool). is_some row.1.guard || b) (guards_kept number value rows)

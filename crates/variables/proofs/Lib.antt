@@ -1,7 +1,8 @@
 pub mod Apart
 pub mod Cells
-pub mod Flags
 pub mod Guarded
+pub mod InPlace
+pub mod NewValues
 pub mod Owners
 pub mod Unopposed
 pub mod Writing

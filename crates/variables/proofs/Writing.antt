@@ -29,7 +29,7 @@ same_type owns value cell = by_test (is_open owns cell && matches value cell.of)
     by_test true e = rw e refl
     by_test false e = rw e refl
 
-types_stay : (at number : ℕ) (owns : Bool) (value : Datum) (cells : List (ℕ × Cell)) → fixed_of (lookup (nat_eq at) (change_cell number (with_value owns value) cells)) ≡ fixed_of (lookup (nat_eq at) cells)
+pub types_stay : (at number : ℕ) (owns : Bool) (value : Datum) (cells : List (ℕ × Cell)) → fixed_of (lookup (nat_eq at) (change_cell number (with_value owns value) cells)) ≡ fixed_of (lookup (nat_eq at) cells)
 types_stay at number owns value [] = refl
 types_stay at number owns value (row ∷ rows) = by_number (nat_eq at row.0) (nat_eq number row.0) refl refl (types_stay at number owns value rows)
   where
@@ -60,7 +60,7 @@ types_kept client (spec.Name name) (Some number) owns value rows = by_variable (
     by_variable None = refl
     by_variable (Some at) = types_stay at number owns value rows.cells
 
-same_result : (client : ℕ) (x y : Bool × (Spec × Datum)) (rows : Rows) → result_of client (written client y rows) x ≡ result_of client rows x
+pub same_result : (client : ℕ) (x y : Bool × (Spec × Datum)) (rows : Rows) → result_of client (written client y rows) x ≡ result_of client rows x
 same_result client x y rows =
     taken_is x.0 x.1.1 (cell_named client x.1.0 (written client y rows)) ∙ ap (taken x.0 x.1.1) (types_kept client x.1.0 (number_named client y.1.0 rows) y.0 y.1.1 rows)
     ∙ sym (taken_is x.0 x.1.1 (cell_named client x.1.0 rows))

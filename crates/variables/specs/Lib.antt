@@ -3,3 +3,4 @@ pub mod Start
 pub mod Access
 pub mod Bounds
 pub mod Definitions
+pub mod NewValues

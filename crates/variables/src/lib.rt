@@ -7,7 +7,9 @@ mod defining;
 mod deleting;
 mod opening;
 mod rows;
+mod updating;
 mod vars;
 
-pub use rows::{Cell, Variable};
+pub use rows::{Cell, NewValue, NewValues, Variable};
+pub use updating::OwnsGuards;
 pub use vars::Vars;

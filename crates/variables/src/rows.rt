@@ -1,4 +1,4 @@
-use mms_types::{Data, Identifier, TypeSpec};
+use mms_types::{Data, Identifier, Listed, TypeSpec};
 
 /// A cell: a variable that has an address (ISO 9506-1, unnamed variable).
 #[derive(Drop)]
@@ -19,3 +19,15 @@ pub struct Variable {
     /// Whether it was configured: then it can't be deleted.
     pub configured: bool,
 }
+
+/// The value that a cell gets.
+#[derive(Drop)]
+pub struct NewValue {
+    /// The number of the cell.
+    pub cell: u16,
+    /// The value.
+    pub value: Data,
+}
+
+/// Values that cells get, in order. Contracts see the list of them.
+pub type NewValues = Listed<NewValue>;

@@ -1,6 +1,6 @@
-ghost use Rattle.std.specs.Prelude.{◌≡◌, IfSome, None, Some};
+ghost use Rattle.std.specs.Prelude.{◌≡◌, IfSome};
 ghost use Rattle.std.specs.Option.{option_copied, option_map};
-ghost use Rattle.variables.specs.Rows.{are_there, cell_at, cell_named, number_named, number_told, variable_named};
+ghost use Rattle.variables.specs.Rows.{are_there, cell_at, cell_named, number_named, variable_named};
 
 use crate::{Cell, Variable};
 use indexmap::IndexMap;
@@ -89,19 +89,6 @@ impl Vars {
                 let cell = self.cell(number)?;
                 Some((number, cell))
             }
-        }
-    }
-
-    /// The number that a client's specification tells, of which there may be a cell. None where there is none.
-    #[tactic(auto, using(crate::proofs::Cells::beyond))]
-    pub(crate) fn told(&self, client: u32, spec: &Spec) -> Option<u16>
-        ensures told { IfSome result (λ number. number_told client spec.now self.now ≡ Some number) }
-        ensures none { result ≡ None → number_named client spec.now self.now ≡ None }
-    {
-        let _ = &self.cells;
-        match spec {
-            Spec::Address(address) => u16::try_from(*address).ok(),
-            Spec::Name(name) => Some(self.variable(client, name)?.cell),
         }
     }
 
