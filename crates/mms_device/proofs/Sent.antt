@@ -14,6 +14,8 @@ use Rattle.object_names.specs.contracts.table.Named as Named
 use Rattle.object_names.proofs.table.Named.TheSendSync as named
 use Rattle.mms_time.specs.contracts.row.SemaphoreRow as SemaphoreRow
 use Rattle.mms_time.proofs.row.SemaphoreRow.TheSendSync as semaphore
+use Rattle.mms_time.specs.contracts.table.Semaphores as Semaphores
+use Rattle.mms_time.specs.contracts.table.Semaphores.TheInside as semaphores
 use Rattle.cell_client.proofs.client.Client.TheSendSync as client
 use Rattle.cell_services.proofs.clock.Clock.TheSendSync as clock
 use Rattle.variables.specs.contracts.vars.Vars as Vars
@@ -48,5 +50,11 @@ vars_send = let a = vars_inside in search sendable
 pub variables_send : IsSend VariableTables.the_row
 variables_send = declared_send VariableTables.the_type (vars_send, (lists_send, tt))
 
+pub semaphores_inside : IsSend semaphores.the_row
+semaphores_inside = declared_send semaphores.the_type (named.the_send SemaphoreRow.the_row semaphore.the_send, (search (crosses, sendable) depth 20, (search (crosses, sendable) depth 20, tt)))
+
+pub semaphores_send : IsSend Semaphores.the_row
+semaphores_send = let a = semaphores_inside in search sendable
+
 pub part_send : IsSend Part.the_row
-part_send = variants_send Part.enum ((clock.the_send, tt), ((variables_send, tt), (tt, (tt, (tt, (tt, ((client.the_send, tt), ((named.the_send SemaphoreRow.the_row semaphore.the_send, tt), tt))))))))
+part_send = variants_send Part.enum ((clock.the_send, tt), ((variables_send, tt), (tt, (tt, (tt, (tt, ((client.the_send, tt), ((semaphores_send, tt), tt))))))))

@@ -40,7 +40,7 @@ fn take_variables(held: &mut Hand<Cell>) -> Box<Part>
 }
 
 /// Takes the part of the semaphores, which is held, out of its place, with so many clients.
-fn take_semaphores(held: &mut Hand<Cell>, clients: u32) -> Box<Part>
+pub(crate) fn take_semaphores(held: &mut Hand<Cell>, clients: u32) -> Box<Part>
     requires few { clients ≤ 64 }
     requires held { IsSemaphores (held_at held.old (semaphores_place clients)) }
     ensures part { Some result.value ≡ held_at held.old (semaphores_place clients) }
@@ -62,7 +62,7 @@ fn put_variables(held: &mut Hand<Cell>, part: Box<Part>)
 }
 
 /// Puts the part of the semaphores into its place, with so many clients.
-fn put_semaphores(held: &mut Hand<Cell>, clients: u32, part: Box<Part>)
+pub(crate) fn put_semaphores(held: &mut Hand<Cell>, clients: u32, part: Box<Part>)
     requires few { clients ≤ 64 }
     requires place { semaphores_place clients < length held.old }
     ensures { held.new ≡ slice_set held.old (semaphores_place clients) (Some part.value) }

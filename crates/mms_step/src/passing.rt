@@ -1,40 +1,83 @@
 //! Time goes by on the parts that are held.
 
-ghost use Rattle.std.specs.Prelude.{◌≡◌, ◌+◌, ◌≤◌, true, length, None, OnOk, OnErr};
+ghost use Rattle.std.specs.Prelude.{◌≡◌, ◌+◌, ◌≤◌, [], false, is_some, true, length, None, OnOk, OnErr, Some};
 ghost use Rattle.part_table.specs.Held.{held_at, IsHandOf};
 ghost use Rattle.parted_state.specs.Lifted.{put_in_place, tables_shown};
 ghost use Rattle.mms_time.specs.Deadlines.{next_due};
 ghost use Rattle.cell_services.specs.Serving.{passes};
 ghost use Rattle.cell_services.specs.Tables.{last_moment};
 ghost use Rattle.mms_step.specs.Lifting.{clocked};
-ghost use Rattle.mms_step.specs.Partition.{cell, clients_among, clock_in, parts_of, semaphores_in, semaphores_place};
+ghost use Rattle.mms_step.specs.Partition.{cell, clients_among, clock_in, parts_of, semaphores_in, semaphores_place, IsSemaphores};
 ghost use Rattle.mms_step.specs.State.{State};
 ghost use Rattle.mms_step.specs.Tasks.{is_clock};
 
-use crate::needs::semaphores_held;
+use crate::areas::{put_semaphores, take_semaphores};
 use crate::serving::{Task, serve};
+use crate::tables::semaphores;
 use crate::{Cell, Part};
-use mms_time::{Semaphores, next_due};
 use mms_types::{Memory, Moment};
 use part_table::Hand;
 use std::alloc::Global;
 
-/// Whether the clock is held, and no deadline of the semaphores that are held is due once so many milliseconds have gone
-/// by. It takes no memory.
-fn is_quiet(alloc: Global, held: &Hand<Cell>, clients: u32, ms: u32) -> bool
+/// Whether the semaphores are held.
+fn are_held(held: &Hand<Cell>, clients: u32) -> bool
     requires few { clients ≤ 64 }
-    requires time { clock_in (held_at held.now 0) + ms ≤ last_moment }
-    ensures clock { result ≡ true → is_clock (held_at held.now 0) ≡ true }
+    ensures held { result ≡ true → IsSemaphores (held_at held.now (semaphores_place clients)) }
+    ensures none { result ≡ false
+        → semaphores_in (held_at held.now (semaphores_place clients)) ≡ [] }
+{
+    match held.get(u32::from(semaphores(clients))) {
+        Some(Part::Semaphores(_)) => true,
+        _ => false,
+    }
+}
+
+/// Whether a deadline of the semaphores of that part is at most that moment. They may keep what they find, and stay as
+/// they are.
+fn due_in_part(part: &mut Part, until: Moment) -> bool
+    requires { IsSemaphores (Some part.old) }
+    ensures due { result ≡ is_some (next_due until (semaphores_in (Some part.old))) }
+    ensures same { part.new ≡ part.old }
+{
+    match part {
+        Part::Semaphores(rows) => rows.comes_due(until),
+        _ => unreachable!(),
+    }
+}
+
+/// The same of the semaphores that are held. It takes no memory.
+fn comes_due(held: &mut Hand<Cell>, clients: u32, until: Moment) -> bool
+    requires few { clients ≤ 64 }
+    requires held { IsSemaphores (held_at held.old (semaphores_place clients)) }
+    ensures due { result
+        ≡ is_some (next_due until (semaphores_in (held_at held.old (semaphores_place clients)))) }
+    ensures same { held.new ≡ held.old }
+{
+    let mut table = take_semaphores(held, clients);
+    let due = due_in_part(&mut table, until);
+    put_semaphores(held, clients, table);
+    due
+}
+
+/// Whether the clock is held, and no deadline of the semaphores that are held is due once so many milliseconds have gone
+/// by. The parts stay as they are. It takes no memory.
+fn is_quiet(held: &mut Hand<Cell>, clients: u32, ms: u32) -> bool
+    requires few { clients ≤ 64 }
+    requires time { clock_in (held_at held.old 0) + ms ≤ last_moment }
+    ensures clock { result ≡ true → is_clock (held_at held.old 0) ≡ true }
     ensures due { result ≡ true
-        → next_due (record { 0 = clock_in (held_at held.now 0) + ms })
-        (semaphores_in (held_at held.now (semaphores_place clients))) ≡ None }
+        → next_due (record { 0 = clock_in (held_at held.old 0) + ms })
+        (semaphores_in (held_at held.old (semaphores_place clients))) ≡ None }
+    ensures same { held.new ≡ held.old }
 {
     let Some(Part::Clock(clock)) = held.get(0) else {
         return false;
     };
-    let none = Semaphores::new(alloc);
     let until = Moment(clock.now().0 + u64::from(ms));
-    next_due(semaphores_held(held, clients, &none), until).is_none()
+    if !are_held(held, clients) {
+        return true;
+    }
+    !comes_due(held, clients, until)
 }
 
 /// Lets so many milliseconds go by on the clock alone.
@@ -69,7 +112,7 @@ pub(crate) fn tick(
         ≡ put_in_place cell (passes ms (tables_shown cell held.old)) held.old) }
     ensures kept { OnErr result (held.new ≡ held.old) }
 {
-    if is_quiet(alloc, held, clients, ms) {
+    if is_quiet(held, clients, ms) {
         advance(held, ms);
         return Ok(());
     }

@@ -1,3 +1,4 @@
+pub mod Bounded
 pub mod Changed
 pub mod EachLost
 pub mod KeyOrder

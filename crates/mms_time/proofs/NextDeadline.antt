@@ -20,7 +20,7 @@ none_before : (rows : Rows) (d : NamedDeadline) → first_due rows ≡ Some d �
 none_before rows d is k e low = least-first due_sooner due_ranks (all_deadlines rows) d (get_or (all_deadlines rows) k e) is (stands_at (all_deadlines rows) k e low)
 
 -- what comes not before another has no earlier moment
-no_earlier : (x d : NamedDeadline) → due_sooner x d ≡ false → d.at.0 ≤ x.at.0
+pub no_earlier : (x d : NamedDeadline) → due_sooner x d ≡ false → d.at.0 ≤ x.at.0
 no_earlier x d h = by_test (nat_lt x.at.0 d.at.0) refl h
   where
     by_test : (b : Bool) → nat_lt x.at.0 d.at.0 ≡ b

@@ -1,6 +1,8 @@
 -- Worked examples of the services for semaphores: what each is refused for, what it answers and does, typed by hand from the definitions.
-use Rattle.std.specs.Prelude.{◌≡◌, ℕ, Bool, true, false, List, [], ◌∷◌, map, replicate, Option, Some, None}
-use Rattle.std.proofs.Common.{refl}
+use Rattle.std.specs.Prelude.{◌≡◌, ℕ, Bool, true, false, List, [], ◌∷◌, map, replicate, Option, Some, None, option_and_then}
+use Rattle.std.specs.Map.{lookup}
+use Rattle.std.proofs.Common.{arith, refl}
+use Rattle.mms_types.specs.Order.{key_eq}
 use Rattle.mms_types.specs.Errors.{capability_unavailable, object_access_denied, object_constraint_conflict, object_exists, object_non_existent, object_state_conflict, object_undefined, timeout, type_inconsistent}
 use Rattle.mms_types.specs.declared.key.Key.{Key}
 use Rattle.mms_types.specs.declared.key.Scope.TheVariants as scope
@@ -19,14 +21,17 @@ use Rattle.mms_types.specs.declared.semaphore.SemaphoreClass.TheVariants as clas
 use Rattle.mms_types.specs.declared.semaphore.TakeControl.{TakeControl}
 use Rattle.mms_types.specs.declared.semaphore.TakeControlAnswer.TheVariants.{NoResult, NamedToken}
 use Rattle.object_names.specs.Listing.{names_after}
+use Rattle.token_sem.specs.Semaphore.{first_deadline as least_deadline}
+use Rattle.token_sem.specs.declared.entry.Deadline.{Deadline}
 use Rattle.token_sem.specs.declared.entry.Grant.{Grant}
 use Rattle.token_sem.specs.declared.entry.SemEntry.{SemEntry}
 use Rattle.token_sem.specs.declared.entry.SemState.{SemState}
 use Rattle.token_sem.specs.declared.entry.SemState.TheVariants.{Queued, Owner, Hung}
+use Rattle.mms_time.specs.Bounds.{IsThere, NoneBefore, sooner_of}
 use Rattle.mms_time.specs.Deadlines.{expire_after, expired, next_due}
 use Rattle.mms_time.specs.Guards.{owns_guard}
 use Rattle.mms_time.specs.Loss.{lost, lost_grants}
-use Rattle.mms_time.specs.Semaphores.{Rows}
+use Rattle.mms_time.specs.Semaphores.{Rows, entries_of}
 use Rattle.mms_time.specs.Services.{cancelled, define_after, define_cause, delete_after, delete_cause, grant_answer, relinquish_after, relinquish_cause, relinquish_grant, take_after, take_cause, take_told}
 use Rattle.mms_time.specs.Statuses.{entry_status_answer, pool_status_answer, pool_status_cause, status, status_cause}
 use Rattle.mms_time.specs.declared.row.Semaphore.TheVariants.{Token, Pool}
@@ -476,3 +481,44 @@ pool_ended = refl
 
 pool_after_end : expire_after p_key 1 (at 10) pool_timed ≡ robots 2 (with_token (Some 0) (entry 2 2 Owner None) ∷ [])
 pool_after_end = refl
+
+-- ---- the moment that is kept beside the semaphores, which no deadline is before
+
+-- client 1 owns T until 30, and nobody owns U
+abbrev until_30 : Rows
+until_30 = row t_key false 1 (entry 1 1 Owner (Some (at 30)) ∷ []) ∷ row u_key false 0 [] ∷ []
+
+-- client 2 takes U with a time of control of 10
+abbrev until_10 : Rows
+until_10 = take_after 2 10 (at 0) (take u 64 None (Some 10)) until_30
+
+-- the soonest deadline of U
+abbrev due_of_u : Rows → Option Deadline
+due_of_u rows = option_and_then (λ row. least_deadline (entries_of row)) (lookup (key_eq u_key) rows)
+
+a_take_lowers_it : sooner_of (at 30) (due_of_u until_10) ≡ at 10
+a_take_lowers_it = refl
+
+and_none_is_before : NoneBefore (at 10) until_10
+and_none_is_before = ((omega arith, tt), ((omega arith, tt), tt))
+
+one_is_there : IsThere true (at 10) until_10
+one_is_there = λ known. refl
+
+-- a take without a time of control leaves it
+a_plain_take_leaves_it : sooner_of (at 30) (due_of_u (take_after 2 10 (at 0) (plain u) until_30)) ≡ at 30
+a_plain_take_leaves_it = refl
+
+-- where the entry goes it may stay, though no deadline is there any more
+it_stays_where_one_goes : NoneBefore (at 10) (relinquish_after 2 (at 5) (give u) until_10)
+it_stays_where_one_goes = ((omega arith, tt), (tt, tt))
+
+none_is_due_then : next_due (at 29) (relinquish_after 2 (at 5) (give u) until_10) ≡ None
+none_is_due_then = refl
+
+-- so it may where a client is lost, and where a semaphore is deleted
+it_stays_where_one_is_lost : NoneBefore (at 10) (lost 1 (at 5) until_10)
+it_stays_where_one_is_lost = (tt, ((omega arith, tt), tt))
+
+it_stays_where_one_is_deleted : NoneBefore (at 30) (delete_after 1 u until_30)
+it_stays_where_one_is_deleted = ((omega arith, tt), tt)

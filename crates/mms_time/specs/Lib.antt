@@ -1,3 +1,4 @@
+pub mod Bounds
 pub mod Deadlines
 pub mod Guards
 pub mod Loss

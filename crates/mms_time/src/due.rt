@@ -88,7 +88,7 @@ fn due_of<'a>(key: &'a Key, row: &SemaphoreRow) -> Option<Due<'a>>
 }
 
 /// The least deadline of all semaphores.
-fn first_due<'a>(semaphores: &'a Semaphores) -> Option<Due<'a>>
+pub(crate) fn first_due<'a>(semaphores: &'a Semaphores) -> Option<Due<'a>>
     ensures least { option_map due_meant result ≡ first_due semaphores.now }
     ensures stands { IfSome result (λ due.
         deadline_in due.key.now due.entry semaphores.now ≡ Some due.at) }

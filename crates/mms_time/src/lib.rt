@@ -7,10 +7,12 @@ mod defining;
 mod due;
 mod guards;
 mod laws;
+mod lends;
 mod losing;
 mod opening;
 mod row;
 mod status;
+mod table;
 mod taking;
 mod tokens;
 
@@ -24,10 +26,11 @@ pub use laws::{
 };
 pub use losing::{lose, lose_told};
 pub use opening::configured;
-pub use row::{Semaphore, SemaphoreRow, Semaphores};
+pub use row::{Semaphore, SemaphoreRow};
 pub use status::{
     report_pool_semaphore_status, report_semaphore_entry_status, report_semaphore_status,
 };
+pub use table::Semaphores;
 pub use taking::{
     TakeDone, cancel_take, relinquish_control, relinquish_control_told, take_control,
     take_control_told,

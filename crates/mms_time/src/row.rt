@@ -1,5 +1,5 @@
 use mms_types::Memory;
-use object_names::{Copied, Named};
+use object_names::Copied;
 use pool_sem::PoolSem;
 use std::alloc::Global;
 use token_sem::TokenSem;
@@ -21,9 +21,6 @@ pub struct SemaphoreRow {
     /// Its tokens and its entries.
     pub semaphore: Semaphore,
 }
-
-/// The semaphores of a device under their names, in the order in which they were made.
-pub type Semaphores = Named<SemaphoreRow>;
 
 impl Copied for SemaphoreRow {
     fn copied(&self, alloc: Global) -> Result<SemaphoreRow, Memory> {

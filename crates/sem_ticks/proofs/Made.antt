@@ -1,12 +1,11 @@
 -- The drafts that are made of the semaphores that are due.
-use Rattle.std.proofs.Common.{◌≡◌, ◌≢◌, ◌∙◌, ap, refl, sym, subst, ℕ, zero, suc, ◌+◌, ◌<◌, ◌≤◌, ◌==◌, inl, inr, Bor, Bool, true, false, cond, List, [], ◌∷◌, ◌++◌, append-nil, filter, length, map, get_or, slice_get, take, Option, None, Some, IsSome, unwrap_or, arith}
+use Rattle.std.proofs.Common.{◌≡◌, ◌≢◌, ◌∙◌, ap, refl, sym, subst, ℕ, zero, suc, ◌+◌, ◌<◌, ◌≤◌, inl, inr, Bor, Bool, true, false, cond, List, [], ◌∷◌, ◌++◌, append-nil, filter, length, map, get_or, slice_get, take, Option, None, Some, IsSome, is_some, unwrap_or, arith}
 use Rattle.std.specs.List.{All, AllPairs, Contains, IsDistinct}
 use Rattle.std.specs.List.Sorted.{IsPermutation, IsSorted}
 use Rattle.std.specs.Map.{keys_of, lookup}
 use Rattle.std.specs.declared.cmp.Ordering.{Ordering}
 use Rattle.std.specs.declared.cmp.Ordering.TheVariants.{Less, Equal, Greater}
 use Rattle.std.specs.Ordering.{is_eq, is_lt, ordering_reverse}
-use Rattle.std.proofs.lemmas.Bool.Decides.{nat_tests}
 use Rattle.std.proofs.lemmas.List.{length-map}
 use Rattle.std.proofs.lemmas.List.Elements.{All-push}
 use Rattle.std.proofs.lemmas.List.Sorted.{Contains-permutation, IsPermutation-map, ranks_by, sorted_far}
@@ -18,14 +17,13 @@ use Rattle.mms_types.specs.Order.{key_eq, key_order}
 use Rattle.mms_types.specs.declared.key.Key.{Key}
 use Rattle.mms_types.specs.declared.moment.Moment.{Moment}
 use Rattle.token_sem.proofs.Least.{Stands}
-use Rattle.mms_time.specs.Deadlines.{next_due}
 use Rattle.mms_time.specs.Semaphores.{Rows}
 use Rattle.mms_time.specs.declared.row.SemaphoreRow.{SemaphoreRow}
 use Rattle.mms_time.proofs.Names.{map_more}
 use Rattle.mms_time.proofs.Soonest.{take_next}
 use Rattle.sem_ticks.specs.Drafts.{become, drafted, due_rows, is_due, named, AreDrafts, IsPlaced, KeepsLeast}
 use Rattle.sem_ticks.specs.declared.drafts.Draft.{Draft}
-use Rattle.sem_ticks.proofs.NextOf.{from_all, in_map, name_of_row, next_none_due, none_next, place_stands, row_of_name}
+use Rattle.sem_ticks.proofs.NextOf.{from_all, in_map, name_of_row, place_stands, row_of_name}
 
 abbrev pub place_key : Bor Key × ℕ → Key
 place_key p = p.0.now
@@ -215,23 +213,10 @@ module _ (until : Moment) (rows : Rows) (due ps : List (Bor Key × ℕ)) (ds : L
 
 -- ---- whether any is due
 
-no_names : (rows : Rows) → keys_of rows ≡ [] → rows ≡ []
-no_names [] e = refl
-no_names (row ∷ rows) e = absurd (cc e)
+pub is_none : {A : Type 0} (o : Option A) → is_some o ≡ false → o ≡ None
+is_none None is = refl
+is_none (Some x) is = absurd (cc is)
 
-no_items : (ps : List (Bor Key × ℕ)) → (length ps == 0) ≡ true → map place_key ps ≡ []
-no_items [] e = refl
-no_items (p ∷ ps) e = absurd (let nothing : length (p ∷ ps) ≡ 0 = grind (arith, nat_tests) in omega (arith, nothing))
-
-some_items : (ps : List (Bor Key × ℕ)) → (length ps == 0) ≡ false → map place_key ps ≢ []
-some_items [] e none = cc e
-some_items (p ∷ ps) e none = cc none
-
-pub none_due : (until : Moment) (rows : Rows) (ps : List (Bor Key × ℕ)) → map place_key ps ≡ keys_of (due_rows until rows) → (length ps == 0) ≡ true → next_due until rows ≡ None
-none_due until rows ps keys empty = none_next until rows (no_names (due_rows until rows) (sym keys ∙ no_items ps empty))
-
-pub any_due : (until : Moment) (rows : Rows) (ps : List (Bor Key × ℕ)) → map place_key ps ≡ keys_of (due_rows until rows) → (length ps == 0) ≡ false → next_due until rows ≢ None
-any_due until rows ps keys some none = some_items ps some (keys ∙ ap keys_of (next_none_due until rows none))
-
-pub due_next : (until : Moment) (rows : Rows) → due_rows until rows ≢ [] → next_due until rows ≢ None
-due_next until rows some none = some (next_none_due until rows none)
+pub is_there : {A : Type 0} (o : Option A) → is_some o ≡ true → o ≢ None
+is_there None is none = cc is
+is_there (Some x) is none = cc none

@@ -13,7 +13,7 @@ use Rattle.mms_types.specs.Order.{key_eq, key_order}
 use Rattle.mms_types.specs.declared.key.Key.{Key}
 use Rattle.mms_types.specs.declared.moment.Moment.{Moment}
 use Rattle.mms_types.proofs.Precedence.{key_eq_tells, key_order_tells_apart}
-use Rattle.token_sem.specs.Semaphore.{deadlines, first_deadline, least, sooner}
+use Rattle.token_sem.specs.Semaphore.{first_deadline, least}
 use Rattle.token_sem.specs.declared.entry.Deadline.{Deadline}
 use Rattle.token_sem.proofs.Least.{Stands, least-first, least-none, least-stands}
 use Rattle.mms_time.specs.Deadlines.{NamedDeadline, all_deadlines, deadlines_of, due_order, due_sooner, first_due, named_deadline, next_due, until_only}
@@ -22,7 +22,7 @@ use Rattle.mms_time.specs.declared.row.SemaphoreRow.{SemaphoreRow}
 use Rattle.mms_time.proofs.NextDeadline.{next_by_then, next_least, next_none}
 use Rattle.mms_time.proofs.Soonest.{due_ranks, due_total, named_first}
 use Rattle.sem_ticks.proofs.Ahead.{due_stands}
-use Rattle.sem_ticks.specs.Drafts.{become, due_by, due_rows, is_due}
+use Rattle.sem_ticks.specs.Drafts.{become, due_by, is_due}
 
 -- ---- what stands in lists
 
@@ -174,44 +174,6 @@ not_due until key row out x there =
     ap (least due_sooner) (append-nil (deadlines_of (key, row))) ∙ sym (named_first key row (first_deadline (entries_of row)) refl) in
     let none : next_due until ((key, row) ∷ []) ≡ None = ap (until_only until) first ∙ named_by until key (first_deadline (entries_of row)) out in
     from_all (λ y. until.0 < y.at.0) (all_deadlines ((key, row) ∷ [])) (next_none until ((key, row) ∷ []) none) x (stands_left (deadlines_of (key, row)) [] x there)
-
--- where none is due nothing is next, and back
-pub none_next : (until : Moment) (rows : Rows) → due_rows until rows ≡ [] → next_due until rows ≡ None
-none_next until rows none = next_nothing until rows (λ x there. let r = in_flat deadlines_of rows x there in not_due until r.0.0 r.0.1 (each rows none r.0 r.1) x r.2)
-  where
-    each : (rows : Rows) → due_rows until rows ≡ [] → (row : Key × SemaphoreRow) → Stands rows row → is_due until row.1 ≡ false
-    each [] none row there = absurd there
-    each (r ∷ rows) none row there = by_test (is_due until r.1) refl none there (each rows)
-      where
-        by_test : (b : Bool) → is_due until r.1 ≡ b → cond b (r ∷ due_rows until rows) (due_rows until rows) ≡ [] → Stands (r ∷ rows) row
-            → (due_rows until rows ≡ [] → (row : Key × SemaphoreRow) → Stands rows row → is_due until row.1 ≡ false) → is_due until row.1 ≡ false
-        by_test true e none there rest = absurd (cc none)
-        by_test false e none (inl same) rest = ap (λ (x : Key × SemaphoreRow). is_due until x.1) (sym same) ∙ e
-        by_test false e none (inr there) rest = rest none row there
-
-pub next_none_due : (until : Moment) (rows : Rows) → next_due until rows ≡ None → due_rows until rows ≡ []
-next_none_due until rows none = each rows (λ x there. from_all (λ y. until.0 < y.at.0) (all_deadlines rows) (next_none until rows none) x there)
-  where
-    in_time_not : (d : Deadline) → nat_le d.at.0 until.0 ≡ true → until.0 < d.at.0 → ⊥
-    in_time_not d low high = let out : nat_le d.at.0 until.0 ≡ false = grind (arith, nat_tests) in cc (sym out ∙ low)
-
-    not_late : (row : Key × SemaphoreRow) → ((x : NamedDeadline) → Stands (deadlines_of row) x → until.0 < x.at.0) → (o : Option Deadline) → first_deadline (entries_of row.1) ≡ o → due_by until o ≡ false
-    not_late row later None e = refl
-    not_late row later (Some d) e = by_time (nat_le d.at.0 until.0) refl
-      where
-        there : Stands (deadlines_of row) (named_deadline row.0 d)
-        there = of_map (named_deadline row.0) (deadlines (entries_of row.1)) d (least-stands sooner (deadlines (entries_of row.1)) d e)
-
-        by_time : (b : Bool) → nat_le d.at.0 until.0 ≡ b → b ≡ false
-        by_time true low = absurd (in_time_not d low (later (named_deadline row.0 d) there))
-        by_time false low = refl
-
-    each : (rows : Rows) → ((x : NamedDeadline) → Stands (all_deadlines rows) x → until.0 < x.at.0) → due_rows until rows ≡ []
-    each [] later = refl
-    each (row ∷ rows) later =
-        ap (λ (b : Bool). cond b (row ∷ due_rows until rows) (due_rows until rows))
-        (not_late row (λ x there. later x (stands_left (deadlines_of row) (all_deadlines rows) x there)) (first_deadline (entries_of row.1)) refl)
-        ∙ each rows (λ x there. later x (stands_right (deadlines_of row) (all_deadlines rows) x there))
 
 -- ---- those that are due, and all
 

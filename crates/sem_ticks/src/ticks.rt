@@ -197,10 +197,10 @@ pub fn tick(alloc: Global, semaphores: &Semaphores, until: Moment) -> Result<Opt
     ensures none { IfOk result (λ met. IfNone met (next_due until semaphores.now ≡ None)) }
     ensures wants { OnErr result (next_due until semaphores.now ≢ None) }
 {
-    let due = due_places(alloc, semaphores, until)?;
-    if due.as_slice().is_empty() {
+    if !semaphores.is_due(until) {
         return Ok(None);
     }
+    let due = due_places(alloc, semaphores, until)?;
     match ticked_in_drafts(alloc, semaphores, due, until)? {
         Some(ticked) => Ok(Some(ticked)),
         None => Ok(Some(ticked_in_copy(alloc, semaphores, until)?)),
