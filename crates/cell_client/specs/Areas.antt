@@ -65,6 +65,11 @@ pub record IsServedIn {A : Type 0} (r : RequestIn A) (facts : Facts) (invoke : �
   pub told : tell row.client (own_told_in r facts row invoke was) ++ also_in r facts row invoke was ≡ tell row.client effects
   pub table : now ≡ table_in r facts row invoke was
 
+-- It tells others something, too: the table that it makes, and what is told to whom, in order.
+pub record IsToldIn {A : Type 0} (r : RequestIn A) (facts : Facts) (invoke : ℕ) (row : ClientRow) (was now : A) (told : List (ℕ × Effect)) : Type 0 where
+  pub is : told ≡ tell row.client (own_told_in r facts row invoke was) ++ also_in r facts row invoke was
+  pub table : now ≡ table_in r facts row invoke was
+
 -- ---- a request that is not refused
 
 -- it has an answer, and no request waits by it; or it waits, and nothing else is told

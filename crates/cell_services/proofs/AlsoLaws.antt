@@ -20,7 +20,7 @@ use Rattle.association.specs.declared.negotiation.Association.TheVariants.{Idle,
 use Rattle.parted_state.specs.Served.{is_told}
 use Rattle.cell_services.proofs.TimeLaws.{moment_given}
 use Rattle.cell_client.specs.Effects.{Effect}
-use Rattle.cell_client.specs.Association.{Verdict, Tells, Takes, Concludes, Cancels, Aborts}
+use Rattle.cell_client.specs.Association.{Verdict, Takes}
 use Rattle.cell_client.specs.declared.verdict.Found.{Found}
 use Rattle.cell_client.specs.declared.verdict.Found.TheVariants as found
 use Rattle.cell_client.specs.Meant.{meant}

@@ -1,5 +1,5 @@
 -- A request that is served on the table of its area and the row of its client is what it does among all tables.
-use Rattle.std.specs.Prelude.{◌≡◌, ℕ, Bool, true, false, Some, List, ◌++◌, [], if◌then◌else◌, refl}
+use Rattle.std.specs.Prelude.{◌≡◌, ℕ, Bool, true, false, Option, None, Some, List, ◌++◌, [], Result, Ok, Err, IfNone, IfOk, IfSome, if◌then◌else◌, refl}
 use Rattle.std.proofs.Common.{ap, ap₂, sym, ◌∙◌, subst}
 use Rattle.mms_types.specs.Areas.{semaphore_request, variable_request}
 use Rattle.mms_types.specs.declared.area.SemaphoreRequest.{SemaphoreRequest}
@@ -19,14 +19,18 @@ use Rattle.variable_services.specs.declared.tables.VariableTables.{VariableTable
 use Rattle.mms_time.specs.Guards.{owns_guard}
 use Rattle.mms_time.specs.Semaphores.{Rows}
 use Rattle.variables.specs.Access.{flags_of}
-use Rattle.cell_client.specs.Areas.{RequestIn, IsServedIn, also_in, is_done_in, own_told_in, table_in}
+use Rattle.cell_client.specs.Areas.{RequestIn, IsServedIn, IsToldIn, also_in, is_done_in, own_told_in}
 use Rattle.cell_client.specs.Association.{Takes}
 use Rattle.cell_client.specs.Effects.{Effect, felt_all, settled, tell}
 use Rattle.cell_client.specs.Facts.{Facts}
+use Rattle.cell_client.specs.Telling.{effects_told}
+use Rattle.cell_client.specs.declared.told.Told.{Told}
+use Rattle.mms_types.specs.declared.memory.Memory.{Memory}
+use Rattle.serve_semaphores.specs.Tokens.{told_after}
 use Rattle.serve_variables.specs.Variables as variable
 use Rattle.serve_variables.specs.Variables.{guards_asked}
 use Rattle.serve_semaphores.specs.Semaphores as semaphore
-use Rattle.cell_services.specs.Acts.{IsDoneIn}
+use Rattle.cell_services.specs.Acts.{all_done, IsDoneIn}
 use Rattle.cell_services.specs.Device.{listed, scope_cause, scope_of}
 use Rattle.cell_services.specs.Facts.{names_in}
 use Rattle.cell_services.specs.AreaLaws.{in_semaphores, in_variables}
@@ -53,17 +57,24 @@ module _ {A : Type 0} (own : Own Tables A) (stays : (t : Tables) → own.put (ow
   abbrev at : Tables → List (ℕ × Effect) → Done Tables Effect
   at u told = record { tables = u; told = told }
 
-  -- its table is put among the others
-  in_place : (now : A) (new : RoomyRow) (is : IsServedIn r facts invoke row (own.of t) now new)
+  -- its table is put among the others, and so much is told to whom
+  placed : (now : A) (told : List (ℕ × Effect)) → IsToldIn r facts invoke row (own.of t) now told
       → at (if is_done_in r facts row invoke (own.of t) then own.put (r.effect facts (own.of t) row invoke).tables t else t)
       (tell row.client (own_told_in r facts row invoke (own.of t)) ++ also_in r facts row invoke (own.of t))
-      ≡ at (own.put now t) (tell row.client is.effects)
-  in_place now new is = ap₂ at (by_test (is_done_in r facts row invoke (own.of t)) ∙ ap (λ (a : A). own.put a t) (sym is.table)) is.told
+      ≡ at (own.put now t) told
+  placed now told is = ap₂ at (by_test (is_done_in r facts row invoke (own.of t)) ∙ ap (λ (a : A). own.put a t) (sym is.table)) (sym is.is)
     where
       by_test : (b : Bool) → (if b then own.put (r.effect facts (own.of t) row invoke).tables t else t)
           ≡ own.put (if b then (r.effect facts (own.of t) row invoke).tables else own.of t) t
       by_test true = refl
       by_test false = sym (stays t)
+
+  -- where its client alone is told something
+  in_place : (now : A) (new : RoomyRow) (is : IsServedIn r facts invoke row (own.of t) now new)
+      → at (if is_done_in r facts row invoke (own.of t) then own.put (r.effect facts (own.of t) row invoke).tables t else t)
+      (tell row.client (own_told_in r facts row invoke (own.of t)) ++ also_in r facts row invoke (own.of t))
+      ≡ at (own.put now t) (tell row.client is.effects)
+  in_place now new is = placed now (tell row.client is.effects) (record { is = sym is.told; table = is.table })
 
 -- ---- each area
 
@@ -112,19 +123,49 @@ semaphores_live : (x : SemaphoreRequest) (t : Tables) (row : ClientRow) → (tol
 semaphores_live (semaphores.TakeControl x) t row = refl
 semaphores_live other t row = refl
 
-pub semaphores_served : (x : SemaphoreRequest) (t : Tables) (row : ClientRow) (invoke : ℕ) (moment : Moment) (was now : Rows) (new : RoomyRow)
-    → ((facts : Facts) → facts.now ≡ moment → facts.live ≡ false → IsServedIn (semaphore.request_in x) facts invoke row was now new)
-    → t.semaphores ≡ was → t.now ≡ moment.0 → IsDoneIn own_semaphores t row now new (Takes invoke (semaphore_request x))
-semaphores_served x t row invoke moment was now new served stood at =
-    let is : IsServedIn (semaphore.request_in x) (told_in own_semaphores t row (semaphore.request_in x)) invoke row t.semaphores now new =
-    subst (λ (rows : Rows). IsServedIn (semaphore.request_in x) (told_in own_semaphores t row (semaphore.request_in x)) invoke row rows now new) (sym stood)
-    (served (told_in own_semaphores t row (semaphore.request_in x)) (semaphores_now x t row ∙ sym (moment_given t moment (sym at))) (semaphores_live x t row)) in
-    record {
-      effects = is.effects;
-      is = is.is;
-      done = heard_as t row invoke (semaphore_request x) (OfSemaphores (semaphore.request_in x)) (in_semaphores x)
-          ∙ in_place own_semaphores (λ u. refl) (semaphore.request_in x) t row invoke now new is;
-    }
+module _ (x : SemaphoreRequest) (row : ClientRow) (invoke : ℕ) (moment : Moment) (was : Rows) where
+  abbrev its : Tables → Facts
+  its t = told_in own_semaphores t row (semaphore.request_in x)
+
+  its_now : (t : Tables) → t.now ≡ moment.0 → (its t).now ≡ moment
+  its_now t at = semaphores_now x t row ∙ sym (moment_given t moment (sym at))
+
+  served_among : (t : Tables) (now : Rows) (new : RoomyRow)
+      → ((facts : Facts) → facts.now ≡ moment → facts.live ≡ false → IsServedIn (semaphore.request_in x) facts invoke row was now new)
+      → t.semaphores ≡ was → t.now ≡ moment.0 → IsDoneIn own_semaphores t row now new (Takes invoke (semaphore_request x))
+  served_among t now new served stood at =
+      let is : IsServedIn (semaphore.request_in x) (its t) invoke row t.semaphores now new =
+      subst (λ (rows : Rows). IsServedIn (semaphore.request_in x) (its t) invoke row rows now new) (sym stood) (served (its t) (its_now t at) (semaphores_live x t row)) in
+      record {
+        effects = is.effects;
+        is = is.is;
+        done = heard_as t row invoke (semaphore_request x) (OfSemaphores (semaphore.request_in x)) (in_semaphores x)
+            ∙ in_place own_semaphores (λ u. refl) (semaphore.request_in x) t row invoke now new is;
+      }
+
+  pub semaphores_served : {X : Type 0} (now : Rows) (new : RoomyRow) (result : Result (Option X) Memory)
+      → IfOk result (λ left. IfNone left ((facts : Facts) → facts.now ≡ moment → facts.live ≡ false → IsServedIn (semaphore.request_in x) facts invoke row was now new))
+      → IfOk result (λ left. IfNone left ((t : Tables) → t.semaphores ≡ was → t.now ≡ moment.0 → IsDoneIn own_semaphores t row now new (Takes invoke (semaphore_request x))))
+  semaphores_served now new (Ok None) served = λ t stood at. served_among t now new served stood at
+  semaphores_served now new (Ok (Some told)) served = tt
+  semaphores_served now new (Err memory) served = tt
+
+  told_among : (t : Tables) (now : Rows) (told : List (ℕ × Told))
+      → ((facts : Facts) → facts.now ≡ moment → IsToldIn (semaphore.request_in x) facts invoke row was now (effects_told told))
+      → t.semaphores ≡ was → t.now ≡ moment.0 → hears t row row.client (Takes invoke (semaphore_request x)) ≡ all_done (own_semaphores.put now t) told
+  told_among t now told left stood at =
+      heard_as t row invoke (semaphore_request x) (OfSemaphores (semaphore.request_in x)) (in_semaphores x)
+      ∙ placed own_semaphores (λ u. refl) (semaphore.request_in x) t row invoke now (effects_told told)
+      (subst (λ (rows : Rows). IsToldIn (semaphore.request_in x) (its t) invoke row rows now (effects_told told)) (sym stood) (left (its t) (its_now t at)))
+
+  pub semaphores_told : {X : Type 0} (result : Result (Option X) Memory) (items : X → List (ℕ × Told))
+      → IfOk result (λ left. IfSome left (λ told. (facts : Facts) → facts.now ≡ moment
+      → IsToldIn (semaphore.request_in x) facts invoke row was (told_after row.client moment x was) (effects_told (items told))))
+      → IfOk result (λ left. IfSome left (λ told. (t : Tables) → t.semaphores ≡ was → t.now ≡ moment.0
+      → hears t row row.client (Takes invoke (semaphore_request x)) ≡ all_done (own_semaphores.put (told_after row.client moment x was) t) (items told)))
+  semaphores_told (Ok (Some told)) items left = λ t stood at. told_among t (told_after row.client moment x was) (items told) left stood at
+  semaphores_told (Ok None) items left = tt
+  semaphores_told (Err memory) items left = tt
 
 -- ---- names are listed
 

@@ -1,5 +1,5 @@
 -- Requests that the row of their client alone answers, and what is left to be done on the tables.
-use Rattle.std.specs.Prelude.{◌≡◌, ℕ, Bool, true, false, Option, None, Some, List, [], ◌∷◌, ◌++◌, Result, Ok, Err, IfOk, OnOk, IfNone, IfSome, if◌then◌else◌, is_none, is_some, refl}
+use Rattle.std.specs.Prelude.{◌≡◌, ℕ, Bool, true, false, Option, None, Some, List, [], ◌∷◌, ◌++◌, Result, Ok, Err, IfOk, IfNone, if◌then◌else◌, is_none, is_some, refl}
 use Rattle.std.proofs.Common.{ap, ap₂, sym, ◌∙◌, subst}
 use Rattle.mms_types.specs.declared.memory.Memory.{Memory}
 use Rattle.mms_types.specs.declared.pdu.Request.{Request}
@@ -18,7 +18,7 @@ use Rattle.cell_client.specs.Association.{Verdict, Tells, Takes, Concludes, Canc
 use Rattle.cell_services.specs.Services.{Outcome, answers, cause, effect}
 use Rattle.cell_client.specs.Requests.{plain_answer, fits, is_done, request_told, size_of}
 use Rattle.cell_services.specs.Serving.{hears, own_told}
-use Rattle.cell_services.specs.Meant.{no_tables, row_after, IsPlainlyHeard}
+use Rattle.cell_services.specs.Meant.{no_tables, IsPlainlyHeard}
 use Rattle.cell_services.specs.Acts.{IsActOf}
 
 pub append_none : {A : Type 0} (xs : List A) → xs ++ [] ≡ xs

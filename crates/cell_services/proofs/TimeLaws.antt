@@ -1,18 +1,13 @@
 -- Time goes by, and clients are lost by it.
-use Rattle.std.specs.Prelude.{◌≡◌, ℕ, Option, None, Some, option_and_then, List, [], ◌∷◌, ◌++◌, map, filter_map, take, fold, refl}
-use Rattle.std.specs.List.{flat_map}
+use Rattle.std.specs.Prelude.{◌≡◌, ℕ, None, option_and_then, List, []}
 use Rattle.std.proofs.Common.{ap, sym, ◌∙◌}
 use Rattle.mms_types.specs.declared.moment.Moment.{Moment}
-use Rattle.mms_time.specs.Deadlines.{NamedDeadline, next_due}
-use Rattle.mms_time.specs.Semaphores.{Rows}
+use Rattle.mms_time.specs.Deadlines.{next_due}
 use Rattle.sem_ticks.specs.Ticks.{Ticking, entries_left, met, next_met, ticked}
 use Rattle.sem_ticks.proofs.Settling.{settle-none}
-use Rattle.sem_ticks.specs.declared.ticks.Happening.{Happening}
-use Rattle.parted_state.specs.Served.{Done}
 use Rattle.cell_services.specs.declared.tables.Change.TheVariants.{Passes}
 use Rattle.cell_client.specs.declared.told.Told.{Told}
 use Rattle.cell_services.specs.Acts.{plan_done}
-use Rattle.cell_client.specs.Effects.{Effect}
 use Rattle.cell_services.specs.Serving.{passed, passes}
 use Rattle.cell_services.specs.Tables.{Tables, moment_after, moment_of}
 

@@ -1,10 +1,6 @@
 -- What a client does on the tables, and how code plans it (this profile's choice).
-use Rattle.std.specs.Prelude.{◌≡◌, ℕ, Bool, true, false, not, List}
+use Rattle.std.specs.Prelude.{◌≡◌, ℕ, List}
 use Rattle.association.specs.Client.{ClientRow, Client as RoomyRow}
-use Rattle.mms_types.specs.declared.pdu.Request.{Request}
-use Rattle.mms_types.specs.declared.pdu.Request.TheVariants as request
-use Rattle.mms_time.specs.Semaphores.{Rows}
-use Rattle.serve_semaphores.specs.Tokens.{grants_nobody}
 use Rattle.parted_state.specs.Area.{Own}
 use Rattle.parted_state.specs.Served.{Done}
 use Rattle.cell_services.specs.declared.tables.Change.{Change}
@@ -45,14 +41,7 @@ pub record IsDoneIn {A : Type 0} (own : Own Tables A) (t : Tables) (row : Client
   pub is : new ≡ settled (felt_all effects row)
   pub done : hears t row row.client v ≡ record { tables = own.put now t; told = tell row.client effects }
 
--- ---- a token that is given back
-
--- somebody is granted it: of all requests, this one alone tells others something
-abbrev pub grants_somebody : ℕ → Request → Rows → Bool
-grants_somebody client (request.RelinquishControl x) rows = not (grants_nobody client x rows)
-grants_somebody client other rows = false
-
--- what is left to be done on several tables, or tells several clients: of requests that one
-abbrev pub IsLeft : Act → ClientRow → Tables → Type 0
-IsLeft (act.Request invoke asked) row t = grants_somebody row.client asked.now t.semaphores ≡ true
-IsLeft other row t = Unit {0}
+-- what is left to be done on several tables: all but a request
+abbrev pub IsLeft : Act → Type 0
+IsLeft (act.Request invoke asked) = ⊥
+IsLeft other = Unit {0}

@@ -6,10 +6,8 @@ use Rattle.mms_types.specs.declared.name_list.GetNameList.{GetNameList}
 use Rattle.mms_types.specs.declared.name_list.GetNameListAnswer.{GetNameListAnswer}
 use Rattle.mms_types.specs.declared.name_list.ObjectScope.{ObjectScope}
 use Rattle.mms_types.specs.declared.name_list.ObjectScope.TheVariants as scope
-use Rattle.mms_types.specs.declared.pdu.Answer.{Answer}
 use Rattle.mms_types.specs.declared.pdu.Answer.TheVariants as answer
 use Rattle.mms_types.specs.declared.service_error.ServiceError.{ServiceError}
-use Rattle.association.specs.Client.{ClientRow}
 use Rattle.cell_client.specs.Requests.{identity, operational}
 use Rattle.cell_client.specs.Association.{missing_error}
 use Rattle.cell_client.specs.Areas.{RequestIn, answers}

@@ -1,7 +1,6 @@
 -- What the tables tell requests of areas that aren't theirs (this profile's choice): the tables that questions are for, and the answers as facts.
 use Rattle.std.specs.Prelude.{ℕ, Bool, false, List, [], ◌∷◌, Option, is_some, if◌then◌else◌}
 use Rattle.std.specs.List.{list_any}
-use Rattle.mms_types.specs.declared.moment.Moment.{Moment}
 use Rattle.mms_types.specs.declared.key.Scope.{Scope}
 use Rattle.mms_types.specs.declared.name_list.ObjectClass.{ObjectClass}
 use Rattle.mms_types.specs.declared.name_list.ObjectClass.TheVariants as class

@@ -1,16 +1,17 @@
 //! Requests to the areas of the device, with what the tables of other areas tell them.
 
-ghost use Rattle.std.specs.Prelude.{◌≡◌, false, true, IfOk, OnErr, OnOk};
+ghost use Rattle.std.specs.Prelude.{◌≡◌, IfNone, IfOk, IfSome, OnErr, OnOk, OnSome};
 ghost use Rattle.mms_types.specs.Areas.{semaphore_request, variable_request};
 ghost use Rattle.mms_types.specs.Moments.{IsDated};
 ghost use Rattle.mms_time.specs.Guards.{owns_guard};
-ghost use Rattle.serve_semaphores.specs.Tokens.{tells_alone};
+ghost use Rattle.serve_semaphores.specs.Tokens.{told_after};
 ghost use Rattle.cell_client.specs.Association.{Takes};
 ghost use Rattle.cell_client.specs.Effects.{settled};
-ghost use Rattle.cell_services.specs.Acts.{IsDoneIn};
+ghost use Rattle.cell_services.specs.Acts.{all_done, IsDoneIn};
+ghost use Rattle.cell_services.specs.Serving.{hears};
 ghost use Rattle.cell_services.specs.Tables.{Tables as Rows, own_semaphores, own_variables};
 
-use cell_client::Client;
+use cell_client::{Client, Told};
 use mms_time::{Semaphores, owns_guard};
 use mms_types::{Identifier, Memory, Moment, SemaphoreRequest, VariableRequest};
 use std::alloc::Global;
@@ -54,8 +55,9 @@ pub fn serve_variables(
     serve_variables::serve(alloc, own, variables, false, &by, invoke, asked)
 }
 
-/// Serves a request for semaphores on these and the part of its client, at that moment. False exactly where it gives a
-/// token back that somebody is granted; then all is as before, as it is without memory.
+/// Serves a request for semaphores on these and the part of its client, at that moment. Where others are told something,
+/// too, that is told, with what its client is told first, and the semaphores after it are `told_after`; then all is as
+/// before, as it is without memory.
 pub fn serve_semaphores(
     alloc: Global,
     own: &mut Client,
@@ -63,16 +65,19 @@ pub fn serve_semaphores(
     now: Moment,
     invoke: u32,
     asked: SemaphoreRequest<'_>,
-) -> Result<bool, Memory>
+) -> Result<Option<Vec<(u32, Told)>>, Memory>
     requires now { IsDated now }
     requires settled { own.old ≡ settled own.old.row }
-    ensures served { IfOk result (λ done. done ≡ true → (t : Rows)
+    ensures served { IfOk result (λ left. IfNone left ((t : Rows)
         → t.semaphores ≡ semaphores.old → t.now ≡ now.0 → IsDoneIn own_semaphores t
-        own.old.row semaphores.new own.new (Takes invoke (semaphore_request asked.entry))) }
-    ensures unchanged { IfOk result (λ done. done ≡ false
-        → (own.new ≡ own.old) × (semaphores.new ≡ semaphores.old)) }
-    ensures exact { IfOk result (λ done.
-        done ≡ tells_alone own.old.row.client asked.entry semaphores.old) }
+        own.old.row semaphores.new own.new (Takes invoke (semaphore_request asked.entry)))) }
+    ensures left { IfOk result (λ left. IfSome left (λ told. (t : Rows)
+        → t.semaphores ≡ semaphores.old → t.now ≡ now.0
+        → hears t own.old.row own.old.row.client (Takes invoke (semaphore_request asked.entry))
+        ≡ all_done (own_semaphores.put
+        (told_after own.old.row.client now asked.entry semaphores.old) t) told.items)) }
+    ensures unchanged { IfOk result (λ left. OnSome left (
+        (own.new ≡ own.old) × (semaphores.new ≡ semaphores.old))) }
     ensures kept { OnErr result (own.new ≡ own.old) }
     ensures same { OnErr result (semaphores.new ≡ semaphores.old) }
 {

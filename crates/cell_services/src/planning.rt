@@ -1,124 +1,41 @@
 //! What is done on the tables is planned first: all is read and made that may want memory, and nothing changes.
 
-ghost use Rattle.std.specs.Prelude.{◌≡◌, ◌≢◌, ◌≤◌, ◌+◌, ◌++◌, ◌∷◌, [], false, true, IfOk, OnErr, OnOk, None, Some};
+ghost use Rattle.std.specs.Prelude.{◌≡◌, ◌≢◌, ◌≤◌, ◌+◌, ◌++◌, IfOk, OnErr, OnOk, None};
 ghost use Rattle.std.specs.Option.{option_map};
-ghost use Rattle.cell_services.specs.Acts.{act_done, grants_somebody, plan_done, IsLeft};
-ghost use Rattle.serve_semaphores.specs.Tokens.{grants_nobody};
+ghost use Rattle.cell_services.specs.Acts.{act_done, plan_done, IsLeft};
 ghost use Rattle.sem_ticks.specs.Meant.{state_of};
 ghost use Rattle.mms_time.specs.Deadlines.{next_due};
 ghost use Rattle.cell_services.specs.Tables.{Tables as Rows, last_moment, moment_after};
 ghost use Rattle.cell_services.specs.Changes.{changed, MayChange};
-ghost use Rattle.cell_client.specs.Effects.{tell, Sends};
-ghost use Rattle.cell_client.specs.Association.{abort_told, cancel_told, conclusion_told, Takes};
-ghost use Rattle.cell_client.specs.Requests.{refuses};
-ghost use Rattle.cell_services.specs.Serving.{aborted, aborted_one, all_told, happening_told, hears, loses, loss_also, passed, passes, tables_cancelled, waiting_of};
-ghost use Rattle.cell_client.specs.Telling.{effect_of, effects_told};
+ghost use Rattle.cell_client.specs.Effects.{tell};
+ghost use Rattle.cell_client.specs.Association.{abort_told, cancel_told, conclusion_told};
+ghost use Rattle.cell_services.specs.Serving.{aborted, aborted_one, all_told, happening_told, loses, loss_also, passed, passes, tables_cancelled, waiting_of};
+ghost use Rattle.cell_client.specs.Telling.{effects_told};
 
 use crate::{Change, Tables};
 use association::{ClientPart, Waiting};
-use cell_client::{
-    Act, Told, answer_within, cancel_response, conclude_response, one_told, refusal, size_of,
-};
-use mms_types::{Answer, Memory, Moment, Refuse, RelinquishControl, Request, ServiceError, What};
-use sem_ticks::{Happening, Ticked, lose_told, relinquish_told, tick};
+use cell_client::{Act, Told, cancel_response, conclude_response, one_told, refusal};
+use mms_types::{Memory, Moment, ServiceError, What};
+use sem_ticks::{Happening, Ticked, lose_told, tick};
 use serve_semaphores::{tell_grant, tell_grants};
 use std::alloc::Global;
 
 /// What is to be done, of which nothing is done yet.
 #[derive(Drop)]
-pub struct Plan<'a> {
+pub struct Plan {
     /// How the tables change.
-    pub change: Change<'a>,
+    pub change: Change,
     /// Who is told what, in order.
     pub told: Vec<(u32, Told)>,
 }
 
-/// The confirmed request of a client is refused.
-fn refused<'a>(
-    alloc: Global,
-    client: u32,
-    invoke: u32,
-    error: ServiceError,
-) -> Result<Plan<'a>, Memory>
-    ensures told { IfOk result (λ plan.
-        effects_told plan.told.items ≡ (client, refuses invoke error) ∷ []) }
-    ensures change { IfOk result (λ plan. plan.change ≡ Change.Nothing) }
-{
-    let told = one_told(alloc, client, refusal(alloc, invoke, error)?)?;
-    Ok(Plan {
-        change: Change::Nothing,
-        told,
-    })
-}
-
-/// A token is given back that somebody is granted, which that one is told.
-fn grant_plan<'a>(
-    alloc: Global,
-    tables: &Tables,
-    client: u32,
-    part: &ClientPart,
-    invoke: u32,
-    asked: &'a RelinquishControl,
-) -> Result<Plan<'a>, Memory>
-    requires grants { grants_nobody part.now.row.client asked.now tables.now.semaphores ≡ false }
-    ensures done { IfOk result (λ plan. plan_done tables.now plan.change plan.told.items
-        ≡ hears tables.now part.now.row client
-        (Takes invoke (Request.RelinquishControl asked.now))) }
-    ensures may { IfOk result (λ plan. (t : Rows) → MayChange plan.change t) }
-{
-    let own = part.client();
-    let answer = Answer::RelinquishControl;
-    let Some(answered) = answer_within(alloc, size_of(part), invoke, &answer)? else {
-        return refused(alloc, client, invoke, ServiceError::OTHER);
-    };
-    let mut told = one_told(alloc, client, answered)?;
-    match relinquish_told(alloc, &tables.semaphores, own, asked) {
-        Err(Refuse::Memory) => Err(Memory::wanting()),
-        Ok(Some(grant)) => {
-            tell_grant(alloc, &mut told, grant)?;
-            let key = asked.name.key(alloc, own)?;
-            Ok(Plan {
-                change: Change::Relinquishes {
-                    client: own,
-                    key,
-                    asked,
-                },
-                told,
-            })
-        }
-        Ok(None) | Err(Refuse::Service(_)) => unreachable!(),
-    }
-}
-
-/// Plans what is left of a confirmed request: it gives a token back that somebody is granted.
-fn request_plan<'a>(
-    alloc: Global,
-    tables: &Tables,
-    client: u32,
-    part: &ClientPart,
-    invoke: u32,
-    asked: &'a Request,
-) -> Result<Plan<'a>, Memory>
-    requires grants { grants_somebody part.now.row.client asked.now tables.now.semaphores ≡ true }
-    ensures done { IfOk result (λ plan. plan_done tables.now plan.change plan.told.items
-        ≡ hears tables.now part.now.row client (Takes invoke asked.now)) }
-    ensures may { IfOk result (λ plan. (t : Rows) → MayChange plan.change t) }
-{
-    match asked {
-        Request::RelinquishControl(asked) => {
-            grant_plan(alloc, tables, client, part, invoke, asked)
-        }
-        _ => unreachable!(),
-    }
-}
-
 /// A client is lost, of which it is told that; tokens that it had are granted to others, which are told so.
-fn lost_plan<'a>(
+fn lost_plan(
     alloc: Global,
     tables: &Tables,
     part: &ClientPart,
     told: Vec<(u32, Told)>,
-) -> Result<Plan<'a>, Memory>
+) -> Result<Plan, Memory>
     ensures told { IfOk result (λ plan. effects_told plan.told.items
         ≡ effects_told told.items ++ loss_also part.now.row.client tables.now) }
     ensures change { IfOk result (λ plan. plan.change ≡ Change.Loses part.now.row.client) }
@@ -134,12 +51,12 @@ fn lost_plan<'a>(
 }
 
 /// A conclusion is granted: the client is lost.
-fn conclusion_plan<'a>(
+fn conclusion_plan(
     alloc: Global,
     tables: &Tables,
     client: u32,
     part: &ClientPart,
-) -> Result<Plan<'a>, Memory>
+) -> Result<Plan, Memory>
     ensures told { IfOk result (λ plan. effects_told plan.told.items
         ≡ tell client conclusion_told ++ loss_also part.now.row.client tables.now) }
     ensures change { IfOk result (λ plan. plan.change ≡ Change.Loses part.now.row.client) }
@@ -157,7 +74,7 @@ fn waiting_of(part: &ClientPart, invoke: u32) -> Option<&Waiting>
 }
 
 /// How a request that waits is cancelled on the tables.
-fn cancel_change<'a>(alloc: Global, part: &ClientPart, invoke: u32) -> Result<Change<'a>, Memory>
+fn cancel_change(alloc: Global, part: &ClientPart, invoke: u32) -> Result<Change, Memory>
     ensures done { IfOk result (λ change. (t : Rows)
         → changed change t ≡ tables_cancelled (waiting_of invoke part.now.row.waiting) t) }
     ensures may { IfOk result (λ change. (t : Rows) → MayChange change t) }
@@ -172,12 +89,7 @@ fn cancel_change<'a>(alloc: Global, part: &ClientPart, invoke: u32) -> Result<Ch
 }
 
 /// A request that waits is cancelled.
-fn cancel_plan<'a>(
-    alloc: Global,
-    client: u32,
-    part: &ClientPart,
-    invoke: u32,
-) -> Result<Plan<'a>, Memory>
+fn cancel_plan(alloc: Global, client: u32, part: &ClientPart, invoke: u32) -> Result<Plan, Memory>
     ensures told { IfOk result (λ plan.
         effects_told plan.told.items ≡ tell client (cancel_told invoke)) }
     ensures done { IfOk result (λ plan. (t : Rows) → changed plan.change t
@@ -192,12 +104,12 @@ fn cancel_plan<'a>(
 }
 
 /// The association is aborted.
-fn abort_plan<'a>(
+fn abort_plan(
     alloc: Global,
     tables: &Tables,
     client: u32,
     part: &ClientPart,
-) -> Result<Plan<'a>, Memory>
+) -> Result<Plan, Memory>
     ensures told { IfOk result (λ plan. effects_told plan.told.items
         ≡ tell client abort_told ++ loss_also part.now.row.client tables.now) }
     ensures change { IfOk result (λ plan. plan.change ≡ Change.Loses part.now.row.client) }
@@ -207,12 +119,7 @@ fn abort_plan<'a>(
 }
 
 /// The client is lost, where there is an association.
-fn loss_plan<'a>(
-    alloc: Global,
-    tables: &Tables,
-    client: u32,
-    part: &ClientPart,
-) -> Result<Plan<'a>, Memory>
+fn loss_plan(alloc: Global, tables: &Tables, client: u32, part: &ClientPart) -> Result<Plan, Memory>
     ensures done { IfOk result (λ plan. plan_done tables.now plan.change plan.told.items
         ≡ loses tables.now part.now.row client) }
     ensures may { IfOk result (λ plan. (t : Rows) → MayChange plan.change t) }
@@ -279,7 +186,7 @@ fn aborted(alloc: Global, happened: &[Happening]) -> Result<Vec<u32>, Memory>
 }
 
 /// What happened while so many milliseconds went by.
-fn ticked_plan<'a>(alloc: Global, ms: u32, ticked: Ticked) -> Result<Plan<'a>, Memory>
+fn ticked_plan(alloc: Global, ms: u32, ticked: Ticked) -> Result<Plan, Memory>
     ensures done { IfOk result (λ plan. (t : Rows)
         → plan_done t plan.change plan.told.items ≡ passed ms t (state_of ticked t.semaphores)) }
     ensures may { IfOk result (λ plan. (t : Rows)
@@ -299,7 +206,7 @@ fn ticked_plan<'a>(alloc: Global, ms: u32, ticked: Ticked) -> Result<Plan<'a>, M
 }
 
 /// Plans that so many milliseconds go by. Nothing changes here. Where no deadline is met, no memory is taken.
-pub fn time_planned<'a>(alloc: Global, tables: &Tables, ms: u32) -> Result<Plan<'a>, Memory>
+pub fn time_planned(alloc: Global, tables: &Tables, ms: u32) -> Result<Plan, Memory>
     requires { tables.now.now + ms ≤ last_moment }
     ensures done { IfOk result (λ plan.
         plan_done tables.now plan.change plan.told.items ≡ passes ms tables.now) }
@@ -317,22 +224,21 @@ pub fn time_planned<'a>(alloc: Global, tables: &Tables, ms: u32) -> Result<Plan<
     }
 }
 
-/// Plans what a client with that part does on the tables, where that isn't done on its part and one table alone. Nothing
-/// changes here.
-pub fn planned<'a>(
+/// Plans what a client with that part does on several tables: all but a request. Nothing changes here.
+pub fn planned(
     alloc: Global,
     tables: &Tables,
     client: u32,
     part: &ClientPart,
-    act: &Act<'a>,
-) -> Result<Plan<'a>, Memory>
-    requires left { IsLeft act.now part.now.row tables.now }
+    act: &Act<'_>,
+) -> Result<Plan, Memory>
+    requires left { IsLeft act.now }
     ensures done { IfOk result (λ plan. plan_done tables.now plan.change plan.told.items
         ≡ act_done tables.now part.now.row client act.now) }
     ensures may { IfOk result (λ plan. MayChange plan.change tables.now) }
 {
     match *act {
-        Act::Request { invoke, asked } => request_plan(alloc, tables, client, part, invoke, asked),
+        Act::Request { .. } => unreachable!(),
         Act::Conclusion => conclusion_plan(alloc, tables, client, part),
         Act::Cancel { invoke } => cancel_plan(alloc, client, part, invoke),
         Act::Abort => abort_plan(alloc, tables, client, part),

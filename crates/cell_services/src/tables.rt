@@ -8,8 +8,8 @@ ghost use Rattle.cell_services.specs.Serving.{without_client, without_clients};
 ghost use Rattle.cell_services.specs.Tables.{moment_of};
 
 use crate::Clock;
-use mms_time::{Semaphores, cancel_take, lose, relinquish_control};
-use mms_types::{Key, Memory, Moment, RelinquishControl};
+use mms_time::{Semaphores, cancel_take, lose};
+use mms_types::{Key, Memory, Moment};
 use sem_ticks::Renewed;
 use std::alloc::Global;
 use std::marker::Model;
@@ -44,7 +44,7 @@ impl Model for Tables {
 }
 
 /// How tables change.
-pub enum Change<'a> {
+pub enum Change {
     /// They stay as they are.
     Nothing,
     /// So many milliseconds go by, and no deadline is met.
@@ -54,12 +54,6 @@ pub enum Change<'a> {
         ms: u32,
         changed: Renewed,
         clients: Vec<u32>,
-    },
-    /// A client gives a token of the semaphore of that name back.
-    Relinquishes {
-        client: u32,
-        key: Key,
-        asked: &'a RelinquishControl,
     },
     /// An entry of the semaphore of that name waits no more.
     Cancels {
@@ -112,23 +106,23 @@ impl Tables {
     }
 
     /// Lets the tables change. Without memory they are as before; a loss alone wants any.
-    pub fn change(&mut self, alloc: Global, change: Change<'_>) -> Result<(), Memory>
+    pub fn change(&mut self, alloc: Global, change: Change) -> Result<(), Memory>
         requires may { MayChange change self.old }
-        ensures done { OnOk result (self.new ≡ changed change.entry self.old) }
+        ensures done { OnOk result (self.new ≡ changed change self.old) }
         ensures kept { OnErr result (self.new ≡ self.old) }
-        ensures wants { OnErr result (may_want change.entry self.old ≡ true) }
+        ensures wants { OnErr result (may_want change self.old ≡ true) }
     {
         change.make(alloc, self)
     }
 }
 
-impl Change<'_> {
+impl Change {
     /// Lets tables change so. Without memory they are as before.
     fn make(self, alloc: Global, tables: &mut Tables) -> Result<(), Memory>
         requires may { MayChange self tables.old }
-        ensures done { OnOk result (tables.new ≡ changed self.entry tables.old) }
+        ensures done { OnOk result (tables.new ≡ changed self tables.old) }
         ensures kept { OnErr result (tables.new ≡ tables.old) }
-        ensures wants { OnErr result (may_want self.entry tables.old ≡ true) }
+        ensures wants { OnErr result (may_want self tables.old ≡ true) }
     {
         match self {
             Change::Nothing => {}
@@ -142,11 +136,6 @@ impl Change<'_> {
                 changed.put(&mut tables.semaphores);
                 lose_variables(&mut tables.variables, &clients);
             }
-            Change::Relinquishes { client, key, asked } => {
-                let now = tables.moment();
-                let token = asked.token.as_ref();
-                relinquish_control(&mut tables.semaphores, &key, client, token, now)
-            }
             Change::Cancels { key, entry } => cancel_take(&mut tables.semaphores, &key, entry),
             Change::Loses(client) => tables.lose(alloc, client)?,
         }
@@ -154,7 +143,7 @@ impl Change<'_> {
     }
 }
 
-impl Drop for Change<'_> {
+impl Drop for Change {
     fn drop(self) {
         match self {
             Change::Nothing => {}
@@ -163,11 +152,6 @@ impl Drop for Change<'_> {
                 ms: _,
                 changed: _changed,
                 clients: _clients,
-            } => {}
-            Change::Relinquishes {
-                client: _,
-                key: _key,
-                asked: _,
             } => {}
             Change::Cancels {
                 key: _key,

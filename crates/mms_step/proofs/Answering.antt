@@ -39,7 +39,7 @@ module _ (t : Tables) (row : ClientRow) (invoke : ℕ) where
       → AnswersOrWaitsIn row.client invoke ((of_semaphores.request_in x).effect (told_in own_semaphores t row (of_semaphores.request_in x)) t.semaphores row invoke)
   of_the_semaphores x = semaphore_laws.answers_or_waits (told_in own_semaphores t row (of_semaphores.request_in x)) t.semaphores row invoke x
 
-  settled : (asked : Request) → cause t row asked ≡ None → AnswersOrWaitsIn row.client invoke (effect t row invoke asked)
+  pub settled : (asked : Request) → cause t row asked ≡ None → AnswersOrWaitsIn row.client invoke (effect t row invoke asked)
   settled (request.GetNameList x) none = inl (_, refl, refl)
   settled (request.Status asked) none = inl (_, refl, refl)
   settled request.Identify none = inl (_, refl, refl)

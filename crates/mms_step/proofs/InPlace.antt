@@ -13,7 +13,8 @@ use Rattle.mms_time.specs.Semaphores.{Rows}
 use Rattle.variable_services.specs.declared.tables.VariableTables.{VariableTables}
 use Rattle.cell_client.specs.Association.{Verdict}
 use Rattle.cell_client.specs.Effects.{Effect, felt_all, settled, tell}
-use Rattle.cell_services.specs.Acts.{IsDoneIn}
+use Rattle.cell_client.specs.declared.told.Told.{Told}
+use Rattle.cell_services.specs.Acts.{all_done, IsDoneIn}
 use Rattle.cell_services.specs.Serving.{hears}
 use Rattle.cell_services.specs.Tables.{Tables, own_semaphores, own_variables}
 use Rattle.mms_step.specs.declared.part.Part.{Part}
@@ -145,6 +146,33 @@ module _ (s : State) (hand : List (Option Part)) (of : IsHandOf hand (parts_of s
             ∙ ap (λ (m : ℕ). semaphores_in (held_at hand (semaphores_place m))) (sym many)
             ∙ ap semaphores_in
             (sym (ap (λ (l : List (Option Part)). held_at l (semaphores_place n)) taken ∙ held_after_set hand (client_place client) (semaphores_place n) None (λ same. omega (arith, same, many, few))))
+
+    -- what is left of a request that tells others something
+    pub semaphores_left : (n : ℕ) → n ≡ clients_among (length hand) → Some table ≡ held_at out (semaphores_place n) → (moment : ℕ) → moment ≡ clock_in (held_at hand 0)
+        → (become : ℕ → Rows → Rows) (told : List (ℕ × Told))
+        → ((t : Tables) → t.semaphores ≡ semaphores_in (Some table) → t.now ≡ moment
+        → hears t (row_in (Some part)) (row_in (Some part)).client v ≡ all_done (own_semaphores.put (become (row_in (Some part)).client (semaphores_in (Some table))) t) told)
+        → hears (tables_shown cell hand) (row_held hand client) client v ≡ all_done (own_semaphores.put (become client (tables_shown cell hand).semaphores) (tables_shown cell hand)) told
+    semaphores_left n many second moment dated become told is =
+        ap (λ (k : ℕ). hears (tables_shown cell hand) (row_held hand client) k v) (sym number)
+        ∙ ap (λ (r : ClientRow). hears (tables_shown cell hand) r r.client v) (sym own_is)
+        ∙ is (tables_shown cell hand) stood (at ∙ sym dated)
+        ∙ ap (λ (k : ℕ). all_done (own_semaphores.put (become k (semaphores_in (Some table))) (tables_shown cell hand)) told) (ap (λ (r : ClientRow). r.client) own_is ∙ number)
+        ∙ ap (λ (rows : Rows). all_done (own_semaphores.put (become client rows) (tables_shown cell hand)) told) (sym stood)
+      where
+        own_is : row_in (Some part) ≡ row_held hand client
+        own_is = ap row_in own
+
+        at : (tables_shown cell hand).now ≡ clock_in (held_at hand 0)
+        at = ap (λ (t : Tables). t.now) (sym (shown_own hand))
+
+        stood : (tables_shown cell hand).semaphores ≡ semaphores_in (Some table)
+        stood =
+            ap (λ (t : Tables). t.semaphores) (sym (shown_own hand))
+            ∙ ap (λ (m : ℕ). semaphores_in (held_at hand (semaphores_place m))) (sym many)
+            ∙ ap semaphores_in
+            (sym (ap (λ (l : List (Option Part)). held_at l (semaphores_place n)) taken ∙ held_after_set hand (client_place client) (semaphores_place n) None (λ same. omega (arith, same, many, few))))
+            ∙ ap semaphores_in (sym second)
 
   -- no table becomes another
   pub device_served : (client : ℕ) (v : Verdict) (out new : List (Option Part)) (part after : Part) → 1 ≤ client → client ≤ clients_among (length hand)

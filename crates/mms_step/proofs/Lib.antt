@@ -1,6 +1,7 @@
 pub mod AllParts
 pub mod Changed
 pub mod Enough
+pub mod FinishLaws
 pub mod Guarded
 pub mod Holding
 pub mod Needed

@@ -1,9 +1,8 @@
 -- What a client's octets come to is ready to be done where nothing is needed that isn't held.
-use Rattle.std.specs.Prelude.{◌≡◌, ℕ, ◌+◌, ◌-◌, ◌≤◌, Bool, true, false, not, ◌&&◌, Option, Some, None, List, [], ◌∷◌, ◌++◌, is_some, length, slice_get, IfSome, if◌then◌else◌, refl}
+use Rattle.std.specs.Prelude.{◌≡◌, ℕ, ◌+◌, ◌-◌, ◌≤◌, Bool, true, false, ◌&&◌, Option, Some, None, List, [], ◌∷◌, ◌++◌, is_some, length, slice_get, IfSome, if◌then◌else◌, refl}
 use Rattle.std.proofs.Common.{ap, sym, ◌∙◌, subst, arith}
 use Rattle.mms_types.specs.Areas.{semaphore_request, variable_request}
 use Rattle.mms_types.specs.declared.area.SemaphoreRequest.{SemaphoreRequest}
-use Rattle.mms_types.specs.declared.area.SemaphoreRequest.TheVariants as semaphores
 use Rattle.mms_types.specs.declared.area.VariableRequest.{VariableRequest}
 use Rattle.mms_types.specs.declared.event.CellEvent.TheVariants.{Heard}
 use Rattle.mms_types.specs.declared.pdu.Answer.{Answer}
@@ -13,7 +12,6 @@ use Rattle.part_table.specs.Held.{held_at, IsHandOf}
 use Rattle.parted_state.specs.Cut.{are_held, missing}
 use Rattle.parted_state.specs.CutLaws as laws
 use Rattle.parted_state.specs.DeviceLaws.{table_at}
-use Rattle.mms_time.specs.Semaphores.{Rows}
 use Rattle.cell_client.specs.Association.{Verdict, Takes, verdict}
 use Rattle.cell_client.specs.declared.acts.Act.{Act}
 use Rattle.cell_client.specs.declared.acts.Act.TheVariants as act
@@ -21,9 +19,7 @@ use Rattle.cell_client.specs.Meant.{act_verdict, uses_no_table}
 use Rattle.std.specs.Borrow.{Bor}
 use Rattle.cell_client.specs.Requests.{plain_answer}
 use Rattle.serve_semaphores.specs.Semaphores as semaphore
-use Rattle.serve_semaphores.specs.Tokens.{tells_alone}
 use Rattle.serve_variables.specs.Variables as variable
-use Rattle.cell_services.specs.Acts.{grants_somebody}
 use Rattle.cell_services.specs.AreaLaws.{in_semaphores, in_variables}
 use Rattle.cell_services.specs.Services.{InArea, OfSemaphores, OfVariables, area_of, asks_of}
 use Rattle.mms_step.specs.declared.part.Part.{Part}
@@ -71,12 +67,6 @@ module _ (s : State) (hand : List (Option Part)) (of : IsHandOf hand (parts_of s
       let there = held_part hand (parts_of s) (semaphores_place n) (Semaphores s.semaphores) of
       (first_there hand (semaphores_place n) _ _ (in_area hand n (area_of asked) (OfSemaphores (semaphore.request_in x)) area _ ready.needed)) place in
       there ∙ sym (ap (λ (o : Option Part). Some (Semaphores (semaphores_in o))) there)
-
--- what is not done alone is a token that somebody is granted
-pub granted_left : (x : SemaphoreRequest) (client : ℕ) (rows : Rows) (asked : Request) → semaphore_request x ≡ asked → tells_alone client x rows ≡ false → grants_somebody client asked rows ≡ true
-granted_left (semaphores.RelinquishControl x) client rows asked is alone =
-    subst (λ (r : Request). grants_somebody client r rows ≡ true) is (ap not alone)
-granted_left other client rows asked is alone = absurd (cc alone)
 
 -- what is left of what a client sent is its request
 pub takes_left : (v : Verdict) (left : Option Act) (invoke : ℕ) (asked : Bor Request) → left ≡ Some (act.Request invoke asked) → IfSome left (λ a. act_verdict a ≡ Some v) → Takes invoke asked.now ≡ v

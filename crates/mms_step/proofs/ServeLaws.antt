@@ -36,9 +36,9 @@ use Rattle.cell_services.specs.Meant.{no_tables, row_after, IsPlainlyHeard}
 use Rattle.cell_client.specs.Association.{Verdict, verdict, verdict_by}
 use Rattle.cell_services.specs.Serving.{hears, own_told}
 use Rattle.cell_client.specs.declared.acts.Act.{Act}
-use Rattle.cell_services.specs.Acts.{act_done, IsLeft}
+use Rattle.cell_services.specs.Acts.{act_done}
 use Rattle.cell_client.specs.Meant.{verdict_read}
-use Rattle.mms_step.specs.Tasks.{row_held, task_done, HoldsOwn, IsHeardInPlace, IsLeftTo, IsTimely}
+use Rattle.mms_step.specs.Tasks.{row_held, task_done, HoldsOwn, IsHeardInPlace, IsTimely}
 use Rattle.mms_step.specs.Lifting.{clocked, varied, tabled, with_semaphores}
 use Rattle.variable_services.specs.declared.tables.VariableTables.{VariableTables}
 use Rattle.mms_step.specs.Partition.{cell, parts_of, client_part, client_place, clients_among, client_in, clock_in, clock_or, semaphores_in, semaphores_or, semaphores_place, variables_in, variables_or, on_client, on_clock, on_semaphores, on_variables, row_in, IsClient}
@@ -136,7 +136,7 @@ behind_clients hand = semaphores_place (clients_among (length hand))
 pub same_place : (one other : List (Option Part)) → length one ≡ length other → behind_clients one ≡ behind_clients other
 same_place one other same = ap (λ (l : ℕ). semaphores_place (clients_among l)) same
 
-semaphores_rooms : (semaphores : Rows) (last : ℕ) (room : ℕ → Room) (hand : List (Option Part))
+pub semaphores_rooms : (semaphores : Rows) (last : ℕ) (room : ℕ → Room) (hand : List (Option Part))
     → with_semaphores semaphores (with_rooms last room hand) ≡ with_rooms last room (with_semaphores semaphores hand)
 semaphores_rooms semaphores last room hand =
     ap (change (option_map (on_semaphores (λ was. semaphores))) (with_rooms last room hand)) (same_place (with_rooms last room hand) hand (length-with_places (at_place last room) hand))
@@ -298,7 +298,7 @@ semaphores_same hand =
     here (Some Journals) = refl
 
 -- the tables of the parts themselves
-abbrev own_tables : List (Option Part) → Tables
+abbrev pub own_tables : List (Option Part) → Tables
 own_tables hand = record {
   now = clock_in (held_at hand 0);
   variables = variables_in (held_at hand 1);
@@ -308,7 +308,7 @@ own_tables hand = record {
 pub two_same : (hand : List (Option Part)) → first_two (clock_in (held_at hand 0)) (variables_in (held_at hand 1)) hand ≡ hand
 two_same hand = ap (varied (variables_in (held_at hand 1))) (clocked_same hand) ∙ varied_same hand
 
-tabled_same : (hand : List (Option Part)) → tabled (own_tables hand) hand ≡ hand
+pub tabled_same : (hand : List (Option Part)) → tabled (own_tables hand) hand ≡ hand
 tabled_same hand = ap (with_semaphores (semaphores_in (held_at hand (behind_clients hand)))) (two_same hand) ∙ semaphores_same hand
 
 behind_two : (t : Tables) (hand : List (Option Part)) → behind_clients (first_two t.now t.variables hand) ≡ behind_clients hand
@@ -502,11 +502,6 @@ pub done_kept : (a : Task) (t u : Tables) (hand : List (Option Part)) → HoldsO
 done_kept (task.Client client act) t u hand own = ap (λ (o : Option Part). act_done t (row_in o) client act) (beside_client u hand client own.1)
 done_kept (task.Time ms) t u hand own = refl
 
-pub left_kept : (a : Task) (t u w : Tables) (hand : List (Option Part)) → HoldsOwn a hand → t ≡ w → IsLeftTo a w hand → IsLeftTo a t (tabled u hand)
-left_kept (task.Client client act) t u w hand own same left =
-    subst (λ (o : Option Part). IsLeft act (row_in o) t) (sym (beside_client u hand client own.1)) (subst (IsLeft act (row_held hand client)) (sym same) left)
-left_kept (task.Time ms) t u w hand own same left = tt
-
 -- ---- what a client is told by an event that uses no table
 
 -- a client's part that is held without room
@@ -686,6 +681,18 @@ on_some (Some y) x e there = there
 pub if_ok_then : {A E : Type 0} {P Q : A → Type 0} (result : Result A E) → ((x : A) → P x → Q x) → IfOk result P → IfOk result Q
 if_ok_then (Ok x) next there = next x there
 if_ok_then (Err e) next there = tt
+
+pub none_then : {A : Type 0} {P Q : Type 0} (o : Option A) → (P → Q) → IfNone o P → IfNone o Q
+none_then None next there = next there
+none_then (Some x) next there = tt
+
+pub some_then : {A : Type 0} {P Q : A → Type 0} (o : Option A) → ((x : A) → P x → Q x) → IfSome o P → IfSome o Q
+some_then None next there = tt
+some_then (Some x) next there = next x there
+
+pub on_some_then : {A : Type 0} {P Q : Type 0} (o : Option A) → (P → Q) → OnSome o P → OnSome o Q
+on_some_then None next there = tt
+on_some_then (Some x) next there = next there
 
 pub on_err_both : {A E : Type 0} {P Q R : Type 0} (result : Result A E) → (P → Q → R) → OnErr result P → OnErr result Q → OnErr result R
 on_err_both (Ok x) next p q = tt

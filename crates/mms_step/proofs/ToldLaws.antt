@@ -1,5 +1,6 @@
 -- Room is made in the parts of clients, and they are told: what becomes of the parts, place by place.
-use Rattle.std.specs.Prelude.{◌≡◌, ◌≢◌, ℕ, zero, suc, ◌+◌, ◌-◌, ◌<◌, ◌≤◌, ◌==◌, ◌&&◌, nat_lt, Bool, true, false, Option, None, Some, List, [], ◌∷◌, ◌++◌, filter, length, slice_get, unwrap_or, if◌then◌else◌, refl}
+use Rattle.std.specs.Prelude.{◌≡◌, ◌≢◌, ℕ, zero, suc, ◌+◌, ◌-◌, ◌<◌, ◌≤◌, ◌==◌, ◌&&◌, ◌||◌, nat_lt, Bool, true, false, Option, None, Some, List, [], ◌∷◌, ◌++◌, filter, length, slice_get, unwrap_or, if◌then◌else◌, refl}
+use Rattle.std.specs.List.{list_any}
 use Rattle.std.specs.Option.{option_map}
 use Rattle.std.proofs.Common.{ap, ap₂, sym, ◌∙◌, subst, arith}
 use Rattle.std.proofs.lemmas.List.{map-append}
@@ -8,7 +9,7 @@ use Rattle.std.proofs.lemmas.Bool.Decides.{nat_tests}
 use Rattle.association.specs.Client.{Client as RoomyRow}
 use Rattle.part_table.specs.Held.{held_at}
 use Rattle.parted_state.specs.Cut.{with_places}
-use Rattle.parted_state.specs.CutLaws.{same_itself, same_number}
+use Rattle.parted_state.specs.CutLaws.{same_itself}
 use Rattle.parted_state.specs.Lifted.{part_told, told_to, told_all}
 use Rattle.parted_state.specs.LiftedLaws.{held_else}
 use Rattle.parted_state.specs.Lists.{get_changed}
@@ -134,18 +135,23 @@ settled_at n hand place held settled there =
 before_last : (last n : ℕ) → 1 ≤ last → last < n → is_before n last ≡ true
 before_last last n some within = grind (arith, nat_tests)
 
--- no room, as a test tells it
-pub no_more_room : (room : Room) → (room.outputs == 0 && room.waiting == 0) ≡ true → room ≡ no_room
-no_more_room room none = by_tests (room.outputs == 0) (room.waiting == 0) refl refl none
+untold : (client : ℕ) (test : Told → Bool) (list : List (ℕ × Told)) → list_any (λ (t : ℕ × Told). t.0 == client) list ≡ false → filter (λ (t : ℕ × Told). (t.0 == client) && test t.1) list ≡ []
+untold client test [] none = refl
+untold client test (t ∷ list) none = by_test (t.0 == client) none (λ e. untold client test list e)
   where
-    by_tests : (b c : Bool) → (room.outputs == 0) ≡ b → (room.waiting == 0) ≡ c → (b && c) ≡ true → room ≡ no_room
-    by_tests true true e f h =
-        ap₂ (λ (m n : ℕ). at m n) (same_number room.outputs 0 e) (same_number room.waiting 0 f)
-      where
-        at : ℕ → ℕ → Room
-        at m n = record { outputs = m; waiting = n }
-    by_tests true false e f h = absurd (cc h)
-    by_tests false c e f h = absurd (cc h)
+    by_test : (b : Bool) → (b || list_any (λ (t : ℕ × Told). t.0 == client) list) ≡ false
+        → (list_any (λ (t : ℕ × Told). t.0 == client) list ≡ false → filter (λ (t : ℕ × Told). (t.0 == client) && test t.1) list ≡ [])
+        → (if b && test t.1 then t ∷ filter (λ (t : ℕ × Told). (t.0 == client) && test t.1) list else filter (λ (t : ℕ × Told). (t.0 == client) && test t.1) list) ≡ []
+    by_test false e rest = rest e
+    by_test true e rest = absurd (cc e)
+
+-- who isn't told anything needs none
+pub untold_room : (client : ℕ) (told : List (ℕ × Told)) → list_any (λ (t : ℕ × Told). t.0 == client) told ≡ false → room_to told client ≡ no_room
+untold_room client told none =
+    ap₂ at (ap (λ (l : List (ℕ × Told)). length l) (untold client (λ t. is_output t) told none)) (ap (λ (l : List (ℕ × Told)). length l) (untold client (λ t. is_wait t) told none))
+  where
+    at : ℕ → ℕ → Room
+    at m n = record { outputs = m; waiting = n }
 
 -- and none has to be made where it is told nothing
 pub room_needless : (last n : ℕ) (room : ℕ → Room) (hand : List (Option Part)) → 1 ≤ last → last < n → IsSettled n hand → room last ≡ no_room

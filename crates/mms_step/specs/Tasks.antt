@@ -42,10 +42,10 @@ abbrev pub IsTimely : Task → Tables → Type 0
 IsTimely (task.Client client act) t = Unit {0}
 IsTimely (task.Time ms) t = t.now + ms ≤ last_moment
 
--- it is left to be done on several tables, or tells several clients
-abbrev pub IsLeftTo : Task → Tables → List (Option Part) → Type 0
-IsLeftTo (task.Client client act) t hand = IsLeft act (row_held hand client) t
-IsLeftTo (task.Time ms) t hand = Unit {0}
+-- it is left to be done on several tables
+abbrev pub IsLeftTo : Task → Type 0
+IsLeftTo (task.Client client act) = IsLeft act
+IsLeftTo (task.Time ms) = Unit {0}
 
 -- ---- what is done in place
 

@@ -117,12 +117,8 @@ fn serve_request(
         AreaRequest::Variables(asked) => {
             serve_on_variables(alloc, held, clients, client, invoke, asked)
         }
-        AreaRequest::Semaphores(tokens) => {
-            if serve_on_semaphores(alloc, held, clients, client, invoke, tokens)? {
-                return Ok(());
-            }
-            let act = Act::Request { invoke, asked };
-            serve(alloc, held, clients, &Task::Client(client, act))
+        AreaRequest::Semaphores(asked) => {
+            serve_on_semaphores(alloc, held, clients, client, invoke, asked)
         }
     }
 }

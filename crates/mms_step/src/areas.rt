@@ -1,6 +1,6 @@
 //! A request of a client is served on its part and that of its area's table, as they are held.
 
-ghost use Rattle.std.specs.Prelude.{◌≡◌, ℕ, ◌<◌, ◌≤◌, false, true, length, slice_set, None, Some, OnErr, OnOk, IfOk};
+ghost use Rattle.std.specs.Prelude.{◌≡◌, ◌<◌, ◌≤◌, length, slice_set, None, Some, OnErr, OnOk, OnSome, IfNone, IfOk, IfSome};
 ghost use Rattle.mms_types.specs.Areas.{device_request, semaphore_request, variable_request};
 ghost use Rattle.mms_types.specs.Moments.{IsDated};
 ghost use Rattle.part_table.specs.Held.{held_at, IsHandOf};
@@ -8,18 +8,20 @@ ghost use Rattle.parted_state.specs.Lifted.{put_in_place, tables_shown};
 ghost use Rattle.cell_client.specs.Association.{Takes};
 ghost use Rattle.cell_client.specs.Requests.{plain_answer};
 ghost use Rattle.parted_state.specs.Area.{no_table};
-ghost use Rattle.cell_services.specs.Acts.{IsDoneIn};
+ghost use Rattle.cell_services.specs.Acts.{all_done, IsDoneIn};
 ghost use Rattle.cell_services.specs.Serving.{hears};
 ghost use Rattle.cell_services.specs.Tables.{Tables, own_semaphores, own_variables};
-ghost use Rattle.serve_semaphores.specs.Tokens.{tells_alone};
+ghost use Rattle.serve_semaphores.specs.Tokens.{told_after};
 ghost use Rattle.mms_step.specs.State.{State};
-ghost use Rattle.mms_step.specs.Partition.{cell, parts_of, clients_among, client_in, client_place, row_in, semaphores_in, semaphores_place, variables_in, IsClient, IsSemaphores, IsVariables};
+ghost use Rattle.mms_step.specs.Partition.{cell, parts_of, clients_among, clock_in, client_in, client_place, row_in, semaphores_in, semaphores_place, variables_in, IsClient, IsSemaphores, IsVariables};
 ghost use Rattle.mms_step.specs.Tasks.{row_held, AreDone, IsRoomless};
 
 use crate::applying::{put_client, take_client};
 use crate::needs::{now_held, semaphores_held, variables_held};
 use crate::tables::{VARIABLES, semaphores as semaphores_part};
+use crate::telling::{make_rooms, tell_all};
 use crate::{Cell, Part};
+use cell_client::Told;
 use mms_time::Semaphores;
 use mms_types::{DeviceRequest, Memory, Moment, SemaphoreRequest, VariableRequest};
 use part_table::Hand;
@@ -127,8 +129,8 @@ pub(crate) fn serve_on_variables(
     done
 }
 
-/// Serves a request for semaphores on the part of its client and theirs, at that moment. False exactly where it gives a
-/// token back that somebody is granted; then all is as before.
+/// Serves a request for semaphores on the part of its client and theirs, at that moment. Where others are told
+/// something, too, that is told; then all is as before.
 fn semaphores_in_parts(
     alloc: Global,
     part: &mut Part,
@@ -136,19 +138,23 @@ fn semaphores_in_parts(
     now: Moment,
     invoke: u32,
     asked: SemaphoreRequest<'_>,
-) -> Result<bool, Memory>
+) -> Result<Option<Vec<(u32, Told)>>, Memory>
     requires now { IsDated now }
     requires client { IsClient (Some part.old) }
     requires semaphores { IsSemaphores (Some table.old) }
     requires settled { IsRoomless part.old }
-    ensures served { IfOk result (λ done. done ≡ true → (t : Tables)
+    ensures served { IfOk result (λ left. IfNone left ((t : Tables)
         → t.semaphores ≡ semaphores_in (Some table.old) → t.now ≡ now.0
         → AreDone own_semaphores Part.Semaphores t
-        (Takes invoke (semaphore_request asked.entry)) part.old part.new table.new) }
-    ensures unchanged { IfOk result (λ done. done ≡ false
-        → (part.new ≡ part.old) × (table.new ≡ table.old)) }
-    ensures exact { IfOk result (λ done. done ≡ tells_alone (row_in (Some part.old)).client
-        asked.entry (semaphores_in (Some table.old))) }
+        (Takes invoke (semaphore_request asked.entry)) part.old part.new table.new)) }
+    ensures left { IfOk result (λ left. IfSome left (λ told. (t : Tables)
+        → t.semaphores ≡ semaphores_in (Some table.old) → t.now ≡ now.0
+        → hears t (row_in (Some part.old)) (row_in (Some part.old)).client
+        (Takes invoke (semaphore_request asked.entry)) ≡ all_done (own_semaphores.put
+        (told_after (row_in (Some part.old)).client now asked.entry
+        (semaphores_in (Some table.old))) t) told.items)) }
+    ensures unchanged { IfOk result (λ left. OnSome left (
+        (part.new ≡ part.old) × (table.new ≡ table.old))) }
     ensures kept { OnErr result (part.new ≡ part.old) }
     ensures same { OnErr result (table.new ≡ table.old) }
 {
@@ -160,16 +166,17 @@ fn semaphores_in_parts(
     }
 }
 
-/// Serves a client's request for semaphores, which are held, as is the clock. False exactly where it gives a token back
-/// that somebody is granted; then all is as before.
-pub(crate) fn serve_on_semaphores(
+/// Serves a client's request for semaphores, which are held, as is the clock, at the moment that this shows. Where
+/// others are told something, too, that is told; then all is as before.
+fn serve_alone(
     alloc: Global,
     held: &mut Hand<Cell>,
     clients: u32,
     client: u32,
+    now: Moment,
     invoke: u32,
     asked: SemaphoreRequest<'_>,
-) -> Result<bool, Memory>
+) -> Result<Option<Vec<(u32, Told)>>, Memory>
     requires of { (s : State) × IsHandOf held.old (parts_of s) }
     requires many { clients ≡ clients_among (length held.old) }
     requires few { clients ≤ 64 }
@@ -177,21 +184,94 @@ pub(crate) fn serve_on_semaphores(
     requires held { IsClient (held_at held.old (client_place client)) }
     requires number { (row_held held.old client).client ≡ client }
     requires table { IsSemaphores (held_at held.old (semaphores_place clients)) }
-    ensures put { IfOk result (λ done. done ≡ true → held.new ≡ put_in_place cell
+    requires moment { now.0 ≡ clock_in (held_at held.old 0) }
+    requires dated { IsDated now }
+    ensures put { IfOk result (λ left. IfNone left (held.new ≡ put_in_place cell
+        (hears (tables_shown cell held.old) (row_held held.old client) client
+        (Takes invoke (semaphore_request asked.entry))) held.old)) }
+    ensures left { IfOk result (λ left. IfSome left (λ told.
+        hears (tables_shown cell held.old) (row_held held.old client) client
+        (Takes invoke (semaphore_request asked.entry)) ≡ all_done (own_semaphores.put
+        (told_after client now asked.entry (tables_shown cell held.old).semaphores)
+        (tables_shown cell held.old)) told.items)) }
+    ensures same { IfOk result (λ left. OnSome left (held.new ≡ held.old)) }
+    ensures kept { OnErr result (held.new ≡ held.old) }
+{
+    let mut part = take_client(held, client);
+    let mut table = take_semaphores(held, clients);
+    let left = semaphores_in_parts(alloc, &mut part, &mut table, now, invoke, asked);
+    put_semaphores(held, clients, table);
+    put_client(held, client, part);
+    left
+}
+
+/// Does on the semaphores' part what a request left that told others something.
+fn finish_in_part(table: &mut Part, client: u32, now: Moment, asked: SemaphoreRequest<'_>)
+    requires now { IsDated now }
+    requires semaphores { IsSemaphores (Some table.old) }
+    ensures { table.new ≡ Part.Semaphores
+        (told_after client now asked.entry (semaphores_in (Some table.old))) }
+{
+    match table {
+        Part::Semaphores(rows) => serve_semaphores::finish(rows, client, now, asked),
+        _ => unreachable!(),
+    }
+}
+
+/// Does on the semaphores, which are held, what a request of a client left that tells others something, and tells them.
+/// Room is made first, which alone may want memory; then all is as before.
+fn finish_and_tell(
+    held: &mut Hand<Cell>,
+    clients: u32,
+    client: u32,
+    now: Moment,
+    asked: SemaphoreRequest<'_>,
+    told: Vec<(u32, Told)>,
+) -> Result<(), Memory>
+    requires of { (s : State) × IsHandOf held.old (parts_of s) }
+    requires many { clients ≡ clients_among (length held.old) }
+    requires few { clients ≤ 64 }
+    requires table { IsSemaphores (held_at held.old (semaphores_place clients)) }
+    requires dated { IsDated now }
+    ensures put { OnOk result (held.new ≡ put_in_place cell (all_done (own_semaphores.put
+        (told_after client now asked.entry (tables_shown cell held.old).semaphores)
+        (tables_shown cell held.old)) told.items) held.old) }
+    ensures kept { OnErr result (held.new ≡ held.old) }
+{
+    make_rooms(held, clients, told.as_slice())?;
+    let mut table = take_semaphores(held, clients);
+    finish_in_part(&mut table, client, now, asked);
+    put_semaphores(held, clients, table);
+    tell_all(held, clients, told);
+    Ok(())
+}
+
+/// Serves a client's request for semaphores, which are held, as is the clock, and who else is told something.
+pub(crate) fn serve_on_semaphores(
+    alloc: Global,
+    held: &mut Hand<Cell>,
+    clients: u32,
+    client: u32,
+    invoke: u32,
+    asked: SemaphoreRequest<'_>,
+) -> Result<(), Memory>
+    requires of { (s : State) × IsHandOf held.old (parts_of s) }
+    requires many { clients ≡ clients_among (length held.old) }
+    requires few { clients ≤ 64 }
+    requires among { (1 ≤ client) × (client ≤ clients) }
+    requires held { IsClient (held_at held.old (client_place client)) }
+    requires number { (row_held held.old client).client ≡ client }
+    requires table { IsSemaphores (held_at held.old (semaphores_place clients)) }
+    ensures put { OnOk result (held.new ≡ put_in_place cell
         (hears (tables_shown cell held.old) (row_held held.old client) client
         (Takes invoke (semaphore_request asked.entry))) held.old) }
-    ensures same { IfOk result (λ done. done ≡ false → held.new ≡ held.old) }
-    ensures exact { IfOk result (λ done. done ≡ tells_alone (row_held held.old client).client
-        asked.entry (tables_shown cell held.old).semaphores) }
     ensures kept { OnErr result (held.new ≡ held.old) }
 {
     let now = now_held(held);
-    let mut part = take_client(held, client);
-    let mut table = take_semaphores(held, clients);
-    let done = semaphores_in_parts(alloc, &mut part, &mut table, now, invoke, asked);
-    put_semaphores(held, clients, table);
-    put_client(held, client, part);
-    done
+    match serve_alone(alloc, held, clients, client, now, invoke, asked)? {
+        None => Ok(()),
+        Some(told) => finish_and_tell(held, clients, client, now, asked, told),
+    }
 }
 
 /// Serves a request to the device itself on the part of its client, with those tables.

@@ -30,15 +30,10 @@ pub(crate) enum Task<'a> {
 }
 
 /// Plans a task. Nothing changes here.
-fn plan<'a>(
-    alloc: Global,
-    held: &Hand<Cell>,
-    tables: &Tables,
-    task: &Task<'a>,
-) -> Result<Plan<'a>, Memory>
+fn plan(alloc: Global, held: &Hand<Cell>, tables: &Tables, task: &Task<'_>) -> Result<Plan, Memory>
     requires own { HoldsOwn task.now held.now }
     requires time { IsTimely task.now tables.now }
-    requires left { IsLeftTo task.now tables.now held.now }
+    requires left { IsLeftTo task.now }
     ensures done { IfOk result (λ plan. plan_done tables.now plan.change plan.told.items
         ≡ task_done tables.now held.now task.now) }
     ensures may { IfOk result (λ plan. MayChange plan.change tables.now) }
@@ -68,7 +63,7 @@ fn done(
     requires settled { IsSettled (clients + 1) held.old }
     requires own { HoldsOwn task.now held.old }
     requires time { IsTimely task.now tables.old }
-    requires left { IsLeftTo task.now tables.old held.old }
+    requires left { IsLeftTo task.now }
     ensures done { IfOk result (λ told.
         all_done tables.new told.items ≡ task_done tables.old held.old task.now) }
     ensures rooms { IfOk result (λ told.
@@ -99,7 +94,7 @@ pub(crate) fn serve(
     requires few { clients ≤ 64 }
     requires own { HoldsOwn task.now held.old }
     requires time { IsTimely task.now (tables_shown cell held.old) }
-    requires left { IsLeftTo task.now (tables_shown cell held.old) held.old }
+    requires left { IsLeftTo task.now }
     ensures put { OnOk result (held.new
         ≡ put_in_place cell (task_done (tables_shown cell held.old) held.old task.now) held.old) }
     ensures kept { OnErr result (held.new ≡ held.old) }

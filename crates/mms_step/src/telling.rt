@@ -1,7 +1,8 @@
 //! What clients are told. Room for it is made in their parts first, which alone may want memory; telling them can't
 //! fail.
 
-ghost use Rattle.std.specs.Prelude.{◌≡◌, ◌==◌, ◌&&◌, ◌+◌, ◌<◌, ◌≤◌, length, OnOk, OnErr};
+ghost use Rattle.std.specs.Prelude.{◌≡◌, ◌==◌, ◌+◌, ◌<◌, ◌≤◌, length, OnOk, OnErr};
+ghost use Rattle.std.specs.List.{list_any};
 ghost use Rattle.std.specs.Option.{option_map};
 ghost use Rattle.part_table.specs.Held.{held_at};
 ghost use Rattle.parted_state.specs.Lifted.{told_all};
@@ -25,13 +26,11 @@ pub(crate) struct Room {
     waiting: usize,
 }
 
-impl Room {
-    /// Whether there is none.
-    fn is_none(&self) -> bool
-        ensures { result ≡ (self.now.outputs == 0 && self.now.waiting == 0) }
-    {
-        self.outputs == 0 && self.waiting == 0
-    }
+/// Whether a client is told anything.
+fn is_told(told: &[(u32, Told)], client: u32) -> bool
+    ensures { result ≡ list_any (λ t. t.0 == client) told.now }
+{
+    told.iter().any(|t| t.0 == client)
 }
 
 /// How many outputs a client is told.
@@ -113,7 +112,7 @@ pub(crate) fn release_all(held: &mut Hand<Cell>, clients: u32)
     }
 }
 
-/// Makes room in the parts of clients 1 to n for what each is told. Without memory there is none anywhere.
+/// Makes room in the parts of those of clients 1 to n that are told something. Without memory there is none anywhere.
 pub(crate) fn make_rooms(
     held: &mut Hand<Cell>,
     clients: u32,
@@ -126,9 +125,8 @@ pub(crate) fn make_rooms(
     ensures kept { OnErr result (held.new ≡ held.old) }
 {
     for client in 1..clients + 1 {
-        let room = room_to(told, client);
-        if !room.is_none() {
-            if let Err(error) = make_room(held, client, room) {
+        if is_told(told, client) {
+            if let Err(error) = make_room(held, client, room_to(told, client)) {
                 release_all(held, clients);
                 return Err(error);
             }

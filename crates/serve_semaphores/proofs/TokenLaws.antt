@@ -1,6 +1,6 @@
 -- A request for a token is served on the one semaphore that it names.
-use Rattle.std.proofs.Common.{◌≡◌, ◌∙◌, ap, sym, refl, ℕ, Bool, true, false, Option, None, Some, if◌then◌else◌}
-use Rattle.std.specs.Prelude.{Result, Ok, Err, OnErr, OnOk, IfOk}
+use Rattle.std.proofs.Common.{◌≡◌, ◌∙◌, ap, sym, subst, refl, ℕ, Bool, true, false, Option, None, Some, if◌then◌else◌}
+use Rattle.std.specs.Prelude.{Result, Ok, Err, OnErr, OnOk, IfNone, IfOk, IfSome, List, is_none, is_some, ◌||◌}
 use Rattle.std.specs.Map.{lookup, set_value}
 use Rattle.std.specs.Option.{option_map}
 use Rattle.std.proofs.lemmas.Map.Steps.{set_value_same}
@@ -24,14 +24,16 @@ use Rattle.mms_time.specs.declared.taking.TakeDone.{TakeDone}
 use Rattle.mms_time.specs.declared.taking.TakeDone.TheVariants.{Answered, Waits as Waiting}
 use Rattle.sem_ticks.specs.Granted.{granted}
 use Rattle.sem_ticks.specs.declared.granted.Granted.{Granted}
-use Rattle.cell_client.specs.Areas.{IsServedIn, OutcomeIn}
-use Rattle.cell_client.specs.Association.{missing_error}
+use Rattle.cell_client.specs.Areas.{IsServedIn, IsToldIn, OutcomeIn}
+use Rattle.cell_client.specs.Association.{missing_error, other_error}
 use Rattle.cell_client.specs.Effects.{felt, felt_all, settled}
 use Rattle.cell_client.specs.Facts.{Facts}
-use Rattle.cell_client.specs.Requests.{is_done, refuses, request_told, size_of}
+use Rattle.cell_client.specs.Telling.{effects_told}
+use Rattle.cell_client.specs.declared.told.Told.{Told}
+use Rattle.cell_client.specs.Requests.{fits, is_done, refuses, request_told, size_of}
 use Rattle.serve_semaphores.specs.Semaphores.{given_back, relinquish_control, take_control, taken}
-use Rattle.serve_semaphores.specs.Tokens.{is_taken, relinquish_cause_on, relinquish_on, relinquished_on, take_cause_on, take_effects, take_on, taken_on}
-use Rattle.serve_semaphores.proofs.ServedLaws.{became, refused, waits}
+use Rattle.serve_semaphores.specs.Tokens.{grants_nobody, grants_nobody_among, is_taken, relinquish_cause_on, relinquish_on, relinquished_on, take_cause_on, take_effects, take_on, taken_on}
+use Rattle.serve_semaphores.proofs.ServedLaws.{became, refused, unfitting, waits}
 
 -- ---- one semaphore among all
 
@@ -184,3 +186,49 @@ pub give_not : (result : Result Bool Memory) (key : Key) (rows become : Rows) (s
 give_not (Ok done) key rows become s written was new there set same =
     λ no. ((same no).0, set ∙ ap (set_value (key_eq key) rows) (same no).1 ∙ set_value_same (key_eq key) rows s (sym there))
 give_not (Err memory) key rows become s written was new there set same = tt
+
+-- ---- who is granted a token is told
+
+pub none_of : {X : Type 0} (o : Option X) → ((x : X) → o ≡ Some x → ⊥) → o ≡ None
+none_of None not = refl
+none_of (Some x) not = absurd (not x refl)
+
+pub when_none : {X P : Type 0} (o : Option X) → o ≡ None → IfNone o P → P
+when_none None e there = there
+when_none (Some x) e there = absurd (cc e)
+
+-- a token that somebody is granted is given back, but for the answer, which is too long
+pub give_unanswered : (row : ClientRow) (new : RoomyRow) (invoke : ℕ) (facts : Facts) (x : RelinquishControl) (rows : Rows) → grants_nobody row.client x rows ≡ false
+    → fits (size_of row.association) invoke (Some answer.RelinquishControl) ≡ false → new ≡ settled (felt (refuses invoke other_error) row)
+    → IsServedIn (relinquish_control x) facts invoke row rows rows new
+give_unanswered row new invoke facts x rows grants fit is = by_row (lookup (key_eq key) rows) refl grants
+  where
+    key : Key
+    key = key_of row.client x.name
+
+    by_cause : (s : SemaphoreRow) → lookup (key_eq key) rows ≡ Some s → (why : Option ServiceError) → relinquish_cause_on row.client x s ≡ why
+        → (is_some why || is_none (relinquish_grant_in row.client x s.semaphore)) ≡ false → IsServedIn (relinquish_control x) facts invoke row rows rows new
+    by_cause s there (Some e) cause none = absurd (cc none)
+    by_cause s there None cause none =
+        unfitting (relinquish_control x) facts invoke row rows rows new answer.RelinquishControl
+        (ap (λ (o : Option SemaphoreRow). first_of (relinquish_conditions row.client x o)) there ∙ cause)
+        (ap (λ (o : Option SemaphoreRow). (given_back facts.now row.client x rows
+        (option_map (λ (g : Option Grant). option_map (λ grant. granted rows (key, grant)) g) (relinquish_grant_of row.client x o))).answer) there)
+        fit refl is
+
+    by_row : (o : Option SemaphoreRow) → lookup (key_eq key) rows ≡ o → grants_nobody_among row.client x o ≡ false → IsServedIn (relinquish_control x) facts invoke row rows rows new
+    by_row None there none = absurd (cc none)
+    by_row (Some s) there none = by_cause s there (relinquish_cause_on row.client x s) refl none
+
+pub told_same : {X : Type 0} (result : Result (Option X) Memory) (items : X → List (ℕ × Told)) (invoke : ℕ) (now : Moment) (x : RelinquishControl) (own was : RoomyRow) (rows before : Rows)
+    → (own ≡ was) × (rows ≡ before)
+    → IfOk result (λ left. IfSome left (λ told. (facts : Facts)
+    → IsToldIn (relinquish_control x) facts invoke own.row rows (relinquish_after own.row.client facts.now x rows) (effects_told (items told))))
+    → IfOk result (λ left. IfSome left (λ told. (facts : Facts) → facts.now ≡ now
+    → IsToldIn (relinquish_control x) facts invoke was.row before (relinquish_after was.row.client now x before) (effects_told (items told))))
+told_same (Ok (Some told)) items invoke now x own was rows before same left = λ facts at.
+    subst (λ (m : Moment). IsToldIn (relinquish_control x) facts invoke was.row before (relinquish_after was.row.client m x before) (effects_told (items told))) at
+    (subst (λ (r : Rows). IsToldIn (relinquish_control x) facts invoke was.row r (relinquish_after was.row.client facts.now x r) (effects_told (items told))) same.1
+    (subst (λ (p : RoomyRow). IsToldIn (relinquish_control x) facts invoke p.row rows (relinquish_after p.row.client facts.now x rows) (effects_told (items told))) same.0 (left facts)))
+told_same (Ok None) items invoke now x own was rows before same left = tt
+told_same (Err memory) items invoke now x own was rows before same left = tt

@@ -12,7 +12,7 @@ use Rattle.mms_types.specs.declared.semaphore.TakeControl.{TakeControl}
 use Rattle.mms_types.specs.declared.service_error.ServiceError.{ServiceError}
 use Rattle.association.specs.Client.{ClientRow}
 use Rattle.mms_time.specs.Semaphores.{Rows, changed_row}
-use Rattle.mms_time.specs.Services.{relinquish_conditions_in, relinquish_grant_in, take_conditions_in, take_told_in, with_take, with_token_back}
+use Rattle.mms_time.specs.Services.{relinquish_after, relinquish_conditions_in, relinquish_grant_in, take_conditions_in, take_told_in, with_take, with_token_back}
 use Rattle.mms_time.specs.declared.row.SemaphoreRow.{SemaphoreRow}
 use Rattle.mms_time.specs.declared.taking.TakeDone.{TakeDone}
 use Rattle.mms_time.specs.declared.taking.TakeDone.TheVariants.{Answered, Waits as Waiting}
@@ -83,6 +83,11 @@ grants_nobody client x rows = grants_nobody_among client x (lookup (key_eq (key_
 abbrev pub tells_alone : ℕ → SemaphoreRequest → Rows → Bool
 tells_alone client (request.RelinquishControl x) rows = grants_nobody client x.now rows
 tells_alone client other rows = true
+
+-- what a request of a client that tells others something makes of the semaphores
+abbrev pub told_after : ℕ → Moment → SemaphoreRequest → Rows → Rows
+told_after client now (request.RelinquishControl x) rows = relinquish_after client now x.now rows
+told_after client now other rows = rows
 
 -- a client is the one that is told something besides, where there is one
 abbrev pub is_the_one : Option ℕ → ℕ → Bool

@@ -1,17 +1,19 @@
 //! A token is given back (ISO 9506-1, RelinquishControl).
 
-ghost use Rattle.std.specs.Prelude.{◌≡◌, false, true, IfOk, OnErr, OnOk, Some, None, if◌then◌else◌};
+ghost use Rattle.std.specs.Prelude.{◌≡◌, false, true, IfOk, IfNone, IfSome, OnErr, OnOk, OnSome, Some, None, if◌then◌else◌};
 ghost use Rattle.mms_types.specs.Moments.{IsDated};
 ghost use Rattle.mms_time.specs.Semaphores.{changed_row};
-ghost use Rattle.mms_time.specs.Services.{relinquish_grant_in, with_token_back};
-ghost use Rattle.cell_client.specs.Areas.{IsServedIn};
+ghost use Rattle.mms_time.specs.Services.{relinquish_after, relinquish_grant_in, with_token_back};
+ghost use Rattle.cell_client.specs.Areas.{IsServedIn, IsToldIn};
 ghost use Rattle.cell_client.specs.Effects.{felt_all, settled};
 ghost use Rattle.cell_client.specs.Facts.{Facts};
 ghost use Rattle.cell_client.specs.Requests.{fits, request_told, size_of};
+ghost use Rattle.cell_client.specs.Telling.{effects_told};
 ghost use Rattle.serve_semaphores.specs.Semaphores.{relinquish_control};
 ghost use Rattle.serve_semaphores.specs.Tokens.{grants_nobody, grants_nobody_on, relinquish_cause_on, relinquish_on, relinquished_on};
 
-use cell_client::{Client, size_of};
+use crate::granting::granting;
+use cell_client::{Client, Told, size_of};
 use mms_time::{SemaphoreRow, Semaphores};
 use mms_types::{Answer, Memory, Moment, RelinquishControl, ServiceError};
 use std::alloc::Global;
@@ -85,7 +87,7 @@ fn give_back_to(
 
 /// A token of the semaphore of that name is given back. False exactly where somebody is granted it; then all stays
 /// as it was.
-pub(crate) fn give_back(
+fn give_back_ungranted(
     alloc: Global,
     own: &mut Client,
     rows: &mut Semaphores,
@@ -110,5 +112,49 @@ pub(crate) fn give_back(
             Ok(true)
         }
         Some(row) => give_back_to(alloc, own, row, now, invoke, asked),
+    }
+}
+
+/// A token of the semaphore of that name is given back. Where somebody is granted it, it is told who is told what, the
+/// client that gives it back first; then all is as before.
+pub(crate) fn give_back(
+    alloc: Global,
+    own: &mut Client,
+    rows: &mut Semaphores,
+    now: Moment,
+    invoke: u32,
+    asked: &RelinquishControl,
+) -> Result<Option<Vec<(u32, Told)>>, Memory>
+    requires now { IsDated now }
+    ensures served { IfOk result (λ left. IfNone left ((facts : Facts) → facts.now ≡ now
+        → IsServedIn (relinquish_control asked.now) facts invoke own.old.row
+        rows.old rows.new own.new)) }
+    ensures left { IfOk result (λ left. IfSome left (λ told. (facts : Facts) → facts.now ≡ now
+        → IsToldIn (relinquish_control asked.now) facts invoke own.old.row rows.old
+        (relinquish_after own.old.row.client now asked.now rows.old) (effects_told told.items))) }
+    ensures unchanged { IfOk result (λ left. OnSome left (
+        (own.new ≡ own.old) × (rows.new ≡ rows.old))) }
+    ensures kept { OnErr result (own.new ≡ own.old) }
+    ensures same { OnErr result (rows.new ≡ rows.old) }
+{
+    if give_back_ungranted(alloc, own, rows, now, invoke, asked)? {
+        Ok(None)
+    } else {
+        granting(alloc, own, rows, invoke, asked)
+    }
+}
+
+/// A token of the semaphore of that name is given back, where there is one. It takes no memory.
+pub(crate) fn finish_back(
+    rows: &mut Semaphores,
+    client: u32,
+    now: Moment,
+    asked: &RelinquishControl,
+)
+    requires now { IsDated now }
+    ensures { rows.new ≡ relinquish_after client now asked.now rows.old }
+{
+    if let Some(row) = rows.named_mut(client, &asked.name) {
+        row.relinquish(client, asked.token.as_ref(), now);
     }
 }

@@ -14,4 +14,4 @@ mod take;
 pub use domains::names_domain;
 pub use granting::{tell_grant, tell_grants};
 pub use others::tells;
-pub use serving::serve;
+pub use serving::{finish, serve};

@@ -1,15 +1,13 @@
-use Rattle.std.proofs.Common.{◌≡◌, true, None, List, Option, ap, sym, ◌∙◌, subst}
+use Rattle.std.proofs.Common.{◌≡◌, None, ap, sym, ◌∙◌, subst}
 use Rattle.std.proofs.lemmas.Result.{on_ok_weaker}
 use Rattle.mms_types.specs.declared.pdu.Request.{Request}
 use Rattle.parted_state.specs.Lifted.{put_in_place, tables_shown}
 use Rattle.cell_client.specs.Association.{Takes}
 use Rattle.cell_client.specs.Requests.{plain_answer}
-use Rattle.cell_services.specs.Acts.{grants_somebody}
 use Rattle.cell_services.specs.Serving.{hears}
-use Rattle.mms_step.specs.declared.part.Part.{Part}
 use Rattle.mms_step.specs.Partition.{cell}
 use Rattle.mms_step.specs.Tasks.{row_held}
-use Rattle.mms_step.proofs.Ready.{granted_left, semaphores_there, variables_there}
+use Rattle.mms_step.proofs.Ready.{semaphores_there, variables_there}
 use Rattle.mms_step.proofs.applying.serve_request.Goals as goal
 
 pub serve_on_device-requires-clause-tables : goal.serve_on_device-requires-clause-tables
@@ -22,15 +20,8 @@ serve_on_variables-requires-clause-table c =
 
 pub serve_on_semaphores-requires-clause-table : goal.serve_on_semaphores-requires-clause-table
 serve_on_semaphores-requires-clause-table c =
-    semaphores_there c.requires.of.0 c.args.held.now c.requires.of.1 c.args.clients c.args.client c.args.invoke c.in-Semaphores.tokens c.args.asked.now c.requires.many c.in-Semaphores.ensures
+    semaphores_there c.requires.of.0 c.args.held.now c.requires.of.1 c.args.clients c.args.client c.args.invoke c.in-Semaphores.asked c.args.asked.now c.requires.many c.in-Semaphores.ensures
     c.requires.ready
-
-pub serve-requires-clause-left : goal.serve-requires-clause-left
-serve-requires-clause-left c =
-    let step = c.in_ok-serve_on_semaphores-in-Semaphores in
-    subst (λ (h : List (Option Part)). grants_somebody (row_held h c.args.client).client c.args.asked.now (tables_shown cell h).semaphores ≡ true) (sym (step.ensures.same c.if-branch.false))
-    (granted_left c.in-Semaphores.tokens (row_held c.args.held.now c.args.client).client (tables_shown cell c.args.held.now).semaphores c.args.asked.now c.in-Semaphores.ensures
-    (sym step.ensures.exact ∙ c.if-branch.false))
 
 pub returns-in-Device-clause-put : goal.returns-in-Device-clause-put
 returns-in-Device-clause-put c =
@@ -46,15 +37,9 @@ returns-in-Variables-clause-put c =
     ∙ ap (λ (r : Request). put_in_place cell (hears (tables_shown cell c.args.held.now) (row_held c.args.held.now c.args.client) c.args.client (Takes c.args.invoke r)) c.args.held.now) c.in-Variables.ensures)
     c.serve_on_variables.ensures.put
 
-pub returns-then-branch-clause-put : goal.returns-then-branch-clause-put
-returns-then-branch-clause-put c =
-    c.in_ok-serve_on_semaphores-in-Semaphores.ensures.put c.if-branch.true
-    ∙ ap (λ (r : Request). put_in_place cell (hears (tables_shown cell c.args.held.now) (row_held c.args.held.now c.args.client) c.args.client (Takes c.args.invoke r)) c.args.held.now) c.in-Semaphores.ensures
-
-pub returns-else-branch-clause-put : goal.returns-else-branch-clause-put
-returns-else-branch-clause-put c =
-    on_ok_weaker c.serve.result
+pub returns-in-Semaphores-clause-put : goal.returns-in-Semaphores-clause-put
+returns-in-Semaphores-clause-put c =
+    on_ok_weaker c.serve_on_semaphores.result
     (λ put. put
-    ∙ ap (λ (h : List (Option Part)). put_in_place cell (hears (tables_shown cell h) (row_held h c.args.client) c.args.client (Takes c.args.invoke c.args.asked.now)) h)
-    (c.in_ok-serve_on_semaphores-in-Semaphores.ensures.same c.if-branch.false))
-    c.serve.ensures.put
+    ∙ ap (λ (r : Request). put_in_place cell (hears (tables_shown cell c.args.held.now) (row_held c.args.held.now c.args.client) c.args.client (Takes c.args.invoke r)) c.args.held.now) c.in-Semaphores.ensures)
+    c.serve_on_semaphores.ensures.put

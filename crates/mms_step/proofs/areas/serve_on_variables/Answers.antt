@@ -1,21 +1,29 @@
-use Rattle.std.proofs.Common.{◌≡◌, ℕ, ◌+◌, ◌≤◌, Some, ap, sym, ◌∙◌, subst, set}
+use Rattle.std.proofs.Common.{◌≡◌, ℕ, ◌+◌, ◌≤◌, List, Option, None, Some, ap, sym, ◌∙◌, subst, set, arith}
 use Rattle.std.proofs.lemmas.Result.{on_ok_weaker}
 use Rattle.mms_types.specs.Areas.{variable_request}
 use Rattle.part_table.specs.Held.{held_at}
 use Rattle.cell_client.specs.Association.{Takes}
 use Rattle.cell_services.specs.Tables.{Tables, own_variables}
-use Rattle.mms_step.specs.Partition.{semaphores_in, semaphores_place, variables_in}
+use Rattle.mms_step.specs.Partition.{semaphores_in, semaphores_place, variables_in, IsVariables}
 use Rattle.mms_step.specs.declared.part.Part.{Part}
 use Rattle.mms_step.specs.declared.part.Part.TheVariants.{Variables}
 use Rattle.mms_step.specs.Tasks.{AreDone, IsRoomless}
 use Rattle.mms_step.proofs.InPlace.{held_roomless, variables_served}
-use Rattle.mms_step.proofs.ServeLaws.{both_back, on_err_both}
+use Rattle.mms_step.proofs.ServeLaws.{both_back, held_after_set, on_err_both}
 use Rattle.mms_step.proofs.areas.serve_on_variables.Goals as goal
 
 pub variables_in_parts-done-requires-clause-settled : goal.variables_in_parts-done-requires-clause-settled
 variables_in_parts-done-requires-clause-settled c =
     subst IsRoomless (sym c.deref_mut.ensures.value)
     (held_roomless c.requires.of.0 c.args.held.now c.requires.of.1 (5 + c.args.client) c.take_client-part.result.value c.take_client-part.ensures.part)
+
+pub variables_in_parts-done-requires-clause-variables : goal.variables_in_parts-done-requires-clause-variables
+variables_in_parts-done-requires-clause-variables c =
+    subst (λ (p : Part). IsVariables (Some p)) (sym c.deref_mut-2.ensures.value)
+    (subst IsVariables
+    (sym (c.take_variables-table.ensures.part ∙ ap (λ (l : List (Option Part)). held_at l 1) c.take_client-part.ensures.left
+    ∙ held_after_set c.args.held.now (5 + c.args.client) 1 None (λ same. omega (arith, same))))
+    c.requires.table)
 
 pub returns-clause-put : goal.returns-clause-put
 returns-clause-put c =

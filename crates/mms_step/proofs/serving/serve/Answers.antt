@@ -2,14 +2,14 @@ use Rattle.std.proofs.Common.{◌+◌, ap, sym, ◌∙◌, subst, List, Option}
 use Rattle.parted_state.specs.Lifted.{put_in_place}
 use Rattle.parted_state.specs.Served.{Done}
 use Rattle.mms_step.specs.declared.part.Part.{Part}
-use Rattle.mms_step.specs.Tasks.{task_done, HoldsOwn, IsLeftTo}
+use Rattle.mms_step.specs.Tasks.{task_done, HoldsOwn}
 use Rattle.mms_step.specs.Lifting.{tabled}
 use Rattle.cell_client.specs.Effects.{Effect}
 use Rattle.cell_services.specs.Meant.{no_tables}
 use Rattle.mms_step.specs.Partition.{cell}
 use Rattle.cell_services.specs.Tables.{Tables}
 use Rattle.mms_step.specs.Rooms.{room_to, with_rooms, IsSettled}
-use Rattle.mms_step.proofs.ServeLaws.{is_settled, settled_tabled, rooms_kept, clients_kept, told_in_place, done_kept, left_kept, lifted_own, lifted_shown, many_lifted, many_roomed, own_kept, put_back_own, timely_kept}
+use Rattle.mms_step.proofs.ServeLaws.{is_settled, settled_tabled, rooms_kept, clients_kept, told_in_place, done_kept, lifted_own, lifted_shown, many_lifted, many_roomed, own_kept, put_back_own, timely_kept}
 use Rattle.mms_step.proofs.serving.serve.Goals as goal
 
 pub done-requires-clause-own : goal.done-requires-clause-own
@@ -19,12 +19,6 @@ done-requires-clause-own c =
 pub done-requires-clause-time : goal.done-requires-clause-time
 done-requires-clause-time c =
     timely_kept c.args.task.now c.lift-tables.result _ (lifted_shown c.lift-tables.result c.args.clients c.args.held.now c.requires.many c.lift-tables.ensures.tables) c.requires.time
-
-pub done-requires-clause-left : goal.done-requires-clause-left
-done-requires-clause-left c =
-    subst (IsLeftTo c.args.task.now c.lift-tables.result) (sym c.lift-tables.ensures.left)
-    (left_kept c.args.task.now c.lift-tables.result no_tables _ c.args.held.now c.requires.own
-    (lifted_shown c.lift-tables.result c.args.clients c.args.held.now c.requires.many c.lift-tables.ensures.tables) c.requires.left)
 
 pub lower-requires-clause-many : goal.lower-requires-clause-many
 lower-requires-clause-many c =

@@ -5,9 +5,9 @@ use Rattle.mms_step.specs.declared.part.Part.{Part}
 use Rattle.mms_step.specs.Partition.{client_place}
 use Rattle.mms_step.specs.declared.telling.Room.{Room}
 use Rattle.mms_step.specs.Rooms.{with_room, without_rooms, room_to}
-use Rattle.mms_step.proofs.ToldLaws.{no_more_room, no_rooms_yet, room_made, room_needless, rooms_gone}
+use Rattle.mms_step.proofs.ToldLaws.{no_rooms_yet, room_made, room_needless, rooms_gone, untold_room}
 use Rattle.mms_step.proofs.telling.make_rooms.Goals as goal
-use Rattle.mms_step.proofs.telling.make_rooms.Goals.{then-not-is_none+in_default, else-not-is_none}
+use Rattle.mms_step.proofs.telling.make_rooms.Goals.{then-is_told+in_default, else-is_told}
 
 pub loop-client-init : goal.loop-client-init
 loop-client-init c = record { some = omega arith; made = sym (no_rooms_yet (room_to c.args.told.now) c.args.held.now) }
@@ -25,17 +25,17 @@ loop-client-preserved c =
     let some = c.loop-client.invariant.some in
     record {
       some = omega (arith, some);
-      made = elim c.if-not-is_none.branch [
-        | then-not-is_none+in_default w ↦
+      made = elim c.if-is_told.branch [
+        | then-is_told+in_default w ↦
             w.held-is ∙ w.in_default.ensures.made
-            ∙ ap (λ (r : Room). change (option_map (with_room r)) c.loop-client.held (client_place c.loop-client.client)) c.room_to-room.ensures
+            ∙ ap (λ (r : Room). change (option_map (with_room r)) c.loop-client.held (client_place c.loop-client.client)) w.room_to.ensures
             ∙ ap (λ (l : List (Option Part)). change (option_map (with_room (room_to c.args.told.now c.loop-client.client))) l (client_place c.loop-client.client))
             c.loop-client.invariant.made
             ∙ room_made c.loop-client.client (room_to c.args.told.now) c.args.held.now some
-        | else-not-is_none w ↦
+        | else-is_told w ↦
             let below = c.loop-client-test.true in
             w.held-is ∙ c.loop-client.invariant.made
             ∙ room_needless c.loop-client.client (c.args.clients + 1) (room_to c.args.told.now) c.args.held.now some below c.requires.settled
-            (sym c.room_to-room.ensures ∙ no_more_room c.room_to-room.result (sym c.is_none.ensures ∙ w.if-not-is_none.false))
+            (untold_room c.loop-client.client c.args.told.now (sym c.is_told.ensures ∙ w.if-is_told.false))
       ];
     }
