@@ -1,5 +1,5 @@
 -- Each event answers what was taken and what waited, but for what waits then.
-use Rattle.std.proofs.Common.{◌≡◌, ℕ, ◌+◌, inl, inr, Bool, true, false, cond, ◌==◌, ◌&&◌, List, [], ◌∷◌, ◌++◌, Option, None, Some, is_none, is_some, option_map, option_to_list, if◌then◌else◌, refl, sym, ◌∙◌, ap, subst, arith}
+use Rattle.std.proofs.Common.{◌≡◌, ℕ, ◌+◌, inl, inr, Bool, true, false, cond, ◌==◌, ◌&&◌, List, [], ◌∷◌, ◌++◌, Option, None, Some, is_some, option_map, option_to_list, if◌then◌else◌, refl, sym, ◌∙◌, ap, subst, arith}
 use Rattle.std.specs.Map.{lookup}
 use Rattle.mms_types.specs.Errors.{first_of}
 use Rattle.mms_types.specs.Order.{key_eq, key_of}
@@ -24,9 +24,6 @@ use Rattle.token_sem.specs.declared.entry.Grant.{Grant}
 use Rattle.token_sem.proofs.Least.{Stands}
 use Rattle.mms_time.specs.Semaphores.{Rows}
 use Rattle.mms_time.specs.Services.{relinquish_cause, relinquish_conditions, relinquish_grant_in, relinquish_grant_of, take_cause, take_conditions, take_told, take_told_of}
-use Rattle.mms_time.specs.Statuses.{pool_status_conditions, pool_status_conditions_in, pool_status_in, pool_status_of}
-use Rattle.mms_time.specs.declared.row.Semaphore.{Semaphore}
-use Rattle.mms_time.specs.declared.row.Semaphore.TheVariants.{Token, Pool}
 use Rattle.mms_time.specs.declared.row.SemaphoreRow.{SemaphoreRow}
 use Rattle.mms_time.specs.declared.taking.TakeDone.{TakeDone}
 use Rattle.mms_time.specs.declared.taking.TakeDone.TheVariants as taken
@@ -35,12 +32,14 @@ use Rattle.sem_ticks.specs.Granted.{lost_granted, relinquish_granted}
 use Rattle.sem_ticks.specs.Sound.{AreSound}
 use Rattle.sem_ticks.specs.declared.granted.Granted.{Granted}
 use Rattle.sem_ticks.proofs.Kept.{row_found}
+use Rattle.cell_client.specs.Areas.{AnswersOrWaitsIn, OutcomeIn}
 use Rattle.cell_client.specs.Association.{Takes, Cancels, sends, confirmed_error, cancel_error, loss_told, other_error}
 use Rattle.cell_client.specs.Effects.{Effect, Closes, Waits, Answers, tell}
 use Rattle.cell_services.specs.Services.{cause, effect, grants_told, relinquish_outcome, take_outcome}
 use Rattle.cell_client.specs.Requests.{answer_told, fits, is_done, refuses, request_told, size_of}
 use Rattle.cell_services.specs.Serving.{also_lost, also_told, own_told}
 use Rattle.cell_services.specs.Tables.{Tables, moment_of}
+use Rattle.mms_step.proofs.Answering.{settled}
 use Rattle.mms_step.specs.Partition.{cell}
 use Rattle.mms_step.specs.State.{State, IsSound}
 use Rattle.cell_laws.specs.Linked.{asker}
@@ -61,17 +60,9 @@ retake c told rows t u same (inr idle) = inr idle
 
 -- ---- a request that isn't refused has an answer, or waits
 
-some-mapped : {A B : Type 0} (f : A → B) (o : Option A) (e : ServiceError) → first_of ((is_none o, e) ∷ []) ≡ None → is_some (option_map f o) ≡ true
-some-mapped f None e h = absurd (cc h)
-some-mapped f (Some x) e h = refl
-
-some-pool : (after : Option (List ℕ)) (o : Option SemaphoreRow) → first_of (pool_status_conditions o) ≡ None → is_some (option_map answer.ReportPoolSemaphoreStatus (pool_status_of after o)) ≡ true
-some-pool after None h = absurd (cc h)
-some-pool after (Some row) h = in_semaphore row.semaphore h
-  where
-    in_semaphore : (s : Semaphore) → first_of (pool_status_conditions_in s) ≡ None → is_some (option_map answer.ReportPoolSemaphoreStatus (pool_status_in after s)) ≡ true
-    in_semaphore (Token s) g = absurd (cc g)
-    in_semaphore (Pool p) g = refl
+answer-there : (client invoke : ℕ) (o : OutcomeIn Tables) → AnswersOrWaitsIn client invoke o → o.also ≡ [] → is_some o.answer ≡ true
+answer-there client invoke o (inl (told, is, none)) alone = ap (λ (a : Option Answer). is_some a) is
+answer-there client invoke o (inr (request, same, is, also)) alone = absurd (cc (sym also ∙ alone))
 
 take-there : (client : ℕ) (x : TakeControl) (o : Option SemaphoreRow) → first_of (take_conditions client x o) ≡ None → take_told_of x o ≡ None → ⊥
 take-there client x None h g = cc h
@@ -167,21 +158,9 @@ module _ (count : ℕ) (s : State) (sound : IsSound count s) (bound : Bound (ask
       → Answered (tell client (answer_told invoke (effect old its invoke asked).answer) ++ (effect old its invoke asked).also) (one_of client invoke c)
   doing invoke (request.TakeControl x) may is none = taking invoke x may is (take_told its.client x s.semaphores) refl none
   doing invoke (request.RelinquishControl x) may is none = giving invoke x (relinquish_granted its.client x s.semaphores) refl none
-  doing invoke (request.GetVariableAccessAttributes x) may is none = plain invoke _ [] (some-mapped answer.GetVariableAccessAttributes _ _ none) refl
-  doing invoke (request.GetNamedVariableListAttributes x) may is none = plain invoke _ [] (some-mapped answer.GetNamedVariableListAttributes _ _ none) refl
-  doing invoke (request.ReportSemaphoreStatus x) may is none = plain invoke _ [] (some-twice answer.ReportSemaphoreStatus _ _ _ none) refl
-    where
-      some-twice : {A B C : Type 0} (f : B → C) (g : A → B) (o : Option A) (e : ServiceError) → first_of ((is_none o, e) ∷ []) ≡ None → is_some (option_map f (option_map g o)) ≡ true
-      some-twice f g None e h = absurd (cc h)
-      some-twice f g (Some x) e h = refl
-  doing invoke (request.ReportPoolSemaphoreStatus x) may is none =
-      plain invoke _ [] (some-pool x.after (lookup (key_eq (key_of its.client x.name)) s.semaphores) none) refl
-  doing invoke (request.ReportSemaphoreEntryStatus x) may is none = plain invoke _ [] (some-twice answer.ReportSemaphoreEntryStatus _ _ _ none) refl
-    where
-      some-twice : {A B C : Type 0} (f : B → C) (g : A → B) (o : Option A) (e : ServiceError) → first_of ((is_none o, e) ∷ []) ≡ None → is_some (option_map f (option_map g o)) ≡ true
-      some-twice f g None e h = absurd (cc h)
-      some-twice f g (Some x) e h = refl
-  doing invoke asked may is none = plain invoke (effect old its invoke asked).answer (effect old its invoke asked).also refl refl
+  doing invoke asked may is none =
+      plain invoke (effect old its invoke asked).answer (effect old its invoke asked).also
+      (answer-there its.client invoke (effect old its invoke asked) (settled old its invoke asked none) refl) refl
 
   pub takes-fair : (invoke : ℕ) (asked : Request) → IsAdmitted invoke its → Answered (tell client (own_told old its (Takes invoke asked)) ++ also_told old its (Takes invoke asked)) (one_of client invoke c)
   takes-fair invoke asked may = by_cause (cause old its asked) refl
