@@ -1,0 +1,5 @@
+pub mod Domains
+pub mod Kept
+pub mod Loading
+pub mod Segmented
+pub mod Standing
