@@ -1,0 +1,5 @@
+use Rattle.domain_upload.proofs.Numbered.{fewer}
+use Rattle.domain_upload.proofs.uploads.Uploads.lose.Goals as goal
+
+pub invariant_of-self : goal.invariant_of-self
+invariant_of-self c = fewer _ _ _ _ c.self.invariant c.remove_all.ensures
