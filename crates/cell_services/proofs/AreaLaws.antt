@@ -1,5 +1,5 @@
 -- A request that is served on the table of its area and the row of its client is what it does among all tables.
-use Rattle.std.specs.Prelude.{◌≡◌, ℕ, Bool, true, false, Option, None, Some, List, ◌++◌, [], Result, Ok, Err, IfNone, IfOk, IfSome, if◌then◌else◌, refl}
+use Rattle.std.specs.Prelude.{◌≡◌, ℕ, Bool, true, false, Option, None, Some, List, ◌++◌, [], Result, Ok, Err, IfNone, IfOk, IfSome, OnOk, if◌then◌else◌, refl}
 use Rattle.std.proofs.Common.{ap, ap₂, sym, ◌∙◌, subst}
 use Rattle.mms_types.specs.Areas.{semaphore_request, variable_request}
 use Rattle.mms_types.specs.declared.area.SemaphoreRequest.{SemaphoreRequest}
@@ -20,13 +20,14 @@ use Rattle.mms_time.specs.Guards.{owns_guard}
 use Rattle.mms_time.specs.Semaphores.{Rows}
 use Rattle.variables.specs.Access.{flags_of}
 use Rattle.cell_client.specs.Areas.{RequestIn, IsServedIn, IsToldIn, also_in, is_done_in, own_told_in}
-use Rattle.cell_client.specs.Association.{Takes}
+use Rattle.association.specs.declared.waiting.Waiting.{Waiting}
+use Rattle.cell_client.specs.Association.{Cancels, Takes, cancel_told}
 use Rattle.cell_client.specs.Effects.{Effect, felt_all, settled, tell}
 use Rattle.cell_client.specs.Facts.{Facts}
 use Rattle.cell_client.specs.Telling.{effects_told}
 use Rattle.cell_client.specs.declared.told.Told.{Told}
 use Rattle.mms_types.specs.declared.memory.Memory.{Memory}
-use Rattle.serve_semaphores.specs.Tokens.{told_after}
+use Rattle.serve_semaphores.specs.Tokens.{rows_cancelled, told_after, waiting_of}
 use Rattle.serve_variables.specs.Variables as variable
 use Rattle.serve_variables.specs.Variables.{guards_asked}
 use Rattle.serve_semaphores.specs.Semaphores as semaphore
@@ -38,7 +39,7 @@ use Rattle.cell_services.proofs.PlanLaws.{append_none}
 use Rattle.cell_services.proofs.TimeLaws.{moment_given}
 use Rattle.cell_services.specs.Requests.{told_in}
 use Rattle.cell_services.specs.Services.{InArea, OfSemaphores, OfVariables, area_of, cause_of, effect_of}
-use Rattle.cell_services.specs.Serving.{hears}
+use Rattle.cell_services.specs.Serving.{hears, tables_cancelled}
 use Rattle.cell_services.specs.Tables.{Tables, moment_of, own_semaphores, own_variables}
 use Rattle.cell_client.specs.Requests.{is_done, request_told, size_of}
 
@@ -166,6 +167,33 @@ module _ (x : SemaphoreRequest) (row : ClientRow) (invoke : ℕ) (moment : Momen
   semaphores_told (Ok (Some told)) items left = λ t stood at. told_among t (told_after row.client moment x was) (items told) left stood at
   semaphores_told (Ok None) items left = tt
   semaphores_told (Err memory) items left = tt
+
+-- ---- a request that waits is cancelled
+
+pub on_ok_both : {A E P Q R : Type 0} (result : Result A E) → (P → Q → R) → OnOk result P → OnOk result Q → OnOk result R
+on_ok_both (Ok x) next p q = next p q
+on_ok_both (Err e) next p q = tt
+
+pub cancel_done : (t : Tables) (row : ClientRow) (invoke : ℕ) (was now : Rows) (new : RoomyRow) → new ≡ settled (felt_all (cancel_told invoke) row)
+    → now ≡ rows_cancelled (waiting_of invoke row.waiting) was → t.semaphores ≡ was → IsDoneIn own_semaphores t row now new (Cancels invoke)
+cancel_done t row invoke was now new told done stood = record {
+  effects = cancel_told invoke;
+  is = told;
+  done = ap₂ at tables (append_none (tell row.client (cancel_told invoke)));
+}
+  where
+    at : Tables → List (ℕ × Effect) → Done Tables Effect
+    at u l = record { tables = u; told = l }
+
+    by_request : (o : Option Waiting) → tables_cancelled o t ≡ own_semaphores.put (rows_cancelled o t.semaphores) t
+    by_request None = refl
+    by_request (Some request) = refl
+
+    tables : tables_cancelled (waiting_of invoke row.waiting) t ≡ own_semaphores.put now t
+    tables =
+        by_request (waiting_of invoke row.waiting)
+        ∙ ap (λ (rows : Rows). own_semaphores.put (rows_cancelled (waiting_of invoke row.waiting) rows) t) stood
+        ∙ ap (λ (rows : Rows). own_semaphores.put rows t) (sym done)
 
 -- ---- names are listed
 

@@ -41,7 +41,8 @@ pub record IsDoneIn {A : Type 0} (own : Own Tables A) (t : Tables) (row : Client
   pub is : new ≡ settled (felt_all effects row)
   pub done : hears t row row.client v ≡ record { tables = own.put now t; told = tell row.client effects }
 
--- what is left to be done on several tables: all but a request
+-- what is left to be done on several tables: a client is lost
 abbrev pub IsLeft : Act → Type 0
 IsLeft (act.Request invoke asked) = ⊥
+IsLeft (act.Cancel invoke) = ⊥
 IsLeft other = Unit {0}

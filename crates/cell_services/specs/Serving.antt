@@ -1,5 +1,5 @@
 -- What each event does, which tables it reads or changes, and whom it tells what (ISO 9506-1, the virtual manufacturing device).
-use Rattle.std.specs.Prelude.{ℕ, ◌+◌, ◌==◌, List, [], ◌∷◌, ◌++◌, filter_map, find, fold, if◌then◌else◌, Bool, Option, None, Some}
+use Rattle.std.specs.Prelude.{ℕ, ◌+◌, List, [], ◌∷◌, ◌++◌, filter_map, fold, if◌then◌else◌, Bool, Option, None, Some}
 use Rattle.std.specs.List.{flat_map}
 use Rattle.mms_types.specs.Actors.{actor_of}
 use Rattle.mms_types.specs.declared.event.CellEvent.{CellEvent}
@@ -24,6 +24,7 @@ use Rattle.cell_services.specs.Tables.{Tables, moment_of, moment_after, clock_ta
 use Rattle.cell_client.specs.Association.{Verdict, Tells, Takes, Concludes, Cancels, Aborts, verdict, conclusion_told, cancel_told, abort_told, loss_told, timeout_error}
 use Rattle.cell_services.specs.Services.{cause, effect, grant_told, grants_told, request_asks, request_more}
 use Rattle.cell_client.specs.Requests.{is_done, refuses, request_told, size_of}
+pub use Rattle.serve_semaphores.specs.Tokens.{waiting_of}
 
 -- ---- the loss of a client: what belongs to its association is gone
 
@@ -48,10 +49,6 @@ also_lost (Open values) client t = loss_also client t
 -- a request that is taken is done, or its tables stay as they are
 abbrev pub is_served : Tables → ClientRow → ℕ → Request → Bool
 is_served t row invoke asked = is_done (size_of row.association) invoke (cause t row asked) (effect t row invoke asked).answer
-
--- the request of that invokeID, where it waits
-abbrev pub waiting_of : ℕ → List Waiting → Option Waiting
-waiting_of invoke rows = find (λ row. row.invoke == invoke) rows
 
 -- its entry waits no more
 abbrev pub tables_cancelled : Option Waiting → Tables → Tables

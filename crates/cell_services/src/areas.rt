@@ -5,7 +5,7 @@ ghost use Rattle.mms_types.specs.Areas.{semaphore_request, variable_request};
 ghost use Rattle.mms_types.specs.Moments.{IsDated};
 ghost use Rattle.mms_time.specs.Guards.{owns_guard};
 ghost use Rattle.serve_semaphores.specs.Tokens.{told_after};
-ghost use Rattle.cell_client.specs.Association.{Takes};
+ghost use Rattle.cell_client.specs.Association.{Cancels, Takes};
 ghost use Rattle.cell_client.specs.Effects.{settled};
 ghost use Rattle.cell_services.specs.Acts.{all_done, IsDoneIn};
 ghost use Rattle.cell_services.specs.Serving.{hears};
@@ -82,4 +82,20 @@ pub fn serve_semaphores(
     ensures same { OnErr result (semaphores.new ≡ semaphores.old) }
 {
     serve_semaphores::serve(alloc, own, semaphores, now, false, invoke, asked)
+}
+
+/// Cancels the request of that invokeID, which waits, on the semaphores and the part of its client (ISO 9506-1, Cancel).
+/// Without memory both are as before.
+pub fn cancel_on_semaphores(
+    alloc: Global,
+    own: &mut Client,
+    semaphores: &mut Semaphores,
+    invoke: u32,
+) -> Result<(), Memory>
+    ensures served { OnOk result ((t : Rows) → t.semaphores ≡ semaphores.old
+        → IsDoneIn own_semaphores t own.old.row semaphores.new own.new (Cancels invoke)) }
+    ensures kept { OnErr result (own.new ≡ own.old) }
+    ensures same { OnErr result (semaphores.new ≡ semaphores.old) }
+{
+    serve_semaphores::cancel(alloc, own, semaphores, invoke)
 }

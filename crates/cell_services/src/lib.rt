@@ -11,7 +11,7 @@ mod others;
 mod planning;
 mod tables;
 
-pub use areas::{serve_semaphores, serve_variables};
+pub use areas::{cancel_on_semaphores, serve_semaphores, serve_variables};
 pub use clock::Clock;
 pub use device::serve_device;
 pub use hearing::hear;

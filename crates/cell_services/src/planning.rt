@@ -1,20 +1,19 @@
 //! What is done on the tables is planned first: all is read and made that may want memory, and nothing changes.
 
 ghost use Rattle.std.specs.Prelude.{◌≡◌, ◌≢◌, ◌≤◌, ◌+◌, ◌++◌, IfOk, OnErr, OnOk, None};
-ghost use Rattle.std.specs.Option.{option_map};
 ghost use Rattle.cell_services.specs.Acts.{act_done, plan_done, IsLeft};
 ghost use Rattle.sem_ticks.specs.Meant.{state_of};
 ghost use Rattle.mms_time.specs.Deadlines.{next_due};
 ghost use Rattle.cell_services.specs.Tables.{Tables as Rows, last_moment, moment_after};
 ghost use Rattle.cell_services.specs.Changes.{changed, MayChange};
 ghost use Rattle.cell_client.specs.Effects.{tell};
-ghost use Rattle.cell_client.specs.Association.{abort_told, cancel_told, conclusion_told};
-ghost use Rattle.cell_services.specs.Serving.{aborted, aborted_one, all_told, happening_told, loses, loss_also, passed, passes, tables_cancelled, waiting_of};
+ghost use Rattle.cell_client.specs.Association.{abort_told, conclusion_told};
+ghost use Rattle.cell_services.specs.Serving.{aborted, aborted_one, all_told, happening_told, loses, loss_also, passed, passes};
 ghost use Rattle.cell_client.specs.Telling.{effects_told};
 
 use crate::{Change, Tables};
-use association::{ClientPart, Waiting};
-use cell_client::{Act, Told, cancel_response, conclude_response, one_told, refusal};
+use association::ClientPart;
+use cell_client::{Act, Told, conclude_response, one_told, refusal};
 use mms_types::{Memory, Moment, ServiceError, What};
 use sem_ticks::{Happening, Ticked, lose_told, tick};
 use serve_semaphores::{tell_grant, tell_grants};
@@ -64,43 +63,6 @@ fn conclusion_plan(
     let mut told = one_told(alloc, client, conclude_response(alloc)?)?;
     told.push((client, Told::Closes))?;
     lost_plan(alloc, tables, part, told)
-}
-
-/// The request of that invokeID, where it waits.
-fn waiting_of(part: &ClientPart, invoke: u32) -> Option<&Waiting>
-    ensures { option_map (λ w. w.now) result ≡ waiting_of invoke part.now.row.waiting }
-{
-    part.waiting().iter().find(|row| row.invoke == invoke)
-}
-
-/// How a request that waits is cancelled on the tables.
-fn cancel_change(alloc: Global, part: &ClientPart, invoke: u32) -> Result<Change, Memory>
-    ensures done { IfOk result (λ change. (t : Rows)
-        → changed change t ≡ tables_cancelled (waiting_of invoke part.now.row.waiting) t) }
-    ensures may { IfOk result (λ change. (t : Rows) → MayChange change t) }
-{
-    match waiting_of(part, invoke) {
-        None => Ok(Change::Nothing),
-        Some(request) => Ok(Change::Cancels {
-            key: request.key.copy(alloc)?,
-            entry: request.entry,
-        }),
-    }
-}
-
-/// A request that waits is cancelled.
-fn cancel_plan(alloc: Global, client: u32, part: &ClientPart, invoke: u32) -> Result<Plan, Memory>
-    ensures told { IfOk result (λ plan.
-        effects_told plan.told.items ≡ tell client (cancel_told invoke)) }
-    ensures done { IfOk result (λ plan. (t : Rows) → changed plan.change t
-        ≡ tables_cancelled (waiting_of invoke part.now.row.waiting) t) }
-    ensures may { IfOk result (λ plan. (t : Rows) → MayChange plan.change t) }
-{
-    let mut told = one_told(alloc, client, Told::Answers(invoke))?;
-    told.push((client, cancel_response(alloc, invoke)?))?;
-    told.push((client, refusal(alloc, invoke, ServiceError::CANCEL)?))?;
-    let change = cancel_change(alloc, part, invoke)?;
-    Ok(Plan { change, told })
 }
 
 /// The association is aborted.
@@ -224,7 +186,7 @@ pub fn time_planned(alloc: Global, tables: &Tables, ms: u32) -> Result<Plan, Mem
     }
 }
 
-/// Plans what a client with that part does on several tables: all but a request. Nothing changes here.
+/// Plans what a client with that part does on several tables: it is lost. Nothing changes here.
 pub fn planned(
     alloc: Global,
     tables: &Tables,
@@ -238,9 +200,8 @@ pub fn planned(
     ensures may { IfOk result (λ plan. MayChange plan.change tables.now) }
 {
     match *act {
-        Act::Request { .. } => unreachable!(),
+        Act::Request { .. } | Act::Cancel { .. } => unreachable!(),
         Act::Conclusion => conclusion_plan(alloc, tables, client, part),
-        Act::Cancel { invoke } => cancel_plan(alloc, client, part, invoke),
         Act::Abort => abort_plan(alloc, tables, client, part),
         Act::Loss => loss_plan(alloc, tables, client, part),
     }

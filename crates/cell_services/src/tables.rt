@@ -8,8 +8,8 @@ ghost use Rattle.cell_services.specs.Serving.{without_client, without_clients};
 ghost use Rattle.cell_services.specs.Tables.{moment_of};
 
 use crate::Clock;
-use mms_time::{Semaphores, cancel_take, lose};
-use mms_types::{Key, Memory, Moment};
+use mms_time::{Semaphores, lose};
+use mms_types::{Memory, Moment};
 use sem_ticks::Renewed;
 use std::alloc::Global;
 use std::marker::Model;
@@ -54,11 +54,6 @@ pub enum Change {
         ms: u32,
         changed: Renewed,
         clients: Vec<u32>,
-    },
-    /// An entry of the semaphore of that name waits no more.
-    Cancels {
-        key: Key,
-        entry: u64,
     },
     /// A client is lost.
     Loses(u32),
@@ -136,7 +131,6 @@ impl Change {
                 changed.put(&mut tables.semaphores);
                 lose_variables(&mut tables.variables, &clients);
             }
-            Change::Cancels { key, entry } => cancel_take(&mut tables.semaphores, &key, entry),
             Change::Loses(client) => tables.lose(alloc, client)?,
         }
         Ok(())
@@ -152,10 +146,6 @@ impl Drop for Change {
                 ms: _,
                 changed: _changed,
                 clients: _clients,
-            } => {}
-            Change::Cancels {
-                key: _key,
-                entry: _,
             } => {}
             Change::Loses(_client) => {}
         }

@@ -12,7 +12,8 @@ use Rattle.part_table.specs.Held.{held_at, IsHandOf}
 use Rattle.parted_state.specs.Cut.{are_held, missing}
 use Rattle.parted_state.specs.CutLaws as laws
 use Rattle.parted_state.specs.DeviceLaws.{table_at}
-use Rattle.cell_client.specs.Association.{Verdict, Takes, verdict}
+use Rattle.parted_state.specs.Lifted.{tables_shown}
+use Rattle.cell_client.specs.Association.{Verdict, Cancels, Takes, verdict}
 use Rattle.cell_client.specs.declared.acts.Act.{Act}
 use Rattle.cell_client.specs.declared.acts.Act.TheVariants as act
 use Rattle.cell_client.specs.Meant.{act_verdict, uses_no_table}
@@ -22,10 +23,11 @@ use Rattle.serve_semaphores.specs.Semaphores as semaphore
 use Rattle.serve_variables.specs.Variables as variable
 use Rattle.cell_services.specs.AreaLaws.{in_semaphores, in_variables}
 use Rattle.cell_services.specs.Services.{InArea, OfSemaphores, OfVariables, area_of, asks_of}
+use Rattle.cell_services.specs.Serving.{heard_more}
 use Rattle.mms_step.specs.declared.part.Part.{Part}
 use Rattle.mms_step.specs.declared.part.Part.TheVariants.{Semaphores, Variables}
 use Rattle.mms_step.specs.AfterLaws.{is_device}
-use Rattle.mms_step.specs.Needs.{footprint, is_held, need, placed, two_stages, verdict_need}
+use Rattle.mms_step.specs.Needs.{also_parts, footprint, is_held, need, placed, two_stages, verdict_need}
 use Rattle.mms_step.specs.Partition.{cell, parts_of, client_part, client_place, clients_among, row_in, semaphores_in, semaphores_place, variables_in, IsClient, IsSemaphores, IsVariables}
 use Rattle.mms_step.specs.State.{State}
 use Rattle.mms_step.specs.Tasks.{row_held, IsReady}
@@ -47,6 +49,20 @@ first_there hand place stage rest none =
     by_test true e = refl
     by_test false e = absurd (cc e)
 
+-- and the second
+second_there : (hand : List (Option Part)) (one place : ℕ) (stage rest : List ℕ) → two_stages hand (one ∷ place ∷ stage) rest ≡ [] → is_held hand place ≡ true
+second_there hand one place stage rest none =
+    by_tests (is_held hand one) (is_held hand place)
+    (laws.held_parted hand (one ∷ place ∷ stage) (if_held (are_held hand (one ∷ place ∷ stage))) (laws.none_missing hand ((one ∷ place ∷ stage) ++ if_held (are_held hand (one ∷ place ∷ stage))) none)).0
+  where
+    if_held : Bool → List ℕ
+    if_held b = if b then rest else []
+
+    by_tests : (a b : Bool) → (a && (b && are_held hand stage)) ≡ true → b ≡ true
+    by_tests true true e = refl
+    by_tests true false e = absurd (cc e)
+    by_tests false b e = absurd (cc e)
+
 -- of a request that is in that area
 in_area : (hand : List (Option Part)) (n : ℕ) (a b : InArea) → a ≡ b → (rest : List ℕ) → two_stages hand (placed n (asks_of a)) rest ≡ [] → two_stages hand (placed n (asks_of b)) rest ≡ []
 in_area hand n a b same rest none = subst (λ (k : InArea). two_stages hand (placed n (asks_of k)) rest ≡ []) same none
@@ -67,6 +83,26 @@ module _ (s : State) (hand : List (Option Part)) (of : IsHandOf hand (parts_of s
       let there = held_part hand (parts_of s) (semaphores_place n) (Semaphores s.semaphores) of
       (first_there hand (semaphores_place n) _ _ (in_area hand n (area_of asked) (OfSemaphores (semaphore.request_in x)) area _ ready.needed)) place in
       there ∙ sym (ap (λ (o : Option Part). Some (Semaphores (semaphores_in o))) there)
+
+  -- by which a request that waits is cancelled
+  pub semaphores_to_cancel : (n client invoke : ℕ) → n ≡ clients_among (length hand) → IsReady n client (Cancels invoke) hand → IsSemaphores (held_at hand (semaphores_place n))
+  semaphores_to_cancel n client invoke counted ready =
+      let place : slice_get (parts_of s) (semaphores_place n) ≡ Some (Semaphores s.semaphores) =
+      ap (λ (m : ℕ). slice_get (parts_of s) (semaphores_place m)) (counted ∙ clients_counted s hand of) ∙ table_at cell is_device s 6 in
+      let there = held_part hand (parts_of s) (semaphores_place n) (Semaphores s.semaphores) of
+      (second_there hand 0 (semaphores_place n) [] (more ++ (if are_held hand more then also_parts n hand (row_held hand client) (Cancels invoke) else [])) ready.needed) place in
+      there ∙ sym (ap (λ (o : Option Part). Some (Semaphores (semaphores_in o))) there)
+    where
+      more : List ℕ
+      more = placed n (heard_more (tables_shown cell hand) (row_held hand client) (Cancels invoke))
+
+-- what is left of what a client sent is its cancellation
+pub cancels_left : (v : Verdict) (left : Option Act) (invoke : ℕ) → left ≡ Some (act.Cancel invoke) → IfSome left (λ a. act_verdict a ≡ Some v) → Cancels invoke ≡ v
+cancels_left v None invoke is told = absurd (cc is)
+cancels_left v (Some a) invoke is told =
+    let same : a ≡ act.Cancel invoke = cc is in
+    let both : Some (Cancels invoke) ≡ Some v = ap act_verdict (sym same) ∙ told in
+    cc both
 
 -- what is left of what a client sent is its request
 pub takes_left : (v : Verdict) (left : Option Act) (invoke : ℕ) (asked : Bor Request) → left ≡ Some (act.Request invoke asked) → IfSome left (λ a. act_verdict a ≡ Some v) → Takes invoke asked.now ≡ v

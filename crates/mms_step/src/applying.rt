@@ -23,7 +23,7 @@ ghost use Rattle.mms_step.specs.Tasks.{row_held, IsHeardInPlace, IsReady};
 ghost use Rattle.cell_services.specs.Serving.{hears};
 ghost use Rattle.mms_step.specs.After.{after};
 
-use crate::areas::{serve_on_device, serve_on_semaphores, serve_on_variables};
+use crate::areas::{cancel, serve_on_device, serve_on_semaphores, serve_on_variables};
 use crate::needs::client_held;
 use crate::passing::tick;
 use crate::serving::{Task, serve};
@@ -149,6 +149,7 @@ fn hear_read(
         Some(Act::Request { invoke, asked }) => {
             serve_request(alloc, held, clients, client, invoke, asked)
         }
+        Some(Act::Cancel { invoke }) => cancel(alloc, held, clients, client, invoke),
         Some(act) => serve(alloc, held, clients, &Task::Client(client, act)),
     }
 }

@@ -5,7 +5,7 @@ ghost use Rattle.mms_types.specs.Areas.{device_request, semaphore_request, varia
 ghost use Rattle.mms_types.specs.Moments.{IsDated};
 ghost use Rattle.part_table.specs.Held.{held_at, IsHandOf};
 ghost use Rattle.parted_state.specs.Lifted.{put_in_place, tables_shown};
-ghost use Rattle.cell_client.specs.Association.{Takes};
+ghost use Rattle.cell_client.specs.Association.{Cancels, Takes};
 ghost use Rattle.cell_client.specs.Requests.{plain_answer};
 ghost use Rattle.parted_state.specs.Area.{no_table};
 ghost use Rattle.cell_services.specs.Acts.{all_done, IsDoneIn};
@@ -272,6 +272,57 @@ pub(crate) fn serve_on_semaphores(
         None => Ok(()),
         Some(told) => finish_and_tell(held, clients, client, now, asked, told),
     }
+}
+
+/// Cancels a request that waits, on the part of its client and that of the semaphores.
+fn cancel_in_parts(
+    alloc: Global,
+    part: &mut Part,
+    table: &mut Part,
+    invoke: u32,
+) -> Result<(), Memory>
+    requires client { IsClient (Some part.old) }
+    requires semaphores { IsSemaphores (Some table.old) }
+    ensures served { OnOk result ((t : Tables) → t.semaphores ≡ semaphores_in (Some table.old)
+        → AreDone own_semaphores Part.Semaphores t (Cancels invoke)
+        part.old part.new table.new) }
+    ensures kept { OnErr result (part.new ≡ part.old) }
+    ensures same { OnErr result (table.new ≡ table.old) }
+{
+    match (part, table) {
+        (Part::Client(own), Part::Semaphores(rows)) => {
+            cell_services::cancel_on_semaphores(alloc, own, rows, invoke)
+        }
+        _ => unreachable!(),
+    }
+}
+
+/// Cancels a client's request that waits, where the semaphores are held.
+pub(crate) fn cancel(
+    alloc: Global,
+    held: &mut Hand<Cell>,
+    clients: u32,
+    client: u32,
+    invoke: u32,
+) -> Result<(), Memory>
+    requires of { (s : State) × IsHandOf held.old (parts_of s) }
+    requires many { clients ≡ clients_among (length held.old) }
+    requires few { clients ≤ 64 }
+    requires among { (1 ≤ client) × (client ≤ clients) }
+    requires held { IsClient (held_at held.old (client_place client)) }
+    requires number { (row_held held.old client).client ≡ client }
+    requires table { IsSemaphores (held_at held.old (semaphores_place clients)) }
+    ensures put { OnOk result (held.new ≡ put_in_place cell
+        (hears (tables_shown cell held.old) (row_held held.old client) client
+        (Cancels invoke)) held.old) }
+    ensures kept { OnErr result (held.new ≡ held.old) }
+{
+    let mut part = take_client(held, client);
+    let mut table = take_semaphores(held, clients);
+    let done = cancel_in_parts(alloc, &mut part, &mut table, invoke);
+    put_semaphores(held, clients, table);
+    put_client(held, client, part);
+    done
 }
 
 /// Serves a request to the device itself on the part of its client, with those tables.

@@ -1,5 +1,5 @@
 -- What comes of a request for a token on the one semaphore that it names (ISO 9506-1, TakeControl and RelinquishControl).
-use Rattle.std.specs.Prelude.{ℕ, Bool, true, false, ◌||◌, ◌==◌, is_none, is_some, List, [], ◌∷◌, Option, None, Some, if◌then◌else◌}
+use Rattle.std.specs.Prelude.{ℕ, Bool, true, false, ◌||◌, ◌==◌, find, is_none, is_some, List, [], ◌∷◌, Option, None, Some, if◌then◌else◌}
 use Rattle.std.specs.Map.{lookup}
 use Rattle.mms_types.specs.Errors.{first_of}
 use Rattle.mms_types.specs.Order.{key_eq, key_of}
@@ -11,11 +11,12 @@ use Rattle.mms_types.specs.declared.semaphore.RelinquishControl.{RelinquishContr
 use Rattle.mms_types.specs.declared.semaphore.TakeControl.{TakeControl}
 use Rattle.mms_types.specs.declared.service_error.ServiceError.{ServiceError}
 use Rattle.association.specs.Client.{ClientRow}
+use Rattle.association.specs.declared.waiting.Waiting.{Waiting}
 use Rattle.mms_time.specs.Semaphores.{Rows, changed_row}
-use Rattle.mms_time.specs.Services.{relinquish_after, relinquish_conditions_in, relinquish_grant_in, take_conditions_in, take_told_in, with_take, with_token_back}
+use Rattle.mms_time.specs.Services.{cancelled, relinquish_after, relinquish_conditions_in, relinquish_grant_in, take_conditions_in, take_told_in, with_take, with_token_back}
 use Rattle.mms_time.specs.declared.row.SemaphoreRow.{SemaphoreRow}
 use Rattle.mms_time.specs.declared.taking.TakeDone.{TakeDone}
-use Rattle.mms_time.specs.declared.taking.TakeDone.TheVariants.{Answered, Waits as Waiting}
+use Rattle.mms_time.specs.declared.taking.TakeDone.TheVariants.{Answered, Waits as Waits-in}
 use Rattle.cell_client.specs.Effects.{Effect, Waits}
 use Rattle.cell_client.specs.Requests.{fits, is_done, refuses, request_told, size_of}
 
@@ -26,7 +27,7 @@ take_cause_on client x s = first_of (take_conditions_in client x s.semaphore)
 -- the client is told that it has the token, or its request waits
 abbrev pub take_done : ℕ → ℕ → ℕ → TakeControl → TakeDone → List Effect
 take_done size client invoke x (Answered told) = request_told size invoke None (Some (answer.TakeControl told))
-take_done size client invoke x (Waiting entry) = Waits (record { invoke = invoke; key = key_of client x.name; entry = entry }) ∷ []
+take_done size client invoke x (Waits-in entry) = Waits (record { invoke = invoke; key = key_of client x.name; entry = entry }) ∷ []
 
 -- or that it is refused
 abbrev pub take_effects : ℕ → ℕ → ℕ → TakeControl → Option ServiceError → TakeDone → List Effect
@@ -35,7 +36,7 @@ take_effects size client invoke x None done = take_done size client invoke x don
 
 abbrev pub taken_done : ℕ → ℕ → TakeDone → Bool
 taken_done size invoke (Answered told) = fits size invoke (Some (answer.TakeControl told))
-taken_done size invoke (Waiting entry) = fits size invoke None
+taken_done size invoke (Waits-in entry) = fits size invoke None
 
 -- whether the semaphore changes
 abbrev pub is_taken : ℕ → ℕ → Option ServiceError → TakeDone → Bool
@@ -88,6 +89,19 @@ tells_alone client other rows = true
 abbrev pub told_after : ℕ → Moment → SemaphoreRequest → Rows → Rows
 told_after client now (request.RelinquishControl x) rows = relinquish_after client now x.now rows
 told_after client now other rows = rows
+
+-- ---- a request that waits is cancelled
+
+-- the request of that invokeID, where it waits
+abbrev pub waiting_of : ℕ → List Waiting → Option Waiting
+waiting_of invoke rows = find (λ row. row.invoke == invoke) rows
+
+-- its entry waits no more
+abbrev pub rows_cancelled : Option Waiting → Rows → Rows
+rows_cancelled None rows = rows
+rows_cancelled (Some request) rows = cancelled request.key request.entry rows
+
+-- ---- others
 
 -- a client is the one that is told something besides, where there is one
 abbrev pub is_the_one : Option ℕ → ℕ → Bool

@@ -3,6 +3,7 @@
 #![tactic(auto)]
 
 mod back;
+mod cancelling;
 mod defining;
 mod domains;
 mod granting;
@@ -11,6 +12,7 @@ mod serving;
 mod status;
 mod take;
 
+pub use cancelling::cancel;
 pub use domains::names_domain;
 pub use granting::{tell_grant, tell_grants};
 pub use others::tells;

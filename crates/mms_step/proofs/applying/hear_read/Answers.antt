@@ -5,16 +5,17 @@ use Rattle.parted_state.specs.Served.{Done}
 use Rattle.mms_step.specs.declared.part.Part.{Part}
 use Rattle.cell_client.specs.declared.acts.Act.{Act}
 use Rattle.cell_client.specs.declared.acts.Act.TheVariants as act
-use Rattle.cell_client.specs.Association.{Verdict, Takes}
+use Rattle.cell_client.specs.Association.{Verdict, Cancels, Takes}
 use Rattle.cell_client.specs.Meant.{act_verdict, uses_no_table, verdict_read}
 use Rattle.cell_services.specs.Acts.{act_done}
 use Rattle.cell_services.specs.Serving.{hears}
 use Rattle.mms_step.specs.Tasks.{row_held, IsReady}
 use Rattle.cell_client.specs.Effects.{Effect}
-use Rattle.mms_step.specs.Partition.{cell}
+use Rattle.part_table.specs.Held.{held_at}
+use Rattle.mms_step.specs.Partition.{cell, semaphores_place, IsSemaphores}
 use Rattle.cell_services.specs.Tables.{Tables}
 use Rattle.cell_services.proofs.PlanLaws.{left_of}
-use Rattle.mms_step.proofs.Ready.{not_plain, takes_left}
+use Rattle.mms_step.proofs.Ready.{cancels_left, not_plain, semaphores_to_cancel, takes_left}
 use Rattle.mms_step.proofs.ServeLaws.{alone_in_place, if_none, if_some, on_some}
 use Rattle.mms_step.proofs.applying.hear_read.Goals as goal
 
@@ -54,6 +55,32 @@ returns-in-Some-Request-clause-heard c =
     (takes_left (verdict_read (row_held c.args.held.now c.args.client) c.args.read.now) c.in_ok-hear_own.field-0 c.in-Some-Request.invoke c.in-Some-Request.asked (c.in-Some-Request.is ∙ ap Some c.in-Some-Request.field-0-is)
     c.in_ok-hear_own.ensures.left))
     c.serve_request.ensures.put
+
+pub cancel-requires-clause-number : goal.cancel-requires-clause-number
+cancel-requires-clause-number c =
+    let same = on_some c.in_ok-hear_own.field-0 (act.Cancel c.in-Some-Cancel.invoke) (c.in-Some-Cancel.is ∙ ap Some c.in-Some-Cancel.field-0-is) c.in_ok-hear_own.ensures.same in
+    subst (λ (h : List (Option Part)). (row_held h c.args.client).client ≡ c.args.client) (sym same) c.requires.ready.number
+
+pub cancel-requires-clause-table : goal.cancel-requires-clause-table
+cancel-requires-clause-table c =
+    let same = on_some c.in_ok-hear_own.field-0 (act.Cancel c.in-Some-Cancel.invoke) (c.in-Some-Cancel.is ∙ ap Some c.in-Some-Cancel.field-0-is) c.in_ok-hear_own.ensures.same in
+    subst (λ (h : List (Option Part)). IsSemaphores (held_at h (semaphores_place c.args.clients))) (sym same)
+    (semaphores_to_cancel c.requires.of.0 c.args.held.now c.requires.of.1 c.args.clients c.args.client c.in-Some-Cancel.invoke c.requires.many
+    (subst (λ (v : Verdict). IsReady c.args.clients c.args.client v c.args.held.now)
+    (sym (cancels_left (verdict_read (row_held c.args.held.now c.args.client) c.args.read.now) c.in_ok-hear_own.field-0 c.in-Some-Cancel.invoke (c.in-Some-Cancel.is ∙ ap Some c.in-Some-Cancel.field-0-is)
+    c.in_ok-hear_own.ensures.left))
+    c.requires.ready))
+
+pub returns-in-Some-Cancel-clause-heard : goal.returns-in-Some-Cancel-clause-heard
+returns-in-Some-Cancel-clause-heard c =
+    let same = on_some c.in_ok-hear_own.field-0 (act.Cancel c.in-Some-Cancel.invoke) (c.in-Some-Cancel.is ∙ ap Some c.in-Some-Cancel.field-0-is) c.in_ok-hear_own.ensures.same in
+    on_ok_weaker c.cancel.result
+    (λ put. put
+    ∙ ap (λ (h : List (Option Part)). put_in_place cell (hears (tables_shown cell h) (row_held h c.args.client) c.args.client (Cancels c.in-Some-Cancel.invoke)) h) same
+    ∙ ap (λ (v : Verdict). put_in_place cell (hears (tables_shown cell c.args.held.now) (row_held c.args.held.now c.args.client) c.args.client v) c.args.held.now)
+    (cancels_left (verdict_read (row_held c.args.held.now c.args.client) c.args.read.now) c.in_ok-hear_own.field-0 c.in-Some-Cancel.invoke (c.in-Some-Cancel.is ∙ ap Some c.in-Some-Cancel.field-0-is)
+    c.in_ok-hear_own.ensures.left))
+    c.cancel.ensures.put
 
 pub returns-in-Some : goal.returns-in-Some
 returns-in-Some c =
