@@ -1,5 +1,5 @@
 -- Names in order: there is one list of them.
-use Rattle.std.proofs.Common.{◌≡◌, ◌∙◌, ap, sym, refl, ℕ, ◌+◌, ◌<◌, ◌⊎◌, inl, inr, Bool, true, false, if◌then◌else◌, List, [], ◌∷◌, map, length, get_or, sum_by, suc, add-one, arith}
+use Rattle.std.proofs.Common.{◌≡◌, ◌∙◌, ap, sym, refl, ℕ, ◌+◌, ◌<◌, ◌⊎◌, inl, inr, Bool, true, false, cond, if◌then◌else◌, List, [], ◌∷◌, filter, map, length, get_or, sum_by, suc, add-one, arith}
 use Rattle.std.specs.Bool.{⊤}
 use Rattle.std.specs.declared.cmp.Ordering.{Ordering}
 use Rattle.std.specs.declared.cmp.Ordering.TheVariants.{Less, Equal, Greater}
@@ -175,3 +175,45 @@ ordered_from_sorted f (a ∷ rest) h = (
 pub sort_gives : {P : Type 0} (f : P → Key) (xs ys : List P) → IsPermutation xs ys → IsSorted (λ x y. key_order (f x) (f y)) ys → map f ys ≡ sorted_keys (map f xs)
 sort_gives f xs ys moved sorted = unique _ _ (ordered_from_sorted f ys sorted) (sorted_ordered (map f xs)) (λ g.
     sum_by-IsPermutation g (map f xs) (map f ys) (IsPermutation-map f xs ys moved) ∙ sym (sum_sorted g (map f xs)))
+
+-- ---- some of the names in order are those that are some, in order
+
+module _ (q : Key → Bool) where
+  sum_filtered : (f : Key → ℕ) (names : List Key) → sum_by f (filter q names) ≡ sum_by (λ k. cond (q k) (f k) 0) names
+  sum_filtered f [] = refl
+  sum_filtered f (name ∷ names) = by_test (q name) refl (sum_filtered f names)
+    where
+      by_test : (b : Bool) → q name ≡ b → sum_by f (filter q names) ≡ sum_by (λ k. cond (q k) (f k) 0) names
+          → sum_by f (cond b (name ∷ filter q names) (filter q names)) ≡ sum_by (λ k. cond (q k) (f k) 0) (name ∷ names)
+      by_test true e rest =
+          sum_by-cons f name (filter q names) ∙ ap (λ n. f name + n) rest
+          ∙ ap (λ (b : Bool). cond b (f name) 0 + sum_by (λ k. cond (q k) (f k) 0) names) (sym e) ∙ sym (sum_by-cons (λ k. cond (q k) (f k) 0) name names)
+      by_test false e rest =
+          let none : sum_by (λ k. cond (q k) (f k) 0) names ≡ 0 + sum_by (λ k. cond (q k) (f k) 0) names = omega arith in
+          rest ∙ none ∙ ap (λ (b : Bool). cond b (f name) 0 + sum_by (λ k. cond (q k) (f k) 0) names) (sym e) ∙ sym (sum_by-cons (λ k. cond (q k) (f k) 0) name names)
+
+  none_filtered : (f : Key → ℕ) (names : List Key) → sum_by f names ≡ 0 → sum_by f (filter q names) ≡ 0
+  none_filtered f [] h = refl
+  none_filtered f (name ∷ names) h = by_test (q name) (none_filtered f names more)
+    where
+      more : sum_by f names ≡ 0
+      more = let parts = sum_by-cons f name names in omega arith
+
+      by_test : (b : Bool) → sum_by f (filter q names) ≡ 0 → sum_by f (cond b (name ∷ filter q names) (filter q names)) ≡ 0
+      by_test true rest =
+          let parts = sum_by-cons f name names in
+          let new = sum_by-cons f name (filter q names) in
+          omega arith
+      by_test false rest = rest
+
+  ordered_filtered : (names : List Key) → Ordered names → Ordered (filter q names)
+  ordered_filtered [] h = tt
+  ordered_filtered (name ∷ names) h = by_test (q name) (ordered_filtered names h.1)
+    where
+      by_test : (b : Bool) → Ordered (filter q names) → Ordered (cond b (name ∷ filter q names) (filter q names))
+      by_test true rest = (none_filtered (before name) names h.0, rest)
+      by_test false rest = rest
+
+  pub sorted_filtered : (names : List Key) → sorted_keys (filter q names) ≡ filter q (sorted_keys names)
+  sorted_filtered names = unique _ _ (sorted_ordered (filter q names)) (ordered_filtered (sorted_keys names) (sorted_ordered names)) (λ f.
+      sum_sorted f (filter q names) ∙ sum_filtered f names ∙ sym (sum_sorted (λ k. cond (q k) (f k) 0) names) ∙ sym (sum_filtered f (sorted_keys names)))

@@ -5,6 +5,7 @@ pub mod KeyOrder
 pub mod Listed
 pub mod Names
 pub mod NextDeadline
+pub mod Owned
 pub mod Places
 pub mod Soonest
 pub mod Told

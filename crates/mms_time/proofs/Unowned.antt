@@ -24,7 +24,7 @@ none_granted client now es e = ap (λ (l : Loss). l.grants) (token.none_lost cli
 pub none_granted_in : (client : ℕ) (now : Moment) (es : List SemEntry) → list_any (owned_by client) es ≡ false → (pools.loss_of client now es).grants ≡ []
 none_granted_in client now es e = ap (λ (l : Loss). l.grants) (pool.none_lost client now es e)
 
-none_granted_by : (client : ℕ) (now : Moment) (s : Semaphore) → list_any (owned_by client) (entries_in s) ≡ false → (loss_in client now s).grants ≡ []
+pub none_granted_by : (client : ℕ) (now : Moment) (s : Semaphore) → list_any (owned_by client) (entries_in s) ≡ false → (loss_in client now s).grants ≡ []
 none_granted_by client now (Token s) e = none_granted client now s.entries e
 none_granted_by client now (Pool p) e = none_granted_in client now p.entries e
 

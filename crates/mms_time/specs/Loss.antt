@@ -91,3 +91,11 @@ grants_of client now (Some row) = (loss_in client now row.semaphore).grants
 
 abbrev pub grants_of_each : ℕ → Moment → Rows → List (Key × Grant)
 grants_of_each client now rows = flat_map (λ key. keyed key (grants_of client now (lookup (key_eq key) rows))) (sorted_keys (keys_of rows))
+
+-- the semaphores of which the client owns a token
+abbrev pub owned_rows : ℕ → Rows → Rows
+owned_rows client rows = filter (λ row. list_any (owned_by client) (entries_of row.1)) rows
+
+-- what is left of them
+abbrev pub left_rows : ℕ → Moment → Rows → List SemaphoreRow
+left_rows client now rows = map (λ row. changed_row (without_client client now) row.1) (owned_rows client rows)

@@ -7,10 +7,11 @@ ghost use Rattle.mms_types.specs.Moments.{IsDated};
 ghost use Rattle.mms_types.specs.Order.{key_eq};
 ghost use Rattle.token_sem.specs.Semaphore.{owned_by};
 ghost use Rattle.mms_time.specs.Semaphores.{changed_row, entries_of};
-ghost use Rattle.mms_time.specs.Loss.{all_changed, grants_of, grants_of_each, keyed, lost, lost_grants, owns_any, sorted_keys, without_client};
+ghost use Rattle.mms_time.specs.Loss.{all_changed, grants_of, grants_of_each, keyed, left_rows, lost, lost_grants, owned_rows, owns_any, sorted_keys, without_client};
 
 use crate::{Semaphore, SemaphoreRow, Semaphores};
 use mms_types::{Key, Memory, Moment, Scope};
+use object_names::Copied;
 use std::alloc::Global;
 use token_sem::Grant;
 
@@ -24,19 +25,25 @@ fn in_order<'a>(mut keys: Vec<&'a Key>) -> Vec<&'a Key>
     keys
 }
 
-/// The names of the semaphores, in order.
-fn sorted_keys<'a>(alloc: Global, semaphores: &'a Semaphores) -> Result<Vec<&'a Key>, Memory>
+/// The names of the semaphores of which the client owns a token.
+fn owned_keys<'a>(
+    alloc: Global,
+    semaphores: &'a Semaphores,
+    client: u32,
+) -> Result<Vec<&'a Key>, Memory>
     ensures { IfOk result (λ keys.
-        map (λ key. key.now) keys.items ≡ sorted_keys (keys_of semaphores.now)) }
+        map (λ key. key.now) keys.items ≡ keys_of (owned_rows client semaphores.now)) }
 {
     let mut keys = Vec::new(alloc);
     for place in 0..semaphores.len() {
-        let Some((key, _)) = semaphores.at(place) else {
+        let Some((key, row)) = semaphores.at(place) else {
             unreachable!()
         };
-        keys.push(key)?;
+        if row.owns(client) {
+            keys.push(key)?;
+        }
     }
-    Ok(in_order(keys))
+    Ok(keys)
 }
 
 impl SemaphoreRow {
@@ -136,7 +143,8 @@ fn grants_of_each(
     requires { IsDated now }
     ensures { IfOk result (λ grants. grants.items ≡ grants_of_each client now semaphores.now) }
 {
-    let keys = sorted_keys(alloc, semaphores)?;
+    let _rows = semaphores.len();
+    let keys = in_order(owned_keys(alloc, semaphores, client)?);
     let mut grants = Vec::new(alloc);
     for key in &keys {
         let here = grants_at(alloc, semaphores, *key, client, now)?;
@@ -166,46 +174,94 @@ pub fn lose_told(
     Ok(grants)
 }
 
-/// Each semaphore loses a client. What is left where there is no memory isn't said; it is wanted only where the client
-/// owns a token.
+/// The semaphores of which the client owns a token, copied, when they have lost it.
+fn left_rows(
+    alloc: Global,
+    semaphores: &Semaphores,
+    client: u32,
+    now: Moment,
+) -> Result<Vec<SemaphoreRow>, Memory>
+    requires { IsDated now }
+    ensures { IfOk result (λ left. left.items ≡ left_rows client now semaphores.now) }
+{
+    let mut left = Vec::new(alloc);
+    for place in 0..semaphores.len() {
+        let Some((_, row)) = semaphores.at(place) else {
+            unreachable!()
+        };
+        if row.owns(client) {
+            let mut copy = row.copied(alloc)?;
+            copy.lose(alloc, client, now)?;
+            left.push(copy)?;
+        }
+    }
+    Ok(left)
+}
+
+impl SemaphoreRow {
+    /// A client is lost that owns no token. It takes no memory.
+    fn lose_waiter(&mut self, alloc: Global, client: u32, now: Moment)
+        requires now { IsDated now }
+        requires unowned { list_any (owned_by client) (entries_of self.old) ≡ false }
+        ensures { self.new ≡ changed_row (without_client client now) self.old }
+    {
+        let Ok(()) = self.lose(alloc, client, now) else {
+            unreachable!()
+        };
+    }
+}
+
+/// Each semaphore loses a client: those of which it owns a token are put in place as they are left, and the others lose
+/// what waits. It takes no memory.
 fn lose_each(
     alloc: Global,
     semaphores: &mut Semaphores,
     client: u32,
     now: Moment,
-) -> Result<(), Memory>
-    requires { IsDated now }
-    ensures lost { OnOk result
-        (semaphores.new ≡ all_changed (without_client client now) semaphores.old) }
-    ensures wants { OnErr result (owns_any client semaphores.old ≡ true) }
+    left: Vec<SemaphoreRow>,
+)
+    requires now { IsDated now }
+    requires left { left.items ≡ left_rows client now semaphores.old }
+    ensures { semaphores.new ≡ all_changed (without_client client now) semaphores.old }
 {
+    let mut left = left.into_iter();
     for place in 0..semaphores.len() {
         let Some(row) = semaphores.at_mut(place) else {
             unreachable!()
         };
-        row.lose(alloc, client, now)?;
+        if row.owns(client) {
+            let Some(new) = left.next() else {
+                unreachable!()
+            };
+            *row = new;
+        } else {
+            row.lose_waiter(alloc, client, now);
+        }
     }
-    Ok(())
 }
 
-/// A client that owns no token is lost. It takes no memory.
-fn lose_waiter(alloc: Global, semaphores: &mut Semaphores, client: u32, now: Moment)
+/// A client is lost, where those semaphores are there as they are left of which it owns a token. It takes no memory.
+fn lose_with(
+    alloc: Global,
+    semaphores: &mut Semaphores,
+    client: u32,
+    now: Moment,
+    left: Vec<SemaphoreRow>,
+)
     requires now { IsDated now }
-    requires unowned { owns_any client semaphores.old ≡ false }
+    requires left { left.items ≡ left_rows client now semaphores.old }
     ensures { semaphores.new ≡ lost client now semaphores.old }
 {
-    let Ok(()) = lose_each(alloc, semaphores, client, now) else {
-        unreachable!()
-    };
+    lose_each(alloc, semaphores, client, now, left);
     semaphores.remove_all_of(&Scope::Association(client));
 }
 
-#[tactic(auto, using(crate::proofs::Unowned::none_told))]
+#[tactic(auto, using(crate::proofs::Unowned::none_told, crate::proofs::Owned::none_left))]
 /// A client is lost (ISO 9506-1, TakeControl, relinquishIfConnectionLost): its queued entries go; then each of its
 /// owner entries becomes hung where its token is kept, and else goes, and its token is granted to the entry that is
 /// served next, or is free; then the semaphores of its association go. Who is granted a token is told with the name of
-/// its semaphore, by that name and the number of the client's entry. The one refusal is want of memory, only where the
-/// client owns a token; then all is as before.
+/// its semaphore, by that name and the number of the client's entry. Those semaphores alone are copied of which the
+/// client owns a token. The one refusal is want of memory, only where it owns one; then all is as before.
 pub fn lose(
     alloc: Global,
     semaphores: &mut Semaphores,
@@ -219,13 +275,11 @@ pub fn lose(
     ensures wants { OnErr result (owns_any client semaphores.old ≡ true) }
 {
     if !owns_any(semaphores, client) {
-        lose_waiter(alloc, semaphores, client, now);
+        lose_with(alloc, semaphores, client, now, Vec::new(alloc));
         return Ok(Vec::new(alloc));
     }
     let grants = grants_of_each(alloc, semaphores, client, now)?;
-    let mut left = semaphores.copy(alloc)?;
-    lose_each(alloc, &mut left, client, now)?;
-    left.remove_all_of(&Scope::Association(client));
-    *semaphores = left;
+    let left = left_rows(alloc, semaphores, client, now)?;
+    lose_with(alloc, semaphores, client, now, left);
     Ok(grants)
 }
