@@ -11,6 +11,7 @@ pub mod DeleteScopes
 pub mod Semaphores
 pub mod DomainStates
 pub mod Errors
+pub mod InvocationStates
 pub mod FirstCause
 pub mod Serves
 pub mod Wanting

@@ -1,4 +1,6 @@
-ghost use Rattle.std.specs.Prelude.{◌≡◌, ◌==◌, [], ◌∷◌, ◌++◌, OnOk, OnErr, IfOk, length, slice_get};
+ghost use Rattle.std.specs.Prelude.{◌≡◌, ◌==◌, ◌≤◌, nat_eq, not, [], ◌∷◌, ◌++◌, OnOk, OnErr, IfOk, filter, length, slice_get};
+ghost use Rattle.std.specs.Cmp.Lexicographic.{pointwise};
+ghost use Rattle.std.specs.List.{insert};
 ghost use Rattle.std.specs.Option.{option_copied};
 
 use crate::{Identifier, Memory};
@@ -35,6 +37,24 @@ impl Identifiers {
     {
         self.list.push(name)?;
         Ok(())
+    }
+
+    /// Puts an identifier at a place, counted from 0, before those that stand from there on. Where there is no memory
+    /// for it, it is dropped and the list is as before.
+    pub fn insert(&mut self, place: usize, name: Identifier) -> Result<(), Memory>
+        requires { place ≤ length self.old }
+        ensures inserted { OnOk result (self.new ≡ insert self.old place name) }
+        ensures kept { OnErr result (self.new ≡ self.old) }
+    {
+        self.list.insert(place, name)?;
+        Ok(())
+    }
+
+    /// Takes away each one that is this name. It takes no memory.
+    pub fn remove(&mut self, name: &Identifier)
+        ensures { self.new ≡ filter (λ other. not (pointwise nat_eq other name.now)) self.old }
+    {
+        self.list.retain(|other| *other != *name);
     }
 
     /// The identifiers.

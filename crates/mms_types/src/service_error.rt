@@ -1,3 +1,8 @@
+ghost use Rattle.std.specs.Prelude.{◌≡◌};
+ghost use Rattle.mms_types.specs.InvocationStates.{state_refuses};
+
+use crate::InvocationState;
+
 /// The state of the object that a request is refused for (ISO 9506-2, ServiceError,
 /// serviceSpecificInformation).
 #[derive(Clone, Copy, Debug, PartialEq, Eq)]
@@ -179,4 +184,21 @@ impl ServiceError {
         code: 1,
         info: None,
     };
+}
+
+impl ServiceError {
+    /// Class service: the state of a program invocation does not allow it, which stands under the number of the kind of
+    /// request: Start 1, Stop 2, Resume 3, Reset 4.
+    pub fn state_refuses(kind: u8, state: InvocationState) -> ServiceError
+        ensures { result ≡ state_refuses kind state }
+    {
+        ServiceError {
+            class: 4,
+            code: 2,
+            info: Some(StateInfo {
+                kind,
+                state: state.number(),
+            }),
+        }
+    }
 }

@@ -2,3 +2,4 @@ pub mod Texts
 pub mod Download
 pub mod Upload
 pub mod Attributes
+pub mod Invocations
