@@ -6,8 +6,6 @@ use Rattle.std.specs.Ordering.{is_lt}
 use Rattle.mms_types.specs.Order.{name_order}
 use Rattle.domain_load.specs.Kept.{comes_before}
 use Rattle.object_names.specs.Listing.{comes_after, insert_name, sorted_names}
-use Rattle.domain_load.specs.Domains.{Rows, names_after}
-use Rattle.domain_load.specs.declared.domain.Domain.{Domain}
 
 by_first : (m : ℕ) (x y : List ℕ) (ys : List (List ℕ)) (b : Bool) → take m (insert_name x (take m ys)) ≡ take m (insert_name x ys)
     → take (suc m) (if b then y ∷ insert_name x (take m ys) else x ∷ y ∷ take m ys) ≡ take (suc m) (if b then y ∷ insert_name x ys else x ∷ y ∷ ys)
@@ -76,29 +74,33 @@ more_sorted x xs sorted new most so is enough =
     let k = ap length so ∙ length-sorted_names xs in
     is ∙ take_all most (insert_name x sorted) (omega (arith, l, k, enough)) ∙ ap (insert_name x) so
 
+-- the names of rows that come after that one, in order of octets
+abbrev names_of : {T : Type 0} → Option (List ℕ) → List (List ℕ × T) → List (List ℕ)
+names_of after rows = sorted_names (filter (comes_after after) (keys_of rows))
+
 -- the names of rows, of which the first so many are there and all are counted
-pub record AreFirst (most : ℕ) (after : Option (List ℕ)) (rows : Rows) (names : List (List ℕ)) (number : ℕ) : Type 0 where
-  pub first : names ≡ take most (names_after after rows)
-  pub count : number ≡ length (names_after after rows)
+pub record AreFirst {T : Type 0} (most : ℕ) (after : Option (List ℕ)) (rows : List (List ℕ × T)) (names : List (List ℕ)) (number : ℕ) : Type 0 where
+  pub first : names ≡ take most (names_of after rows)
+  pub count : number ≡ length (names_of after rows)
   pub few : number ≤ length rows
 
-pub one_more : (most : ℕ) (after : Option (List ℕ)) (row : List ℕ × Domain) (rows : Rows) (first new : List (List ℕ)) (count : ℕ) → AreFirst most after rows first count
+pub one_more : {T : Type 0} (most : ℕ) (after : Option (List ℕ)) (row : List ℕ × T) (rows : List (List ℕ × T)) (first new : List (List ℕ)) (count : ℕ) → AreFirst most after rows first count
     → comes_after after row.0 ≡ true → new ≡ take most (insert_name row.0 first) → AreFirst most after (row ∷ rows) new (count + 1)
 one_more most after row rows first new count are comes is =
-    let all : names_after after (row ∷ rows) ≡ insert_name row.0 (names_after after rows) =
+    let all : names_of after (row ∷ rows) ≡ insert_name row.0 (names_of after rows) =
     ap (λ (b : Bool). sorted_names (cond b (row.0 ∷ filter (comes_after after) (keys_of rows)) (filter (comes_after after) (keys_of rows)))) comes in
-    let l = length-insert_name row.0 (names_after after rows) in
+    let l = length-insert_name row.0 (names_of after rows) in
     let long = ap length all in
     record {
-      first = is ∙ ap (λ xs. take most (insert_name row.0 xs)) are.first ∙ put_first most row.0 (names_after after rows) ∙ ap (take most) (sym all);
+      first = is ∙ ap (λ xs. take most (insert_name row.0 xs)) are.first ∙ put_first most row.0 (names_of after rows) ∙ ap (take most) (sym all);
       count = omega (arith, l, long, are.count);
       few = omega (arith, are.few);
     }
 
-pub none_more : (most : ℕ) (after : Option (List ℕ)) (row : List ℕ × Domain) (rows : Rows) (first : List (List ℕ)) (count : ℕ) → AreFirst most after rows first count
+pub none_more : {T : Type 0} (most : ℕ) (after : Option (List ℕ)) (row : List ℕ × T) (rows : List (List ℕ × T)) (first : List (List ℕ)) (count : ℕ) → AreFirst most after rows first count
     → comes_after after row.0 ≡ false → AreFirst most after (row ∷ rows) first count
 none_more most after row rows first count are comes =
-    let all : names_after after (row ∷ rows) ≡ names_after after rows =
+    let all : names_of after (row ∷ rows) ≡ names_of after rows =
     ap (λ (b : Bool). sorted_names (cond b (row.0 ∷ filter (comes_after after) (keys_of rows)) (filter (comes_after after) (keys_of rows)))) comes in
     let long = ap length all in
     record {

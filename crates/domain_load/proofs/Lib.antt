@@ -4,4 +4,5 @@ pub mod FirstNames
 pub mod Outcomes
 pub mod RowLemmas
 pub mod Unopposed
+pub mod Users
 mod Worked

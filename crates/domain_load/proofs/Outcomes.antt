@@ -61,11 +61,11 @@ pub gone_others : (name other : List ℕ) (rows : Rows) → IsDistinct name_eq (
 gone_others name other rows distinct apart = found_without name other rows distinct ∙ ap (λ (b : Bool). cond b None (named other rows)) apart
 
 -- the domain that is there
-there : (p : Domain → Bool) (o : Option Domain) → option_map_or p o false ≡ true → (domain : Domain) × (o ≡ Some domain) × (p domain ≡ true)
+pub there : (p : Domain → Bool) (o : Option Domain) → option_map_or p o false ≡ true → (domain : Domain) × (o ≡ Some domain) × (p domain ≡ true)
 there p None e = absurd cc
 there p (Some domain) e = (domain, refl, e)
 
-found_changed : (name other : List ℕ) (f : Domain → Domain) (rows : Rows) (domain : Domain) → named name rows ≡ Some domain
+pub found_changed : (name other : List ℕ) (f : Domain → Domain) (rows : Rows) (domain : Domain) → named name rows ≡ Some domain
     → named other (changed name f rows) ≡ cond (name_eq name other) (Some (f domain)) (named other rows)
 found_changed name other f rows domain found =
     ap (λ (o : Option Domain). named other (option_map_or (λ d. set_value (name_eq name) rows (f d)) o rows)) found
@@ -75,7 +75,7 @@ found_changed name other f rows domain found =
     is_found None e = absurd cc
     is_found (Some d) e = refl
 
-is_changed : (name : List ℕ) (f : Domain → Domain) (rows : Rows) (domain : Domain) → named name rows ≡ Some domain → named name (changed name f rows) ≡ Some (f domain)
+pub is_changed : (name : List ℕ) (f : Domain → Domain) (rows : Rows) (domain : Domain) → named name rows ≡ Some domain → named name (changed name f rows) ≡ Some (f domain)
 is_changed name f rows domain found =
     found_changed name name f rows domain found ∙ ap (λ (b : Bool). cond b (Some (f domain)) (named name rows)) (nat_list_eq_equiv.refl name)
 

@@ -14,6 +14,7 @@ use Rattle.domain_load.specs.Domains.{Rows, delete_cause, named, names_after, oc
 use Rattle.domain_load.specs.Loading.{also_asked, initiate_after, initiate_cause, reply_after, would_pass}
 use Rattle.domain_load.specs.Segmented.{most_octets, piece}
 use Rattle.domain_load.specs.Standing.{state}
+use Rattle.domain_load.specs.Used.{after_unused, after_used, is_taken}
 use Rattle.domain_load.specs.declared.domain.Domain.{Domain}
 
 -- a function answers each row of a table with its second column
@@ -152,3 +153,45 @@ states = refl
 
 names : Answers (λ after. names_after after ((d2, held None []) ∷ (d1, held (Some 7) []) ∷ [])) ((None, d1 ∷ d2 ∷ []) ∷ (Some d1, d2 ∷ []) ∷ (Some d2, []) ∷ [])
 names = refl
+
+-- ---- which invocations have a domain
+
+-- "A", "P" and "Q"
+abbrev a : List ℕ
+a = 65 ∷ []
+
+abbrev p : List ℕ
+p = 80 ∷ []
+
+abbrev q : List ℕ
+q = 81 ∷ []
+
+-- D1 is had by these, and D2 by those
+abbrev had : List (List ℕ) → List (List ℕ) → Rows
+had one other = (d1, record (held None []) { invocations = one }) ∷ (d2, record (held None []) { invocations = other }) ∷ []
+
+-- names stand in order of octets, whoever comes first; others are as before, also where the domain is missing
+come : Answers (λ (asked : List (List ℕ) × List ℕ × Rows). after_used asked.0 asked.1 asked.2) (
+    ((d1 ∷ [], p, had [] []), had (p ∷ []) []) ∷
+    ((d1 ∷ [], a, had (p ∷ []) []), had (a ∷ p ∷ []) []) ∷
+    ((d2 ∷ d1 ∷ [], p, had (a ∷ q ∷ []) (q ∷ [])), had (a ∷ p ∷ q ∷ []) (p ∷ q ∷ [])) ∷
+    (([], p, had (a ∷ []) []), had (a ∷ []) []) ∷
+    ((q ∷ [], p, had (a ∷ []) []), had (a ∷ []) []) ∷
+    [])
+come = refl
+
+-- the last that goes makes it READY again
+go : Answers (λ (asked : List (List ℕ) × List ℕ × Rows). after_unused asked.0 asked.1 asked.2) (
+    ((d1 ∷ d2 ∷ [], p, had (a ∷ p ∷ q ∷ []) (p ∷ [])), had (a ∷ q ∷ []) []) ∷
+    ((d1 ∷ [], p, had (p ∷ []) (p ∷ [])), had [] (p ∷ [])) ∷
+    ((d1 ∷ [], p, had (a ∷ []) []), had (a ∷ []) []) ∷
+    [])
+go = refl
+
+taken : Answers (λ (asked : Bool × List (List ℕ)). is_taken (record (held None []) { sharable = asked.0; invocations = asked.1 })) (
+    ((true, []), false) ∷
+    ((true, p ∷ []), false) ∷
+    ((false, []), false) ∷
+    ((false, p ∷ []), true) ∷
+    [])
+taken = refl

@@ -3,3 +3,4 @@ pub mod Kept
 pub mod Loading
 pub mod Segmented
 pub mod Standing
+pub mod Used

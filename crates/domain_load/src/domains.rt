@@ -2,13 +2,12 @@ ghost use Rattle.std.specs.Prelude.{◌≡◌, ◌==◌, ◌<◌, ◌≤◌, ◌
 ghost use Rattle.std.specs.Map.{keys_of};
 ghost use Rattle.std.specs.List.{IsDistinct};
 ghost use Rattle.std.specs.Option.{option_copied};
-ghost use Rattle.object_names.specs.Listing.{comes_after};
 ghost use Rattle.domain_load.specs.Domains.{attributes, delete_cause, is_there, name_eq, named, names_after, without, without_loads};
 ghost use Rattle.domain_load.specs.Standing.{is_live, is_loaded_by, is_loading};
 
 use crate::Domain;
 use crate::loading::put_row;
-use crate::sorted::{copied_names, in_order, put_name};
+use crate::sorted::{comes_after, copied_names, in_order, put_name};
 use indexmap::IndexMap;
 use mms_types::{DomainAttributes, Identifier, Memory, ServiceError};
 use object_names::Names;
@@ -232,14 +231,4 @@ fn copied_rows(
         put_row(&mut copies, key, domain)?;
     }
     Ok(copies)
-}
-
-/// Whether a name comes after that one, where there is one.
-fn comes_after(after: Option<&Identifier>, name: &Identifier) -> bool
-    ensures { result ≡ comes_after (option_copied after.entry) name.now }
-{
-    match after {
-        None => true,
-        Some(before) => *before < *name,
-    }
 }

@@ -1,4 +1,5 @@
-//! Domains, as clients load them (ISO 9506-1, domain management): the table of them and their segments.
+//! Domains, as clients load them and program invocations have them (ISO 9506-1, domain management): the table of them
+//! and their segments.
 #![tactic(auto)]
 
 mod domain;
@@ -8,6 +9,7 @@ mod loading;
 mod segments;
 mod sorted;
 mod store;
+mod used;
 
 pub use domain::Domain;
 pub use domains::Domains;
@@ -16,3 +18,4 @@ pub use laws::{
     a_loaded_domain_is_what_came, a_lost_client_loads_nothing,
 };
 pub use segments::Segments;
+pub use sorted::{comes_after, copied_names, put_name};

@@ -1,7 +1,8 @@
 //! Names in order of octets, of which only the first so many are wanted.
 ghost use Rattle.std.specs.Prelude.{◌≡◌, ◌≤◌, ◌∷◌, ◌++◌, drop, IfOk, OnOk, length, map, slice_get, take};
 ghost use Rattle.domain_load.specs.Kept.{comes_before};
-ghost use Rattle.object_names.specs.Listing.{insert_name, sorted_names};
+ghost use Rattle.std.specs.Option.{option_copied};
+ghost use Rattle.object_names.specs.Listing.{comes_after, insert_name, sorted_names};
 
 use mms_types::{Identifier, Identifiers, Memory};
 use std::alloc::Global;
@@ -30,8 +31,9 @@ fn place_of(names: &[&Identifier], name: &Identifier) -> usize
     place
 }
 
-/// Puts a name at its place among names in order of octets, of which the first so many stay.
-pub(crate) fn put_name<'a>(
+/// Puts a name at its place among names in order of octets, of which the first so many stay. The one refusal is want of
+/// memory.
+pub fn put_name<'a>(
     names: &mut Vec<&'a Identifier>,
     name: &'a Identifier,
     most: usize,
@@ -45,8 +47,8 @@ pub(crate) fn put_name<'a>(
     Ok(())
 }
 
-/// Names, copied.
-pub(crate) fn copied_names(alloc: Global, names: &[&Identifier]) -> Result<Identifiers, Memory>
+/// Names, copied, in their order. The one refusal is want of memory.
+pub fn copied_names(alloc: Global, names: &[&Identifier]) -> Result<Identifiers, Memory>
     ensures { IfOk result (λ copies. copies ≡ map (λ name. name.now) names.now) }
 {
     let mut copies = Identifiers::new(alloc);
@@ -68,4 +70,14 @@ pub(crate) fn in_order(alloc: Global, names: &Identifiers) -> Result<Identifiers
         put_name(&mut sorted, &given[left], given.len())?;
     }
     copied_names(alloc, &sorted)
+}
+
+/// Whether a name comes after that one, where there is one.
+pub fn comes_after(after: Option<&Identifier>, name: &Identifier) -> bool
+    ensures { result ≡ comes_after (option_copied after.entry) name.now }
+{
+    match after {
+        None => true,
+        Some(before) => *before < *name,
+    }
 }
