@@ -1,0 +1,4 @@
+pub mod Free
+pub mod Twice
+pub mod Unopposed
+mod Worked
