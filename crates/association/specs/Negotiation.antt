@@ -6,7 +6,7 @@ use Rattle.mms_types.specs.declared.initiate.InitiateAnswer.{InitiateAnswer}
 use Rattle.mms_types.specs.declared.service_error.ServiceError.{ServiceError}
 use Rattle.mms_types.specs.Errors.{version_incompatible, max_segment_insufficient, calling_insufficient, called_insufficient, nesting_insufficient}
 use Rattle.mms_types.specs.OptionBits.{option_octets, conclude, cancel}
-use Rattle.mms_pdu.specs.Services.{services}
+use Rattle.mms_pdu.specs.Services.{service_numbers}
 use Rattle.association.specs.declared.negotiation.Negotiated.{Negotiated}
 
 -- the proposed size of a PDU; where it is absent, 65,000 octets (this profile's choice)
@@ -41,9 +41,9 @@ refusal_of p = first_error (causes p)
 abbrev pub parameters_of_both : List ℕ → List ℕ
 parameters_of_both octets = bit_and (slice_index octets 0) 0xE9 ∷ bit_and (slice_index octets 1) 0x00 ∷ []
 
--- the services that the server offers, 85 bits: the confirmed services of the one list, conclude and cancel
+-- the services that the server offers, 85 bits: the confirmed services of the one list, whoever asks them, conclude and cancel
 abbrev pub offered : List ℕ
-offered = option_octets 11 (services.numbers ++ conclude ∷ cancel ∷ [])
+offered = option_octets 11 (service_numbers ++ conclude ∷ cancel ∷ [])
 
 -- the answer to a proposal: of each value the lesser of the proposal's and the server's (65,000 octets, 10, 10, 10, version 1), the parameters of both
 abbrev pub answer_to : Initiate → InitiateAnswer

@@ -20,8 +20,9 @@ const VERSION: i16 = 1;
 /// The parameters that the server supports: str1, str2, vnam, vadr and vlis.
 const PARAMETERS: [u8; 2] = [0xE9, 0x00];
 
-/// The services that the server offers: the bits of the one list of services, of conclude and of cancel.
-const SERVICES: [u8; 11] = [0xEF, 0x3C, 0x1F, 0xC0, 0, 0, 0, 0, 0, 0, 0x18];
+/// The services that the server offers: the bits of the one list of services, also of those that the server asks, of
+/// conclude and of cancel.
+const SERVICES: [u8; 11] = [0xEF, 0x3C, 0x1F, 0xFF, 0x0C, 0, 0, 0, 0, 0, 0x18];
 
 /// What an association was negotiated to (ISO 9506-1, Initiate).
 #[derive(Clone, Copy)]

@@ -1,8 +1,8 @@
 -- PDUs by which a client asks: what is spelled is heard as what it says, and says nothing else.
-use Rattle.std.proofs.Common.{◌≡◌, ℕ, ◌<◌, ◌^◌, Bool, true, false, List, ◌++◌, length, Result, Ok, refl, sym, ap, subst, ◌∙◌}
+use Rattle.std.proofs.Common.{◌≡◌, ℕ, ◌<◌, ◌^◌, Bool, true, false, List, ◌++◌, length, Result, Ok, refl, sym, ap, subst, ◌∙◌, arith}
 use Rattle.std.specs.Prelude.{IsTrue, ◌==◌, ◌||◌}
 use Rattle.ber_core.specs.declared.element.Lengths.{Lengths}
-use Rattle.ber_forms.specs.Value.{Value, chosen}
+use Rattle.ber_forms.specs.Value.{Value, nothing, chosen}
 use Rattle.ber_forms.specs.Form.{choice, one_of}
 use Rattle.ber_forms.specs.InForm.{InForm}
 use Rattle.ber_forms.specs.Spelling.{spelling, alternative_octets}
@@ -12,11 +12,18 @@ use Rattle.ber_forms.proofs.Again.{no_other_member}
 use Rattle.mms_types.specs.declared.identifier.Edition.{Edition}
 use Rattle.mms_types.specs.declared.pdu.Pdu.{Pdu}
 use Rattle.mms_types.specs.declared.pdu.Pdu.TheVariants as pdu
+use Rattle.mms_types.specs.declared.pdu.Request.{Request}
+use Rattle.mms_types.specs.declared.pdu.Request.TheVariants as request
+use Rattle.mms_types.specs.declared.pdu.ServerRequest.{ServerRequest}
+use Rattle.mms_types.specs.declared.pdu.ServerRequest.TheVariants as server_request
 use Rattle.mms_types.specs.Spelling.{widest}
+use Rattle.pdu_names.specs.Names.{identifier}
+use Rattle.pdu_programs.specs.Download.{terminate_download}
+use Rattle.pdu_programs.specs.Services.{server_requests}
 use Rattle.mms_pdu.specs.declared.refusal.Refusal.{Refusal}
-use Rattle.mms_pdu.specs.Services.{requests_sound, answers_sound}
+use Rattle.mms_pdu.specs.Services.{requests, requests_sound}
 use Rattle.mms_pdu.specs.Pdus.{whole_arms, pdu_value, pdu_octets}
-use Rattle.mms_pdu.specs.Hearing.{whole_pdus, heard}
+use Rattle.mms_pdu.specs.Hearing.{whole_pdus, heard, asked_value}
 use Rattle.mms_pdu.specs.Heard.{pdu_of}
 use Rattle.mms_pdu.specs.Asking.{IsAsking}
 use Rattle.mms_pdu.proofs.HeardAgain.{pdu_again}
@@ -28,12 +35,40 @@ abbrev asks : Value → Bool
 asks (chosen n v) = (n == 0) || (n == 5) || (n == 8) || (n == 11)
 asks v = false
 
-asked_back : (p : Pdu) → asks (pdu_value p) ≡ true → pdu_of (pdu_value p) ≡ p
-asked_back (pdu.ConfirmedRequest invoke request) e = pdu_again (pdu.ConfirmedRequest invoke request) tt
-asked_back (pdu.CancelRequest invoke) e = refl
-asked_back (pdu.InitiateRequest proposal) e = pdu_again (pdu.InitiateRequest proposal) tt
-asked_back pdu.ConcludeRequest e = refl
-asked_back p e = absurd cc
+-- the PDU is a request of the server
+abbrev IsOfServer : Pdu → Type 0
+IsOfServer (pdu.ServerRequest invoke request) = Unit {0}
+IsOfServer p = ⊥
+
+asked_back : (p : Pdu) → asks (pdu_value p) ≡ true → (IsOfServer p → ⊥) → pdu_of (pdu_value p) ≡ p
+asked_back (pdu.ConfirmedRequest invoke request) e other = pdu_again (pdu.ConfirmedRequest invoke request) tt
+asked_back (pdu.CancelRequest invoke) e other = refl
+asked_back (pdu.InitiateRequest proposal) e other = pdu_again (pdu.InitiateRequest proposal) tt
+asked_back pdu.ConcludeRequest e other = refl
+asked_back (pdu.ServerRequest invoke request) e other = absurd (other tt)
+asked_back p e other = absurd cc
+
+-- ---- what clients ask, the server doesn't
+
+said_identify : (r : Request) (v : Value) → requests.value r ≡ v → requests.said v ≡ request.Identify → requests.value request.Identify ≡ v
+said_identify r v e other =
+    let is : r ≡ request.Identify = sym (requests.again r) ∙ ap requests.said e ∙ other in
+    ap requests.value (sym is) ∙ e
+
+same_number : (m n : ℕ) (v w : Value) → chosen m v ≡ chosen n w → m ≡ n
+same_number m n v w e = cc e
+
+not_both : (r : Request) (s : ServerRequest) → requests.value r ≡ server_requests.value s → ⊥
+unfolding requests
+not_both r (server_request.DownloadSegment x) e =
+    let is = same_number 2 27 nothing (identifier.value x) (said_identify r (chosen 27 (identifier.value x)) e refl) in
+    absurd (omega (arith, is))
+not_both r (server_request.TerminateDownloadSequence x) e =
+    let is = same_number 2 28 nothing (terminate_download.value x) (said_identify r (chosen 28 (terminate_download.value x)) e refl) in
+    absurd (omega (arith, is))
+
+service_told : (i j : ℕ) (v w : Value) → asked_value i v ≡ asked_value j w → v ≡ w
+service_told i j v w e = cc e
 
 same_told : (v w : Value) (r : Result Value Refusal) → r ≡ Ok v → r ≡ Ok w → v ≡ w
 same_told v w r e f = cc (e, f)
@@ -46,10 +81,22 @@ module _ (edition : Edition) where
   asking_asks pdu.ConcludeRequest h = refl
   asking_asks p h = absurd h
 
+  asking_clients : (p : Pdu) → IsAsking edition p → IsOfServer p → ⊥
+  asking_clients (pdu.ServerRequest invoke request) h s = absurd h
+  asking_clients p h s = absurd s
+
+  other_asks : (p q : Pdu) → IsAsking edition p → pdu_value p ≡ pdu_value q → IsOfServer q → ⊥
+  other_asks (pdu.ConfirmedRequest invoke r) (pdu.ServerRequest other s) h e is = not_both r s (service_told invoke other (requests.value r) (server_requests.value s) e)
+  other_asks (pdu.CancelRequest invoke) (pdu.ServerRequest other s) h e is = absurd (cc e)
+  other_asks (pdu.InitiateRequest proposal) (pdu.ServerRequest other s) h e is = absurd (cc e)
+  other_asks pdu.ConcludeRequest (pdu.ServerRequest other s) h e is = absurd (cc e)
+  other_asks p (pdu.ServerRequest other s) h e is = absurd h
+  other_asks p q h e is = absurd is
+
   told : (p q : Pdu) → IsAsking edition p → pdu_value p ≡ pdu_value q → p ≡ q
   told p q h e =
       let asked = asking_asks p h in
-      sym (asked_back p asked) ∙ ap pdu_of e ∙ asked_back q (sym (ap asks e) ∙ asked)
+      sym (asked_back p asked (asking_clients p h)) ∙ ap pdu_of e ∙ asked_back q (sym (ap asks e) ∙ asked) (other_asks p q h e)
 
   -- ---- what is asked fits, and is spelled
 
@@ -71,7 +118,7 @@ module _ (edition : Edition) where
   asking_spelled p h = whole_arms.alike edition (pdu_value p) ∙ sent_so p h
 
   whole_sound : IsTrue (is_sound (choice (whole_pdus edition)))
-  whole_sound = rw (requests_sound edition, answers_sound edition) refl
+  whole_sound = rw (requests_sound edition) refl
 
   -- ---- the laws
 

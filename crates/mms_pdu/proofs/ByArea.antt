@@ -24,9 +24,10 @@ use Rattle.pdu_areas.proofs.Whose.{none_within, no_form, form_there, value_there
 use Rattle.pdu_assoc.specs.Services.{device_area}
 use Rattle.pdu_vars.specs.Services.{variable_area}
 use Rattle.pdu_sems.specs.Services.{semaphore_area}
+use Rattle.pdu_programs.specs.Services.{domain_area}
 use Rattle.mms_pdu.specs.declared.refusal.Refusal.{Refusal}
 use Rattle.mms_pdu.specs.declared.refusal.Refusal.TheVariants as refusal
-use Rattle.mms_pdu.specs.Services.{requests, answers, request_shares, answer_shares, one_asks, one_answers}
+use Rattle.mms_pdu.specs.Services.{requests, answers, request_shares, one_asks, one_answers}
 use Rattle.mms_pdu.specs.Hearing.{asking, and_then, argued, asked_value, served, request_told, refusal_of_argument, Refuses}
 
 -- ---- what is read by the form of a share is what is read by that of all
@@ -89,110 +90,50 @@ module _ (lengths : Lengths) (edition : Edition) (invoke : ℕ) (p : Part) (shar
   unread_request unread.Malformed own e = refused_by fault.malformed own e
   unread_request unread.TooDeep own e = refused_by fault.too_deep own e
 
-module _ (lengths : Lengths) (edition : Edition) (p : Part) (share : Share Answer) where
-  abbrev OwnAnswer : Type 0
-  OwnAnswer = form_at p.tag.number (answers.alternatives edition) ≡ form_at p.tag.number (forms_of share.arms edition)
-
-  pub answer_by : (a : Answer) → OwnAnswer → IsSaid share answers → read_under lengths p (form_at p.tag.number (forms_of share.arms edition)) ≡ Ok (Some (share.value a))
-      → read_as lengths p (form_at p.tag.number (answers.alternatives edition)) ≡ Ok (answers.value a)
-  answer_by a own said e = ap (read_as lengths p) own ∙ by_form (form_at p.tag.number (forms_of share.arms edition)) e
-    where
-      by_read : (q : Result Value Fault) → (q >>= λ v. Ok (Some (Some v))) ≡ Ok (Some (share.value a)) → q ≡ Ok (answers.value a)
-      by_read (Ok v) e =
-          let is : Some v ≡ share.value a = cc e in
-          ap (λ w. Ok w) (sym (said a v (sym is)))
-      by_read (Err d) e = absurd cc
-
-      by_form : (o : Option Form) → read_under lengths p o ≡ Ok (Some (share.value a)) → read_as lengths p o ≡ Ok (answers.value a)
-      by_form None e = absurd cc
-      by_form (Some f) e = by_read (read_as lengths p (Some f)) e
-
-  pub no_answer : OwnAnswer → read_under lengths p (form_at p.tag.number (forms_of share.arms edition)) ≡ Ok None → read_as lengths p (form_at p.tag.number (answers.alternatives edition)) ≡ Err fault.malformed
-  no_answer own e = ap (read_as lengths p) own ∙ by_form (form_at p.tag.number (forms_of share.arms edition)) e
-    where
-      by_read : (q : Result Value Fault) → (q >>= λ v. Ok (Some (Some v))) ≡ Ok None → q ≡ Err fault.malformed
-      by_read (Ok v) e = absurd cc
-      by_read (Err d) e = absurd cc
-
-      by_form : (o : Option Form) → read_under lengths p o ≡ Ok None → read_as lengths p o ≡ Err fault.malformed
-      by_form None e = refl
-      by_form (Some f) e = by_read (read_as lengths p (Some f)) e
-
-  failed_by : (d : Fault) → OwnAnswer → read_under lengths p (form_at p.tag.number (forms_of share.arms edition)) ≡ Err d → read_as lengths p (form_at p.tag.number (answers.alternatives edition)) ≡ Err d
-  failed_by d own e = ap (read_as lengths p) own ∙ by_form (form_at p.tag.number (forms_of share.arms edition)) e
-    where
-      by_read : (q : Result Value Fault) → (q >>= λ v. Ok (Some (Some v))) ≡ Err d → q ≡ Err d
-      by_read (Ok v) e = absurd cc
-      by_read (Err f) e = ap (λ (x : Fault). Err x) (cc e)
-
-      by_form : (o : Option Form) → read_under lengths p o ≡ Err d → read_as lengths p o ≡ Err d
-      by_form None e = absurd cc
-      by_form (Some f) e = by_read (read_as lengths p (Some f)) e
-
-  pub unread_answer : (e : Unread) → OwnAnswer → Fails e (read_under lengths p (form_at p.tag.number (forms_of share.arms edition)))
-      → Fails e (read_as lengths p (form_at p.tag.number (answers.alternatives edition)))
-  unread_answer unread.Memory own e = tt
-  unread_answer unread.Malformed own e = failed_by fault.malformed own e
-  unread_answer unread.TooDeep own e = failed_by fault.too_deep own e
-
--- ---- the areas, by their numbers: 0 to 3, 4 to 18 and 19 to 25
+-- ---- the areas, by their numbers: 0 to 3, 4 to 18, 19 to 25 and 26 to 37
 
 abbrev after_device : List (Share Request)
-after_device = variable_area.requests ∷ semaphore_area.requests ∷ []
+after_device = variable_area.requests ∷ semaphore_area.requests ∷ domain_area.requests ∷ []
 
-abbrev after_device_answers : List (Share Answer)
-after_device_answers = variable_area.answers ∷ semaphore_area.answers ∷ []
+abbrev after_variables : List (Share Request)
+after_variables = semaphore_area.requests ∷ domain_area.requests ∷ []
 
 abbrev before_semaphores : List (Share Request)
 before_semaphores = device_area.requests ∷ variable_area.requests ∷ []
 
-abbrev before_semaphore_answers : List (Share Answer)
-before_semaphore_answers = device_area.answers ∷ variable_area.answers ∷ []
+abbrev before_domains : List (Share Request)
+before_domains = device_area.requests ∷ variable_area.requests ∷ semaphore_area.requests ∷ []
 
 module _ (n : ℕ) (edition : Edition) where
   pub device_form : n ≤ 3 → form_at n (requests.alternatives edition) ≡ form_at n (forms_of device_area.requests.arms edition)
   unfolding requests
   device_form few =
-      form_there [] device_area.requests after_device n edition refl (none_within 4 25 (joined after_device) n refl (λ low high. omega (arith, few, low)))
+      form_there [] device_area.requests after_device n edition refl (none_within 4 37 (joined after_device) n refl (λ low high. omega (arith, few, low)))
 
   pub variable_form : 4 ≤ n → n ≤ 18 → form_at n (requests.alternatives edition) ≡ form_at n (forms_of variable_area.requests.arms edition)
   unfolding requests
   variable_form most few =
-      form_there (device_area.requests ∷ []) variable_area.requests (semaphore_area.requests ∷ []) n edition
+      form_there (device_area.requests ∷ []) variable_area.requests after_variables n edition
       (none_within 0 3 (joined (device_area.requests ∷ [])) n refl (λ low high. omega (arith, most, high)))
-      (none_within 19 25 (joined (semaphore_area.requests ∷ [])) n refl (λ low high. omega (arith, few, low)))
+      (none_within 19 37 (joined after_variables) n refl (λ low high. omega (arith, few, low)))
 
-  pub semaphore_form : 19 ≤ n → form_at n (requests.alternatives edition) ≡ form_at n (forms_of semaphore_area.requests.arms edition)
+  pub semaphore_form : 19 ≤ n → n ≤ 25 → form_at n (requests.alternatives edition) ≡ form_at n (forms_of semaphore_area.requests.arms edition)
   unfolding requests
-  semaphore_form most =
-      form_there before_semaphores semaphore_area.requests [] n edition (none_within 0 18 (joined before_semaphores) n refl (λ low high. omega (arith, most, high))) refl
+  semaphore_form most few =
+      form_there before_semaphores semaphore_area.requests (domain_area.requests ∷ []) n edition
+      (none_within 0 18 (joined before_semaphores) n refl (λ low high. omega (arith, most, high)))
+      (none_within 26 37 (joined (domain_area.requests ∷ [])) n refl (λ low high. omega (arith, few, low)))
 
-  pub no_request_form : 25 < n → form_at n (requests.alternatives edition) ≡ None
+  pub domain_form : 26 ≤ n → form_at n (requests.alternatives edition) ≡ form_at n (forms_of domain_area.requests.arms edition)
   unfolding requests
-  no_request_form many = no_form (joined request_shares) n edition (none_within 0 25 (joined request_shares) n refl (λ low high. omega (arith, many, high)))
+  domain_form most =
+      form_there before_domains domain_area.requests [] n edition (none_within 0 25 (joined before_domains) n refl (λ low high. omega (arith, most, high))) refl
 
-  pub device_answer_form : n ≤ 3 → form_at n (answers.alternatives edition) ≡ form_at n (forms_of device_area.answers.arms edition)
-  unfolding answers
-  device_answer_form few =
-      form_there [] device_area.answers after_device_answers n edition refl (none_within 4 25 (joined after_device_answers) n refl (λ low high. omega (arith, few, low)))
+  pub no_request_form : 37 < n → form_at n (requests.alternatives edition) ≡ None
+  unfolding requests
+  no_request_form many = no_form (joined request_shares) n edition (none_within 0 37 (joined request_shares) n refl (λ low high. omega (arith, many, high)))
 
-  pub variable_answer_form : 4 ≤ n → n ≤ 18 → form_at n (answers.alternatives edition) ≡ form_at n (forms_of variable_area.answers.arms edition)
-  unfolding answers
-  variable_answer_form most few =
-      form_there (device_area.answers ∷ []) variable_area.answers (semaphore_area.answers ∷ []) n edition
-      (none_within 0 3 (joined (device_area.answers ∷ [])) n refl (λ low high. omega (arith, most, high)))
-      (none_within 19 25 (joined (semaphore_area.answers ∷ [])) n refl (λ low high. omega (arith, few, low)))
-
-  pub semaphore_answer_form : 19 ≤ n → form_at n (answers.alternatives edition) ≡ form_at n (forms_of semaphore_area.answers.arms edition)
-  unfolding answers
-  semaphore_answer_form most =
-      form_there before_semaphore_answers semaphore_area.answers [] n edition (none_within 0 18 (joined before_semaphore_answers) n refl (λ low high. omega (arith, most, high))) refl
-
-  pub no_answer_form : 25 < n → form_at n (answers.alternatives edition) ≡ None
-  unfolding answers
-  no_answer_form many = no_form (joined answer_shares) n edition (none_within 0 25 (joined answer_shares) n refl (λ low high. omega (arith, many, high)))
-
--- ---- what an area's requests and answers say
+-- ---- what an area's requests say
 
 pub device_said : IsSaid device_area.requests requests
 unfolding requests
@@ -200,31 +141,33 @@ device_said = λ r v. value_there [] device_area.requests after_device r v (one_
 
 pub variable_said : IsSaid variable_area.requests requests
 unfolding requests
-variable_said = λ r v. value_there (device_area.requests ∷ []) variable_area.requests (semaphore_area.requests ∷ []) r v (one_asks r)
+variable_said = λ r v. value_there (device_area.requests ∷ []) variable_area.requests after_variables r v (one_asks r)
 
 pub semaphore_said : IsSaid semaphore_area.requests requests
 unfolding requests
-semaphore_said = λ r v. value_there before_semaphores semaphore_area.requests [] r v (one_asks r)
+semaphore_said = λ r v. value_there before_semaphores semaphore_area.requests (domain_area.requests ∷ []) r v (one_asks r)
 
-pub device_answer_said : IsSaid device_area.answers answers
-unfolding answers
-device_answer_said = λ a v. value_there [] device_area.answers after_device_answers a v (one_answers a)
+pub domain_said : IsSaid domain_area.requests requests
+unfolding requests
+domain_said = λ r v. value_there before_domains domain_area.requests [] r v (one_asks r)
 
-pub variable_answer_said : IsSaid variable_area.answers answers
-unfolding answers
-variable_answer_said = λ a v. value_there (device_area.answers ∷ []) variable_area.answers (semaphore_area.answers ∷ []) a v (one_answers a)
+-- ---- how they are spelled: the areas are asked in turn
 
-pub semaphore_answer_said : IsSaid semaphore_area.answers answers
-unfolding answers
-semaphore_answer_said = λ a v. value_there before_semaphore_answers semaphore_area.answers [] a v (one_answers a)
+-- where none of the first three has it, the last does
+last_has : (a b c d : Option Value) → counted a (counted b (counted c (counted d 0))) ≡ 1 → is_some a ≡ false → is_some b ≡ false → is_some c ≡ false → is_some d ≡ true
+last_has None None None None one e f g = absurd (omega (arith, one))
+last_has None None None (Some v) one e f g = refl
+last_has None None (Some v) d one e f g = absurd cc
+last_has None (Some v) c d one e f g = absurd cc
+last_has (Some v) b c d one e f g = absurd cc
 
--- ---- how they are spelled
+-- nothing is appended of an area that doesn't have it
+nothing_put : (others : Alternatives) (o : Option Value) (before after : List ℕ) → after ≡ before ++ octets_if others o → is_some o ≡ false → after ≡ before
+nothing_put others o before after e none = e ∙ ap (λ (x : List ℕ). before ++ x) (octets_none others o none) ∙ append-nil before
 
-third : (a b c : Option Value) → counted a (counted b (counted c 0)) ≡ 1 → is_some a ≡ false → is_some b ≡ false → is_some c ≡ true
-third None None None one e f = absurd (omega (arith, one))
-third None None (Some v) one e f = refl
-third None (Some v) c one e f = absurd cc
-third (Some v) b c one e f = absurd cc
+-- what is appended after nothing was
+put_next : (old before after octets told : List ℕ) → after ≡ before ++ octets → before ≡ old → octets ≡ told → after ≡ old ++ told
+put_next old before after octets told e same is = e ∙ ap (λ (x : List ℕ). x ++ octets) same ∙ ap (λ (x : List ℕ). old ++ x) is
 
 module _ (r : Request) where
   abbrev pub IsSpelled : List ℕ → Type 0
@@ -236,14 +179,56 @@ module _ (r : Request) where
 
   pub variable_spelled : is_some (variable_area.requests.value r) ≡ true → IsSpelled (octets_if (forms_of variable_area.requests.arms widest) (variable_area.requests.value r))
   unfolding requests
-  variable_spelled e = octets_own (device_area.requests ∷ []) variable_area.requests (semaphore_area.requests ∷ []) r widest refl (one_asks r) e
+  variable_spelled e = octets_own (device_area.requests ∷ []) variable_area.requests after_variables r widest refl (one_asks r) e
 
-  pub semaphore_spelled : is_some (device_area.requests.value r) ≡ false → is_some (variable_area.requests.value r) ≡ false
-      → IsSpelled (octets_if (forms_of semaphore_area.requests.arms widest) (semaphore_area.requests.value r))
+  pub semaphore_spelled : is_some (semaphore_area.requests.value r) ≡ true → IsSpelled (octets_if (forms_of semaphore_area.requests.arms widest) (semaphore_area.requests.value r))
   unfolding requests
-  semaphore_spelled e f =
-      octets_own before_semaphores semaphore_area.requests [] r widest refl (one_asks r)
-      (third (device_area.requests.value r) (variable_area.requests.value r) (semaphore_area.requests.value r) (one_asks r) e f)
+  semaphore_spelled e = octets_own before_semaphores semaphore_area.requests (domain_area.requests ∷ []) r widest refl (one_asks r) e
+
+  pub domain_spelled : is_some (device_area.requests.value r) ≡ false → is_some (variable_area.requests.value r) ≡ false → is_some (semaphore_area.requests.value r) ≡ false
+      → IsSpelled (octets_if (forms_of domain_area.requests.arms widest) (domain_area.requests.value r))
+  unfolding requests
+  domain_spelled e f g =
+      octets_own before_domains domain_area.requests [] r widest refl (one_asks r)
+      (last_has (device_area.requests.value r) (variable_area.requests.value r) (semaphore_area.requests.value r) (domain_area.requests.value r) (one_asks r) e f g)
+
+module _ (r : Request) (old one : List ℕ) (first : one ≡ old ++ octets_if (forms_of device_area.requests.arms widest) (device_area.requests.value r)) where
+  abbrev RequestPut : List ℕ → Type 0
+  RequestPut after = after ≡ old ++ alternative_octets (requests.alternatives widest) (requests.value r)
+
+  pub first_put : is_some (device_area.requests.value r) ≡ true → RequestPut one
+  first_put e = first ∙ ap (λ (o : List ℕ). old ++ o) (device_spelled r e)
+
+  module _ (two : List ℕ) (second : two ≡ one ++ octets_if (forms_of variable_area.requests.arms widest) (variable_area.requests.value r)) (none : is_some (device_area.requests.value r) ≡ false) where
+    none_yet : one ≡ old
+    none_yet = nothing_put (forms_of device_area.requests.arms widest) (device_area.requests.value r) old one first none
+
+    pub second_put : is_some (variable_area.requests.value r) ≡ true → RequestPut two
+    second_put e = put_next old one two (octets_if (forms_of variable_area.requests.arms widest) (variable_area.requests.value r)) (alternative_octets (requests.alternatives widest) (requests.value r)) second none_yet (variable_spelled r e)
+
+    module _ (three : List ℕ) (third : three ≡ two ++ octets_if (forms_of semaphore_area.requests.arms widest) (semaphore_area.requests.value r)) (no : is_some (variable_area.requests.value r) ≡ false) where
+      still_none : two ≡ old
+      still_none = nothing_put (forms_of variable_area.requests.arms widest) (variable_area.requests.value r) one two second no ∙ none_yet
+
+      pub third_put : is_some (semaphore_area.requests.value r) ≡ true → RequestPut three
+      third_put e = put_next old two three (octets_if (forms_of semaphore_area.requests.arms widest) (semaphore_area.requests.value r)) (alternative_octets (requests.alternatives widest) (requests.value r)) third still_none (semaphore_spelled r e)
+
+      pub fourth_put : (four : List ℕ) → is_some (semaphore_area.requests.value r) ≡ false → four ≡ three ++ octets_if (forms_of domain_area.requests.arms widest) (domain_area.requests.value r) → RequestPut four
+      fourth_put four e fourth =
+          put_next old three four (octets_if (forms_of domain_area.requests.arms widest) (domain_area.requests.value r)) (alternative_octets (requests.alternatives widest) (requests.value r)) fourth
+          (nothing_put (forms_of semaphore_area.requests.arms widest) (semaphore_area.requests.value r) two three third e ∙ still_none) (domain_spelled r none no e)
+
+abbrev after_device_answers : List (Share Answer)
+after_device_answers = variable_area.answers ∷ semaphore_area.answers ∷ domain_area.answers ∷ []
+
+abbrev after_variable_answers : List (Share Answer)
+after_variable_answers = semaphore_area.answers ∷ domain_area.answers ∷ []
+
+abbrev before_semaphore_answers : List (Share Answer)
+before_semaphore_answers = device_area.answers ∷ variable_area.answers ∷ []
+
+abbrev before_domain_answers : List (Share Answer)
+before_domain_answers = device_area.answers ∷ variable_area.answers ∷ semaphore_area.answers ∷ []
 
 module _ (a : Answer) where
   abbrev pub IsAnswered : List ℕ → Type 0
@@ -255,36 +240,18 @@ module _ (a : Answer) where
 
   pub variable_answered : is_some (variable_area.answers.value a) ≡ true → IsAnswered (octets_if (forms_of variable_area.answers.arms widest) (variable_area.answers.value a))
   unfolding answers
-  variable_answered e = octets_own (device_area.answers ∷ []) variable_area.answers (semaphore_area.answers ∷ []) a widest refl (one_answers a) e
+  variable_answered e = octets_own (device_area.answers ∷ []) variable_area.answers after_variable_answers a widest refl (one_answers a) e
 
-  pub semaphore_answered : is_some (device_area.answers.value a) ≡ false → is_some (variable_area.answers.value a) ≡ false
-      → IsAnswered (octets_if (forms_of semaphore_area.answers.arms widest) (semaphore_area.answers.value a))
+  pub semaphore_answered : is_some (semaphore_area.answers.value a) ≡ true → IsAnswered (octets_if (forms_of semaphore_area.answers.arms widest) (semaphore_area.answers.value a))
   unfolding answers
-  semaphore_answered e f =
-      octets_own before_semaphore_answers semaphore_area.answers [] a widest refl (one_answers a)
-      (third (device_area.answers.value a) (variable_area.answers.value a) (semaphore_area.answers.value a) (one_answers a) e f)
+  semaphore_answered e = octets_own before_semaphore_answers semaphore_area.answers (domain_area.answers ∷ []) a widest refl (one_answers a) e
 
--- nothing is appended of another area's
-nothing_put : (others : Alternatives) (o : Option Value) (before after : List ℕ) → after ≡ before ++ octets_if others o → is_some o ≡ false → after ≡ before
-nothing_put others o before after e none = e ∙ ap (λ (x : List ℕ). before ++ x) (octets_none others o none) ∙ append-nil before
-
-module _ (r : Request) (old one : List ℕ) (first : one ≡ old ++ octets_if (forms_of device_area.requests.arms widest) (device_area.requests.value r)) where
-  abbrev RequestPut : List ℕ → Type 0
-  RequestPut after = after ≡ old ++ alternative_octets (requests.alternatives widest) (requests.value r)
-
-  pub first_put : is_some (device_area.requests.value r) ≡ true → RequestPut one
-  first_put e = first ∙ ap (λ (o : List ℕ). old ++ o) (device_spelled r e)
-
-  module _ (two : List ℕ) (second : two ≡ one ++ octets_if (forms_of variable_area.requests.arms widest) (variable_area.requests.value r)) (none : is_some (device_area.requests.value r) ≡ false) where
-    pub second_put : is_some (variable_area.requests.value r) ≡ true → RequestPut two
-    second_put e =
-        second ∙ ap (λ (o : List ℕ). o ++ octets_if (forms_of variable_area.requests.arms widest) (variable_area.requests.value r)) (nothing_put (forms_of device_area.requests.arms widest) (device_area.requests.value r) old one first none)
-        ∙ ap (λ (o : List ℕ). old ++ o) (variable_spelled r e)
-
-    pub third_put : (three : List ℕ) → is_some (variable_area.requests.value r) ≡ false → three ≡ two ++ octets_if (forms_of semaphore_area.requests.arms widest) (semaphore_area.requests.value r) → RequestPut three
-    third_put three e third =
-        third ∙ ap (λ (o : List ℕ). o ++ octets_if (forms_of semaphore_area.requests.arms widest) (semaphore_area.requests.value r)) (nothing_put (forms_of variable_area.requests.arms widest) (variable_area.requests.value r) one two second e ∙ nothing_put (forms_of device_area.requests.arms widest) (device_area.requests.value r) old one first none)
-        ∙ ap (λ (o : List ℕ). old ++ o) (semaphore_spelled r none e)
+  pub domain_answered : is_some (device_area.answers.value a) ≡ false → is_some (variable_area.answers.value a) ≡ false → is_some (semaphore_area.answers.value a) ≡ false
+      → IsAnswered (octets_if (forms_of domain_area.answers.arms widest) (domain_area.answers.value a))
+  unfolding answers
+  domain_answered e f g =
+      octets_own before_domain_answers domain_area.answers [] a widest refl (one_answers a)
+      (last_has (device_area.answers.value a) (variable_area.answers.value a) (semaphore_area.answers.value a) (domain_area.answers.value a) (one_answers a) e f g)
 
 module _ (a : Answer) (old one : List ℕ) (first : one ≡ old ++ octets_if (forms_of device_area.answers.arms widest) (device_area.answers.value a)) where
   abbrev AnswerPut : List ℕ → Type 0
@@ -294,12 +261,20 @@ module _ (a : Answer) (old one : List ℕ) (first : one ≡ old ++ octets_if (fo
   first_put_answer e = first ∙ ap (λ (o : List ℕ). old ++ o) (device_answered a e)
 
   module _ (two : List ℕ) (second : two ≡ one ++ octets_if (forms_of variable_area.answers.arms widest) (variable_area.answers.value a)) (none : is_some (device_area.answers.value a) ≡ false) where
-    pub second_put_answer : is_some (variable_area.answers.value a) ≡ true → AnswerPut two
-    second_put_answer e =
-        second ∙ ap (λ (o : List ℕ). o ++ octets_if (forms_of variable_area.answers.arms widest) (variable_area.answers.value a)) (nothing_put (forms_of device_area.answers.arms widest) (device_area.answers.value a) old one first none)
-        ∙ ap (λ (o : List ℕ). old ++ o) (variable_answered a e)
+    no_answer_yet : one ≡ old
+    no_answer_yet = nothing_put (forms_of device_area.answers.arms widest) (device_area.answers.value a) old one first none
 
-    pub third_put_answer : (three : List ℕ) → is_some (variable_area.answers.value a) ≡ false → three ≡ two ++ octets_if (forms_of semaphore_area.answers.arms widest) (semaphore_area.answers.value a) → AnswerPut three
-    third_put_answer three e third =
-        third ∙ ap (λ (o : List ℕ). o ++ octets_if (forms_of semaphore_area.answers.arms widest) (semaphore_area.answers.value a)) (nothing_put (forms_of variable_area.answers.arms widest) (variable_area.answers.value a) one two second e ∙ nothing_put (forms_of device_area.answers.arms widest) (device_area.answers.value a) old one first none)
-        ∙ ap (λ (o : List ℕ). old ++ o) (semaphore_answered a none e)
+    pub second_put_answer : is_some (variable_area.answers.value a) ≡ true → AnswerPut two
+    second_put_answer e = put_next old one two (octets_if (forms_of variable_area.answers.arms widest) (variable_area.answers.value a)) (alternative_octets (answers.alternatives widest) (answers.value a)) second no_answer_yet (variable_answered a e)
+
+    module _ (three : List ℕ) (third : three ≡ two ++ octets_if (forms_of semaphore_area.answers.arms widest) (semaphore_area.answers.value a)) (no : is_some (variable_area.answers.value a) ≡ false) where
+      still_no_answer : two ≡ old
+      still_no_answer = nothing_put (forms_of variable_area.answers.arms widest) (variable_area.answers.value a) one two second no ∙ no_answer_yet
+
+      pub third_put_answer : is_some (semaphore_area.answers.value a) ≡ true → AnswerPut three
+      third_put_answer e = put_next old two three (octets_if (forms_of semaphore_area.answers.arms widest) (semaphore_area.answers.value a)) (alternative_octets (answers.alternatives widest) (answers.value a)) third still_no_answer (semaphore_answered a e)
+
+      pub fourth_put_answer : (four : List ℕ) → is_some (semaphore_area.answers.value a) ≡ false → four ≡ three ++ octets_if (forms_of domain_area.answers.arms widest) (domain_area.answers.value a) → AnswerPut four
+      fourth_put_answer four e fourth =
+          put_next old three four (octets_if (forms_of domain_area.answers.arms widest) (domain_area.answers.value a)) (alternative_octets (answers.alternatives widest) (answers.value a)) fourth
+          (nothing_put (forms_of semaphore_area.answers.arms widest) (semaphore_area.answers.value a) two three third e ∙ still_no_answer) (domain_answered a none no e)

@@ -20,7 +20,7 @@ use Rattle.pdu_assoc.specs.Heard.{heard_error, heard_reject_form, answered}
 use Rattle.mms_pdu.specs.declared.refusal.Refusal.{Refusal}
 use Rattle.mms_pdu.specs.declared.refusal.Refusal.TheVariants as refusal
 use Rattle.mms_pdu.specs.Services.{requests}
-use Rattle.mms_pdu.specs.Pdus.{responded, heard_reject}
+use Rattle.mms_pdu.specs.Pdus.{client_answered, heard_reject}
 use Rattle.mms_pdu.specs.Hearing.{Asked, asking, is_pdu, kept_pdus, noted_pdus, valid, and_then, served, asked_value, sole_part, service_of, asked_at, reject_told, request_told, part_told, heard}
 use Rattle.mms_pdu.specs.Heard.{pdu_of, as_pdu, pdu_heard}
 
@@ -104,7 +104,7 @@ module _ (lengths : Lengths) (edition : Edition) where
       let from_8 = or 8 (initiate.form edition) from_11 in
       let from_5 = or 5 unsigned32 from_8 in
       let from_2 = or 2 (heard_error.form edition) from_5 in
-      or_small lengths 1 (responded.form edition) from_2 p (λ w. tt)
+      or_small lengths 1 (client_answered.form edition) from_2 p (λ w. tt)
       (or_small lengths 2 (heard_error.form edition) from_5 p (λ w. tt)
       (or_small lengths 5 unsigned32 from_8 p (λ w. tt)
       (or_small lengths 8 (initiate.form edition) from_11 p (λ w. tt)

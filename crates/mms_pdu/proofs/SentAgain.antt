@@ -7,6 +7,7 @@ use Rattle.ber_forms.specs.Fits.{is_sound, FitsOne}
 use Rattle.ber_forms.proofs.Again.{one_spelling, no_other_member}
 use Rattle.mms_types.specs.declared.identifier.Edition.{Edition}
 use Rattle.mms_types.specs.declared.pdu.Answer.{Answer}
+use Rattle.mms_types.specs.declared.pdu.ServerRequest.{ServerRequest}
 use Rattle.mms_types.specs.declared.pdu.Pdu.{Pdu}
 use Rattle.mms_types.specs.declared.pdu.Pdu.TheVariants as pdu
 use Rattle.mms_types.specs.Spelling.{widest}
@@ -15,11 +16,12 @@ use Rattle.pdu_assoc.specs.Initiate.{initiate_answer}
 use Rattle.pdu_assoc.specs.Reject.{reject}
 use Rattle.pdu_assoc.specs.ServiceErrors.{service_error, confirmed_error, cancel_error, classes_sound, states_sound}
 use Rattle.mms_pdu.specs.Services.{answers_sound}
-use Rattle.mms_pdu.specs.Pdus.{responded, pdu_value, pdu_octets}
+use Rattle.mms_pdu.specs.Pdus.{server_asked, responded, pdu_value, pdu_octets}
 use Rattle.mms_pdu.specs.Answering.{IsSent, HasUnsigned32}
 
 abbrev sent_arms : Arms Pdu
 sent_arms =
+    or 0 server_asked (λ x. pdu.ServerRequest x.0 x.1) (
     or 1 responded (λ x. pdu.ConfirmedResponse x.0 x.1) (
     or 2 confirmed_error pdu.ConfirmedError (
     or 4 reject pdu.Reject (
@@ -29,11 +31,12 @@ sent_arms =
     or 10 service_error pdu.InitiateError (
     or 12 null (λ _. pdu.ConcludeResponse) (
     or 13 service_error pdu.ConcludeError (
-    no_other pdu.HeardOther)))))))))
+    no_other pdu.HeardOther))))))))))
 
 module _ (edition : Edition) where
   -- a value tells what was sent
   sent_again : (p : Pdu) → IsSent edition p → made_of sent_arms (pdu_value p) ≡ p
+  sent_again (pdu.ServerRequest invoke request) h = ap (λ (x : ℕ × ServerRequest). pdu.ServerRequest x.0 x.1) (server_asked.again (invoke, request))
   sent_again (pdu.ConfirmedResponse invoke answer) h = ap (λ (x : ℕ × Answer). pdu.ConfirmedResponse x.0 x.1) (responded.again (invoke, answer))
   sent_again (pdu.ConfirmedError error) h = ap pdu.ConfirmedError (confirmed_error.again error)
   sent_again (pdu.Reject x) h = ap pdu.Reject (reject.again x)
@@ -50,6 +53,7 @@ module _ (edition : Edition) where
 
   -- it fits, and is spelled
   sent_fits : (p : Pdu) → IsSent edition p → FitsOne (sent_arms.alternatives edition) (pdu_value p)
+  sent_fits (pdu.ServerRequest invoke request) h = h
   sent_fits (pdu.ConfirmedResponse invoke answer) h = h
   sent_fits (pdu.ConfirmedError error) h = h
   sent_fits (pdu.Reject x) h = h
@@ -62,6 +66,7 @@ module _ (edition : Edition) where
   sent_fits p h = absurd h
 
   sent_so : (p : Pdu) → IsSent edition p → alternative_octets (sent_arms.alternatives widest) (pdu_value p) ≡ pdu_octets p
+  sent_so (pdu.ServerRequest invoke request) h = refl
   sent_so (pdu.ConfirmedResponse invoke answer) h = refl
   sent_so (pdu.ConfirmedError error) h = refl
   sent_so (pdu.Reject x) h = refl
@@ -99,6 +104,7 @@ module _ (edition : Edition) where
       ∙ alike
 
   pub sent_small : (p : Pdu) → IsSent edition p → HasUnsigned32 p
+  sent_small (pdu.ServerRequest invoke request) h = tt
   sent_small (pdu.ConfirmedResponse invoke answer) h = grind (arith, h.0)
   sent_small (pdu.ConfirmedError error) h = grind (arith, h.0)
   sent_small (pdu.Reject x) h = tt

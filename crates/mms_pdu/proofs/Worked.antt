@@ -5,17 +5,22 @@ use Rattle.mms_types.specs.Datum.{Datum, row}
 use Rattle.mms_types.specs.Datum as datum
 use Rattle.mms_types.specs.Shape.{Shape, no_field, field}
 use Rattle.mms_types.specs.Shape as shape
+use Rattle.mms_types.specs.declared.identifier.Edition.TheVariants.{One}
 use Rattle.mms_types.specs.declared.object_name.ObjectName.TheVariants.{Vmd}
 use Rattle.mms_types.specs.declared.variable.Access.TheVariants as access
 use Rattle.mms_types.specs.declared.pdu.Request.TheVariants as request
+use Rattle.mms_types.specs.declared.pdu.ServerRequest.{ServerRequest}
+use Rattle.mms_types.specs.declared.pdu.ServerRequest.TheVariants as server_request
 use Rattle.mms_types.specs.declared.pdu.Pdu.{Pdu}
 use Rattle.mms_types.specs.declared.pdu.Pdu.TheVariants as pdu
 use Rattle.mms_types.specs.declared.pdu.RejectReason.TheVariants.{InvalidInvokeId}
 use Rattle.mms_types.specs.declared.service_error.ServiceError.{ServiceError}
-use Rattle.mms_types.specs.Errors.{cancel, further_communication_required}
+use Rattle.mms_types.specs.Errors.{cancel, further_communication_required, domain_transfer_problem}
 use Rattle.ber_core.specs.Spelling.{digits, identifier_octets, length_octets, element_octets}
+use Rattle.ber_forms.specs.ByNumber.{has_number}
 use Rattle.pdu_assoc.specs.ServiceErrors.{numbered}
-use Rattle.mms_pdu.specs.Services.{requests, answers}
+use Rattle.pdu_programs.specs.Services.{server_requests, client_answers}
+use Rattle.mms_pdu.specs.Services.{requests, answers, service_numbers}
 use Rattle.mms_pdu.specs.Pdus.{pdu_octets}
 use Rattle.mms_pdu.specs.Hearing.{depth_of}
 use Rattle.mms_pdu.specs.Answering.{IsAnswer}
@@ -28,6 +33,10 @@ Answers f table = map (λ row. f row.0) table ≡ map (λ row. row.1) table
 abbrev stopped : ServiceError
 stopped = record { class = 4; code = 2; info = Some (record { kind = 2; state = 2 }) }
 
+-- the load of D1 has ended: as all segments came, or as it failed
+abbrev ends : Option ServiceError → ServerRequest
+ends why = server_request.TerminateDownloadSequence (record { domain = 68 ∷ 49 ∷ []; discard = why })
+
 sent : Answers pdu_octets (
     (pdu.ConfirmedError (record { invoke = 2; modifier = None; error = cancel }), 162 ∷ 10 ∷ 128 ∷ 1 ∷ 2 ∷ 162 ∷ 5 ∷ 160 ∷ 3 ∷ 133 ∷ 1 ∷ 3 ∷ []) ∷ (
       pdu.ConfirmedError (record { invoke = 5; modifier = None; error = stopped }),
@@ -36,9 +45,28 @@ sent : Answers pdu_octets (
     (pdu.Reject (record { invoke = Some 2; reason = InvalidInvokeId }), 164 ∷ 6 ∷ 128 ∷ 1 ∷ 2 ∷ 129 ∷ 1 ∷ 3 ∷ []) ∷
     (pdu.CancelResponse 2, 134 ∷ 1 ∷ 2 ∷ []) ∷
     (pdu.ConcludeError further_communication_required, 173 ∷ 5 ∷ 160 ∷ 3 ∷ 137 ∷ 1 ∷ 1 ∷ []) ∷
+    (pdu.ServerRequest 1 (server_request.DownloadSegment (68 ∷ 49 ∷ [])), 160 ∷ 7 ∷ 2 ∷ 1 ∷ 1 ∷ 155 ∷ 2 ∷ 68 ∷ 49 ∷ []) ∷
+    (pdu.ServerRequest 2 (ends None), 160 ∷ 9 ∷ 2 ∷ 1 ∷ 2 ∷ 188 ∷ 4 ∷ 128 ∷ 2 ∷ 68 ∷ 49 ∷ []) ∷ (
+      pdu.ServerRequest 2 (ends (Some domain_transfer_problem)),
+      160 ∷ 16 ∷ 2 ∷ 1 ∷ 2 ∷ 188 ∷ 11 ∷ 128 ∷ 2 ∷ 68 ∷ 49 ∷ 161 ∷ 5 ∷ 160 ∷ 3 ∷ 128 ∷ 1 ∷ 3 ∷ [],
+    ) ∷
     [])
 unfolding requests answers numbered element_octets identifier_octets length_octets digits
 sent = refl
+
+-- ---- who asks which services
+
+-- 27 and 28 are the server's: an initiate-Response names them, no client may ask them, and a client may answer them alone
+numbers_are : service_numbers ≡ 0 ∷ 1 ∷ 2 ∷ 4 ∷ 5 ∷ 6 ∷ 7 ∷ 10 ∷ 11 ∷ 12 ∷ 13 ∷ 19 ∷ 20 ∷ 21 ∷ 22 ∷ 23 ∷ 24 ∷ 25 ∷ 26 ∷ 27 ∷ 28 ∷ 29 ∷ 30 ∷ 31 ∷ 36 ∷ 37 ∷ []
+numbers_are = refl
+
+clients_may_ask : Answers (has_number (requests.alternatives One)) (
+    (0, true) ∷ (25, true) ∷ (26, true) ∷ (27, false) ∷ (28, false) ∷ (29, true) ∷ (31, true) ∷ (32, false) ∷ (36, true) ∷ (37, true) ∷ (38, false) ∷ [])
+unfolding requests
+clients_may_ask = refl
+
+clients_may_answer : Answers (has_number (client_answers.alternatives One)) ((0, false) ∷ (26, false) ∷ (27, true) ∷ (28, true) ∷ (29, false) ∷ [])
+clients_may_answer = refl
 
 -- ---- which octets answer a request
 

@@ -6,7 +6,7 @@ use Rattle.pdu_names.specs.Kinds.{IsOf, unsigned32}
 use Rattle.pdu_assoc.specs.Initiate.{initiate}
 use Rattle.mms_pdu.specs.Pdus.{asked}
 
--- confirmed-Request without modifiers, cancel-Request, initiate-Request and conclude-Request, of their forms in the edition
+-- a client's confirmed-Request without modifiers, cancel-Request, initiate-Request and conclude-Request, of their forms in the edition
 abbrev pub IsAsking : Edition → Pdu → Type 0
 IsAsking edition (pdu.ConfirmedRequest invoke request) = IsOf asked edition (invoke, request)
 IsAsking edition (pdu.CancelRequest invoke) = IsOf unsigned32 edition invoke

@@ -29,7 +29,7 @@ pdu_heard edition octets = as_pdu (heard (lengths_of edition) edition octets)
 -- a PDU that a client may send
 abbrev pub IsHeard : Pdu → Type 0
 IsHeard (pdu.ConfirmedRequest invoke request) = Unit {0}
-IsHeard (pdu.ConfirmedResponse invoke answer) = Unit {0}
+IsHeard (pdu.HeardResponse invoke answer) = Unit {0}
 IsHeard (pdu.HeardError invoke) = Unit {0}
 IsHeard (pdu.HeardReject invoke) = Unit {0}
 IsHeard (pdu.CancelRequest invoke) = Unit {0}

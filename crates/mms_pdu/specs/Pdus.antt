@@ -6,6 +6,8 @@ use Rattle.ber_forms.specs.Form.{Alternatives}
 use Rattle.ber_forms.specs.Spelling.{alternative_octets}
 use Rattle.mms_types.specs.declared.pdu.Request.{Request}
 use Rattle.mms_types.specs.declared.pdu.Answer.{Answer}
+use Rattle.mms_types.specs.declared.pdu.ServerRequest.{ServerRequest}
+use Rattle.mms_types.specs.declared.pdu.ClientAnswer.{ClientAnswer}
 use Rattle.mms_types.specs.declared.pdu.Pdu.{Pdu}
 use Rattle.mms_types.specs.declared.pdu.Pdu.TheVariants as pdu
 use Rattle.mms_types.specs.Spelling.{widest}
@@ -14,20 +16,35 @@ use Rattle.pdu_assoc.specs.Heard.{heard_error}
 use Rattle.pdu_assoc.specs.Initiate.{initiate, initiate_answer}
 use Rattle.pdu_assoc.specs.Reject.{reject}
 use Rattle.pdu_assoc.specs.ServiceErrors.{service_error, confirmed_error, cancel_error}
+use Rattle.pdu_programs.specs.Services.{server_requests, client_answers}
 use Rattle.mms_pdu.specs.Services.{requests, answers}
 
--- confirmed-Request without modifiers: an invokeID, and then a service
+-- confirmed-Request of a client, without modifiers: an invokeID, and then a service
 abbrev pub asked : Kind (ℕ × Request)
 asked = sequence (
     required (universal 2 unsigned32) (λ x. x.0) (
     required (one_of requests) (λ x. x.1) no_more))
     (λ invoke request. (invoke, request)) (λ x. refl)
 
--- confirmed-Response
+-- confirmed-Request of the server
+abbrev pub server_asked : Kind (ℕ × ServerRequest)
+server_asked = sequence (
+    required (universal 2 unsigned32) (λ x. x.0) (
+    required (one_of server_requests) (λ x. x.1) no_more))
+    (λ invoke request. (invoke, request)) (λ x. refl)
+
+-- confirmed-Response of the server
 abbrev pub responded : Kind (ℕ × Answer)
 responded = sequence (
     required (universal 2 unsigned32) (λ x. x.0) (
     required (one_of answers) (λ x. x.1) no_more))
+    (λ invoke answer. (invoke, answer)) (λ x. refl)
+
+-- confirmed-Response of a client
+abbrev pub client_answered : Kind (ℕ × ClientAnswer)
+client_answered = sequence (
+    required (universal 2 unsigned32) (λ x. x.0) (
+    required (one_of client_answers) (λ x. x.1) no_more))
     (λ invoke answer. (invoke, answer)) (λ x. refl)
 
 -- what is kept of a reject that a client sent: the invokeID, where it says one
@@ -37,7 +54,7 @@ heard_reject = sequence (optional (context 0 unsigned32) (λ o. o) no_more) (λ 
 -- the PDUs that a client may send and that are kept, but for confirmed-Request and reject
 abbrev pub kept_arms : Arms Pdu
 kept_arms =
-    or 1 responded (λ x. pdu.ConfirmedResponse x.0 x.1) (
+    or 1 client_answered (λ x. pdu.HeardResponse x.0 x.1) (
     or 2 heard_error pdu.HeardError (
     or 5 unsigned32 pdu.CancelRequest (
     or 8 initiate pdu.InitiateRequest (
@@ -48,7 +65,7 @@ kept_arms =
 abbrev pub whole_arms : Arms Pdu
 whole_arms = or 0 asked (λ x. pdu.ConfirmedRequest x.0 x.1) kept_arms
 
--- the PDUs as they are sent, but for unconfirmed ones, with the names of any edition
+-- the PDUs as they are sent, but for unconfirmed ones and a confirmed-Request of the server, with the names of any edition
 abbrev pub pdus : Alternatives
 pdus =
     asn.or 0 (asked.form widest) (
@@ -65,10 +82,16 @@ pdus =
     asn.or 12 (null.form widest) (
     asn.or 13 (service_error.form widest) asn.no_other))))))))))))
 
+-- and that
+abbrev pub server_pdu : Alternatives
+server_pdu = asn.or 0 (server_asked.form widest) asn.no_other
+
 -- what a PDU says: of those that were only heard, what is kept of them
 abbrev pub pdu_value : Pdu → Value
 pdu_value (pdu.ConfirmedRequest invoke request) = chosen 0 (asked.value (invoke, request))
+pdu_value (pdu.ServerRequest invoke request) = chosen 0 (server_asked.value (invoke, request))
 pdu_value (pdu.ConfirmedResponse invoke answer) = chosen 1 (responded.value (invoke, answer))
+pdu_value (pdu.HeardResponse invoke answer) = chosen 1 (client_answered.value (invoke, answer))
 pdu_value (pdu.ConfirmedError error) = chosen 2 (confirmed_error.value error)
 pdu_value (pdu.HeardError invoke) = chosen 2 (heard_error.value invoke)
 pdu_value (pdu.Reject x) = chosen 4 (reject.value x)
@@ -86,6 +109,8 @@ pdu_value (pdu.ConcludeError error) = chosen 13 (service_error.value error)
 
 -- The one spelling of a PDU: one element. What was only heard is never sent, and has none.
 abbrev pub pdu_octets : Pdu → List ℕ
+pdu_octets (pdu.ServerRequest invoke request) = alternative_octets server_pdu (pdu_value (pdu.ServerRequest invoke request))
+pdu_octets (pdu.HeardResponse invoke answer) = []
 pdu_octets (pdu.HeardError invoke) = []
 pdu_octets (pdu.HeardReject invoke) = []
 pdu_octets pdu.HeardOther = []

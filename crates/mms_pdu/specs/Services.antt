@@ -1,4 +1,5 @@
--- The confirmed services that are offered (ISO 9506-2, ConfirmedServiceRequest and ConfirmedServiceResponse): those of the areas.
+-- The confirmed services that are offered (ISO 9506-2, ConfirmedServiceRequest and ConfirmedServiceResponse): those of the areas, each
+-- asked by clients or by the server.
 use Rattle.std.specs.Prelude.{◌≡◌, ℕ, true, List, [], ◌∷◌, refl}
 use Rattle.ber_forms.specs.Fits.{sound_alternatives}
 use Rattle.mms_types.specs.declared.identifier.Edition.{Edition}
@@ -6,17 +7,27 @@ use Rattle.mms_types.specs.declared.pdu.Request.{Request}
 use Rattle.mms_types.specs.declared.pdu.Request.TheVariants as request
 use Rattle.mms_types.specs.declared.pdu.Answer.{Answer}
 use Rattle.mms_types.specs.declared.pdu.Answer.TheVariants as answer
-use Rattle.pdu_names.specs.Kinds.{Choice, Arms}
-use Rattle.pdu_areas.specs.Services.{numbers_of, arms_of}
-use Rattle.pdu_areas.specs.Joined.{Share, joined, claims, choice_of, sound_in}
-use Rattle.pdu_areas.specs.Areas.{Area, requests_of, answers_in}
+use Rattle.pdu_names.specs.Kinds.{Choice}
+use Rattle.pdu_areas.specs.Services.{Service, forms_of}
+use Rattle.pdu_areas.specs.Joined.{Share, claims, choice_of, sound_in}
+use Rattle.pdu_areas.specs.Areas.{Area, services_of, requests_of, answers_in, numbers_of, asks_of, answers_of, server_asks_of, client_answers_of}
 use Rattle.pdu_assoc.specs.Services.{device_area}
 use Rattle.pdu_vars.specs.Services.{variable_area}
 use Rattle.pdu_sems.specs.Services.{semaphore_area}
+use Rattle.pdu_programs.specs.Services.{domain_area, server_requests, client_answers}
 
 -- the areas, in the order of their numbers
 abbrev pub areas : List Area
-areas = device_area ∷ variable_area ∷ semaphore_area ∷ []
+areas = device_area ∷ variable_area ∷ semaphore_area ∷ domain_area ∷ []
+
+-- The one list of services: from it follow the services that an initiate-Response names, what clients ask and are answered, and what the
+-- server asks and is answered.
+abbrev pub services : List Service
+services = services_of areas
+
+-- the services that an initiate-Response names: all of them, whoever asks them
+abbrev pub service_numbers : List ℕ
+service_numbers = numbers_of services
 
 abbrev pub request_shares : List (Share Request)
 request_shares = requests_of areas
@@ -28,21 +39,7 @@ answer_shares = answers_in areas
 abbrev other_answer : Answer
 other_answer = answer.Status (record { logical = 0; physical = 0 })
 
--- services: their numbers, and the two choices that they make
-pub record Services : Type 0 where
-  pub numbers : List ℕ
-  pub requests : Arms Request
-  pub answers : Arms Answer
-
--- The services that are offered. From the areas follow what isn't offered, the services that an initiate-Response names, and both choices.
-abbrev pub services : Services
-services = record {
-  numbers = numbers_of (joined request_shares);
-  requests = arms_of request.Identify (joined request_shares);
-  answers = arms_of other_answer (joined answer_shares);
-}
-
--- ---- ConfirmedServiceRequest: each service by its number, with its argument
+-- ---- ConfirmedServiceRequest of a client: each service by its number, with its argument
 
 -- each request is of one area alone
 pub one_asks : (r : Request) → claims request_shares r ≡ 1
@@ -56,7 +53,12 @@ pub requests_sound : (e : Edition) → sound_alternatives (requests.alternatives
 unfolding requests
 requests_sound = sound_in request_shares refl
 
--- ---- ConfirmedServiceResponse: each service by its number, with its answer
+-- a client may ask what clients ask by the list, and nothing else
+pub clients_ask : (e : Edition) → requests.alternatives e ≡ forms_of (asks_of services) e
+unfolding requests
+clients_ask e = refl
+
+-- ---- ConfirmedServiceResponse of the server: each service by its number, with its answer
 
 -- and so is each answer
 pub one_answers : (a : Answer) → claims answer_shares a ≡ 1
@@ -69,3 +71,16 @@ answers = choice_of other_answer answer_shares refl one_answers
 pub answers_sound : (e : Edition) → sound_alternatives (answers.alternatives e) ≡ true
 unfolding answers
 answers_sound = sound_in answer_shares refl
+
+pub clients_are_answered : (e : Edition) → answers.alternatives e ≡ forms_of (answers_of services) e
+unfolding answers
+clients_are_answered e = refl
+
+-- ---- ConfirmedServiceRequest of the server and ConfirmedServiceResponse of a client
+
+pub server_asks : (e : Edition) → server_requests.alternatives e ≡ forms_of (server_asks_of services) e
+server_asks e = refl
+
+-- a client may answer what the server asks by the list, and nothing else
+pub clients_answer : (e : Edition) → client_answers.alternatives e ≡ forms_of (client_answers_of services) e
+clients_answer e = refl

@@ -38,7 +38,7 @@ fn kept_pdu(alloc: Global, element: Element<'_>, edition: Edition) -> Result<Pdu
     let Element { tag, contents } = element;
     if has_tag(tag, Tag::constructed(1)) {
         let (invoke, answer) = response(alloc, contents, edition)?;
-        Ok(Pdu::ConfirmedResponse { invoke, answer })
+        Ok(Pdu::HeardResponse { invoke, answer })
     } else if has_tag(tag, Tag::constructed(2)) {
         let invoke = HeardErrors::read(alloc, contents, edition)?;
         Ok(Pdu::HeardError { invoke })
@@ -238,7 +238,7 @@ pub fn read_pdu_to(alloc: Global, octets: &[u8], edition: Edition, told: &mut Re
 
 /// The PDU that a client's octets are (ISO 9506-2, MMSpdu), and how deep the data and the type of a request nest.
 /// Each refusal comes exactly where it is the first that applies, in the order of the variants of `Refusal`. Names of
-/// a request, and names and texts of an answer, are copied.
+/// a request, and the octets of an answer, are copied.
 pub fn read_pdu(alloc: Global, octets: &[u8], edition: Edition) -> Result<Read, Refusal>
     ensures heard { Hears (λ r. pdu_value r.pdu) result
         (heard (lengths_of edition) edition octets.now) }

@@ -5,19 +5,21 @@ ghost use Rattle.std.specs.Prelude.{◌≡◌, ◌++◌, Ok, Err, OnOk, OnErr, I
 ghost use Rattle.ber_forms.specs.Spelling.{Begins};
 ghost use Rattle.pdu_names.specs.Kinds.{context};
 ghost use Rattle.pdu_names.specs.Gives.{PutsContents, Puts};
-ghost use Rattle.mms_pdu.specs.Pdus.{asked, responded, pdu_octets};
+ghost use Rattle.mms_pdu.specs.Pdus.{asked, responded, server_asked, pdu_octets};
 
 use crate::request::put_argument;
-use crate::response::Answers;
+use crate::response::put_result;
 use ber_core::{Memory as Full, Tag, Writer};
 use ber_forms::{enclose, put_universal_integer};
 use mms_types::{
-    Answer, CancelError, ConfirmedError, InitiateAnswer, Memory, Pdu, Reject, Request, ServiceError,
+    Answer, CancelError, ConfirmedError, InitiateAnswer, Memory, Pdu, Reject, Request,
+    ServerRequest, ServiceError,
 };
 use pdu_assoc::{
     CancelErrors, ConfirmedErrors, InitiateRequest, InitiateResponse, Rejects, ServiceErrors,
 };
 use pdu_names::{Chosen, Formed, Null, Unsigned32, as_memory};
+use pdu_programs::ServerRequests;
 use std::alloc::Global;
 
 fn put_asked(out: &mut Writer, invoke: u32, request: &Request) -> Result<(), Full>
@@ -28,12 +30,20 @@ fn put_asked(out: &mut Writer, invoke: u32, request: &Request) -> Result<(), Ful
     put_argument(out, request)
 }
 
+fn put_server_asked(out: &mut Writer, invoke: u32, request: &ServerRequest) -> Result<(), Full>
+    ensures ok { PutsContents server_asked (invoke, request.now) out.old out.new result }
+    ensures begins { Begins out.old out.new }
+{
+    put_universal_integer(out, i64::from(invoke))?;
+    ServerRequests::put_chosen(out, request)
+}
+
 fn put_responded(out: &mut Writer, invoke: u32, answer: &Answer) -> Result<(), Full>
     ensures ok { PutsContents responded (invoke, answer.now) out.old out.new result }
     ensures begins { Begins out.old out.new }
 {
     put_universal_integer(out, i64::from(invoke))?;
-    Answers::put_chosen(out, answer)
+    put_result(out, answer)
 }
 
 fn put_request(out: &mut Writer, invoke: u32, request: &Request) -> Result<(), Full>
@@ -42,6 +52,15 @@ fn put_request(out: &mut Writer, invoke: u32, request: &Request) -> Result<(), F
 {
     let since = out.len();
     let written = put_asked(out, invoke, request);
+    enclose(out, since, written, Tag::constructed(0))
+}
+
+fn put_asking(out: &mut Writer, invoke: u32, request: &ServerRequest) -> Result<(), Full>
+    ensures ok { Puts (context 0 server_asked) (invoke, request.now) out.old out.new result }
+    ensures err { OnErr result (out.new ≡ out.old) }
+{
+    let since = out.len();
+    let written = put_server_asked(out, invoke, request);
     enclose(out, since, written, Tag::constructed(0))
 }
 
@@ -61,6 +80,7 @@ fn put(out: &mut Writer, pdu: &Pdu) -> Result<(), Full>
 {
     match pdu {
         Pdu::ConfirmedRequest { invoke, request } => put_request(out, *invoke, request),
+        Pdu::ServerRequest { invoke, request } => put_asking(out, *invoke, request),
         Pdu::ConfirmedResponse { invoke, answer } => put_response(out, *invoke, answer),
         Pdu::ConfirmedError(error) => ConfirmedErrors::put_part(out, 2, error),
         Pdu::Reject(reject) => Rejects::put_part(out, 4, reject),
@@ -73,7 +93,10 @@ fn put(out: &mut Writer, pdu: &Pdu) -> Result<(), Full>
         Pdu::ConcludeRequest => Null::put_part(out, 11, &()),
         Pdu::ConcludeResponse => Null::put_part(out, 12, &()),
         Pdu::ConcludeError(error) => ServiceErrors::put_part(out, 13, error),
-        Pdu::HeardError { .. } | Pdu::HeardReject { .. } | Pdu::HeardOther => Ok(()),
+        Pdu::HeardResponse { .. }
+        | Pdu::HeardError { .. }
+        | Pdu::HeardReject { .. }
+        | Pdu::HeardOther => Ok(()),
     }
 }
 
@@ -84,6 +107,20 @@ pub fn put_pdu(out: &mut Writer, pdu: &Pdu) -> Result<(), Memory>
     ensures err { OnErr result (out.new ≡ out.old) }
 {
     as_memory(put(out, pdu))
+}
+
+/// Appends the one spelling of a confirmed-Request of the server, one element, as `put_pdu` appends that of the PDU.
+/// Where memory is wanting, nothing is changed.
+pub fn put_server_request(
+    out: &mut Writer,
+    invoke: u32,
+    request: &ServerRequest,
+) -> Result<(), Memory>
+    ensures ok { OnOk result (out.new
+        ≡ out.old ++ pdu_octets (Pdu.ServerRequest invoke request.now)) }
+    ensures err { OnErr result (out.new ≡ out.old) }
+{
+    as_memory(put_asking(out, invoke, request))
 }
 
 /// Appends the one spelling of a confirmed-Response, one element, as `put_pdu` appends that of the PDU. Where memory is

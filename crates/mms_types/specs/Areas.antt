@@ -2,9 +2,11 @@
 use Rattle.mms_types.specs.declared.pdu.Request.{Request}
 use Rattle.mms_types.specs.declared.pdu.Request.TheVariants as request
 use Rattle.mms_types.specs.declared.area.AreaRequest.{AreaRequest}
-use Rattle.mms_types.specs.declared.area.AreaRequest.TheVariants.{Device, Variables, Semaphores}
+use Rattle.mms_types.specs.declared.area.AreaRequest.TheVariants.{Device, Variables, Semaphores, Domains}
 use Rattle.mms_types.specs.declared.area.DeviceRequest.{DeviceRequest}
 use Rattle.mms_types.specs.declared.area.DeviceRequest.TheVariants as device
+use Rattle.mms_types.specs.declared.area.DomainRequest.{DomainRequest}
+use Rattle.mms_types.specs.declared.area.DomainRequest.TheVariants as domains
 use Rattle.mms_types.specs.declared.area.SemaphoreRequest.{SemaphoreRequest}
 use Rattle.mms_types.specs.declared.area.SemaphoreRequest.TheVariants as semaphores
 use Rattle.mms_types.specs.declared.area.VariableRequest.{VariableRequest}
@@ -34,7 +36,16 @@ semaphore_request (semaphores.ReportSemaphoreStatus x) = request.ReportSemaphore
 semaphore_request (semaphores.ReportPoolSemaphoreStatus x) = request.ReportPoolSemaphoreStatus x.now
 semaphore_request (semaphores.ReportSemaphoreEntryStatus x) = request.ReportSemaphoreEntryStatus x.now
 
+abbrev pub domain_request : DomainRequest → Request
+domain_request (domains.InitiateDownloadSequence x) = request.InitiateDownloadSequence x.now
+domain_request (domains.InitiateUploadSequence x) = request.InitiateUploadSequence x.now
+domain_request (domains.UploadSegment number) = request.UploadSegment number
+domain_request (domains.TerminateUploadSequence number) = request.TerminateUploadSequence number
+domain_request (domains.DeleteDomain x) = request.DeleteDomain x.now
+domain_request (domains.GetDomainAttributes x) = request.GetDomainAttributes x.now
+
 abbrev pub request_of : AreaRequest → Request
 request_of (Device asked) = device_request asked
 request_of (Variables asked) = variable_request asked
 request_of (Semaphores asked) = semaphore_request asked
+request_of (Domains asked) = domain_request asked

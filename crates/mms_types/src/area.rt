@@ -5,8 +5,9 @@ ghost use Rattle.mms_types.specs.Areas.{request_of};
 
 use crate::{
     DefineNamedVariable, DefineNamedVariableList, DefineSemaphore, DeleteNames, GetNameList,
-    ObjectName, Read, RelinquishControl, ReportPoolSemaphoreStatus, ReportSemaphoreEntryStatus,
-    Request, Spec, Status, TakeControl, Write,
+    Identifier, InitiateDownloadSequence, ObjectName, Read, RelinquishControl,
+    ReportPoolSemaphoreStatus, ReportSemaphoreEntryStatus, Request, Spec, Status, TakeControl,
+    Write,
 };
 
 /// What is asked of the device itself (ISO 9506-1, VMD support).
@@ -42,12 +43,24 @@ pub enum SemaphoreRequest<'a> {
     ReportSemaphoreEntryStatus(&'a ReportSemaphoreEntryStatus),
 }
 
+/// What is asked of domains (ISO 9506-1, domain management).
+#[derive(Clone, Copy)]
+pub enum DomainRequest<'a> {
+    InitiateDownloadSequence(&'a InitiateDownloadSequence),
+    InitiateUploadSequence(&'a Identifier),
+    UploadSegment(i32),
+    TerminateUploadSequence(i32),
+    DeleteDomain(&'a Identifier),
+    GetDomainAttributes(&'a Identifier),
+}
+
 /// A request, by the area of the device that serves it.
 #[derive(Clone, Copy)]
 pub enum AreaRequest<'a> {
     Device(DeviceRequest<'a>),
     Variables(VariableRequest<'a>),
     Semaphores(SemaphoreRequest<'a>),
+    Domains(DomainRequest<'a>),
 }
 
 impl Request {
@@ -99,6 +112,22 @@ impl Request {
             }
             Request::ReportSemaphoreEntryStatus(asked) => {
                 AreaRequest::Semaphores(SemaphoreRequest::ReportSemaphoreEntryStatus(asked))
+            }
+            Request::InitiateDownloadSequence(asked) => {
+                AreaRequest::Domains(DomainRequest::InitiateDownloadSequence(asked))
+            }
+            Request::InitiateUploadSequence(name) => {
+                AreaRequest::Domains(DomainRequest::InitiateUploadSequence(name))
+            }
+            Request::UploadSegment(number) => {
+                AreaRequest::Domains(DomainRequest::UploadSegment(*number))
+            }
+            Request::TerminateUploadSequence(number) => {
+                AreaRequest::Domains(DomainRequest::TerminateUploadSequence(*number))
+            }
+            Request::DeleteDomain(name) => AreaRequest::Domains(DomainRequest::DeleteDomain(name)),
+            Request::GetDomainAttributes(name) => {
+                AreaRequest::Domains(DomainRequest::GetDomainAttributes(name))
             }
         }
     }

@@ -1,14 +1,15 @@
 use crate::{
     Boxed, CancelError, ConfirmedError, DefineNamedVariable, DefineNamedVariableList,
-    DefineSemaphore, DeleteNames, Deleted, EntryStatuses, GetNameList, GetNameListAnswer,
-    IdentifyAnswer, Initiate, InitiateAnswer, ListAttributes, ObjectName, PoolStatus, Read,
-    ReadAnswer, RelinquishControl, ReportPoolSemaphoreStatus, ReportSemaphoreEntryStatus,
-    SemaphoreStatus, ServiceError, Spec, Status, StatusAnswer, TakeControl, TakeControlAnswer,
-    VariableAttributes, Write, WriteAnswer,
+    DefineSemaphore, DeleteNames, Deleted, DomainAttributes, EntryStatuses, GetNameList,
+    GetNameListAnswer, Identifier, IdentifyAnswer, Initiate, InitiateAnswer,
+    InitiateDownloadSequence, InitiateUploadSequenceAnswer, ListAttributes, ObjectName, PoolStatus,
+    Read, ReadAnswer, RelinquishControl, ReportPoolSemaphoreStatus, ReportSemaphoreEntryStatus,
+    Segment, SemaphoreStatus, ServiceError, Spec, Status, StatusAnswer, TakeControl,
+    TakeControlAnswer, TerminateDownloadSequence, VariableAttributes, Write, WriteAnswer,
 };
 
-/// What a client asks of the server (ISO 9506-2, ConfirmedServiceRequest): a variant for each service, with its
-/// argument.
+/// What a client asks of the server (ISO 9506-2, ConfirmedServiceRequest): a variant for each service that clients ask,
+/// with its argument.
 pub enum Request {
     /// The state of the device.
     Status(Status),
@@ -46,10 +47,22 @@ pub enum Request {
     ReportPoolSemaphoreStatus(ReportPoolSemaphoreStatus),
     /// The entries of a semaphore.
     ReportSemaphoreEntryStatus(ReportSemaphoreEntryStatus),
+    /// A domain is to be loaded.
+    InitiateDownloadSequence(InitiateDownloadSequence),
+    /// The domain of this name is to be sent back.
+    InitiateUploadSequence(Identifier),
+    /// The next piece of the upload of this number.
+    UploadSegment(i32),
+    /// The end of the upload of this number.
+    TerminateUploadSequence(i32),
+    /// The deletion of the domain of this name.
+    DeleteDomain(Identifier),
+    /// What the domain of this name is.
+    GetDomainAttributes(Identifier),
 }
 
-/// What the server answers to a request (ISO 9506-2, ConfirmedServiceResponse): a variant for each service, with what
-/// it answers.
+/// What the server answers to a request (ISO 9506-2, ConfirmedServiceResponse): a variant for each service that clients
+/// ask, with what it answers.
 pub enum Answer {
     /// The state of the device.
     Status(StatusAnswer),
@@ -87,6 +100,36 @@ pub enum Answer {
     ReportPoolSemaphoreStatus(PoolStatus),
     /// The entries of the semaphore, and whether more come after them.
     ReportSemaphoreEntryStatus(EntryStatuses),
+    /// The load has begun.
+    InitiateDownloadSequence,
+    /// The upload has begun.
+    InitiateUploadSequence(InitiateUploadSequenceAnswer),
+    /// A piece of the domain.
+    UploadSegment(Segment),
+    /// The upload has ended.
+    TerminateUploadSequence,
+    /// The domain was deleted.
+    DeleteDomain,
+    /// What the domain is.
+    GetDomainAttributes(DomainAttributes),
+}
+
+/// What the server asks of a client (ISO 9506-2, ConfirmedServiceRequest): a variant for each service that the server
+/// asks, with its argument.
+pub enum ServerRequest {
+    /// The next segment of the domain of this name.
+    DownloadSegment(Identifier),
+    /// The end of a load.
+    TerminateDownloadSequence(TerminateDownloadSequence),
+}
+
+/// What a client answers to a request of the server (ISO 9506-2, ConfirmedServiceResponse): a variant for each service
+/// that the server asks, with what the client answers.
+pub enum ClientAnswer {
+    /// A segment of the domain.
+    DownloadSegment(Segment),
+    /// The load has ended.
+    TerminateDownloadSequence,
 }
 
 /// Why a PDU is rejected (ISO 9506-2, RejectPDU): the reasons that the server gives.
@@ -121,10 +164,14 @@ pub struct Reject {
 /// A PDU (ISO 9506-2, MMSpdu). Of some PDUs less is kept where a client sent them than where the
 /// server sends them; these have a variant for each of the two.
 pub enum Pdu {
-    /// A confirmed-Request, without modifiers.
+    /// A confirmed-Request that a client sent, without modifiers.
     ConfirmedRequest { invoke: u32, request: Request },
-    /// A confirmed-Response.
+    /// A confirmed-Request that the server sends.
+    ServerRequest { invoke: u32, request: ServerRequest },
+    /// A confirmed-Response that the server sends.
     ConfirmedResponse { invoke: u32, answer: Answer },
+    /// A confirmed-Response that a client sent.
+    HeardResponse { invoke: u32, answer: ClientAnswer },
     /// A confirmed-Error that the server sends.
     ConfirmedError(ConfirmedError),
     /// A confirmed-Error that a client sent: the invokeID alone is read.
@@ -176,6 +223,12 @@ impl Drop for Request {
             Request::ReportSemaphoreStatus(_x) => {}
             Request::ReportPoolSemaphoreStatus(_x) => {}
             Request::ReportSemaphoreEntryStatus(_x) => {}
+            Request::InitiateDownloadSequence(_x) => {}
+            Request::InitiateUploadSequence(_x) => {}
+            Request::UploadSegment(_) => {}
+            Request::TerminateUploadSequence(_) => {}
+            Request::DeleteDomain(_x) => {}
+            Request::GetDomainAttributes(_x) => {}
         }
     }
 }
@@ -201,6 +254,30 @@ impl Drop for Answer {
             Answer::ReportSemaphoreStatus(_x) => {}
             Answer::ReportPoolSemaphoreStatus(_x) => {}
             Answer::ReportSemaphoreEntryStatus(_x) => {}
+            Answer::InitiateDownloadSequence => {}
+            Answer::InitiateUploadSequence(_x) => {}
+            Answer::UploadSegment(_x) => {}
+            Answer::TerminateUploadSequence => {}
+            Answer::DeleteDomain => {}
+            Answer::GetDomainAttributes(_x) => {}
+        }
+    }
+}
+
+impl Drop for ServerRequest {
+    fn drop(self) {
+        match self {
+            ServerRequest::DownloadSegment(_x) => {}
+            ServerRequest::TerminateDownloadSequence(_x) => {}
+        }
+    }
+}
+
+impl Drop for ClientAnswer {
+    fn drop(self) {
+        match self {
+            ClientAnswer::DownloadSegment(_x) => {}
+            ClientAnswer::TerminateDownloadSequence => {}
         }
     }
 }
@@ -212,7 +289,15 @@ impl Drop for Pdu {
                 invoke: _,
                 request: _x,
             } => {}
+            Pdu::ServerRequest {
+                invoke: _,
+                request: _x,
+            } => {}
             Pdu::ConfirmedResponse {
+                invoke: _,
+                answer: _x,
+            } => {}
+            Pdu::HeardResponse {
                 invoke: _,
                 answer: _x,
             } => {}

@@ -6,6 +6,8 @@ use Rattle.ber_forms.specs.Form.{Form, Alternatives}
 use Rattle.mms_types.specs.declared.identifier.Edition.{Edition}
 use Rattle.mms_types.specs.declared.pdu.Request.{Request}
 use Rattle.mms_types.specs.declared.pdu.Answer.{Answer}
+use Rattle.mms_types.specs.declared.pdu.ServerRequest.{ServerRequest}
+use Rattle.mms_types.specs.declared.pdu.ClientAnswer.{ClientAnswer}
 use Rattle.mms_types.specs.Spelling.{widest}
 use Rattle.pdu_names.specs.Alike.{SpellAlike, ChoicesAlike, or_alike}
 use Rattle.pdu_names.specs.Kinds.{Kind, Arms}
@@ -20,20 +22,21 @@ pub record Arm (R : Type 0) : Type 0 where
 abbrev pub arm : {R X : Type 0} → ℕ → Kind X → (X → R) → Arm R
 arm n k make = record { number = n; form = k.form; made = λ v. make (k.said v); alike = k.alike }
 
--- a confirmed service: what it asks and what it answers, under one number
-pub record Service : Type 0 where
-  pub asks : Arm Request
-  pub answers : Arm Answer
+-- A confirmed service, what is asked and what is answered under one number: clients ask it and the server answers, or the server asks it
+-- and a client answers.
+pub data Service : Type 0 where
+  of_clients : Arm Request → Arm Answer → Service
+  of_server : Arm ServerRequest → Arm ClientAnswer → Service
 
--- a service by its number, with the kind of its argument and that of its result
+-- a service that clients ask, by its number, with the kind of its argument and that of its result
 abbrev pub service : {X Y : Type 0} → ℕ → Kind X → (X → Request) → Kind Y → (Y → Answer) → Service
-service n argument asked result told = record { asks = arm n argument asked; answers = arm n result told }
+service n argument asked result told = of_clients (arm n argument asked) (arm n result told)
+
+-- and one that the server asks
+abbrev pub server_service : {X Y : Type 0} → ℕ → Kind X → (X → ServerRequest) → Kind Y → (Y → ClientAnswer) → Service
+server_service n argument asked result told = of_server (arm n argument asked) (arm n result told)
 
 -- ---- several alternatives
-
-abbrev pub numbers_of : {R : Type 0} → List (Arm R) → List ℕ
-numbers_of [] = []
-numbers_of (a ∷ more) = a.number ∷ numbers_of more
 
 abbrev pub forms_of : {R : Type 0} → List (Arm R) → Edition → Alternatives
 forms_of [] edition = asn.no_other

@@ -14,9 +14,9 @@ use mms_types::{Answer, Boxed, Edition, Request};
 use std::alloc::Global;
 
 /// An area: services that stand together (ISO 9506-2, ConfirmedServiceRequest and ConfirmedServiceResponse). It has
-/// four functions by number.
+/// three functions by number.
 pub trait Area {
-    /// Its services: what they ask and what they answer.
+    /// Its services, and what clients ask of it and it answers.
     ghost area: { Area };
 
     /// The request of the service under the element's number. None where the area has no such service; otherwise
@@ -35,14 +35,6 @@ pub trait Area {
             ++ octets_if (forms_of area.requests.arms widest) (area.requests.value request.now)) }
         ensures own { IfOk result (λ own. own ≡ is_some (area.requests.value request.now)) }
         ensures err { OnErr result (out.new ≡ out.old) };
-
-    /// The answer of the service under the element's number, as `read_request` has it.
-    fn read_answer(
-        alloc: Global,
-        service: Element<'_>,
-        edition: Edition,
-    ) -> Result<Option<Answer>, Unread>
-        ensures { GivesUnder area.answers edition (part service.entry) result };
 
     /// Appends the answer with its number, where it is one of the area, as `put_request` does.
     fn put_answer(out: &mut Writer, answer: &Answer) -> Result<bool, Full>

@@ -65,6 +65,7 @@ answers_sound e = refl
 
 abbrev pub device_area : Area
 device_area = record {
+  services = device_services;
   requests = record { arms = asks_of device_services; value = device_asked; again = asked_again; sound = asks_sound };
   answers = record { arms = answers_of device_services; value = device_answered; again = answered_again; sound = answers_sound };
 }

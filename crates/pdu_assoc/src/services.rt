@@ -47,22 +47,6 @@ impl Area for DeviceServices {
     }
 
     #[inline]
-    fn read_answer(
-        alloc: Global,
-        service: Element<'_>,
-        edition: Edition,
-    ) -> Result<Option<Answer>, Unread> {
-        match service.tag.number {
-            0 => Ok(Some(Answer::Status(read_as::<StatusResponse>(alloc, service, edition)?))),
-            1 => Ok(Some(Answer::GetNameList(read_as::<GetNameListResponse>(
-                alloc, service, edition,
-            )?))),
-            2 => Ok(Some(Answer::Identify(read_as::<IdentifyResponse>(alloc, service, edition)?))),
-            _ => Ok(None),
-        }
-    }
-
-    #[inline]
     fn put_answer(out: &mut Writer, answer: &Answer) -> Result<bool, Full> {
         match answer {
             Answer::Status(x) => own(StatusResponse::put_part(out, 0, x)),

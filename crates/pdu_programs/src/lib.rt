@@ -7,6 +7,7 @@
 mod attributes;
 mod download;
 mod invocations;
+mod services;
 mod texts;
 mod upload;
 
@@ -22,6 +23,7 @@ pub use invocations::{
     GetProgramInvocationAttributesRequest, GetProgramInvocationAttributesResponse, KillRequest,
     ResetRequest, ResumeRequest, SomeDomains, StartRequest, StopRequest,
 };
+pub use services::{ClientAnswers, DomainServices, ServerRequests};
 pub use texts::{Capability, InText};
 pub use upload::{
     InitiateUploadSequenceRequest, InitiateUploadSequenceResponse, TerminateUploadSequenceRequest,

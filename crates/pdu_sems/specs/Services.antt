@@ -88,6 +88,7 @@ answers_sound e = refl
 
 abbrev pub semaphore_area : Area
 semaphore_area = record {
+  services = semaphore_services;
   requests = record { arms = asks_of semaphore_services; value = semaphore_asked; again = asked_again; sound = asks_sound };
   answers = record { arms = answers_of semaphore_services; value = semaphore_answered; again = answered_again; sound = answers_sound };
 }

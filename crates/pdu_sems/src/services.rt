@@ -76,41 +76,6 @@ impl Area for SemaphoreServices {
     }
 
     #[inline]
-    fn read_answer(
-        alloc: Global,
-        service: Element<'_>,
-        edition: Edition,
-    ) -> Result<Option<Answer>, Unread> {
-        match service.tag.number {
-            19 => Ok(Some(Answer::TakeControl(read_as::<TakeControlResponse>(
-                alloc, service, edition,
-            )?))),
-            20 => {
-                read_as::<Null>(alloc, service, edition)?;
-                Ok(Some(Answer::RelinquishControl))
-            }
-            21 => {
-                read_as::<Null>(alloc, service, edition)?;
-                Ok(Some(Answer::DefineSemaphore))
-            }
-            22 => {
-                read_as::<Null>(alloc, service, edition)?;
-                Ok(Some(Answer::DeleteSemaphore))
-            }
-            23 => Ok(Some(Answer::ReportSemaphoreStatus(read_as::<ReportSemaphoreStatusResponse>(
-                alloc, service, edition,
-            )?))),
-            24 => Ok(Some(Answer::ReportPoolSemaphoreStatus(read_as::<
-                ReportPoolSemaphoreStatusResponse,
-            >(alloc, service, edition)?))),
-            25 => Ok(Some(Answer::ReportSemaphoreEntryStatus(read_as::<
-                ReportSemaphoreEntryStatusResponse,
-            >(alloc, service, edition)?))),
-            _ => Ok(None),
-        }
-    }
-
-    #[inline]
     fn put_answer(out: &mut Writer, answer: &Answer) -> Result<bool, Full> {
         match answer {
             Answer::TakeControl(x) => own(TakeControlResponse::put_part(out, 19, x)),

@@ -96,6 +96,7 @@ answers_sound e = rw (accesses_sound e, access_results_sound e, type_sound e, sp
 
 abbrev pub variable_area : Area
 variable_area = record {
+  services = variable_services;
   requests = record { arms = asks_of variable_services; value = variable_asked; again = asked_again; sound = asks_sound };
   answers = record { arms = answers_of variable_services; value = variable_answered; again = answered_again; sound = answers_sound };
 }

@@ -82,39 +82,6 @@ impl Area for VariableServices {
     }
 
     #[inline]
-    fn read_answer(
-        alloc: Global,
-        service: Element<'_>,
-        edition: Edition,
-    ) -> Result<Option<Answer>, Unread> {
-        match service.tag.number {
-            4 => Ok(Some(Answer::Read(read_as::<ReadResponse>(alloc, service, edition)?))),
-            5 => Ok(Some(Answer::Write(read_as::<WriteResponse>(alloc, service, edition)?))),
-            6 => Ok(Some(Answer::GetVariableAccessAttributes(read_as::<
-                GetVariableAccessAttributesResponse,
-            >(alloc, service, edition)?))),
-            7 => {
-                read_as::<Null>(alloc, service, edition)?;
-                Ok(Some(Answer::DefineNamedVariable))
-            }
-            10 => Ok(Some(Answer::DeleteVariableAccess(read_as::<DeleteVariableAccessResponse>(
-                alloc, service, edition,
-            )?))),
-            11 => {
-                read_as::<Null>(alloc, service, edition)?;
-                Ok(Some(Answer::DefineNamedVariableList))
-            }
-            12 => Ok(Some(Answer::GetNamedVariableListAttributes(read_as::<
-                GetNamedVariableListAttributesResponse,
-            >(alloc, service, edition)?))),
-            13 => Ok(Some(Answer::DeleteNamedVariableList(read_as::<
-                DeleteNamedVariableListResponse,
-            >(alloc, service, edition)?))),
-            _ => Ok(None),
-        }
-    }
-
-    #[inline]
     fn put_answer(out: &mut Writer, answer: &Answer) -> Result<bool, Full> {
         match answer {
             Answer::Read(x) => own(ReadResponse::put_part(out, 4, x)),
