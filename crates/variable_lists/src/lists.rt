@@ -1,6 +1,7 @@
 ghost use Rattle.std.specs.Prelude.{◌≡◌, ◌≢◌, ◌==◌, ◌<◌, ◌↔◌, [], Bool, IfOk, IfSome, IsSome, None, OnErr, OnOk, Some, length, nat_lt, slice_get, take};
 ghost use Rattle.std.specs.Option.{option_copied};
 ghost use Rattle.object_names.specs.Listing.{names_after};
+ghost use Rattle.object_names.specs.Scopes.{has_any_of};
 ghost use Rattle.object_names.specs.Selected.{selected};
 ghost use Rattle.variable_lists.specs.Lists.{attributes, define_cause, defined, deletion, members, without, without_client};
 
@@ -164,6 +165,13 @@ impl Lists {
         ensures { self.new ≡ without_client client self.old }
     {
         self.rows.remove_all_of(&Scope::Association(client));
+    }
+
+    /// Whether some list has a name of that scope. It takes no memory.
+    pub fn has_any_of(&self, scope: &Scope) -> bool
+        ensures { result ≡ has_any_of scope.now self.now }
+    {
+        self.rows.has_any_of(scope)
     }
 
     /// The names of lists of a scope that come after that one, which need not be there, in order of octets: the first

@@ -4,6 +4,7 @@ ghost use Rattle.std.specs.Prelude.{◌≡◌, ◌≢◌, Bool, IfOk, None, OnEr
 ghost use Rattle.std.specs.Option.{option_copied};
 ghost use Rattle.object_names.specs.Listing.{names_after};
 ghost use Rattle.object_names.specs.NewName.{is_of_domain};
+ghost use Rattle.object_names.specs.Scopes.{has_any_of};
 ghost use Rattle.variables.specs.Rows.{cell_at, variable_named};
 ghost use Rattle.variables.specs.Definitions.{attributes, attributes_of_cell, define_cause, defined, has_other_type};
 
@@ -110,6 +111,13 @@ impl Vars {
         };
         self.variables.insert(key, variable)?;
         Ok(())
+    }
+
+    /// Whether some variable has a name of that scope. It takes no memory.
+    pub fn has_any_of(&self, scope: &Scope) -> bool
+        ensures { result ≡ has_any_of scope.now self.now.variables }
+    {
+        self.variables.has_any_of(scope)
     }
 
     /// The names of variables of a scope that come after that one, which need not be there, in order of octets: the
