@@ -4,7 +4,7 @@ ghost use Rattle.std.specs.Map.{lookup};
 ghost use Rattle.mms_types.specs.declared.asked.Reply.TheVariants as reply;
 ghost use Rattle.mms_types.specs.declared.asked.Also.TheVariants.{Ask};
 ghost use Rattle.mms_types.specs.declared.asked.Asked.TheVariants.{Discard, Segment, Terminate};
-ghost use Rattle.domain_load.specs.Loading.{also_asked, answers_load, changed, initiate_after, initiate_cause, is_of_load, loaded, reply_after, with_segment, would_pass};
+ghost use Rattle.domain_load.specs.Loading.{also_asked, answers_load, asked_next, changed, initiate_after, initiate_cause, is_of_load, loaded, reply_after, with_segment, would_pass};
 ghost use Rattle.domain_load.specs.Domains.{is_there, name_eq};
 ghost use Rattle.domain_load.specs.Standing.{is_loaded_by};
 
@@ -103,6 +103,35 @@ impl Domains {
                 self.delete(domain);
                 Ok(also)
             }
+        }
+    }
+
+    /// What the client is asked next where it has answered that, if anything is. Nothing changes yet, and no memory is
+    /// taken.
+    pub fn asked_next(&self, reply: &Reply) -> Option<Asked>
+        ensures { result ≡ asked_next reply.now self.now }
+    {
+        match reply {
+            Reply::Segment {
+                domain,
+                octets,
+                more,
+            } => Some(asked_after(self.passes(domain, octets.len()), *more)),
+            Reply::Ended { .. } => None,
+            Reply::Failed { asked, .. } => match asked {
+                Asked::Segment => Some(Asked::Discard),
+                Asked::Terminate | Asked::Discard => None,
+            },
+        }
+    }
+
+    /// Whether the domain of that name is there and would have too many octets with so many more.
+    fn passes(&self, name: &Identifier, more: usize) -> bool
+        ensures { result ≡ is_there (would_pass more) name.now self.now }
+    {
+        match self.named(name) {
+            None => false,
+            Some(domain) => domain.would_pass(more),
         }
     }
 
