@@ -1,12 +1,13 @@
 -- A confirmed request to an area of the device (ISO 9506-1): what it asks, why it is refused, and what it does otherwise.
-use Rattle.std.specs.Prelude.{◌≡◌, ℕ, Bool, true, false, List, [], ◌∷◌, ◌++◌, Option, None, Some, ◌⊎◌, if◌then◌else◌}
+use Rattle.std.specs.Prelude.{◌≡◌, ℕ, Bool, true, false, ◌&&◌, List, [], ◌∷◌, ◌++◌, Option, None, Some, is_none, ◌⊎◌, if◌then◌else◌}
+use Rattle.std.specs.List.{list_any}
 use Rattle.mms_types.specs.declared.object_name.ObjectName.{ObjectName}
 use Rattle.mms_types.specs.declared.object_name.ObjectName.TheVariants as name
 use Rattle.mms_types.specs.declared.service_error.ServiceError.{ServiceError}
 use Rattle.mms_types.specs.declared.pdu.Answer.{Answer}
-use Rattle.association.specs.Client.{ClientRow, Client as RoomyRow}
+use Rattle.association.specs.Client.{ClientRow, Client as RoomyRow, next_ask}
 use Rattle.association.specs.declared.waiting.Waiting.{Waiting}
-use Rattle.cell_client.specs.Effects.{Effect, Waits, felt_all, settled, tell, waits_told}
+use Rattle.cell_client.specs.Effects.{Effect, Waits, felt_all, is_ask, settled, tell, waits_told}
 use Rattle.cell_client.specs.Facts.{Question, Facts}
 use Rattle.cell_client.specs.Requests.{is_done, request_told, size_of}
 
@@ -39,6 +40,12 @@ is_of_domain (name.Domain domain item) = true
 is_of_domain (name.Vmd item) = false
 is_of_domain (name.Association item) = false
 
+-- the domain of which it is a name
+abbrev pub domain_in : ObjectName → Option (List ℕ)
+domain_in (name.Domain domain item) = Some domain
+domain_in (name.Vmd item) = None
+domain_in (name.Association item) = None
+
 -- ---- a request, settled on the row of its client and the table of its area
 
 module _ {A : Type 0} (r : RequestIn A) (facts : Facts) (row : ClientRow) (invoke : ℕ) where
@@ -53,6 +60,10 @@ module _ {A : Type 0} (r : RequestIn A) (facts : Facts) (row : ClientRow) (invok
   -- what its client is told
   abbrev pub own_told_in : A → List Effect
   own_told_in own = request_told (size_of row.association) invoke (r.cause facts own row) (r.effect facts own row invoke).answer
+
+  -- it would ask the client something, and no number is left for that
+  abbrev pub lacks_number_in : A → Bool
+  lacks_number_in own = is_done_in own && list_any (λ told. is_ask told.1) (r.effect facts own row invoke).also && is_none (next_ask row)
 
   -- and what is told besides
   abbrev pub also_in : A → List (ℕ × Effect)

@@ -6,14 +6,16 @@ use Rattle.mms_pdu.specs.declared.reading.Read.{Read}
 use Rattle.mms_pdu.specs.declared.refusal.Refusal.{Refusal}
 use Rattle.association.specs.Client.{ClientRow}
 use Rattle.association.specs.Negotiation.{negotiation}
+use Rattle.cell_client.specs.declared.verdict.Came.{Came as CameBorrowed}
+use Rattle.cell_client.specs.declared.verdict.Came.TheVariants as borrowed
 use Rattle.cell_client.specs.declared.acts.Act.{Act}
 use Rattle.cell_client.specs.declared.acts.Act.TheVariants as act
 use Rattle.cell_client.specs.declared.verdict.Said.{Said}
 use Rattle.cell_client.specs.declared.verdict.Said.TheVariants as said
 use Rattle.cell_client.specs.declared.verdict.Found.{Found}
 use Rattle.cell_client.specs.declared.verdict.Found.TheVariants as found
-use Rattle.cell_client.specs.Association.{Verdict, Tells, Takes, Concludes, Cancels, Aborts, sends, negotiated, further_error, unknown_error, verdict_by}
-use Rattle.cell_client.specs.Effects.{Effect, Sends}
+use Rattle.cell_client.specs.Association.{Verdict, Tells, Takes, Replies, Exhausts, Concludes, Cancels, Aborts, Came, Arrives, Ends, Fails, keeps_open, sends, negotiated, unknown_error, verdict_by}
+use Rattle.cell_client.specs.Effects.{Effect, Sends, Settles}
 use Rattle.cell_client.specs.Reads.{pdu_read}
 use Rattle.cell_client.specs.Requests.{plain_answer, request_told, size_of}
 
@@ -22,12 +24,19 @@ effects_of said.Nothing = []
 effects_of said.Abort = Sends Abort ∷ []
 effects_of (said.Reject reject) = sends (pdu.Reject reject) ∷ []
 effects_of (said.Negotiation proposal) = negotiated (negotiation proposal.now)
-effects_of said.NoConclusion = sends (pdu.ConcludeError further_error) ∷ []
+effects_of said.NoConclusion = keeps_open
 effects_of (said.NoCancel invoke) = sends (pdu.CancelError (record { invoke = invoke; error = unknown_error })) ∷ []
+effects_of (said.Settles number) = Settles number ∷ []
+
+abbrev pub came : CameBorrowed → Came
+came (borrowed.Arrives segment) = Arrives segment.now
+came borrowed.Ends = Ends
+came borrowed.Fails = Fails
 
 abbrev pub meant : Found → Verdict
 meant (found.Tells told) = Tells (effects_of told)
 meant (found.Takes invoke asked) = Takes invoke asked.now
+meant (found.Replies number answer) = Replies number (came answer)
 meant found.Concludes = Concludes
 meant (found.Cancels invoke) = Cancels invoke
 meant found.Aborts = Aborts
@@ -51,7 +60,9 @@ told_alone row other = []
 -- the verdict that is left to be done by what a client does; a loss is none
 abbrev pub act_verdict : Act → Option Verdict
 act_verdict (act.Request invoke asked) = Some (Takes invoke asked.now)
+act_verdict (act.Reply number answer) = Some (Replies number (came answer))
 act_verdict act.Conclusion = Some Concludes
 act_verdict (act.Cancel invoke) = Some (Cancels invoke)
 act_verdict act.Abort = Some Aborts
+act_verdict (act.Exhausts invoke) = Some (Exhausts invoke)
 act_verdict act.Loss = None

@@ -1,13 +1,14 @@
 //! The part of a client, and what becomes of it.
 
-ghost use Rattle.std.specs.Prelude.{◌≡◌, ◌≤◌, nat_le, length, is_none, is_some, true, false, OnOk, OnErr, OnSome, IfOk, IsOk, IfNone, IfSome, [], ◌∷◌, Option, None, Some};
-ghost use Rattle.association.specs.Client.{closed_row, drained_row, new_row};
+ghost use Rattle.std.specs.Prelude.{◌≡◌, ◌≤◌, ◌-◌, nat_le, length, is_none, is_some, true, false, OnOk, OnErr, OnSome, IfOk, IsOk, IfNone, IfSome, [], ◌∷◌, Option, None, Some};
+ghost use Rattle.association.specs.Asked.{is_open};
+ghost use Rattle.association.specs.Client.{closed_row, drained_row, new_row, next_ask};
 ghost use Rattle.association.specs.Negotiation.{negotiation};
 ghost use Rattle.mms_pdu.specs.Pdus.{pdu_octets};
 ghost use Rattle.mms_types.specs.Serves.{Serves};
 ghost use Rattle.mms_types.specs.declared.pdu.Pdu.TheVariants as pdu;
 ghost use Rattle.cell_client.specs.Association.{further_error, negotiated, other_error, sends, unknown_error, Takes};
-ghost use Rattle.cell_client.specs.Effects.{felt, felt_all, settled, Sends};
+ghost use Rattle.cell_client.specs.Effects.{asking_octets, felt, felt_all, server_request, settled, Asks, Sends, Settles};
 ghost use Rattle.cell_client.specs.Meant.{act_verdict, effects_of, told_alone, verdict_read, uses_no_table};
 ghost use Rattle.cell_client.specs.Reads.{IsDeep};
 ghost use Rattle.cell_client.specs.Requests.{fits, identity, is_done, plain_answer, refuses, request_told, size_of};
@@ -18,11 +19,11 @@ use crate::{Act, Found, Said, Told, verdict_of};
 use association::{ClientPart, Constants, outcome_of};
 use mms_pdu::{
     Read, Refusal, Writer, put_answer, put_cancel_error, put_conclude_error, put_confirmed_error,
-    put_initiate_error, put_initiate_response, put_reject,
+    put_initiate_error, put_initiate_response, put_reject, put_server_request,
 };
 use mms_types::{
-    Answer, CancelError, ConfirmedError, Initiate, Memory, Octets, Refuse, Reject, Request,
-    ServiceError, What,
+    Answer, Asked, CancelError, ConfirmedError, Identifier, Initiate, Memory, Octets, Refuse,
+    Reject, Request, ServerRequest, ServiceError, TerminateDownloadSequence, What,
 };
 use std::alloc::Global;
 use std::marker::Model;
@@ -50,6 +51,24 @@ pub fn size_of(part: &ClientPart) -> u32
     match part.negotiated() {
         None => 0,
         Some(values) => values.size,
+    }
+}
+
+/// The request by which that is asked about a domain. A discard says why: the state of the device, a problem of the
+/// transfer.
+fn server_request(kind: Asked, domain: Identifier) -> ServerRequest
+    ensures { result ≡ server_request kind domain }
+{
+    match kind {
+        Asked::Segment => ServerRequest::DownloadSegment(domain),
+        Asked::Terminate => ServerRequest::TerminateDownloadSequence(TerminateDownloadSequence {
+            domain,
+            discard: None,
+        }),
+        Asked::Discard => ServerRequest::TerminateDownloadSequence(TerminateDownloadSequence {
+            domain,
+            discard: Some(ServiceError::DOMAIN_TRANSFER_PROBLEM),
+        }),
     }
 }
 
@@ -191,6 +210,11 @@ impl Client {
             Said::Negotiation(proposal) => self.negotiate(alloc, proposal),
             Said::NoConclusion => self.keep_open(alloc),
             Said::NoCancel(invoke) => self.deny_cancel(alloc, invoke),
+            Said::Settles(number) => {
+                let _settled = self.part.settled(number);
+                self.part.release();
+                Ok(())
+            }
         }
     }
 
@@ -376,6 +400,7 @@ impl Client {
                     Ok(Some(Act::Request { invoke, asked }))
                 }
             }
+            Found::Replies(number, answer) => Ok(Some(Act::Reply { number, answer })),
             Found::Concludes => Ok(Some(Act::Conclusion)),
             Found::Cancels(invoke) => Ok(Some(Act::Cancel { invoke })),
             Found::Aborts => Ok(Some(Act::Abort)),
@@ -386,7 +411,12 @@ impl Client {
     /// where there is room for as many.
     pub fn reserve(&mut self, outputs: usize, waiting: usize) -> Result<(), Memory>
         ensures made { OnOk result (self.new
-            ≡ record { row = self.old.row; output_room = outputs; waiting_room = waiting; asked_room = 0 }) }
+            ≡ record {
+              row = self.old.row;
+              output_room = outputs;
+              waiting_room = waiting;
+              asked_room = 0;
+            }) }
         ensures kept { OnErr result (self.new ≡ self.old) }
         ensures enough { outputs ≤ self.old.output_room → waiting ≤ self.old.waiting_room
             → IsOk result }
@@ -405,7 +435,8 @@ impl Client {
     pub fn tell(&mut self, told: Told)
         requires room { output_count told ≤ self.old.output_room }
         requires waiting { wait_count told ≤ self.old.waiting_room }
-        ensures { self.new ≡ told_row (effect_of told) (output_count told) (wait_count told) self.old }
+        ensures { self.new
+            ≡ told_row (effect_of told) (output_count told) (wait_count told) self.old }
     {
         match told {
             Told::Sends(output) => self.part.push(output),
@@ -423,6 +454,70 @@ impl Client {
         ensures { self.new ≡ told_row (Sends (What.Octets octets)) 1 0 self.old }
     {
         self.part.push(What::Octets(octets));
+    }
+
+    /// The octets by which that is asked of the client about a domain, under that number.
+    pub fn spelled_ask(
+        &mut self,
+        alloc: Global,
+        number: u32,
+        kind: Asked,
+        domain: &Identifier,
+    ) -> Result<Octets, Memory>
+        ensures octets { IfOk result (λ octets. octets ≡ asking_octets number kind domain.now) }
+        ensures kept { self.new ≡ self.old }
+    {
+        let domain = domain.copy(alloc)?;
+        self.out.truncate(0);
+        put_server_request(&mut self.out, number, &server_request(kind, domain))?;
+        Octets::from_slice(alloc, self.out.octets())
+    }
+
+    /// Makes room for so many outputs and for one request of the server, in place of the room that there was. Without
+    /// memory there is none.
+    pub fn reserve_to_ask(&mut self, outputs: usize) -> Result<(), Memory>
+        ensures made { OnOk result (self.new
+            ≡ record {
+              row = self.old.row;
+              output_room = outputs;
+              waiting_room = 0;
+              asked_room = 1;
+            }) }
+        ensures none { OnErr result (self.new ≡ settled self.old.row) }
+    {
+        self.part.release();
+        self.part.reserve(outputs, 0)?;
+        if let Err(error) = self.part.reserve_asked(1) {
+            self.part.release();
+            return Err(error);
+        }
+        Ok(())
+    }
+
+    /// Something is asked of the client about a domain, by those octets. It uses the room for one output and for one
+    /// request of the server.
+    pub fn ask(&mut self, kind: Asked, domain: Identifier, octets: Octets)
+        requires output { 1 ≤ self.old.output_room }
+        requires asked { 1 ≤ self.old.asked_room }
+        requires open { is_open self.old.row.association ≡ true }
+        requires number { next_ask self.old.row ≡ Some self.old.row.next_invoke }
+        requires octets { octets ≡ asking_octets self.old.row.next_invoke kind domain }
+        ensures { self.new ≡ record {
+          row = felt (Asks kind domain) self.old.row;
+          output_room = self.old.output_room - 1;
+          waiting_room = self.old.waiting_room;
+          asked_room = self.old.asked_room - 1;
+        } }
+    {
+        let _number = self.part.ask(kind, domain);
+        self.part.push(What::Octets(octets));
+    }
+
+    /// The server's request of that number isn't unanswered any more. The room stays.
+    pub fn settles(&mut self, number: u32)
+        ensures { self.new ≡ record self.old { row = felt (Settles number) self.old.row } }
+    {
+        let _settled = self.part.settled(number);
     }
 
     /// Hands on what is to be sent.

@@ -3,14 +3,15 @@
 ghost use Rattle.std.specs.Prelude.{◌≡◌, true, false, IfOk, MatchOption, Some};
 ghost use Rattle.mms_pdu.specs.Pdus.{pdu_octets};
 ghost use Rattle.mms_types.specs.declared.pdu.Pdu.TheVariants as pdu;
-ghost use Rattle.cell_client.specs.Association.{sends};
+ghost use Rattle.cell_client.specs.Association.{further_error, sends};
 ghost use Rattle.cell_client.specs.Effects.{Sends};
 ghost use Rattle.cell_client.specs.Requests.{fits, refuses};
 ghost use Rattle.cell_client.specs.Telling.{effect_of};
 
 use crate::Told;
 use mms_pdu::{
-    Writer, put_answer, put_cancel_response, put_conclude_response, put_confirmed_error,
+    Writer, put_answer, put_cancel_response, put_conclude_error, put_conclude_response,
+    put_confirmed_error,
 };
 use mms_types::{Answer, ConfirmedError, Memory, Octets, ServiceError, What};
 use std::alloc::Global;
@@ -71,6 +72,15 @@ pub fn conclude_response(alloc: Global) -> Result<Told, Memory>
 {
     let mut out = Writer::new(alloc);
     put_conclude_response(&mut out)?;
+    sent(alloc, &out)
+}
+
+/// A client is sent a conclude-Error: further communication is required.
+pub fn conclude_error(alloc: Global) -> Result<Told, Memory>
+    ensures { IfOk result (λ told. effect_of told ≡ sends (pdu.ConcludeError further_error)) }
+{
+    let mut out = Writer::new(alloc);
+    put_conclude_error(&mut out, &ServiceError::FURTHER_COMMUNICATION_REQUIRED)?;
     sent(alloc, &out)
 }
 

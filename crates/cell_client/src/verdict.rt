@@ -1,15 +1,18 @@
 //! What the octets of a client come to, before any service is asked.
 
-ghost use Rattle.std.specs.Prelude.{◌≡◌, nat_lt, Ok, Err, IfOk, OnOk, Result};
+ghost use Rattle.std.specs.Prelude.{◌≡◌, nat_lt, None, Some, Ok, Err, IfOk, OnOk, Result};
 ghost use Rattle.association.specs.Admission.{admission};
+ghost use Rattle.association.specs.Asked.{asked_of};
 ghost use Rattle.association.specs.Waiting.{is_waiting};
-ghost use Rattle.cell_client.specs.Association.{admitted, cancelled, concluded, idle_verdict, open_verdict, requested, verdict_by};
+ghost use Rattle.cell_client.specs.Association.{admitted, answered_by, cancelled, concluded, failed_by, heard_error, heard_response, idle_verdict, open_verdict, rejected, requested, verdict_by};
 ghost use Rattle.cell_client.specs.Meant.{meant};
 ghost use Rattle.cell_client.specs.Reads.{pdu_read, IsDeep};
 
 use association::{ClientPart, Negotiated, NotAdmitted};
 use mms_pdu::{Read, Refusal, reject_for};
-use mms_types::{Initiate, Memory, Pdu, Reject, RejectReason, Request};
+use mms_types::{
+    Asked, ClientAnswer, Initiate, Memory, Pdu, Reject, RejectReason, Request, Segment,
+};
 
 /// What a client is told at once.
 #[derive(Clone, Copy)]
@@ -23,6 +26,20 @@ pub enum Said<'a> {
     NoConclusion,
     /// There is nothing to cancel: invoke-id-unknown.
     NoCancel(u32),
+    /// Nothing, but the server's request of that number isn't unanswered any more.
+    Settles(u32),
+}
+
+/// What a client answers to a request of the server that is of a load (ISO 9506-2, DownloadSegment and
+/// TerminateDownloadSequence).
+#[derive(Clone, Copy)]
+pub enum Came<'a> {
+    /// A segment of the domain.
+    Arrives(&'a Segment),
+    /// The load has ended.
+    Ends,
+    /// It is an error or a reject.
+    Fails,
 }
 
 /// What octets come to. A request is the one that was read.
@@ -32,7 +49,9 @@ pub enum Found<'a> {
     Tells(Said<'a>),
     /// The request of that invokeID is to be served.
     Takes(u32, &'a Request),
-    /// A conclusion that no waiting request refuses.
+    /// The server's request of that number, which is of a load, is answered.
+    Replies(u32, Came<'a>),
+    /// A conclusion that neither a waiting nor an unanswered request refuses.
     Concludes,
     /// The request of that invokeID, which waits, is cancelled.
     Cancels(u32),
@@ -41,7 +60,7 @@ pub enum Found<'a> {
 }
 
 /// A request is rejected.
-fn rejected<'a>(invoke: u32, reason: RejectReason) -> Found<'a>
+fn rejects<'a>(invoke: u32, reason: RejectReason) -> Found<'a>
     ensures { result ≡ Found.Tells
         (Said.Reject (record { invoke = Some invoke; reason = reason })) }
 {
@@ -78,22 +97,22 @@ fn asked<'a>(
         (nat_lt values.now.nesting depth) part.now.row invoke request.now }
 {
     if depth > values.nesting {
-        return rejected(invoke, RejectReason::MaxRecursionExceeded);
+        return rejects(invoke, RejectReason::MaxRecursionExceeded);
     }
     match part.admit(invoke) {
         Ok(()) => Found::Takes(invoke, request),
-        Err(NotAdmitted::Waiting) => rejected(invoke, RejectReason::InvalidInvokeId),
+        Err(NotAdmitted::Waiting) => rejects(invoke, RejectReason::InvalidInvokeId),
         Err(NotAdmitted::Outstanding) => {
-            rejected(invoke, RejectReason::MaxServOutstandingExceeded)
+            rejects(invoke, RejectReason::MaxServOutstandingExceeded)
         }
     }
 }
 
 /// What a conclusion comes to.
 fn conclusion<'a>(part: &ClientPart) -> Found<'a>
-    ensures { meant result ≡ concluded part.now.row.waiting }
+    ensures { meant result ≡ concluded part.now.row.waiting part.now.row.asked }
 {
-    if part.has_waiting() {
+    if part.has_waiting() || part.unanswered() > 0 {
         Found::Tells(Said::NoConclusion)
     } else {
         Found::Concludes
@@ -108,6 +127,79 @@ fn cancel<'a>(part: &ClientPart, invoke: u32) -> Found<'a>
         Found::Cancels(invoke)
     } else {
         Found::Tells(Said::NoCancel(invoke))
+    }
+}
+
+/// What answers no request of the server as it was asked is invalid.
+fn invalid<'a>() -> Found<'a>
+    ensures { result ≡ Found.Tells
+        (Said.Reject (record { invoke = None; reason = RejectReason.InvalidPdu })) }
+{
+    Found::Tells(Said::Reject(Reject {
+        invoke: None,
+        reason: RejectReason::InvalidPdu,
+    }))
+}
+
+/// What a positive answer comes to, where that is asked by the request of its number.
+fn answered<'a>(number: u32, asked: Asked, answer: &'a ClientAnswer) -> Found<'a>
+    ensures { meant result ≡ answered_by number asked answer.now }
+{
+    match (asked, answer) {
+        (Asked::Segment, ClientAnswer::DownloadSegment(segment)) => {
+            Found::Replies(number, Came::Arrives(segment))
+        }
+        (Asked::Terminate, ClientAnswer::TerminateDownloadSequence) => {
+            Found::Replies(number, Came::Ends)
+        }
+        (Asked::Discard, ClientAnswer::TerminateDownloadSequence) => {
+            Found::Tells(Said::Settles(number))
+        }
+        _ => invalid(),
+    }
+}
+
+/// What an error or a reject comes to, where that is asked by the request of its number.
+fn failed<'a>(number: u32, asked: Asked) -> Found<'a>
+    ensures { meant result ≡ failed_by number asked }
+{
+    match asked {
+        Asked::Segment | Asked::Terminate => Found::Replies(number, Came::Fails),
+        Asked::Discard => Found::Tells(Said::Settles(number)),
+    }
+}
+
+/// What a confirmed response comes to.
+fn response<'a>(part: &ClientPart, number: u32, answer: &'a ClientAnswer) -> Found<'a>
+    ensures { meant result
+        ≡ heard_response number answer.now (asked_of number part.now.row.asked) }
+{
+    match part.asked(number) {
+        None => invalid(),
+        Some((asked, _)) => answered(number, asked, answer),
+    }
+}
+
+/// What a confirmed error comes to.
+fn error<'a>(part: &ClientPart, number: u32) -> Found<'a>
+    ensures { meant result ≡ heard_error number (asked_of number part.now.row.asked) }
+{
+    match part.asked(number) {
+        None => invalid(),
+        Some((asked, _)) => failed(number, asked),
+    }
+}
+
+/// What a reject comes to.
+fn reject<'a>(part: &ClientPart, number: Option<u32>) -> Found<'a>
+    ensures { meant result ≡ rejected number part.now.row.asked }
+{
+    let Some(number) = number else {
+        return Found::Tells(Said::Nothing);
+    };
+    match part.asked(number) {
+        None => Found::Tells(Said::Nothing),
+        Some((asked, _)) => failed(number, asked),
     }
 }
 
@@ -132,15 +224,13 @@ fn open<'a>(
         Pdu::ConfirmedRequest { invoke, request } => {
             asked(values, part, read.depth, *invoke, request)
         }
-        Pdu::ConfirmedResponse { .. } | Pdu::HeardError { .. } => {
-            Found::Tells(Said::Reject(Reject {
-                invoke: None,
-                reason: RejectReason::InvalidPdu,
-            }))
-        }
-        Pdu::ConfirmedError(_)
+        Pdu::HeardResponse { invoke, answer } => response(part, *invoke, answer),
+        Pdu::HeardError { invoke } => error(part, *invoke),
+        Pdu::HeardReject { invoke } => reject(part, *invoke),
+        Pdu::ServerRequest { .. }
+        | Pdu::ConfirmedResponse { .. }
+        | Pdu::ConfirmedError(_)
         | Pdu::Reject(_)
-        | Pdu::HeardReject { .. }
         | Pdu::CancelResponse { .. }
         | Pdu::CancelError(_)
         | Pdu::HeardOther
