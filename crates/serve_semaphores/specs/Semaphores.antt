@@ -21,14 +21,14 @@ use Rattle.sem_ticks.specs.Granted.{relinquish_granted}
 use Rattle.sem_ticks.specs.declared.granted.Granted.{Granted}
 use Rattle.cell_client.specs.Association.{sends}
 use Rattle.cell_client.specs.Effects.{Effect, Answers, Waits}
-use Rattle.cell_client.specs.Areas.{OutcomeIn, RequestIn, answers, changes, is_of_domain}
+use Rattle.cell_client.specs.Areas.{OutcomeIn, RequestIn, answers, changes, domain_in, is_of_domain}
 use Rattle.cell_client.specs.Facts.{Question, Now, Live}
 use Rattle.mms_types.specs.declared.area.SemaphoreRequest.{SemaphoreRequest}
 use Rattle.mms_types.specs.declared.area.SemaphoreRequest.TheVariants as request
 
--- the moment, and whether the domain of a name is live
-abbrev pub at_its_moment : Bool → List Question
-at_its_moment of_domain = Now ∷ Live of_domain ∷ []
+-- the moment, and whether a domain is live, where it has to be
+abbrev pub at_its_moment : Bool → Option (List ℕ) → List Question
+at_its_moment of_domain domain = Now ∷ Live of_domain domain ∷ []
 
 -- ---- TakeControl
 
@@ -44,7 +44,7 @@ taken now client invoke x rows (Some (Waiting entry)) = record {
 
 abbrev pub take_control : TakeControl → RequestIn Rows
 take_control x = record {
-  words = at_its_moment (is_of_domain x.name);
+  words = at_its_moment (is_of_domain x.name) None;
   more = λ rows row. [];
   cause = λ facts rows row. semaphore.take_cause row.client x rows;
   effect = λ facts rows row invoke. taken facts.now row.client invoke x rows (semaphore.take_told row.client x rows);
@@ -70,7 +70,7 @@ given_back now client x rows (Some grant) = record {
 
 abbrev pub relinquish_control : RelinquishControl → RequestIn Rows
 relinquish_control x = record {
-  words = at_its_moment (is_of_domain x.name);
+  words = at_its_moment (is_of_domain x.name) None;
   more = λ rows row. [];
   cause = λ facts rows row. semaphore.relinquish_cause row.client x rows;
   effect = λ facts rows row invoke. given_back facts.now row.client x rows (relinquish_granted row.client x rows);
@@ -81,7 +81,7 @@ relinquish_control x = record {
 -- DefineSemaphore
 abbrev pub define_semaphore : DefineSemaphore → RequestIn Rows
 define_semaphore x = record {
-  words = at_its_moment (is_of_domain x.name);
+  words = at_its_moment (is_of_domain x.name) (domain_in x.name);
   more = λ rows row. [];
   cause = λ facts rows row. semaphore.define_cause facts.live row.client x rows;
   effect = λ facts rows row invoke. changes (semaphore.define_after row.client x rows) answer.DefineSemaphore;
@@ -90,7 +90,7 @@ define_semaphore x = record {
 -- DeleteSemaphore
 abbrev pub delete_semaphore : ObjectName → RequestIn Rows
 delete_semaphore x = record {
-  words = at_its_moment (is_of_domain x);
+  words = at_its_moment (is_of_domain x) None;
   more = λ rows row. [];
   cause = λ facts rows row. semaphore.delete_cause row.client x rows;
   effect = λ facts rows row invoke. changes (semaphore.delete_after row.client x rows) answer.DeleteSemaphore;
@@ -99,7 +99,7 @@ delete_semaphore x = record {
 -- ReportSemaphoreStatus
 abbrev pub report_status : ObjectName → RequestIn Rows
 report_status x = record {
-  words = at_its_moment (is_of_domain x);
+  words = at_its_moment (is_of_domain x) None;
   more = λ rows row. [];
   cause = λ facts rows row. semaphore_status.status_cause row.client x rows;
   effect = λ facts rows row invoke. answers rows (option_map answer.ReportSemaphoreStatus (semaphore_status.status row.client x rows));
@@ -108,7 +108,7 @@ report_status x = record {
 -- ReportPoolSemaphoreStatus
 abbrev pub report_pool_status : ReportPoolSemaphoreStatus → RequestIn Rows
 report_pool_status x = record {
-  words = at_its_moment (is_of_domain x.name);
+  words = at_its_moment (is_of_domain x.name) None;
   more = λ rows row. [];
   cause = λ facts rows row. semaphore_status.pool_status_cause row.client x.name rows;
   effect = λ facts rows row invoke. answers rows (option_map answer.ReportPoolSemaphoreStatus (semaphore_status.pool_status_answer row.client x rows));
@@ -117,11 +117,17 @@ report_pool_status x = record {
 -- ReportSemaphoreEntryStatus
 abbrev pub report_entry_status : ReportSemaphoreEntryStatus → RequestIn Rows
 report_entry_status x = record {
-  words = at_its_moment (is_of_domain x.name);
+  words = at_its_moment (is_of_domain x.name) None;
   more = λ rows row. [];
   cause = λ facts rows row. semaphore_status.entry_status_cause row.client x rows;
   effect = λ facts rows row invoke. answers rows (option_map answer.ReportSemaphoreEntryStatus (semaphore_status.entry_status_answer row.client facts.now x rows));
 }
+
+-- the domain that has to be live, where one has to: that of a new name
+abbrev pub domain_asked : SemaphoreRequest → Option (List ℕ)
+domain_asked (request.DefineSemaphore x) = domain_in x.now.name
+domain_asked (request.TakeControl x) = None
+domain_asked other = None
 
 -- ---- each of them, as it is looked at
 

@@ -13,7 +13,7 @@ mod status;
 mod take;
 
 pub use cancelling::cancel;
-pub use domains::names_domain;
+pub use domains::{domain_asked, names_domain};
 pub use granting::{tell_grant, tell_grants};
 pub use others::tells;
 pub use serving::{finish, serve};

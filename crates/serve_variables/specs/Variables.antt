@@ -16,7 +16,7 @@ use Rattle.mms_types.specs.declared.variable.Spec.TheVariants as spec
 use Rattle.mms_types.specs.declared.variable.Write.{Write}
 use Rattle.variable_services.specs.declared.tables.VariableTables.{VariableTables}
 use Rattle.variable_services.specs.Services as variable
-use Rattle.cell_client.specs.Areas.{RequestIn, answers, changes, is_of_domain}
+use Rattle.cell_client.specs.Areas.{RequestIn, answers, changes, domain_in, is_of_domain}
 use Rattle.cell_client.specs.Facts.{Live, Owned}
 use Rattle.mms_types.specs.declared.area.VariableRequest.{VariableRequest}
 use Rattle.mms_types.specs.declared.area.VariableRequest.TheVariants as request
@@ -43,7 +43,7 @@ deletes_domain x = is_some x.domain || lists_domain x.names
 -- Read
 abbrev pub read : Read → RequestIn VariableTables
 read x = record {
-  words = Live (accesses_domain x.access) ∷ [];
+  words = Live (accesses_domain x.access) None ∷ [];
   more = λ v row. [];
   cause = λ facts v row. variable.read_cause row.client x v;
   effect = λ facts v row invoke. answers v (Some (answer.Read (variable.read_answer row.client x v)));
@@ -52,7 +52,7 @@ read x = record {
 -- Write: who writes a guarded cell has to own a token of its guard, which is looked up among the semaphores
 abbrev pub write : Write → RequestIn VariableTables
 write x = record {
-  words = Live (accesses_domain x.access) ∷ [];
+  words = Live (accesses_domain x.access) None ∷ [];
   more = λ v row. Owned row.client (variable.guards row.client x v) ∷ [];
   cause = λ facts v row. variable.write_cause row.client x v;
   effect = λ facts v row invoke.
@@ -62,7 +62,7 @@ write x = record {
 -- GetVariableAccessAttributes
 abbrev pub variable_attributes : Spec → RequestIn VariableTables
 variable_attributes x = record {
-  words = Live (specifies_domain x) ∷ [];
+  words = Live (specifies_domain x) None ∷ [];
   more = λ v row. [];
   cause = λ facts v row. variable.attributes_cause row.client x v;
   effect = λ facts v row invoke. answers v (option_map answer.GetVariableAccessAttributes (variable.attributes_answer row.client x v));
@@ -71,7 +71,7 @@ variable_attributes x = record {
 -- DefineNamedVariable
 abbrev pub define_variable : DefineNamedVariable → RequestIn VariableTables
 define_variable x = record {
-  words = Live (is_of_domain x.name) ∷ [];
+  words = Live (is_of_domain x.name) (domain_in x.name) ∷ [];
   more = λ v row. [];
   cause = λ facts v row. variable.define_cause facts.live row.client x v;
   effect = λ facts v row invoke. changes (variable.define_after row.client x v) answer.DefineNamedVariable;
@@ -80,7 +80,7 @@ define_variable x = record {
 -- DeleteVariableAccess
 abbrev pub delete_variables : DeleteNames → RequestIn VariableTables
 delete_variables x = record {
-  words = Live (deletes_domain x) ∷ [];
+  words = Live (deletes_domain x) x.domain ∷ [];
   more = λ v row. [];
   cause = λ facts v row. variable.delete_cause facts.live x;
   effect = λ facts v row invoke. changes (variable.delete_after row.client x v) (answer.DeleteVariableAccess (variable.delete_answer row.client x v));
@@ -89,7 +89,7 @@ delete_variables x = record {
 -- DefineNamedVariableList
 abbrev pub define_list : DefineNamedVariableList → RequestIn VariableTables
 define_list x = record {
-  words = Live (is_of_domain x.name || list_any specifies_domain x.variables) ∷ [];
+  words = Live (is_of_domain x.name || list_any specifies_domain x.variables) (domain_in x.name) ∷ [];
   more = λ v row. [];
   cause = λ facts v row. variable.define_list_cause facts.live row.client x v;
   effect = λ facts v row invoke. changes (variable.define_list_after row.client x v) answer.DefineNamedVariableList;
@@ -98,7 +98,7 @@ define_list x = record {
 -- GetNamedVariableListAttributes
 abbrev pub list_attributes : ObjectName → RequestIn VariableTables
 list_attributes x = record {
-  words = Live (is_of_domain x) ∷ [];
+  words = Live (is_of_domain x) None ∷ [];
   more = λ v row. [];
   cause = λ facts v row. variable.list_attributes_cause row.client x v;
   effect = λ facts v row invoke. answers v (option_map answer.GetNamedVariableListAttributes (variable.list_attributes_answer row.client x v));
@@ -107,7 +107,7 @@ list_attributes x = record {
 -- DeleteNamedVariableList
 abbrev pub delete_lists : DeleteNames → RequestIn VariableTables
 delete_lists x = record {
-  words = Live (deletes_domain x) ∷ [];
+  words = Live (deletes_domain x) x.domain ∷ [];
   more = λ v row. [];
   cause = λ facts v row. variable.delete_cause facts.live x;
   effect = λ facts v row invoke. changes (variable.delete_lists_after row.client x v) (answer.DeleteNamedVariableList (variable.delete_lists_answer row.client x v));
@@ -124,6 +124,14 @@ request_in (request.DeleteVariableAccess x) = delete_variables x.now
 request_in (request.DefineNamedVariableList x) = define_list x.now
 request_in (request.GetNamedVariableListAttributes x) = list_attributes x.now
 request_in (request.DeleteNamedVariableList x) = delete_lists x.now
+
+-- the domain that has to be live, where one has to: that of a new name, or of the names that are deleted
+abbrev pub domain_asked : VariableRequest → Option (List ℕ)
+domain_asked (request.DefineNamedVariable x) = domain_in x.now.name
+domain_asked (request.DeleteVariableAccess x) = x.now.domain
+domain_asked (request.DefineNamedVariableList x) = domain_in x.now.name
+domain_asked (request.DeleteNamedVariableList x) = x.now.domain
+domain_asked other = None
 
 -- the guards of the variables that it writes, in order
 abbrev pub guards_asked : VariableRequest → ℕ → VariableTables → List (Option (List ℕ))

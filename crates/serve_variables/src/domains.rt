@@ -2,11 +2,12 @@
 
 ghost use Rattle.std.specs.Prelude.{◌≡◌, [], ◌∷◌};
 ghost use Rattle.std.specs.List.{list_any};
-ghost use Rattle.cell_client.specs.Areas.{is_of_domain};
+ghost use Rattle.std.specs.Option.{option_copied};
+ghost use Rattle.cell_client.specs.Areas.{domain_in, is_of_domain};
 ghost use Rattle.cell_client.specs.Facts.{Live};
-ghost use Rattle.serve_variables.specs.Variables.{accesses_domain, deletes_domain, lists_domain, request_in, specifies_domain};
+ghost use Rattle.serve_variables.specs.Variables.{accesses_domain, deletes_domain, domain_asked, lists_domain, request_in, specifies_domain};
 
-use mms_types::{Access, DeleteNames, ObjectName, ObjectNames, Spec, VariableRequest};
+use mms_types::{Access, DeleteNames, Identifier, ObjectName, ObjectNames, Spec, VariableRequest};
 
 /// Whether it is a name of a domain.
 fn is_of_domain(name: &ObjectName) -> bool
@@ -69,9 +70,35 @@ fn deletes_domain(asked: &DeleteNames) -> bool
     asked.domain.is_some() || lists_domain(&asked.names)
 }
 
-/// Whether the name of a domain is written in a request, which then has to know whether it is live.
+/// The domain of which it is a name.
+fn domain_in(name: &ObjectName) -> Option<&Identifier>
+    ensures { option_copied result ≡ domain_in name.now }
+{
+    match name {
+        ObjectName::Domain { domain, .. } => Some(domain),
+        ObjectName::Vmd(_) | ObjectName::Association(_) => None,
+    }
+}
+
+/// The domain that has to be live for a request, where one has to.
+pub fn domain_asked<'a>(asked: VariableRequest<'a>) -> Option<&'a Identifier>
+    ensures { option_copied result ≡ domain_asked asked.entry }
+{
+    match asked {
+        VariableRequest::DefineNamedVariable(asked) => domain_in(&asked.name),
+        VariableRequest::DefineNamedVariableList(asked) => domain_in(&asked.name),
+        VariableRequest::DeleteVariableAccess(asked)
+        | VariableRequest::DeleteNamedVariableList(asked) => asked.domain.as_ref(),
+        VariableRequest::Read(_)
+        | VariableRequest::Write(_)
+        | VariableRequest::GetVariableAccessAttributes(_)
+        | VariableRequest::GetNamedVariableListAttributes(_) => None,
+    }
+}
+
+/// Whether the name of a domain is written in a request.
 pub fn names_domain(asked: VariableRequest<'_>) -> bool
-    ensures { (request_in asked.entry).words ≡ Live result ∷ [] }
+    ensures { (request_in asked.entry).words ≡ Live result (domain_asked asked.entry) ∷ [] }
 {
     match asked {
         VariableRequest::Read(asked) => accesses_domain(&asked.access),

@@ -11,6 +11,6 @@ mod reading;
 mod serving;
 mod writing;
 
-pub use domains::names_domain;
+pub use domains::{domain_asked, names_domain};
 pub use guarding::is_guarded;
 pub use serving::serve;
