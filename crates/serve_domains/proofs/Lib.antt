@@ -1,0 +1,6 @@
+pub mod Answered
+pub mod DomainLaws
+pub mod LoadLaws
+pub mod NumberLaws
+pub mod ServedLaws
+mod Worked

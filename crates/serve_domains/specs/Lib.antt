@@ -1,0 +1,4 @@
+pub mod AnswerLaws
+pub mod Domains
+pub mod Loads
+pub mod Tables
