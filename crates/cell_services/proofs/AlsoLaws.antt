@@ -1,8 +1,12 @@
 -- Who is told something beside the client that is heard.
-use Rattle.std.specs.Prelude.{◌≡◌, ◌≢◌, ◌==◌, ◌||◌, ◌⊎◌, ℕ, Bool, true, false, Option, None, Some, List, [], ◌∷◌, map, option_to_list, refl, if◌then◌else◌}
+use Rattle.std.specs.Prelude.{◌≡◌, ◌≢◌, ◌==◌, ◌||◌, ℕ, Bool, true, false, Option, None, Some, List, [], ◌∷◌, map, option_to_list, refl, if◌then◌else◌}
 use Rattle.std.specs.List.{list_any}
-use Rattle.std.proofs.Common.{ap, ap₂, sym, inl, inr, ◌∙◌}
-use Rattle.mms_types.specs.Areas.{device_request, semaphore_request, variable_request}
+use Rattle.std.proofs.Common.{ap, ap₂, sym, ◌∙◌, arith}
+use Rattle.std.proofs.lemmas.Bool.Decides.{nat_tests}
+use Rattle.mms_types.specs.Areas.{device_request, domain_request, semaphore_request, variable_request}
+use Rattle.mms_types.specs.declared.asked.Asked.{Asked}
+use Rattle.mms_types.specs.declared.area.DomainRequest.{DomainRequest}
+use Rattle.mms_types.specs.declared.area.DomainRequest.TheVariants as domain
 use Rattle.mms_types.specs.declared.area.DeviceRequest.{DeviceRequest}
 use Rattle.mms_types.specs.declared.area.SemaphoreRequest.{SemaphoreRequest}
 use Rattle.mms_types.specs.declared.area.VariableRequest.{VariableRequest}
@@ -20,20 +24,25 @@ use Rattle.association.specs.declared.negotiation.Association.TheVariants.{Idle,
 use Rattle.parted_state.specs.Served.{is_told}
 use Rattle.cell_services.proofs.TimeLaws.{moment_given}
 use Rattle.cell_client.specs.Effects.{Effect}
-use Rattle.cell_client.specs.Association.{Verdict, Takes}
+use Rattle.association.specs.Asked.{asked_of}
+use Rattle.cell_client.specs.Association.{Came, Takes, Replies, Exhausts, Concludes, Tells, Aborts, keeps_open}
 use Rattle.cell_client.specs.declared.verdict.Found.{Found}
 use Rattle.cell_client.specs.declared.verdict.Found.TheVariants as found
 use Rattle.cell_client.specs.Meant.{meant}
+use Rattle.domain_load.specs.Loading.{asked_next}
+use Rattle.domain_upload.specs.Uploads.{has_upload}
+use Rattle.serve_domains.specs.Domains as domains
+use Rattle.serve_domains.specs.Tables.{DomainTables}
 use Rattle.cell_services.specs.Others.{AlsoTells, client_of, grant_clients}
-use Rattle.cell_services.specs.AreaLaws.{device_alone, in_device, in_semaphores, in_variables, variables_alone}
+use Rattle.cell_services.specs.AreaLaws.{device_alone, in_device, in_domains, in_semaphores, in_variables, variables_alone}
 use Rattle.cell_services.specs.Device as device
 use Rattle.cell_services.specs.Requests.{told_in}
-use Rattle.cell_services.specs.Services.{InArea, OfDevice, OfSemaphores, OfVariables, area_of, cause_of, effect_of, grants_told}
-use Rattle.cell_client.specs.Areas.{also_in}
-use Rattle.cell_client.specs.Facts.{Facts}
+use Rattle.cell_services.specs.Services.{InArea, OfDevice, OfDomains, OfSemaphores, OfVariables, area_of, reply_in, cause_of, effect_of, grants_told, lacks_number}
+use Rattle.cell_client.specs.Areas.{also_in, lacks_number_in}
+use Rattle.cell_client.specs.Facts.{Facts, no_facts}
 use Rattle.cell_client.specs.Requests.{is_done, size_of}
-use Rattle.cell_services.specs.Serving.{all_told, also_lost, also_told, loss_also}
-use Rattle.cell_services.specs.Tables.{Tables, own_semaphores, own_variables}
+use Rattle.cell_services.specs.Serving.{all_told, also_lost, also_served, also_told, is_served_in, loss_also, resolved}
+use Rattle.cell_services.specs.Tables.{Tables, own_domains, own_semaphores, own_variables}
 use Rattle.parted_state.specs.Area.{no_table}
 use Rattle.serve_semaphores.specs.Semaphores as semaphores
 use Rattle.serve_semaphores.specs.Tokens.{is_the_one}
@@ -87,14 +96,65 @@ the_one (Some c) k = by_test (c == k)
     by_test true = refl
     by_test false = refl
 
--- what is told besides
-abbrev also_of : Tables → ClientRow → ℕ → InArea → List (ℕ × Effect)
-also_of t row invoke a =
-    if is_done (size_of row.association) invoke (cause_of t row a) (effect_of t row invoke a).answer then (effect_of t row invoke a).also else []
+-- a client that isn't the one that is told
+not_it : (client k : ℕ) → client ≢ k → (client == k) ≡ false
+not_it client k other = by_test (client == k) refl
+  where
+    by_test : (b : Bool) → (client == k) ≡ b → b ≡ false
+    by_test false is = refl
+    by_test true is = absurd (other (grind (arith, nat_tests)))
+
+-- a request for domains tells its client alone something
+domains_alone : (x : DomainRequest) (facts : Facts) (d : DomainTables) (row : ClientRow) (invoke k : ℕ) → row.client ≢ k
+    → is_told ((domains.request_in x).effect facts d row invoke).also k ≡ false
+domains_alone (domain.InitiateDownloadSequence x) facts d row invoke k other = ap (λ (b : Bool). b || false) (not_it row.client k other)
+domains_alone x facts d row invoke k other = refl
+
+-- and so does what a client answers to the server
+reply_alone : (number : ℕ) (came : Came) (o : Option (Asked × List ℕ)) (d : DomainTables) (client k : ℕ) → client ≢ k
+    → is_told (domains.replied_to client number came o d).also k ≡ false
+reply_alone number came None d client k other = refl
+reply_alone number came (Some of) d client k other =
+    ap₂ (λ (b c : Bool). b || c) (not_it client k other) (next (asked_next (domains.reply_of came of) d.domains))
+  where
+    next : (o : Option Asked) → is_told (domains.asks_next client o of.1) k ≡ false
+    next None = refl
+    next (Some kind) = ap (λ (b : Bool). b || false) (not_it client k other)
 
 module _ (t : Tables) (row : ClientRow) (invoke : ℕ) (asked : Request) where
-  also_as : (a : InArea) → area_of asked ≡ a → also_told t row (Takes invoke asked) ≡ also_of t row invoke a
-  also_as a is = ap (also_of t row invoke) is
+  -- what is told besides, in the area of the request
+  also_as : (a : InArea) → area_of asked ≡ a
+      → also_told t row (resolved t row (Takes invoke asked)) ≡ (if lacks_number t row invoke a then loss_also row.client t else also_served t row invoke a)
+  also_as a is =
+      by_test (lacks_number t row invoke (area_of asked))
+      ∙ ap (λ (x : InArea). if lacks_number t row invoke x then loss_also row.client t else also_served t row invoke x) is
+    where
+      by_test : (b : Bool) → also_told t row (if b then Exhausts invoke else Takes invoke asked)
+          ≡ (if b then loss_also row.client t else also_served t row invoke (area_of asked))
+      by_test true = refl
+      by_test false = refl
+
+  -- where it is aborted, others are told that it is lost
+  pub domains_lost : (x : DomainRequest) (clients : List ℕ) → domain_request x ≡ asked → lacks_number_in (domains.request_in x) no_facts row invoke t.domains ≡ true
+      → ((k : ℕ) → is_told (loss_also row.client t) k ≡ list_any (λ c. c == k) clients) → AlsoTells t row (Takes invoke asked) clients
+  domains_lost x clients is lacking reach k other =
+      ap (λ (l : List (ℕ × Effect)). is_told l k)
+      (also_as (OfDomains (domains.request_in x)) (ap area_of (sym is) ∙ in_domains x)
+      ∙ ap (λ (b : Bool). if b then loss_also row.client t else also_served t row invoke (OfDomains (domains.request_in x))) lacking)
+      ∙ reach k
+
+  pub domains_own : (x : DomainRequest) (clients : List ℕ) → domain_request x ≡ asked → lacks_number_in (domains.request_in x) no_facts row invoke t.domains ≡ false
+      → clients ≡ [] → AlsoTells t row (Takes invoke asked) clients
+  domains_own x clients is numbered none k other =
+      ap (λ (l : List (ℕ × Effect)). is_told l k)
+      (also_as (OfDomains (domains.request_in x)) (ap area_of (sym is) ∙ in_domains x)
+      ∙ ap (λ (b : Bool). if b then loss_also row.client t else also_served t row invoke (OfDomains (domains.request_in x))) numbered)
+      ∙ by_test (is_served_in t row invoke (OfDomains (domains.request_in x)))
+      ∙ ap (list_any (λ (c : ℕ). c == k)) (sym none)
+    where
+      by_test : (b : Bool) → is_told (if b then (effect_of t row invoke (OfDomains (domains.request_in x))).also else []) k ≡ false
+      by_test true = domains_alone x (told_in own_domains t row (domains.request_in x)) t.domains row invoke k other
+      by_test false = refl
 
   pub device_tells : (x : DeviceRequest) (clients : List ℕ) → device_request x ≡ asked → clients ≡ [] → AlsoTells t row (Takes invoke asked) clients
   device_tells x clients is none k other =
@@ -128,16 +188,46 @@ module _ (t : Tables) (row : ClientRow) (invoke : ℕ) (asked : Request) where
 
 -- ---- what is heard
 
-pub heard_loss : (rows : Rows) (now : Moment) (row : ClientRow) (v : Verdict) (client : ℕ) (clients : List ℕ) → ((t : Tables) → also_told t row v ≡ loss_also row.client t)
-    → client ≡ row.client
+-- it is the client of that row that is lost
+pub own_loss : (rows : Rows) (now : Moment) (own client : ℕ) (clients : List ℕ) → client ≡ own
     → ((t : Tables) → t.semaphores ≡ rows → t.now ≡ now.0 → (k : ℕ) → is_told (loss_also client t) k ≡ list_any (λ c. c == k) clients)
-    → (t : Tables) → t.semaphores ≡ rows → t.now ≡ now.0 → AlsoTells t row v clients
-heard_loss rows now row v client clients gives own reach t same at k other =
-    ap (λ (l : List (ℕ × Effect)). is_told l k) (gives t) ∙ ap (λ (n : ℕ). is_told (loss_also n t) k) (sym own) ∙ reach t same at k
+    → (t : Tables) → t.semaphores ≡ rows → t.now ≡ now.0 → (k : ℕ) → is_told (loss_also own t) k ≡ list_any (λ c. c == k) clients
+own_loss rows now own client clients is reach t same at k = ap (λ (n : ℕ). is_told (loss_also n t) k) (sym is) ∙ reach t same at k
 
-pub loss_found : (t : Tables) (row : ClientRow) (f : Found) → (f ≡ found.Concludes) ⊎ (f ≡ found.Aborts) → also_told t row (meant f) ≡ loss_also row.client t
-loss_found t row f (inl is) = ap (λ (g : Found). also_told t row (meant g)) is
-loss_found t row f (inr is) = ap (λ (g : Found). also_told t row (meant g)) is
+-- a conclusion, by whether an open upload refuses it
+pub conclusion_lost : (t : Tables) (row : ClientRow) (clients : List ℕ) → has_upload row.client t.domains.uploads ≡ false
+    → ((k : ℕ) → is_told (loss_also row.client t) k ≡ list_any (λ c. c == k) clients) → AlsoTells t row Concludes clients
+conclusion_lost t row clients free reach k other =
+    ap (λ (b : Bool). is_told (also_told t row (if b then Tells keeps_open else Concludes)) k) free ∙ reach k
+
+pub conclusion_own : (t : Tables) (row : ClientRow) (clients : List ℕ) → has_upload row.client t.domains.uploads ≡ true → clients ≡ []
+    → AlsoTells t row Concludes clients
+conclusion_own t row clients kept none k other =
+    ap (λ (b : Bool). is_told (also_told t row (if b then Tells keeps_open else Concludes)) k) kept
+    ∙ ap (list_any (λ (c : ℕ). c == k)) (sym none)
+
+-- a proposal aborts it
+pub aborts_lost : (t : Tables) (row : ClientRow) (f : Found) (clients : List ℕ) → f ≡ found.Aborts
+    → ((k : ℕ) → is_told (loss_also row.client t) k ≡ list_any (λ c. c == k) clients) → AlsoTells t row (meant f) clients
+aborts_lost t row f clients is reach k other = ap (λ (g : Found). is_told (also_told t row (resolved t row (meant g))) k) is ∙ reach k
+
+-- what a client answers, by whether a number is lacking
+pub reply_lost : (t : Tables) (row : ClientRow) (number : ℕ) (came : Came) (clients : List ℕ)
+    → lacks_number_in (domains.replied number came) no_facts row number t.domains ≡ true
+    → ((k : ℕ) → is_told (loss_also row.client t) k ≡ list_any (λ c. c == k) clients) → AlsoTells t row (Replies number came) clients
+reply_lost t row number came clients lacking reach k other =
+    ap (λ (b : Bool). is_told (also_told t row (if b then Aborts else Replies number came)) k) lacking ∙ reach k
+
+pub reply_own : (t : Tables) (row : ClientRow) (number : ℕ) (came : Came) (clients : List ℕ)
+    → lacks_number_in (domains.replied number came) no_facts row number t.domains ≡ false → clients ≡ [] → AlsoTells t row (Replies number came) clients
+reply_own t row number came clients numbered none k other =
+    ap (λ (b : Bool). is_told (also_told t row (if b then Aborts else Replies number came)) k) numbered
+    ∙ by_test (is_served_in t row number (reply_in number came))
+    ∙ ap (list_any (λ (c : ℕ). c == k)) (sym none)
+  where
+    by_test : (b : Bool) → is_told (if b then (effect_of t row number (reply_in number came)).also else []) k ≡ false
+    by_test true = reply_alone number came (asked_of number row.asked) t.domains row.client k other
+    by_test false = refl
 
 also_open : (a : Association) (v : Negotiated) → negotiated_of a ≡ Some v → (client : ℕ) (t : Tables) → also_lost a client t ≡ loss_also client t
 also_open Idle v is client t = absurd (cc is)

@@ -1,13 +1,19 @@
 -- A request that is served on the table of its area and the row of its client is what it does among all tables.
-use Rattle.std.specs.Prelude.{◌≡◌, ℕ, Bool, true, false, Option, None, Some, List, ◌++◌, [], Result, Ok, Err, IfNone, IfOk, IfSome, OnOk, if◌then◌else◌, refl}
+use Rattle.std.specs.Prelude.{◌≡◌, ℕ, Bool, true, false, ◌||◌, Option, None, Some, is_some, List, ◌++◌, [], Result, Ok, Err, IfNone, IfOk, IfSome, OnOk, if◌then◌else◌, refl}
 use Rattle.std.proofs.Common.{ap, ap₂, sym, ◌∙◌, subst}
-use Rattle.mms_types.specs.Areas.{semaphore_request, variable_request}
+use Rattle.std.specs.List.{list_any}
+use Rattle.mms_types.specs.Areas.{domain_request, semaphore_request, variable_request}
+use Rattle.mms_types.specs.declared.area.DomainRequest.{DomainRequest}
 use Rattle.mms_types.specs.declared.area.SemaphoreRequest.{SemaphoreRequest}
 use Rattle.mms_types.specs.declared.area.SemaphoreRequest.TheVariants as semaphores
 use Rattle.mms_types.specs.declared.area.VariableRequest.{VariableRequest}
 use Rattle.mms_types.specs.declared.area.VariableRequest.TheVariants as variables
 use Rattle.mms_types.specs.declared.moment.Moment.{Moment}
 use Rattle.mms_types.specs.declared.name_list.GetNameList.{GetNameList}
+use Rattle.mms_types.specs.declared.name_list.ObjectScope.{ObjectScope}
+use Rattle.mms_types.specs.declared.name_list.ObjectScope.TheVariants as scope
+use Rattle.mms_types.specs.declared.object_name.ObjectName.{ObjectName}
+use Rattle.mms_types.specs.declared.object_name.ObjectName.TheVariants as name
 use Rattle.mms_types.specs.declared.pdu.Answer.{Answer}
 use Rattle.mms_types.specs.declared.pdu.Answer.TheVariants as answer
 use Rattle.mms_types.specs.declared.pdu.Request.{Request}
@@ -19,36 +25,38 @@ use Rattle.variable_services.specs.declared.tables.VariableTables.{VariableTable
 use Rattle.mms_time.specs.Guards.{owns_guard}
 use Rattle.mms_time.specs.Semaphores.{Rows}
 use Rattle.variables.specs.Access.{flags_of}
-use Rattle.cell_client.specs.Areas.{RequestIn, IsServedIn, IsToldIn, also_in, is_done_in, own_told_in}
+use Rattle.cell_client.specs.Areas.{RequestIn, IsServedIn, IsToldIn, also_in, domain_in, is_done_in, is_of_domain, lacks_number_in, own_told_in}
 use Rattle.association.specs.declared.waiting.Waiting.{Waiting}
-use Rattle.cell_client.specs.Association.{Cancels, Takes, cancel_told}
+use Rattle.cell_client.specs.Association.{Aborts, Came, Cancels, Exhausts, Replies, Takes, cancel_told}
 use Rattle.cell_client.specs.Effects.{Effect, felt_all, settled, tell}
-use Rattle.cell_client.specs.Facts.{Facts}
+use Rattle.cell_client.specs.Facts.{Facts, no_facts}
 use Rattle.cell_client.specs.Telling.{effects_told}
 use Rattle.cell_client.specs.declared.told.Told.{Told}
 use Rattle.mms_types.specs.declared.memory.Memory.{Memory}
+use Rattle.mms_types.specs.declared.service_error.ServiceError.{ServiceError}
+use Rattle.serve_domains.specs.Domains as domain
+use Rattle.serve_domains.specs.Tables.{DomainTables}
 use Rattle.serve_semaphores.specs.Tokens.{rows_cancelled, told_after, waiting_of}
 use Rattle.serve_variables.specs.Variables as variable
-use Rattle.serve_variables.specs.Variables.{guards_asked}
+use Rattle.serve_variables.specs.Variables.{accesses_domain, guards_asked, lists_domain, specifies_domain}
 use Rattle.serve_semaphores.specs.Semaphores as semaphore
 use Rattle.cell_services.specs.Acts.{all_done, IsDoneIn}
-use Rattle.cell_services.specs.Device.{listed, scope_cause, scope_of}
-use Rattle.cell_services.specs.Facts.{names_in}
-use Rattle.cell_services.specs.AreaLaws.{in_semaphores, in_variables}
+use Rattle.cell_services.specs.Device.{domain_of, get_name_list, is_domain, listed, scope_cause, scope_of}
+use Rattle.cell_services.specs.Facts.{is_domain_live, names_in}
+use Rattle.cell_services.specs.AreaLaws.{in_domains, in_semaphores, in_variables}
 use Rattle.cell_services.proofs.PlanLaws.{append_none}
 use Rattle.cell_services.proofs.TimeLaws.{moment_given}
 use Rattle.cell_services.specs.Requests.{told_in}
-use Rattle.cell_services.specs.Services.{InArea, OfSemaphores, OfVariables, area_of, cause_of, effect_of}
-use Rattle.cell_services.specs.Serving.{hears, tables_cancelled}
-use Rattle.cell_services.specs.Tables.{Tables, moment_of, own_semaphores, own_variables}
+use Rattle.cell_services.specs.Services.{InArea, OfDomains, OfSemaphores, OfVariables, area_of, lacks_number}
+use Rattle.cell_services.specs.Serving.{also_served, comes_of, hears, served_told, tables_cancelled, tables_served}
+use Rattle.cell_services.specs.Tables.{Tables, moment_of, own_domains, own_semaphores, own_variables}
 use Rattle.cell_client.specs.Requests.{is_done, request_told, size_of}
 
 -- what a request of an area does among all tables
 abbrev heard_in : Tables → ClientRow → ℕ → InArea → Done Tables Effect
 heard_in t row invoke a = record {
-  tables = if is_done (size_of row.association) invoke (cause_of t row a) (effect_of t row invoke a).answer then (effect_of t row invoke a).tables else t;
-  told = tell row.client (request_told (size_of row.association) invoke (cause_of t row a) (effect_of t row invoke a).answer)
-      ++ (if is_done (size_of row.association) invoke (cause_of t row a) (effect_of t row invoke a).answer then (effect_of t row invoke a).also else []);
+  tables = tables_served t row invoke a;
+  told = tell row.client (served_told t row invoke a) ++ also_served t row invoke a;
 }
 
 module _ {A : Type 0} (own : Own Tables A) (stays : (t : Tables) → own.put (own.of t) t ≡ t) (r : RequestIn A) (t : Tables) (row : ClientRow) (invoke : ℕ) where
@@ -80,13 +88,41 @@ module _ {A : Type 0} (own : Own Tables A) (stays : (t : Tables) → own.put (ow
 -- ---- each area
 
 -- what a request is heard as, by its area
-heard_as : (t : Tables) (row : ClientRow) (invoke : ℕ) (asked : Request) (a : InArea) → area_of asked ≡ a → hears t row row.client (Takes invoke asked) ≡ heard_in t row invoke a
-heard_as t row invoke asked a is = ap (heard_in t row invoke) is
+heard_as : (t : Tables) (row : ClientRow) (invoke : ℕ) (asked : Request) (a : InArea) → area_of asked ≡ a → lacks_number t row invoke a ≡ false
+    → hears t row row.client (Takes invoke asked) ≡ heard_in t row invoke a
+heard_as t row invoke asked a is numbered =
+    ap (λ (b : Bool). comes_of t row row.client (if b then Exhausts invoke else Takes invoke asked)) (ap (lacks_number t row invoke) is ∙ numbered)
+    ∙ ap (heard_in t row invoke) is
 
--- no domain is live, and who owns guards is told by the semaphores
-variables_live : (x : VariableRequest) (t : Tables) (row : ClientRow) → (told_in own_variables t row (variable.request_in x)).live ≡ false
-variables_live (variables.Write x) t row = refl
-variables_live other t row = refl
+-- whether a domain is live is told by the domains, and where none has to be, none is; who owns guards is told by the semaphores
+none_live : (b : Bool) → (if b then false else false) ≡ false
+none_live true = refl
+none_live false = refl
+
+named_live : (n : ObjectName) (b : Bool) (d : DomainTables) → (if is_of_domain n || b then is_domain_live (domain_in n) d else false) ≡ is_domain_live (domain_in n) d
+named_live (name.Domain domain item) b d = refl
+named_live (name.Vmd item) b d = none_live b
+named_live (name.Association item) b d = none_live b
+
+one_live : (n : ObjectName) (d : DomainTables) → (if is_of_domain n then is_domain_live (domain_in n) d else false) ≡ is_domain_live (domain_in n) d
+one_live (name.Domain domain item) d = refl
+one_live (name.Vmd item) d = refl
+one_live (name.Association item) d = refl
+
+deleted_live : (o : Option (List ℕ)) (b : Bool) (d : DomainTables) → (if is_some o || b then is_domain_live o d else false) ≡ is_domain_live o d
+deleted_live None b d = none_live b
+deleted_live (Some domain) b d = refl
+
+variables_live : (x : VariableRequest) (t : Tables) (row : ClientRow)
+    → (told_in own_variables t row (variable.request_in x)).live ≡ is_domain_live (variable.domain_asked x) t.domains
+variables_live (variables.Read x) t row = none_live (accesses_domain x.now.access)
+variables_live (variables.Write x) t row = none_live (accesses_domain x.now.access)
+variables_live (variables.GetVariableAccessAttributes x) t row = none_live (specifies_domain x.now)
+variables_live (variables.DefineNamedVariable x) t row = one_live x.now.name t.domains
+variables_live (variables.DeleteVariableAccess x) t row = deleted_live x.now.domain (lists_domain x.now.names) t.domains
+variables_live (variables.DefineNamedVariableList x) t row = named_live x.now.name (list_any specifies_domain x.now.variables) t.domains
+variables_live (variables.GetNamedVariableListAttributes x) t row = none_live (is_of_domain x.now)
+variables_live (variables.DeleteNamedVariableList x) t row = deleted_live x.now.domain (lists_domain x.now.names) t.domains
 
 variables_owned : (x : VariableRequest) (t : Tables) (row : ClientRow)
     → (told_in own_variables t row (variable.request_in x)).owned ≡ flags_of (λ guard. owns_guard row.client guard t.semaphores) (guards_asked x row.client t.variables)
@@ -99,19 +135,20 @@ module _ (x : VariableRequest) (t : Tables) (row : ClientRow) (invoke : ℕ) whe
   variables_done now new is = record {
     effects = is.effects;
     is = is.is;
-    done = heard_as t row invoke (variable_request x) (OfVariables (variable.request_in x)) (in_variables x)
+    done = heard_as t row invoke (variable_request x) (OfVariables (variable.request_in x)) (in_variables x) refl
         ∙ in_place own_variables (λ u. refl) (variable.request_in x) t row invoke now new is;
   }
 
-  pub variables_served : (was now : VariableTables) (rows : Rows) (new : RoomyRow)
-      → ((facts : Facts) → facts.live ≡ false → facts.owned ≡ flags_of (λ guard. owns_guard row.client guard rows) (guards_asked x row.client was)
+  pub variables_served : (was now : VariableTables) (rows : Rows) (live : Bool) (new : RoomyRow)
+      → ((facts : Facts) → facts.live ≡ live → facts.owned ≡ flags_of (λ guard. owns_guard row.client guard rows) (guards_asked x row.client was)
       → IsServedIn (variable.request_in x) facts invoke row was now new)
-      → t.variables ≡ was → t.semaphores ≡ rows → IsDoneIn own_variables t row now new (Takes invoke (variable_request x))
-  variables_served was now rows new served stood beside =
+      → t.variables ≡ was → t.semaphores ≡ rows → live ≡ is_domain_live (variable.domain_asked x) t.domains
+      → IsDoneIn own_variables t row now new (Takes invoke (variable_request x))
+  variables_served was now rows live new served stood beside domains =
       variables_done now new
-      (subst (λ (v : VariableTables). (facts : Facts) → facts.live ≡ false → facts.owned ≡ flags_of (λ guard. owns_guard row.client guard rows) (guards_asked x row.client v)
+      (subst (λ (v : VariableTables). (facts : Facts) → facts.live ≡ live → facts.owned ≡ flags_of (λ guard. owns_guard row.client guard rows) (guards_asked x row.client v)
       → IsServedIn (variable.request_in x) facts invoke row v now new)
-      (sym stood) served (told_in own_variables t row (variable.request_in x)) (variables_live x t row)
+      (sym stood) served (told_in own_variables t row (variable.request_in x)) (variables_live x t row ∙ sym domains)
       (variables_owned x t row
       ∙ ap (λ (r : Rows). flags_of (λ guard. owns_guard row.client guard r) (guards_asked x row.client t.variables)) beside))
 
@@ -120,11 +157,21 @@ semaphores_now : (x : SemaphoreRequest) (t : Tables) (row : ClientRow) → (told
 semaphores_now (semaphores.TakeControl x) t row = refl
 semaphores_now other t row = refl
 
-semaphores_live : (x : SemaphoreRequest) (t : Tables) (row : ClientRow) → (told_in own_semaphores t row (semaphore.request_in x)).live ≡ false
-semaphores_live (semaphores.TakeControl x) t row = refl
-semaphores_live other t row = refl
+semaphores_live : (x : SemaphoreRequest) (t : Tables) (row : ClientRow)
+    → (told_in own_semaphores t row (semaphore.request_in x)).live ≡ is_domain_live (semaphore.domain_asked x) t.domains
+semaphores_live (semaphores.TakeControl x) t row = none_live (is_of_domain x.now.name)
+semaphores_live (semaphores.RelinquishControl x) t row = none_live (is_of_domain x.now.name)
+semaphores_live (semaphores.DefineSemaphore x) t row = one_live x.now.name t.domains
+semaphores_live (semaphores.DeleteSemaphore x) t row = none_live (is_of_domain x.now)
+semaphores_live (semaphores.ReportSemaphoreStatus x) t row = none_live (is_of_domain x.now)
+semaphores_live (semaphores.ReportPoolSemaphoreStatus x) t row = none_live (is_of_domain x.now.name)
+semaphores_live (semaphores.ReportSemaphoreEntryStatus x) t row = none_live (is_of_domain x.now.name)
 
-module _ (x : SemaphoreRequest) (row : ClientRow) (invoke : ℕ) (moment : Moment) (was : Rows) where
+module _ (x : SemaphoreRequest) (row : ClientRow) (invoke : ℕ) (moment : Moment) (live : Bool) (was : Rows) where
+  -- whether the domain is live that has to be
+  abbrev Lives : Tables → Type 0
+  Lives t = live ≡ is_domain_live (semaphore.domain_asked x) t.domains
+
   abbrev its : Tables → Facts
   its t = told_in own_semaphores t row (semaphore.request_in x)
 
@@ -132,22 +179,22 @@ module _ (x : SemaphoreRequest) (row : ClientRow) (invoke : ℕ) (moment : Momen
   its_now t at = semaphores_now x t row ∙ sym (moment_given t moment (sym at))
 
   served_among : (t : Tables) (now : Rows) (new : RoomyRow)
-      → ((facts : Facts) → facts.now ≡ moment → facts.live ≡ false → IsServedIn (semaphore.request_in x) facts invoke row was now new)
-      → t.semaphores ≡ was → t.now ≡ moment.0 → IsDoneIn own_semaphores t row now new (Takes invoke (semaphore_request x))
-  served_among t now new served stood at =
+      → ((facts : Facts) → facts.now ≡ moment → facts.live ≡ live → IsServedIn (semaphore.request_in x) facts invoke row was now new)
+      → t.semaphores ≡ was → t.now ≡ moment.0 → Lives t → IsDoneIn own_semaphores t row now new (Takes invoke (semaphore_request x))
+  served_among t now new served stood at lives =
       let is : IsServedIn (semaphore.request_in x) (its t) invoke row t.semaphores now new =
-      subst (λ (rows : Rows). IsServedIn (semaphore.request_in x) (its t) invoke row rows now new) (sym stood) (served (its t) (its_now t at) (semaphores_live x t row)) in
+      subst (λ (rows : Rows). IsServedIn (semaphore.request_in x) (its t) invoke row rows now new) (sym stood) (served (its t) (its_now t at) (semaphores_live x t row ∙ sym lives)) in
       record {
         effects = is.effects;
         is = is.is;
-        done = heard_as t row invoke (semaphore_request x) (OfSemaphores (semaphore.request_in x)) (in_semaphores x)
+        done = heard_as t row invoke (semaphore_request x) (OfSemaphores (semaphore.request_in x)) (in_semaphores x) refl
             ∙ in_place own_semaphores (λ u. refl) (semaphore.request_in x) t row invoke now new is;
       }
 
   pub semaphores_served : {X : Type 0} (now : Rows) (new : RoomyRow) (result : Result (Option X) Memory)
-      → IfOk result (λ left. IfNone left ((facts : Facts) → facts.now ≡ moment → facts.live ≡ false → IsServedIn (semaphore.request_in x) facts invoke row was now new))
-      → IfOk result (λ left. IfNone left ((t : Tables) → t.semaphores ≡ was → t.now ≡ moment.0 → IsDoneIn own_semaphores t row now new (Takes invoke (semaphore_request x))))
-  semaphores_served now new (Ok None) served = λ t stood at. served_among t now new served stood at
+      → IfOk result (λ left. IfNone left ((facts : Facts) → facts.now ≡ moment → facts.live ≡ live → IsServedIn (semaphore.request_in x) facts invoke row was now new))
+      → IfOk result (λ left. IfNone left ((t : Tables) → t.semaphores ≡ was → t.now ≡ moment.0 → Lives t → IsDoneIn own_semaphores t row now new (Takes invoke (semaphore_request x))))
+  semaphores_served now new (Ok None) served = λ t stood at lives. served_among t now new served stood at lives
   semaphores_served now new (Ok (Some told)) served = tt
   semaphores_served now new (Err memory) served = tt
 
@@ -155,16 +202,16 @@ module _ (x : SemaphoreRequest) (row : ClientRow) (invoke : ℕ) (moment : Momen
       → ((facts : Facts) → facts.now ≡ moment → IsToldIn (semaphore.request_in x) facts invoke row was now (effects_told told))
       → t.semaphores ≡ was → t.now ≡ moment.0 → hears t row row.client (Takes invoke (semaphore_request x)) ≡ all_done (own_semaphores.put now t) told
   told_among t now told left stood at =
-      heard_as t row invoke (semaphore_request x) (OfSemaphores (semaphore.request_in x)) (in_semaphores x)
+      heard_as t row invoke (semaphore_request x) (OfSemaphores (semaphore.request_in x)) (in_semaphores x) refl
       ∙ placed own_semaphores (λ u. refl) (semaphore.request_in x) t row invoke now (effects_told told)
       (subst (λ (rows : Rows). IsToldIn (semaphore.request_in x) (its t) invoke row rows now (effects_told told)) (sym stood) (left (its t) (its_now t at)))
 
   pub semaphores_told : {X : Type 0} (result : Result (Option X) Memory) (items : X → List (ℕ × Told))
       → IfOk result (λ left. IfSome left (λ told. (facts : Facts) → facts.now ≡ moment
       → IsToldIn (semaphore.request_in x) facts invoke row was (told_after row.client moment x was) (effects_told (items told))))
-      → IfOk result (λ left. IfSome left (λ told. (t : Tables) → t.semaphores ≡ was → t.now ≡ moment.0
+      → IfOk result (λ left. IfSome left (λ told. (t : Tables) → t.semaphores ≡ was → t.now ≡ moment.0 → Lives t
       → hears t row row.client (Takes invoke (semaphore_request x)) ≡ all_done (own_semaphores.put (told_after row.client moment x was) t) (items told)))
-  semaphores_told (Ok (Some told)) items left = λ t stood at. told_among t (told_after row.client moment x was) (items told) left stood at
+  semaphores_told (Ok (Some told)) items left = λ t stood at lives. told_among t (told_after row.client moment x was) (items told) left stood at
   semaphores_told (Ok None) items left = tt
   semaphores_told (Err memory) items left = tt
 
@@ -195,25 +242,73 @@ cancel_done t row invoke was now new told done stood = record {
         ∙ ap (λ (rows : Rows). own_semaphores.put (rows_cancelled (waiting_of invoke row.waiting) rows) t) stood
         ∙ ap (λ (rows : Rows). own_semaphores.put rows t) (sym done)
 
+-- ---- domains, and what clients answer to the server
+
+module _ (t : Tables) (row : ClientRow) where
+  abbrev told : RequestIn DomainTables → Facts
+  told r = told_in own_domains t row r
+
+  pub domains_served : (x : DomainRequest) (invoke : ℕ) (was now : DomainTables) (scoped : Bool) (new : RoomyRow)
+      → ((facts : Facts) → facts.scoped ≡ scoped → IsServedIn (domain.request_in x) facts invoke row was now new)
+      → ((facts : Facts) → lacks_number_in (domain.request_in x) facts row invoke was ≡ false)
+      → t.domains ≡ was → (told (domain.request_in x)).scoped ≡ scoped → IsDoneIn own_domains t row now new (Takes invoke (domain_request x))
+  domains_served x invoke was now scoped new served numbered stood is_scoped =
+      let is : IsServedIn (domain.request_in x) (told (domain.request_in x)) invoke row t.domains now new =
+      subst (λ (d : DomainTables). IsServedIn (domain.request_in x) (told (domain.request_in x)) invoke row d now new) (sym stood) (served (told (domain.request_in x)) is_scoped) in
+      record {
+        effects = is.effects;
+        is = is.is;
+        done = heard_as t row invoke (domain_request x) (OfDomains (domain.request_in x)) (in_domains x)
+            (ap (λ (d : DomainTables). lacks_number_in (domain.request_in x) no_facts row invoke d) stood ∙ numbered no_facts)
+            ∙ in_place own_domains (λ u. refl) (domain.request_in x) t row invoke now new is;
+      }
+
+  pub reply_served : (number : ℕ) (came : Came) (was now : DomainTables) (new : RoomyRow)
+      → ((facts : Facts) (invoke : ℕ) → IsServedIn (domain.replied number came) facts invoke row was now new)
+      → ((facts : Facts) (invoke : ℕ) → lacks_number_in (domain.replied number came) facts row invoke was ≡ false)
+      → t.domains ≡ was → IsDoneIn own_domains t row now new (Replies number came)
+  reply_served number came was now new served numbered stood =
+      let is : IsServedIn (domain.replied number came) (told (domain.replied number came)) number row t.domains now new =
+      subst (λ (d : DomainTables). IsServedIn (domain.replied number came) (told (domain.replied number came)) number row d now new) (sym stood)
+      (served (told (domain.replied number came)) number) in
+      record {
+        effects = is.effects;
+        is = is.is;
+        done = ap (λ (b : Bool). comes_of t row row.client (if b then Aborts else Replies number came))
+            (ap (λ (d : DomainTables). lacks_number_in (domain.replied number came) no_facts row number d) stood ∙ numbered no_facts number)
+            ∙ in_place own_domains (λ u. refl) (domain.replied number came) t row number now new is;
+      }
+
 -- ---- names are listed
 
 module _ (x : GetNameList) (t : Tables) (row : ClientRow) (invoke : ℕ) where
   abbrev names : Answer
   names = answer.GetNameList (listed (names_in t (scope_of row.client x.scope) x.class x.after))
 
-  pub names_served : (new : RoomyRow) → new ≡ settled (felt_all (request_told (size_of row.association) invoke (scope_cause false x.scope) (Some names)) row)
+  -- why they aren't, as the request is told it
+  abbrev why : Option ServiceError
+  why = scope_cause (told_in no_table t row (get_name_list x)).live x.scope
+
+  live_alone : (s : ObjectScope) (d : DomainTables)
+      → scope_cause (is_domain_live (domain_of s) d) s ≡ scope_cause (if is_domain s then is_domain_live (domain_of s) d else false) s
+  live_alone (scope.Domain domain) d = refl
+  live_alone scope.Vmd d = refl
+  live_alone scope.Association d = refl
+
+  pub names_served : (new : RoomyRow)
+      → new ≡ settled (felt_all (request_told (size_of row.association) invoke (scope_cause (is_domain_live (domain_of x.scope) t.domains) x.scope) (Some names)) row)
       → IsDoneIn no_table t row tt new (Takes invoke (request.GetNameList x))
   names_served new is = record {
-    effects = request_told (size_of row.association) invoke (scope_cause false x.scope) (Some names);
-    is = is;
-    done = by_test (is_done (size_of row.association) invoke (scope_cause false x.scope) (Some names)) ∙ ap (at t) (append_none _);
+    effects = request_told (size_of row.association) invoke why (Some names);
+    is = is ∙ ap (λ (o : Option ServiceError). settled (felt_all (request_told (size_of row.association) invoke o (Some names)) row)) (live_alone x.scope t.domains);
+    done = by_test (is_done (size_of row.association) invoke why (Some names)) ∙ ap (at t) (append_none _);
   }
     where
       at : Tables → List (ℕ × Effect) → Done Tables Effect
       at u told = record { tables = u; told = told }
 
       told : List (ℕ × Effect)
-      told = tell row.client (request_told (size_of row.association) invoke (scope_cause false x.scope) (Some names))
+      told = tell row.client (request_told (size_of row.association) invoke why (Some names))
 
       by_test : (b : Bool) → at (if b then t else t) (told ++ (if b then [] else [])) ≡ at t (told ++ [])
       by_test true = refl

@@ -13,11 +13,12 @@ use Rattle.cell_client.specs.declared.acts.Act.TheVariants as act
 use Rattle.cell_services.specs.Tables.{Tables}
 use Rattle.cell_client.specs.Effects.{Effect, felt_all, settled, tell}
 use Rattle.cell_client.specs.declared.acts.Act.{Act}
-use Rattle.cell_client.specs.Meant.{act_verdict, told_alone, uses_no_table}
-use Rattle.cell_client.specs.Association.{Verdict, Tells, Takes, Concludes, Cancels, Aborts}
-use Rattle.cell_services.specs.Services.{Outcome, answers, cause, effect}
+use Rattle.cell_client.specs.Meant.{act_verdict, came, told_alone, uses_no_table}
+use Rattle.cell_client.specs.declared.verdict.Came.{Came as Borrowed}
+use Rattle.cell_client.specs.Association.{Verdict, Tells, Takes, Replies, Exhausts, Concludes, Cancels, Aborts}
+use Rattle.cell_services.specs.Services.{Outcome, answers, area_of, cause, effect, lacks_number}
 use Rattle.cell_client.specs.Requests.{plain_answer, fits, is_done, request_told, size_of}
-use Rattle.cell_services.specs.Serving.{hears, own_told}
+use Rattle.cell_services.specs.Serving.{comes_of, hears, own_told}
 use Rattle.cell_services.specs.Meant.{no_tables, IsPlainlyHeard}
 use Rattle.cell_services.specs.Acts.{IsActOf}
 
@@ -35,6 +36,13 @@ plain_effect t row invoke (request.Status y) a is = ap (answers t) is
 plain_effect t row invoke request.Identify a is = ap (answers t) is
 plain_effect t row invoke asked a is = absurd (cc is)
 
+-- nothing is asked of the client
+plain_numbered : (t : Tables) (row : ClientRow) (invoke : ℕ) (asked : Request) (a : Answer) → plain_answer row asked ≡ Some a
+    → lacks_number t row invoke (area_of asked) ≡ false
+plain_numbered t row invoke (request.Status y) a is = refl
+plain_numbered t row invoke request.Identify a is = refl
+plain_numbered t row invoke asked a is = absurd (cc is)
+
 plain_own : (t : Tables) (row : ClientRow) (invoke : ℕ) (asked : Request) (a : Answer) → plain_answer row asked ≡ Some a
     → own_told t row (Takes invoke asked) ≡ request_told (size_of row.association) invoke None (Some a)
 plain_own t row invoke asked a is =
@@ -43,7 +51,8 @@ plain_own t row invoke asked a is =
 plain_alone : (t : Tables) (row : ClientRow) (client invoke : ℕ) (asked : Request) (a : Answer) → plain_answer row asked ≡ Some a
     → hears t row client (Takes invoke asked) ≡ record { tables = t; told = tell client (request_told (size_of row.association) invoke None (Some a)) }
 plain_alone t row client invoke asked a is =
-    ap₂ (λ (c : Option ServiceError) (o : Outcome). at c o) (no_cause t row asked a is) (plain_effect t row invoke asked a is)
+    ap (λ (b : Bool). comes_of t row client (if b then Exhausts invoke else Takes invoke asked)) (plain_numbered t row invoke asked a is)
+    ∙ ap₂ (λ (c : Option ServiceError) (o : Outcome). at c o) (no_cause t row asked a is) (plain_effect t row invoke asked a is)
     ∙ by_test (fits (size_of row.association) invoke (Some a))
     ∙ ap (λ (l : List (ℕ × Effect)). done t l) (append_none (tell client (request_told (size_of row.association) invoke None (Some a))))
   where
@@ -84,6 +93,12 @@ plainly_told row new effects told = record { is = told; alone = λ t client. ap 
 pub request_left : (row : ClientRow) (invoke : ℕ) (asked : Bor Request) (v : Verdict) → Takes invoke asked.now ≡ v → IsActOf row v (act.Request invoke asked)
 request_left row invoke asked v is = λ t client. ap (λ (w : Verdict). hears t row client w) is
 
+pub reply_left : (row : ClientRow) (number : ℕ) (answer : Borrowed) (v : Verdict) → Replies number (came answer) ≡ v → IsActOf row v (act.Reply number answer)
+reply_left row number answer v is = λ t client. ap (λ (w : Verdict). hears t row client w) is
+
+pub exhausted_left : (row : ClientRow) (invoke : ℕ) (v : Verdict) → Exhausts invoke ≡ v → IsActOf row v (act.Exhausts invoke)
+exhausted_left row invoke v is = λ t client. ap (λ (w : Verdict). hears t row client w) is
+
 pub conclusion_left : (row : ClientRow) (v : Verdict) → Concludes ≡ v → IsActOf row v act.Conclusion
 conclusion_left row v is = λ t client. ap (λ (w : Verdict). hears t row client w) is
 
@@ -120,6 +135,8 @@ heard_plainly (Ok None) row new v told exact = heard_alone row new v (sym exact)
 
 pub left_of : (row : ClientRow) (v : Verdict) (a : Act) → act_verdict a ≡ Some v → IsActOf row v a
 left_of row v (act.Request invoke asked) is = request_left row invoke asked v (cc is)
+left_of row v (act.Reply number answer) is = reply_left row number answer v (cc is)
+left_of row v (act.Exhausts invoke) is = exhausted_left row invoke v (cc is)
 left_of row v act.Conclusion is = conclusion_left row v (cc is)
 left_of row v (act.Cancel invoke) is = cancel_left row invoke v (cc is)
 left_of row v act.Abort is = abort_left row v (cc is)

@@ -7,19 +7,22 @@ use Rattle.cell_services.specs.declared.tables.Change.{Change}
 use Rattle.cell_client.specs.declared.acts.Act.{Act}
 use Rattle.cell_client.specs.declared.acts.Act.TheVariants as act
 use Rattle.cell_client.specs.declared.told.Told.{Told}
-use Rattle.cell_client.specs.Association.{Verdict, Takes, Concludes, Cancels, Aborts}
+use Rattle.cell_client.specs.Association.{Verdict, Takes, Replies, Exhausts, Concludes, Cancels, Aborts}
+use Rattle.cell_client.specs.Meant.{came}
 use Rattle.cell_services.specs.Changes.{changed}
 use Rattle.cell_client.specs.Effects.{Effect, felt_all, settled, tell}
-use Rattle.cell_services.specs.Serving.{hears, loses}
+use Rattle.cell_services.specs.Serving.{comes_of, hears, loses}
 use Rattle.cell_services.specs.Tables.{Tables}
 use Rattle.cell_client.specs.Telling.{effects_told}
 
 -- what a client of a row does
 abbrev pub act_done : Tables → ClientRow → ℕ → Act → Done Tables Effect
 act_done t row client (act.Request invoke asked) = hears t row client (Takes invoke asked.now)
+act_done t row client (act.Reply number answer) = hears t row client (Replies number (came answer))
 act_done t row client act.Conclusion = hears t row client Concludes
 act_done t row client (act.Cancel invoke) = hears t row client (Cancels invoke)
 act_done t row client act.Abort = hears t row client Aborts
+act_done t row client (act.Exhausts invoke) = comes_of t row client (Exhausts invoke)
 act_done t row client act.Loss = loses t row client
 
 -- ---- plans
@@ -44,5 +47,6 @@ pub record IsDoneIn {A : Type 0} (own : Own Tables A) (t : Tables) (row : Client
 -- what is left to be done on several tables: a client is lost
 abbrev pub IsLeft : Act → Type 0
 IsLeft (act.Request invoke asked) = ⊥
+IsLeft (act.Reply number answer) = ⊥
 IsLeft (act.Cancel invoke) = ⊥
 IsLeft other = Unit {0}

@@ -1,9 +1,11 @@
 -- A request is in the area that looks at it, which tells what it asks besides.
 use Rattle.std.specs.Prelude.{◌≡◌, ℕ, Bool, true, false, [], ◌++◌, is_some, refl}
 use Rattle.std.specs.List.{flat_map, list_any}
-use Rattle.mms_types.specs.Areas.{device_request, semaphore_request, variable_request}
+use Rattle.mms_types.specs.Areas.{device_request, domain_request, semaphore_request, variable_request}
 use Rattle.mms_types.specs.declared.area.DeviceRequest.{DeviceRequest}
 use Rattle.mms_types.specs.declared.area.DeviceRequest.TheVariants as device
+use Rattle.mms_types.specs.declared.area.DomainRequest.{DomainRequest}
+use Rattle.mms_types.specs.declared.area.DomainRequest.TheVariants as domains
 use Rattle.mms_types.specs.declared.area.SemaphoreRequest.{SemaphoreRequest}
 use Rattle.mms_types.specs.declared.area.SemaphoreRequest.TheVariants as semaphores
 use Rattle.mms_types.specs.declared.area.VariableRequest.{VariableRequest}
@@ -14,10 +16,12 @@ use Rattle.variable_services.specs.declared.tables.VariableTables.{VariableTable
 use Rattle.cell_client.specs.Facts.{Facts}
 use Rattle.serve_variables.specs.Variables as variable
 use Rattle.serve_variables.specs.Variables.{guards_asked}
+use Rattle.serve_domains.specs.Domains as domain
+use Rattle.serve_domains.specs.Tables.{DomainTables}
 use Rattle.serve_semaphores.specs.Semaphores as semaphore
 use Rattle.cell_services.specs.Device as of_device
 use Rattle.cell_services.specs.Facts.{guard_tables, tables_for}
-use Rattle.cell_services.specs.Services.{OfDevice, OfSemaphores, OfVariables, area_of}
+use Rattle.cell_services.specs.Services.{OfDevice, OfDomains, OfSemaphores, OfVariables, area_of}
 
 pub in_device : (x : DeviceRequest) → area_of (device_request x) ≡ OfDevice (of_device.request_in x)
 in_device (device.Status x) = refl
@@ -43,6 +47,14 @@ in_semaphores (semaphores.ReportSemaphoreStatus x) = refl
 in_semaphores (semaphores.ReportPoolSemaphoreStatus x) = refl
 in_semaphores (semaphores.ReportSemaphoreEntryStatus x) = refl
 
+pub in_domains : (x : DomainRequest) → area_of (domain_request x) ≡ OfDomains (domain.request_in x)
+in_domains (domains.InitiateDownloadSequence x) = refl
+in_domains (domains.InitiateUploadSequence x) = refl
+in_domains (domains.UploadSegment x) = refl
+in_domains (domains.TerminateUploadSequence x) = refl
+in_domains (domains.DeleteDomain x) = refl
+in_domains (domains.GetDomainAttributes x) = refl
+
 -- ---- what their own tables show to be asked besides
 
 none_behind : (b : Bool) → guard_tables b ++ [] ≡ guard_tables b
@@ -59,6 +71,10 @@ more_variables other v row = refl
 pub more_semaphores : (x : SemaphoreRequest) (rows : Rows) (row : ClientRow) → flat_map tables_for ((semaphore.request_in x).more rows row) ≡ []
 more_semaphores (semaphores.TakeControl x) rows row = refl
 more_semaphores other rows row = refl
+
+pub more_domains : (x : DomainRequest) (t : DomainTables) (row : ClientRow) → flat_map tables_for ((domain.request_in x).more t row) ≡ []
+more_domains (domains.DeleteDomain x) t row = refl
+more_domains other t row = refl
 
 pub more_device : (x : DeviceRequest) (row : ClientRow) → flat_map tables_for ((of_device.request_in x).more tt row) ≡ []
 more_device device.Identify row = refl

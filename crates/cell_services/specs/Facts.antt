@@ -1,14 +1,19 @@
 -- What the tables tell requests of areas that aren't theirs (this profile's choice): the tables that questions are for, and the answers as facts.
-use Rattle.std.specs.Prelude.{ℕ, Bool, false, List, [], ◌∷◌, Option, is_some, if◌then◌else◌}
+use Rattle.std.specs.Prelude.{ℕ, Bool, false, ◌||◌, List, [], ◌∷◌, Option, None, Some, is_some, if◌then◌else◌}
 use Rattle.std.specs.List.{list_any}
 use Rattle.mms_types.specs.declared.key.Scope.{Scope}
 use Rattle.mms_types.specs.declared.name_list.ObjectClass.{ObjectClass}
 use Rattle.mms_types.specs.declared.name_list.ObjectClass.TheVariants as class
+use Rattle.mms_types.specs.declared.key.Scope.TheVariants as scope
 use Rattle.object_names.specs.Listing.{names_after}
+use Rattle.object_names.specs.Scopes.{has_any_of}
+use Rattle.domain_load.specs.Domains as loaded
+use Rattle.domain_load.specs.Standing.{is_live}
+use Rattle.serve_domains.specs.Tables.{DomainTables}
 use Rattle.variables.specs.Access.{flags_of}
 use Rattle.mms_time.specs.Guards.{owns_guard}
 use Rattle.parted_state.specs.Area.{Tells}
-pub use Rattle.cell_client.specs.Facts.{Question, Now, Live, Owned, Names, Facts, no_facts}
+pub use Rattle.cell_client.specs.Facts.{Question, Now, Live, Owned, Scoped, Names, Facts, no_facts}
 use Rattle.cell_services.specs.Tables.{Tables, moment_of, clock_table, variables_table, domains_table, programs_table, conditions_table, journals_table, semaphores_table}
 
 -- ---- whom a question is for
@@ -36,25 +41,46 @@ class_tables class.NamedType = []
 class_tables class.EventAction = []
 class_tables class.OperatorStation = []
 
+-- the tables whose objects have a scope
+abbrev pub scope_tables : List ℕ
+scope_tables = variables_table ∷ conditions_table ∷ journals_table ∷ semaphores_table ∷ []
+
 abbrev pub tables_for : Question → List ℕ
 tables_for Now = clock_table ∷ []
-tables_for (Live of_domain) = domain_tables of_domain
+tables_for (Live of_domain domain) = domain_tables of_domain
+tables_for (Scoped domain) = scope_tables
 tables_for (Owned client guards) = guard_tables (list_any is_some guards)
 tables_for (Names c) = class_tables c
 
 -- ---- what it is told
+
+-- the names of domains, which have no scope but that of the device
+abbrev pub domains_listed : DomainTables → Scope → Option (List ℕ) → List (List ℕ)
+domains_listed domains scope.Vmd after = loaded.names_after after domains.domains
+domains_listed domains s after = []
 
 -- the names of a class and a scope that come after that one, in order of octets; other classes have no names yet
 abbrev pub names_in : Tables → Scope → ObjectClass → Option (List ℕ) → List (List ℕ)
 names_in t s class.NamedVariable after = names_after s after t.variables.vars.variables
 names_in t s class.NamedVariableList after = names_after s after t.variables.lists
 names_in t s class.Semaphore after = names_after s after t.semaphores
+names_in t s class.Domain after = domains_listed t.domains s after
 names_in t s c after = []
 
--- no domain is live: there are none yet
+-- a domain is live, where one has to be: it is READY or IN-USE
+abbrev pub is_domain_live : Option (List ℕ) → DomainTables → Bool
+is_domain_live None domains = false
+is_domain_live (Some domain) domains = loaded.is_there is_live domain domains.domains
+
+-- some object has the domain for its scope: a variable, a list or a semaphore
+abbrev pub is_scope_used : List ℕ → Tables → Bool
+is_scope_used domain t =
+    has_any_of (scope.Domain domain) t.variables.vars.variables || has_any_of (scope.Domain domain) t.variables.lists || has_any_of (scope.Domain domain) t.semaphores
+
 abbrev pub noted : Question → Tables → Facts → Facts
 noted Now t facts = record facts { now = moment_of t }
-noted (Live of_domain) t facts = record facts { live = false }
+noted (Live of_domain domain) t facts = record facts { live = if of_domain then is_domain_live domain t.domains else false }
+noted (Scoped domain) t facts = record facts { scoped = is_scope_used domain t }
 noted (Owned client guards) t facts = record facts { owned = flags_of (λ guard. owns_guard client guard t.semaphores) guards }
 noted (Names c) t facts = record facts { names = λ s after. names_in t s c after }
 

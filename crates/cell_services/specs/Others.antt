@@ -7,12 +7,12 @@ use Rattle.sem_ticks.specs.declared.granted.Granted.{Granted}
 use Rattle.sem_ticks.specs.declared.ticks.Happening.{Happening}
 use Rattle.sem_ticks.specs.declared.ticks.Happening.TheVariants.{WaitEnds, Grants, Aborts}
 use Rattle.cell_client.specs.Association.{Verdict}
-use Rattle.cell_services.specs.Serving.{also_told}
+use Rattle.cell_services.specs.Serving.{also_told, resolved}
 use Rattle.cell_services.specs.Tables.{Tables}
 
 -- beside the client of a row, a verdict on what it sends tells these something
 abbrev pub AlsoTells : Tables → ClientRow → Verdict → List ℕ → Type 0
-AlsoTells t row v clients = (k : ℕ) → row.client ≢ k → is_told (also_told t row v) k ≡ list_any (λ c. c == k) clients
+AlsoTells t row v clients = (k : ℕ) → row.client ≢ k → is_told (also_told t row (resolved t row v)) k ≡ list_any (λ c. c == k) clients
 
 abbrev pub grant_clients : List Granted → List ℕ
 grant_clients grants = map (λ g. g.client) grants

@@ -1,5 +1,5 @@
--- The confirmed services: why a request is refused, what it does otherwise, and which tables it uses (ISO 9506-1, VMD support, variable access and semaphore management).
-use Rattle.std.specs.Prelude.{ℕ, List, Option}
+-- The confirmed services: why a request is refused, what it does otherwise, and which tables it uses (ISO 9506-1, VMD support, variable access, domain management and semaphore management).
+use Rattle.std.specs.Prelude.{ℕ, Bool, false, List, Option}
 use Rattle.mms_types.specs.declared.pdu.Request.{Request}
 use Rattle.mms_types.specs.declared.pdu.Request.TheVariants as request
 use Rattle.mms_types.specs.declared.semaphore.RelinquishControl.{RelinquishControl}
@@ -11,10 +11,15 @@ use Rattle.sem_ticks.specs.declared.granted.Granted.{Granted}
 use Rattle.variable_services.specs.declared.tables.VariableTables.{VariableTables}
 use Rattle.association.specs.Client.{ClientRow}
 use Rattle.parted_state.specs.Area.{no_table}
-use Rattle.cell_services.specs.Tables.{Tables, moment_of, own_variables, own_semaphores}
+use Rattle.serve_domains.specs.Tables.{DomainTables}
+use Rattle.cell_services.specs.Tables.{Tables, moment_of, own_variables, own_domains, own_semaphores}
 use Rattle.cell_services.specs.Device as device
 use Rattle.serve_variables.specs.Variables as variables
+use Rattle.serve_domains.specs.Domains as domains
 use Rattle.serve_semaphores.specs.Semaphores as semaphores
+use Rattle.cell_client.specs.Areas.{lacks_number_in}
+use Rattle.cell_client.specs.Facts.{no_facts}
+use Rattle.cell_client.specs.Association.{Came}
 use Rattle.cell_services.specs.Requests.{OutcomeIn, RequestIn, asks_in, more_in, cause_in, effect_in, among}
 pub use Rattle.cell_services.specs.Requests.{answers, is_of_domain}
 pub use Rattle.cell_services.specs.Facts.{class_tables, guard_tables, names_in}
@@ -27,10 +32,11 @@ Outcome = OutcomeIn Tables
 
 -- ---- each service, in its area
 
--- a request to the device, which has no table of its own; to its variables; or to its semaphores
+-- a request to the device, which has no table of its own; to its variables; to its domains; or to its semaphores
 pub data InArea : Type 0 where
   OfDevice : RequestIn (Unit {0}) → InArea
   OfVariables : RequestIn VariableTables → InArea
+  OfDomains : RequestIn DomainTables → InArea
   OfSemaphores : RequestIn Rows → InArea
 
 abbrev pub area_of : Request → InArea
@@ -52,28 +58,49 @@ area_of (request.DeleteSemaphore x) = OfSemaphores (semaphores.delete_semaphore 
 area_of (request.ReportSemaphoreStatus x) = OfSemaphores (semaphores.report_status x)
 area_of (request.ReportPoolSemaphoreStatus x) = OfSemaphores (semaphores.report_pool_status x)
 area_of (request.ReportSemaphoreEntryStatus x) = OfSemaphores (semaphores.report_entry_status x)
+area_of (request.InitiateDownloadSequence x) = OfDomains (domains.initiate_download x)
+area_of (request.InitiateUploadSequence x) = OfDomains (domains.initiate_upload x)
+area_of (request.UploadSegment x) = OfDomains (domains.upload_segment x)
+area_of (request.TerminateUploadSequence x) = OfDomains (domains.terminate_upload x)
+area_of (request.DeleteDomain x) = OfDomains (domains.delete x)
+area_of (request.GetDomainAttributes x) = OfDomains (domains.attributes x)
+
+-- and what a client answers to the server's request of that number
+abbrev pub reply_in : ℕ → Came → InArea
+reply_in number came = OfDomains (domains.replied number came)
 
 -- ---- among the tables of the device
 
 abbrev pub cause_of : Tables → ClientRow → InArea → Option ServiceError
 cause_of t row (OfDevice r) = cause_in no_table t row r
 cause_of t row (OfVariables r) = cause_in own_variables t row r
+cause_of t row (OfDomains r) = cause_in own_domains t row r
 cause_of t row (OfSemaphores r) = cause_in own_semaphores t row r
 
 abbrev pub effect_of : Tables → ClientRow → ℕ → InArea → Outcome
 effect_of t row invoke (OfDevice r) = effect_in no_table t row invoke r
 effect_of t row invoke (OfVariables r) = effect_in own_variables t row invoke r
+effect_of t row invoke (OfDomains r) = effect_in own_domains t row invoke r
 effect_of t row invoke (OfSemaphores r) = effect_in own_semaphores t row invoke r
 
 abbrev pub asks_of : InArea → List ℕ
 asks_of (OfDevice r) = asks_in no_table r
 asks_of (OfVariables r) = asks_in own_variables r
+asks_of (OfDomains r) = asks_in own_domains r
 asks_of (OfSemaphores r) = asks_in own_semaphores r
 
 abbrev pub more_of : Tables → ClientRow → InArea → List ℕ
 more_of t row (OfDevice r) = more_in no_table t row r
 more_of t row (OfVariables r) = more_in own_variables t row r
+more_of t row (OfDomains r) = more_in own_domains t row r
 more_of t row (OfSemaphores r) = more_in own_semaphores t row r
+
+-- Requests to domains alone ask clients anything, and none that does is told anything by other tables: it would ask, and no number is left for that.
+abbrev pub lacks_number : Tables → ClientRow → ℕ → InArea → Bool
+lacks_number t row invoke (OfDomains r) = lacks_number_in r no_facts row invoke t.domains
+lacks_number t row invoke (OfDevice r) = false
+lacks_number t row invoke (OfVariables r) = false
+lacks_number t row invoke (OfSemaphores r) = false
 
 -- the first condition for which a request is refused
 abbrev pub cause : Tables → ClientRow → Request → Option ServiceError
@@ -86,10 +113,6 @@ effect t row invoke asked = effect_of t row invoke (area_of asked)
 -- the tables that it reads or changes: by its words
 abbrev pub request_asks : Request → List ℕ
 request_asks asked = asks_of (area_of asked)
-
--- and by what these show
-abbrev pub request_more : Tables → ClientRow → Request → List ℕ
-request_more t row asked = more_of t row (area_of asked)
 
 -- ---- two of them, among all tables
 

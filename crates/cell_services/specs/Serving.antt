@@ -4,6 +4,8 @@ use Rattle.std.specs.List.{flat_map}
 use Rattle.mms_types.specs.Actors.{actor_of}
 use Rattle.mms_types.specs.declared.event.CellEvent.{CellEvent}
 use Rattle.mms_types.specs.declared.event.CellEvent.TheVariants.{Heard, Lost, Tick, Ends, Drain}
+use Rattle.mms_types.specs.declared.pdu.Answer.TheVariants as answer
+use Rattle.mms_types.specs.declared.pdu.Pdu.TheVariants as pdu
 use Rattle.mms_types.specs.declared.pdu.Request.{Request}
 use Rattle.association.specs.declared.negotiation.Association.{Association}
 use Rattle.association.specs.declared.negotiation.Association.TheVariants.{Idle, Open}
@@ -18,18 +20,25 @@ use Rattle.sem_ticks.specs.declared.ticks.Happening.{Happening}
 use Rattle.sem_ticks.specs.declared.ticks.Happening.TheVariants as happens
 use Rattle.variable_services.specs.declared.tables.VariableTables.{VariableTables}
 use Rattle.variable_services.specs.Services.{lost}
+use Rattle.domain_upload.specs.Uploads.{has_upload}
+use Rattle.serve_domains.specs.Tables.{DomainTables}
+use Rattle.serve_domains.specs.Tables as domains
 use Rattle.parted_state.specs.Served.{Done, Services}
 use Rattle.cell_client.specs.Effects.{Effect, Answers, Closes, Drains, Sends, tell}
 use Rattle.cell_services.specs.Tables.{Tables, moment_of, moment_after, clock_table, variables_table, domains_table, programs_table, conditions_table, journals_table, semaphores_table, loss_tables}
-use Rattle.cell_client.specs.Association.{Verdict, Tells, Takes, Concludes, Cancels, Aborts, verdict, conclusion_told, cancel_told, abort_told, loss_told, timeout_error}
-use Rattle.cell_services.specs.Services.{cause, effect, grant_told, grants_told, request_asks, request_more}
+use Rattle.cell_client.specs.Association.{Verdict, Tells, Takes, Replies, Exhausts, Concludes, Cancels, Aborts, verdict, sends, conclusion_told, keeps_open, cancel_told, abort_told, loss_told, timeout_error}
+use Rattle.cell_services.specs.Services.{InArea, area_of, reply_in, cause_of, effect_of, asks_of, more_of, lacks_number, grant_told, grants_told, request_asks}
 use Rattle.cell_client.specs.Requests.{is_done, refuses, request_told, size_of}
 pub use Rattle.serve_semaphores.specs.Tokens.{waiting_of}
 
 -- ---- the loss of a client: what belongs to its association is gone
 
 abbrev pub without_client : ℕ → Tables → Tables
-without_client client t = record t { variables = lost client t.variables; semaphores = semaphores.lost client (moment_of t) t.semaphores }
+without_client client t = record t {
+  variables = lost client t.variables;
+  domains = domains.lost client t.domains;
+  semaphores = semaphores.lost client (moment_of t) t.semaphores;
+}
 
 -- and tokens that it had are granted to others
 abbrev pub loss_also : ℕ → Tables → List (ℕ × Effect)
@@ -46,18 +55,50 @@ also_lost (Open values) client t = loss_also client t
 
 -- ---- what is heard
 
--- a request that is taken is done, or its tables stay as they are
+-- what is asked of an area is done, or its tables stay as they are
+abbrev pub is_served_in : Tables → ClientRow → ℕ → InArea → Bool
+is_served_in t row invoke a = is_done (size_of row.association) invoke (cause_of t row a) (effect_of t row invoke a).answer
+
+abbrev pub tables_served : Tables → ClientRow → ℕ → InArea → Tables
+tables_served t row invoke a = if is_served_in t row invoke a then (effect_of t row invoke a).tables else t
+
+abbrev pub served_told : Tables → ClientRow → ℕ → InArea → List Effect
+served_told t row invoke a = request_told (size_of row.association) invoke (cause_of t row a) (effect_of t row invoke a).answer
+
+abbrev pub also_served : Tables → ClientRow → ℕ → InArea → List (ℕ × Effect)
+also_served t row invoke a = if is_served_in t row invoke a then (effect_of t row invoke a).also else []
+
+-- a request that is taken
 abbrev pub is_served : Tables → ClientRow → ℕ → Request → Bool
-is_served t row invoke asked = is_done (size_of row.association) invoke (cause t row asked) (effect t row invoke asked).answer
+is_served t row invoke asked = is_served_in t row invoke (area_of asked)
 
 -- its entry waits no more
 abbrev pub tables_cancelled : Option Waiting → Tables → Tables
 tables_cancelled None t = t
 tables_cancelled (Some request) t = record t { semaphores = cancelled request.key request.entry t.semaphores }
 
+-- an open upload of the client
+abbrev pub keeps_upload : Tables → ClientRow → Bool
+keeps_upload t row = has_upload row.client t.domains.uploads
+
+-- What a verdict comes to by what the tables show: a conclusion is refused by an open upload; and where something would be asked of the client, and no number is left
+-- for that, it is aborted.
+abbrev pub resolved : Tables → ClientRow → Verdict → Verdict
+resolved t row (Tells effects) = Tells effects
+resolved t row (Takes invoke asked) = if lacks_number t row invoke (area_of asked) then Exhausts invoke else Takes invoke asked
+resolved t row (Replies number came) = if lacks_number t row number (reply_in number came) then Aborts else Replies number came
+resolved t row (Exhausts invoke) = Exhausts invoke
+resolved t row Concludes = if keeps_upload t row then Tells keeps_open else Concludes
+resolved t row (Cancels invoke) = Cancels invoke
+resolved t row Aborts = Aborts
+
+-- ---- what comes of it then
+
 abbrev pub tables_heard : Tables → ClientRow → Verdict → Tables
-tables_heard t row (Takes invoke asked) = if is_served t row invoke asked then (effect t row invoke asked).tables else t
+tables_heard t row (Takes invoke asked) = tables_served t row invoke (area_of asked)
 tables_heard t row (Tells effects) = t
+tables_heard t row (Replies number came) = tables_served t row number (reply_in number came)
+tables_heard t row (Exhausts invoke) = without_client row.client t
 tables_heard t row Concludes = without_client row.client t
 tables_heard t row (Cancels invoke) = tables_cancelled (waiting_of invoke row.waiting) t
 tables_heard t row Aborts = without_client row.client t
@@ -65,36 +106,51 @@ tables_heard t row Aborts = without_client row.client t
 -- what is told to the client itself
 abbrev pub own_told : Tables → ClientRow → Verdict → List Effect
 own_told t row (Tells effects) = effects
-own_told t row (Takes invoke asked) = request_told (size_of row.association) invoke (cause t row asked) (effect t row invoke asked).answer
+own_told t row (Takes invoke asked) = served_told t row invoke (area_of asked)
+own_told t row (Replies number came) = served_told t row number (reply_in number came)
+own_told t row (Exhausts invoke) = sends (pdu.ConfirmedResponse invoke answer.InitiateDownloadSequence) ∷ abort_told
 own_told t row Concludes = conclusion_told
 own_told t row (Cancels invoke) = cancel_told invoke
 own_told t row Aborts = abort_told
 
 -- what else is told
 abbrev pub also_told : Tables → ClientRow → Verdict → List (ℕ × Effect)
-also_told t row (Takes invoke asked) = if is_served t row invoke asked then (effect t row invoke asked).also else []
+also_told t row (Takes invoke asked) = also_served t row invoke (area_of asked)
 also_told t row (Tells effects) = []
+also_told t row (Replies number came) = also_served t row number (reply_in number came)
+also_told t row (Exhausts invoke) = loss_also row.client t
 also_told t row Concludes = loss_also row.client t
 also_told t row (Cancels invoke) = []
 also_told t row Aborts = loss_also row.client t
 
-abbrev pub hears : Tables → ClientRow → ℕ → Verdict → Done Tables Effect
-hears t row client v = record { tables = tables_heard t row v; told = tell client (own_told t row v) ++ also_told t row v }
+abbrev pub comes_of : Tables → ClientRow → ℕ → Verdict → Done Tables Effect
+comes_of t row client v = record { tables = tables_heard t row v; told = tell client (own_told t row v) ++ also_told t row v }
 
--- a conclusion is refused by an open upload, so domains and uploads come first, and what a loss touches once they are held
+abbrev pub hears : Tables → ClientRow → ℕ → Verdict → Done Tables Effect
+hears t row client v = comes_of t row client (resolved t row v)
+
+-- the tables that a verdict uses: whether an open upload refuses a conclusion is seen first
 abbrev pub heard_asks : Verdict → List ℕ
 heard_asks (Tells effects) = []
 heard_asks (Takes invoke asked) = request_asks asked
+heard_asks (Replies number came) = asks_of (reply_in number came)
+heard_asks (Exhausts invoke) = loss_tables
 heard_asks Concludes = domains_table ∷ []
 heard_asks (Cancels invoke) = clock_table ∷ semaphores_table ∷ []
 heard_asks Aborts = loss_tables
 
+-- and those that it uses beside them, by what they show
+abbrev pub more_of_verdict : Tables → ClientRow → Verdict → List ℕ
+more_of_verdict t row (Takes invoke asked) = more_of t row (area_of asked)
+more_of_verdict t row (Replies number came) = more_of t row (reply_in number came)
+more_of_verdict t row (Exhausts invoke) = loss_tables
+more_of_verdict t row Concludes = loss_tables
+more_of_verdict t row (Tells effects) = []
+more_of_verdict t row (Cancels invoke) = []
+more_of_verdict t row Aborts = loss_tables
+
 abbrev pub heard_more : Tables → ClientRow → Verdict → List ℕ
-heard_more t row (Takes invoke asked) = request_more t row asked
-heard_more t row Concludes = clock_table ∷ variables_table ∷ conditions_table ∷ journals_table ∷ semaphores_table ∷ []
-heard_more t row (Tells effects) = []
-heard_more t row (Cancels invoke) = []
-heard_more t row Aborts = []
+heard_more t row v = more_of_verdict t row (resolved t row v)
 
 -- ---- a client that is lost
 
@@ -131,13 +187,21 @@ aborted happened = filter_map aborted_one happened
 abbrev pub without_clients : List ℕ → VariableTables → VariableTables
 without_clients clients variables = fold (λ v client. lost client v) variables clients
 
+abbrev pub domains_without : List ℕ → DomainTables → DomainTables
+domains_without clients t = fold (λ d client. domains.lost client d) t clients
+
 -- what happens to semaphores while so many milliseconds go by
 abbrev pub meanwhile : ℕ → Tables → Ticking
 meanwhile ms t = ticked (moment_after ms t) t.semaphores
 
 abbrev pub passed : ℕ → Tables → Ticking → Done Tables Effect
 passed ms t s = record {
-  tables = record { now = t.now + ms; variables = without_clients (aborted s.happened) t.variables; semaphores = s.rows };
+  tables = record {
+    now = t.now + ms;
+    variables = without_clients (aborted s.happened) t.variables;
+    domains = domains_without (aborted s.happened) t.domains;
+    semaphores = s.rows;
+  };
   told = all_told s.happened;
 }
 

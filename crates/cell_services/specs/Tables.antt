@@ -3,6 +3,7 @@ use Rattle.std.specs.Prelude.{ℕ, ◌+◌, List, [], ◌∷◌}
 use Rattle.mms_types.specs.declared.moment.Moment.{Moment}
 use Rattle.mms_time.specs.Semaphores.{Rows}
 use Rattle.parted_state.specs.Area.{Own}
+use Rattle.serve_domains.specs.Tables.{DomainTables}
 use Rattle.variable_services.specs.declared.tables.VariableTables.{VariableTables}
 
 -- A table's rows are a field here; of each that isn't here yet there are none.
@@ -11,6 +12,8 @@ pub record Tables : Type 0 where
   pub now : ℕ
   -- cells, named variables and their lists
   pub variables : VariableTables
+  -- domains and the uploads of them
+  pub domains : DomainTables
   -- semaphores
   pub semaphores : Rows
 
@@ -52,13 +55,16 @@ semaphores_table = 6
 abbrev pub loss_tables : List ℕ
 loss_tables = clock_table ∷ variables_table ∷ domains_table ∷ conditions_table ∷ journals_table ∷ semaphores_table ∷ []
 
--- ---- the tables of areas: the clock, variables and their lists, semaphores
+-- ---- the tables of areas: the clock, variables and their lists, domains and uploads, semaphores
 
 abbrev pub own_clock : Own Tables ℕ
 own_clock = record { numbers = clock_table ∷ []; of = λ t. t.now; put = λ new t. record t { now = new } }
 
 abbrev pub own_variables : Own Tables VariableTables
 own_variables = record { numbers = variables_table ∷ []; of = λ t. t.variables; put = λ new t. record t { variables = new } }
+
+abbrev pub own_domains : Own Tables DomainTables
+own_domains = record { numbers = domains_table ∷ []; of = λ t. t.domains; put = λ new t. record t { domains = new } }
 
 abbrev pub own_semaphores : Own Tables Rows
 own_semaphores = record { numbers = semaphores_table ∷ []; of = λ t. t.semaphores; put = λ new t. record t { semaphores = new } }

@@ -1,19 +1,32 @@
 //! Requests to the areas of the device, with what the tables of other areas tell them.
 
-ghost use Rattle.std.specs.Prelude.{◌≡◌, IfNone, IfOk, IfSome, OnErr, OnOk, OnSome};
-ghost use Rattle.mms_types.specs.Areas.{semaphore_request, variable_request};
+ghost use Rattle.std.specs.Prelude.{◌≡◌, ℕ, false, true, IfNone, IfOk, IfSome, OnErr, OnOk, OnSome};
+ghost use Rattle.association.specs.Asked.{is_open};
+ghost use Rattle.mms_types.specs.Areas.{domain_request, semaphore_request, variable_request};
 ghost use Rattle.mms_types.specs.Moments.{IsDated};
 ghost use Rattle.mms_time.specs.Guards.{owns_guard};
 ghost use Rattle.serve_semaphores.specs.Tokens.{told_after};
-ghost use Rattle.cell_client.specs.Association.{Cancels, Takes};
+ghost use Rattle.serve_domains.specs.Domains as of_domains;
+ghost use Rattle.serve_domains.specs.Domains.{AnswersLoad};
+ghost use Rattle.serve_semaphores.specs.Semaphores as of_semaphores;
+ghost use Rattle.serve_variables.specs.Variables as of_variables;
+ghost use Rattle.cell_client.specs.Areas.{lacks_number_in};
+ghost use Rattle.cell_client.specs.Association.{Cancels, Replies, Takes};
+ghost use Rattle.cell_client.specs.Facts.{Facts};
+ghost use Rattle.cell_client.specs.Meant.{came};
 ghost use Rattle.cell_client.specs.Effects.{settled};
 ghost use Rattle.cell_services.specs.Acts.{all_done, IsDoneIn};
 ghost use Rattle.cell_services.specs.Serving.{hears};
-ghost use Rattle.cell_services.specs.Tables.{Tables as Rows, own_semaphores, own_variables};
+ghost use Rattle.cell_services.specs.Facts.{is_domain_live, is_scope_used};
+ghost use Rattle.cell_services.specs.Requests.{told_in};
+ghost use Rattle.cell_services.specs.Tables.{Tables as Rows, own_domains, own_semaphores, own_variables};
 
-use cell_client::{Client, Told};
+use cell_client::{Came, Client, Told};
 use mms_time::{Semaphores, owns_guard};
-use mms_types::{Identifier, Memory, Moment, SemaphoreRequest, VariableRequest};
+use mms_types::{
+    DomainRequest, Identifier, Memory, Moment, Scope, SemaphoreRequest, VariableRequest,
+};
+use serve_domains::DomainTables;
 use std::alloc::Global;
 use variable_services::VariableTables;
 use variables::OwnsGuards;
@@ -34,28 +47,32 @@ impl<'a> OwnsGuards for GuardsOf<'a> {
 }
 
 /// Serves a request for variables on the tables that hold them and the part of its client; guards are looked up among
-/// those semaphores. Without memory all is as before.
+/// those semaphores, and `live` is whether the domain is live that has to be. Without memory all is as before.
 pub fn serve_variables(
     alloc: Global,
     own: &mut Client,
     variables: &mut VariableTables,
     semaphores: &Semaphores,
+    live: bool,
     invoke: u32,
     asked: VariableRequest<'_>,
 ) -> Result<(), Memory>
     requires settled { own.old ≡ settled own.old.row }
     ensures served { OnOk result ((t : Rows) → t.variables ≡ variables.old
-        → t.semaphores ≡ semaphores.now → IsDoneIn own_variables t own.old.row variables.new
+        → t.semaphores ≡ semaphores.now
+        → live ≡ is_domain_live (of_variables.domain_asked asked.entry) t.domains
+        → IsDoneIn own_variables t own.old.row variables.new
         own.new (Takes invoke (variable_request asked.entry))) }
     ensures kept { OnErr result (own.new ≡ own.old) }
     ensures same { OnErr result (variables.new ≡ variables.old) }
 {
     let client = own.part().client();
     let by = GuardsOf { client, semaphores };
-    serve_variables::serve(alloc, own, variables, false, &by, invoke, asked)
+    serve_variables::serve(alloc, own, variables, live, &by, invoke, asked)
 }
 
-/// Serves a request for semaphores on these and the part of its client, at that moment. Where others are told something,
+/// Serves a request for semaphores on these and the part of its client, at that moment, with whether the domain is live
+/// that has to be. Where others are told something,
 /// too, that is told, with what its client is told first, and the semaphores after it are `told_after`; then all is as
 /// before, as it is without memory.
 pub fn serve_semaphores(
@@ -63,16 +80,20 @@ pub fn serve_semaphores(
     own: &mut Client,
     semaphores: &mut Semaphores,
     now: Moment,
+    live: bool,
     invoke: u32,
     asked: SemaphoreRequest<'_>,
 ) -> Result<Option<Vec<(u32, Told)>>, Memory>
     requires now { IsDated now }
     requires settled { own.old ≡ settled own.old.row }
     ensures served { IfOk result (λ left. IfNone left ((t : Rows)
-        → t.semaphores ≡ semaphores.old → t.now ≡ now.0 → IsDoneIn own_semaphores t
+        → t.semaphores ≡ semaphores.old → t.now ≡ now.0
+        → live ≡ is_domain_live (of_semaphores.domain_asked asked.entry) t.domains
+        → IsDoneIn own_semaphores t
         own.old.row semaphores.new own.new (Takes invoke (semaphore_request asked.entry)))) }
     ensures left { IfOk result (λ left. IfSome left (λ told. (t : Rows)
         → t.semaphores ≡ semaphores.old → t.now ≡ now.0
+        → live ≡ is_domain_live (of_semaphores.domain_asked asked.entry) t.domains
         → hears t own.old.row own.old.row.client (Takes invoke (semaphore_request asked.entry))
         ≡ all_done (own_semaphores.put
         (told_after own.old.row.client now asked.entry semaphores.old) t) told.items)) }
@@ -81,7 +102,71 @@ pub fn serve_semaphores(
     ensures kept { OnErr result (own.new ≡ own.old) }
     ensures same { OnErr result (semaphores.new ≡ semaphores.old) }
 {
-    serve_semaphores::serve(alloc, own, semaphores, now, false, invoke, asked)
+    serve_semaphores::serve(alloc, own, semaphores, now, live, invoke, asked)
+}
+
+/// Whether some object has that domain for its scope: a variable, a list of variables or a semaphore.
+pub fn is_scope_used(
+    alloc: Global,
+    variables: &VariableTables,
+    semaphores: &Semaphores,
+    domain: &Identifier,
+) -> Result<bool, Memory>
+    ensures { IfOk result (λ used. (t : Rows) → t.variables ≡ variables.now
+        → t.semaphores ≡ semaphores.now → used ≡ is_scope_used domain.now t) }
+{
+    let scope = Scope::Domain(domain.copy(alloc)?);
+    Ok(
+        variables.vars.has_any_of(&scope)
+            || variables.lists.has_any_of(&scope)
+            || semaphores.has_any_of(&scope),
+    )
+}
+
+/// Serves a request for domains on the tables that hold them and the part of its client, with whether some object has
+/// the domain for its scope that is to be deleted. Without memory all is as before.
+pub fn serve_domains(
+    alloc: Global,
+    own: &mut Client,
+    domains: &mut DomainTables,
+    scoped: bool,
+    invoke: u32,
+    asked: DomainRequest<'_>,
+) -> Result<(), Memory>
+    requires settled { own.old ≡ settled own.old.row }
+    requires open { is_open own.old.row.association ≡ true }
+    requires number { (facts : Facts) → lacks_number_in (of_domains.request_in asked) facts
+        own.old.row invoke domains.old ≡ false }
+    ensures served { OnOk result ((t : Rows) → t.domains ≡ domains.old
+        → (told_in own_domains t own.old.row (of_domains.request_in asked.entry)).scoped ≡ scoped
+        → IsDoneIn own_domains t own.old.row domains.new
+        own.new (Takes invoke (domain_request asked.entry))) }
+    ensures kept { OnErr result (own.new ≡ own.old) }
+    ensures same { OnErr result (domains.new ≡ domains.old) }
+{
+    serve_domains::serve(alloc, own, domains, scoped, invoke, asked)
+}
+
+/// Serves what a client answers to the server's request of that number, on the tables that hold domains and the part of
+/// that client. Without memory all is as before.
+pub fn serve_reply(
+    alloc: Global,
+    own: &mut Client,
+    domains: &mut DomainTables,
+    number: u32,
+    answer: Came<'_>,
+) -> Result<(), Memory>
+    requires settled { own.old ≡ settled own.old.row }
+    requires open { is_open own.old.row.association ≡ true }
+    requires load { AnswersLoad own.old.row number (came answer) domains.old }
+    requires number { (facts : Facts) (invoke : ℕ) → lacks_number_in
+        (of_domains.replied number (came answer)) facts own.old.row invoke domains.old ≡ false }
+    ensures served { OnOk result ((t : Rows) → t.domains ≡ domains.old
+        → IsDoneIn own_domains t own.old.row domains.new own.new (Replies number (came answer.entry))) }
+    ensures kept { OnErr result (own.new ≡ own.old) }
+    ensures same { OnErr result (domains.new ≡ domains.old) }
+{
+    serve_domains::reply(alloc, own, domains, number, answer)
 }
 
 /// Cancels the request of that invokeID, which waits, on the semaphores and the part of its client (ISO 9506-1, Cancel).

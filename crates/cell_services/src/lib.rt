@@ -11,7 +11,10 @@ mod others;
 mod planning;
 mod tables;
 
-pub use areas::{cancel_on_semaphores, serve_semaphores, serve_variables};
+pub use areas::{
+    cancel_on_semaphores, is_scope_used, serve_domains, serve_reply, serve_semaphores,
+    serve_variables,
+};
 pub use clock::Clock;
 pub use device::serve_device;
 pub use hearing::hear;

@@ -4,17 +4,18 @@ ghost use Rattle.std.specs.Prelude.{◌≡◌, ◌≢◌, ◌==◌, ℕ, IfOk, O
 ghost use Rattle.std.specs.List.{list_any};
 ghost use Rattle.mms_types.specs.Moments.{IsDated};
 ghost use Rattle.parted_state.specs.Served.{is_told};
-ghost use Rattle.cell_client.specs.Meant.{meant};
-ghost use Rattle.cell_client.specs.Association.{Takes};
+ghost use Rattle.cell_client.specs.Meant.{came, meant};
+ghost use Rattle.cell_client.specs.Association.{Concludes, Replies, Takes};
 ghost use Rattle.cell_services.specs.Others.{AlsoTells, client_of, grant_clients, is_abort};
 ghost use Rattle.cell_services.specs.Serving.{all_told, also_lost, loss_also};
 ghost use Rattle.cell_services.specs.Tables.{Tables as Rows};
 
 use association::ClientPart;
-use cell_client::Found;
+use cell_client::{Came, Found};
 use mms_time::Semaphores;
 use mms_types::{AreaRequest, Memory, Moment, Request};
 use sem_ticks::{Granted, Happening, lose_told};
+use serve_domains::{DomainTables, lacks_number, reply_lacks_number};
 use serve_semaphores::tells;
 use std::alloc::Global;
 
@@ -54,19 +55,70 @@ fn listed(alloc: Global, told: Option<u32>) -> Result<Vec<u32>, Memory>
 /// The clients that are told something beside the one whose request is taken.
 fn request_told(
     alloc: Global,
+    domains: &DomainTables,
     semaphores: &Semaphores,
+    now: Moment,
     part: &ClientPart,
     invoke: u32,
     asked: &Request,
 ) -> Result<Vec<u32>, Memory>
-    ensures { IfOk result (λ clients. (t : Rows) → t.semaphores ≡ semaphores.now
+    requires { IsDated now }
+    ensures { IfOk result (λ clients. (t : Rows) → t.domains ≡ domains.now
+        → t.semaphores ≡ semaphores.now → t.now ≡ now.0
         → AlsoTells t part.now.row (Takes invoke asked.now) clients.items) }
 {
     match asked.area() {
         AreaRequest::Semaphores(asked) => {
             listed(alloc, tells(alloc, semaphores, part, invoke, asked)?)
         }
+        AreaRequest::Domains(asked) => {
+            if lacks_number(alloc, part, domains, invoke, asked)? {
+                lost_told(alloc, semaphores, now, part.client())
+            } else {
+                Ok(Vec::new(alloc))
+            }
+        }
         AreaRequest::Device(_) | AreaRequest::Variables(_) => Ok(Vec::new(alloc)),
+    }
+}
+
+/// The clients that are told something beside the one that answers the server: none, unless that one is aborted.
+fn reply_told(
+    alloc: Global,
+    semaphores: &Semaphores,
+    now: Moment,
+    part: &ClientPart,
+    number: u32,
+    answer: Came<'_>,
+) -> Result<Vec<u32>, Memory>
+    requires { IsDated now }
+    ensures { IfOk result (λ clients. (t : Rows) → t.semaphores ≡ semaphores.now
+        → t.now ≡ now.0 → AlsoTells t part.now.row (Replies number (came answer.entry)) clients.items) }
+{
+    if reply_lacks_number(part, number, answer) {
+        lost_told(alloc, semaphores, now, part.client())
+    } else {
+        Ok(Vec::new(alloc))
+    }
+}
+
+/// The clients that are told something beside the one that concludes: none where an open upload refuses it.
+fn conclusion_told(
+    alloc: Global,
+    domains: &DomainTables,
+    semaphores: &Semaphores,
+    now: Moment,
+    part: &ClientPart,
+) -> Result<Vec<u32>, Memory>
+    requires { IsDated now }
+    ensures { IfOk result (λ clients. (t : Rows) → t.domains ≡ domains.now
+        → t.semaphores ≡ semaphores.now → t.now ≡ now.0
+        → AlsoTells t part.now.row Concludes clients.items) }
+{
+    if domains.has_upload(part.client()) {
+        Ok(Vec::new(alloc))
+    } else {
+        lost_told(alloc, semaphores, now, part.client())
     }
 }
 
@@ -74,18 +126,26 @@ fn request_told(
 /// open: who asks takes them as a set, of whose parts it needs.
 pub fn also_told(
     alloc: Global,
+    domains: &DomainTables,
     semaphores: &Semaphores,
     now: Moment,
     part: &ClientPart,
     found: &Found<'_>,
 ) -> Result<Vec<u32>, Memory>
     requires { IsDated now }
-    ensures { IfOk result (λ clients. (t : Rows) → t.semaphores ≡ semaphores.now → t.now ≡ now.0
+    ensures { IfOk result (λ clients. (t : Rows) → t.domains ≡ domains.now
+        → t.semaphores ≡ semaphores.now → t.now ≡ now.0
         → AlsoTells t part.now.row (meant found.now) clients.items) }
 {
     match *found {
-        Found::Takes(invoke, asked) => request_told(alloc, semaphores, part, invoke, asked),
-        Found::Concludes | Found::Aborts => lost_told(alloc, semaphores, now, part.client()),
+        Found::Takes(invoke, asked) => {
+            request_told(alloc, domains, semaphores, now, part, invoke, asked)
+        }
+        Found::Replies(number, answer) => {
+            reply_told(alloc, semaphores, now, part, number, answer)
+        }
+        Found::Concludes => conclusion_told(alloc, domains, semaphores, now, part),
+        Found::Aborts => lost_told(alloc, semaphores, now, part.client()),
         Found::Tells(_) | Found::Cancels(_) => Ok(Vec::new(alloc)),
     }
 }

@@ -1,20 +1,21 @@
 //! What is done on the tables is planned first: all is read and made that may want memory, and nothing changes.
 
-ghost use Rattle.std.specs.Prelude.{◌≡◌, ◌≢◌, ◌≤◌, ◌+◌, ◌++◌, IfOk, OnErr, OnOk, None};
+ghost use Rattle.std.specs.Prelude.{◌≡◌, ◌≢◌, ◌≤◌, ◌+◌, ◌++◌, ◌∷◌, IfOk, OnErr, OnOk, None};
 ghost use Rattle.cell_services.specs.Acts.{act_done, plan_done, IsLeft};
 ghost use Rattle.sem_ticks.specs.Meant.{state_of};
 ghost use Rattle.mms_time.specs.Deadlines.{next_due};
 ghost use Rattle.cell_services.specs.Tables.{Tables as Rows, last_moment, moment_after};
 ghost use Rattle.cell_services.specs.Changes.{changed, MayChange};
 ghost use Rattle.cell_client.specs.Effects.{tell};
-ghost use Rattle.cell_client.specs.Association.{abort_told, conclusion_told};
-ghost use Rattle.cell_services.specs.Serving.{aborted, aborted_one, all_told, happening_told, loses, loss_also, passed, passes};
+ghost use Rattle.mms_types.specs.declared.pdu.Pdu.TheVariants as pdu;
+ghost use Rattle.cell_client.specs.Association.{abort_told, conclusion_told, keeps_open, sends, Concludes};
+ghost use Rattle.cell_services.specs.Serving.{aborted, aborted_one, all_told, happening_told, hears, loses, loss_also, passed, passes};
 ghost use Rattle.cell_client.specs.Telling.{effects_told};
 
 use crate::{Change, Tables};
 use association::ClientPart;
-use cell_client::{Act, Told, conclude_response, one_told, refusal};
-use mms_types::{Memory, Moment, ServiceError, What};
+use cell_client::{Act, Told, answer_octets, conclude_error, conclude_response, one_told, refusal};
+use mms_types::{Answer, Memory, Moment, ServiceError, What};
 use sem_ticks::{Happening, Ticked, lose_told, tick};
 use serve_semaphores::{tell_grant, tell_grants};
 use std::alloc::Global;
@@ -49,8 +50,19 @@ fn lost_plan(
     })
 }
 
+/// A conclusion is refused, and nothing changes.
+fn refused_plan(alloc: Global, client: u32) -> Result<Plan, Memory>
+    ensures told { IfOk result (λ plan. effects_told plan.told.items ≡ tell client keeps_open) }
+    ensures change { IfOk result (λ plan. plan.change ≡ Change.Nothing) }
+{
+    Ok(Plan {
+        change: Change::Nothing,
+        told: one_told(alloc, client, conclude_error(alloc)?)?,
+    })
+}
+
 /// A conclusion is granted: the client is lost.
-fn conclusion_plan(
+fn granted_plan(
     alloc: Global,
     tables: &Tables,
     client: u32,
@@ -62,6 +74,45 @@ fn conclusion_plan(
 {
     let mut told = one_told(alloc, client, conclude_response(alloc)?)?;
     told.push((client, Told::Closes))?;
+    lost_plan(alloc, tables, part, told)
+}
+
+/// A conclusion is refused where the client has an open upload, and else granted.
+fn conclusion_plan(
+    alloc: Global,
+    tables: &Tables,
+    client: u32,
+    part: &ClientPart,
+) -> Result<Plan, Memory>
+    ensures done { IfOk result (λ plan. plan_done tables.now plan.change plan.told.items
+        ≡ hears tables.now part.now.row client Concludes) }
+    ensures may { IfOk result (λ plan. MayChange plan.change tables.now) }
+{
+    if tables.domains.has_upload(part.client()) {
+        return refused_plan(alloc, client);
+    }
+    granted_plan(alloc, tables, client, part)
+}
+
+/// A load is answered for which nothing more can be asked of the client, and the association is aborted.
+fn exhausted_plan(
+    alloc: Global,
+    tables: &Tables,
+    client: u32,
+    part: &ClientPart,
+    invoke: u32,
+) -> Result<Plan, Memory>
+    ensures told { IfOk result (λ plan. effects_told plan.told.items
+        ≡ tell client (sends (pdu.ConfirmedResponse invoke Answer.InitiateDownloadSequence)
+        ∷ abort_told) ++ loss_also part.now.row.client tables.now) }
+    ensures change { IfOk result (λ plan. plan.change ≡ Change.Loses part.now.row.client) }
+{
+    let answer = answer_octets(alloc, invoke, &Answer::InitiateDownloadSequence)?;
+    let told = vec![in alloc;
+        (client, Told::Sends(What::Octets(answer))),
+        (client, Told::Sends(What::Abort)),
+        (client, Told::Closes),
+    ]?;
     lost_plan(alloc, tables, part, told)
 }
 
@@ -200,7 +251,8 @@ pub fn planned(
     ensures may { IfOk result (λ plan. MayChange plan.change tables.now) }
 {
     match *act {
-        Act::Request { .. } | Act::Cancel { .. } => unreachable!(),
+        Act::Request { .. } | Act::Reply { .. } | Act::Cancel { .. } => unreachable!(),
+        Act::Exhausts { invoke } => exhausted_plan(alloc, tables, client, part, invoke),
         Act::Conclusion => conclusion_plan(alloc, tables, client, part),
         Act::Abort => abort_plan(alloc, tables, client, part),
         Act::Loss => loss_plan(alloc, tables, client, part),

@@ -4,13 +4,14 @@ ghost use Rattle.std.specs.Prelude.{◌≡◌, OnErr, OnOk, true};
 ghost use Rattle.mms_types.specs.Moments.{IsDated};
 ghost use Rattle.cell_services.specs.Changes.{changed, may_want, MayChange};
 ghost use Rattle.cell_services.specs.Meant.{no_tables};
-ghost use Rattle.cell_services.specs.Serving.{without_client, without_clients};
+ghost use Rattle.cell_services.specs.Serving.{domains_without, without_client, without_clients};
 ghost use Rattle.cell_services.specs.Tables.{moment_of};
 
 use crate::Clock;
 use mms_time::{Semaphores, lose};
 use mms_types::{Memory, Moment};
 use sem_ticks::Renewed;
+use serve_domains::DomainTables;
 use std::alloc::Global;
 use std::marker::Model;
 use variable_services::VariableTables;
@@ -22,6 +23,8 @@ pub struct Tables {
     pub clock: Clock,
     /// Cells, named variables and lists of variables.
     pub variables: VariableTables,
+    /// Domains and the uploads of them.
+    pub domains: DomainTables,
     /// Semaphores.
     pub semaphores: Semaphores,
 }
@@ -39,6 +42,7 @@ impl Model for Tables {
     ghost view = { λ tables. record {
       now = tables.clock;
       variables = tables.variables;
+      domains = tables.domains;
       semaphores = tables.semaphores;
     } };
 }
@@ -68,6 +72,15 @@ fn lose_variables(variables: &mut VariableTables, clients: &[u32])
     }
 }
 
+/// Clients are lost, whose loads and uploads go.
+fn lose_domains(domains: &mut DomainTables, clients: &[u32])
+    ensures { domains.new ≡ domains_without clients.now domains.old }
+{
+    for client in clients {
+        domains.lose(*client);
+    }
+}
+
 impl Tables {
     /// Tables with nothing in them, at moment 0.
     pub fn empty(alloc: Global) -> Tables
@@ -76,6 +89,7 @@ impl Tables {
         Tables {
             clock: Clock::new(Moment(0)),
             variables: VariableTables::empty(alloc),
+            domains: DomainTables::empty(alloc),
             semaphores: Semaphores::new(alloc),
         }
     }
@@ -97,6 +111,7 @@ impl Tables {
         let now = self.moment();
         let _grants = lose(alloc, &mut self.semaphores, client, now)?;
         self.variables.lose(client);
+        self.domains.lose(client);
         Ok(())
     }
 
@@ -130,6 +145,7 @@ impl Change {
                 tables.clock.advance(ms);
                 changed.put(&mut tables.semaphores);
                 lose_variables(&mut tables.variables, &clients);
+                lose_domains(&mut tables.domains, &clients);
             }
             Change::Loses(client) => tables.lose(alloc, client)?,
         }
