@@ -19,10 +19,10 @@ use Rattle.parted_state.specs.ServedLaws as served
 use Rattle.mms_step.specs.declared.part.Part.{Part}
 use Rattle.mms_step.specs.State.{State}
 use Rattle.cell_services.specs.Tables.{Tables}
-use Rattle.cell_client.specs.Association.{Verdict, Takes, verdict}
-use Rattle.cell_services.specs.Facts.{Question, Now, Live, Owned, Names, class_tables, guard_tables, tables_for}
-use Rattle.cell_services.specs.Services.{InArea, OfDevice, OfVariables, OfSemaphores, area_of, asks_of, more_of}
-use Rattle.cell_services.specs.Serving.{heard_asks, heard_more, loss_asks, services, abort_asks, aborted, meanwhile, time_asks, words}
+use Rattle.cell_client.specs.Association.{Verdict, Takes, verdict, Replies}
+use Rattle.cell_services.specs.Facts.{Question, Now, Live, Owned, Names, class_tables, guard_tables, tables_for, Scoped}
+use Rattle.cell_services.specs.Services.{InArea, OfDevice, OfVariables, OfSemaphores, area_of, asks_of, more_of, OfDomains, reply_in}
+use Rattle.cell_services.specs.Serving.{heard_asks, heard_more, loss_asks, services, abort_asks, aborted, meanwhile, time_asks, words, more_of_verdict, resolved}
 use Rattle.mms_step.specs.Step.{step}
 use Rattle.mms_step.specs.Partition.{cell, parts_of, state_in}
 use Rattle.mms_step.specs.Needs.{need, is_held, wants}
@@ -69,8 +69,9 @@ guards_below false = refl
 
 question_below : (k : Question) → are_tables (tables_for k) ≡ true
 question_below Now = refl
-question_below (Live true) = refl
-question_below (Live false) = refl
+question_below (Live true domain) = refl
+question_below (Live false domain) = refl
+question_below (Scoped domain) = refl
 question_below (Owned client guards) = guards_below (list_any is_some guards)
 question_below (Names c) = class_below c
 
@@ -81,20 +82,27 @@ questions_below (k ∷ ks) = both_tables (tables_for k) (flat_map tables_for ks)
 area_below : (a : InArea) → are_tables (asks_of a) ≡ true
 area_below (OfDevice r) = questions_below r.words
 area_below (OfVariables r) = questions_below r.words
+area_below (OfDomains r) = questions_below r.words
 area_below (OfSemaphores r) = questions_below r.words
 
 area_more_below : (t : Tables) (row : ClientRow) (a : InArea) → are_tables (more_of t row a) ≡ true
 area_more_below t row (OfDevice r) = questions_below (r.more tt row)
 area_more_below t row (OfVariables r) = questions_below (r.more t.variables row)
+area_more_below t row (OfDomains r) = questions_below (r.more t.domains row)
 area_more_below t row (OfSemaphores r) = questions_below (r.more t.semaphores row)
 
 asks_below : (v : Verdict) → are_tables (heard_asks v) ≡ true
 asks_below (Takes invoke asked) = area_below (area_of asked)
+asks_below (Replies number came) = area_below (reply_in number came)
 asks_below v = refl
 
+verdict_below : (t : Tables) (row : ClientRow) (v : Verdict) → are_tables (more_of_verdict t row v) ≡ true
+verdict_below t row (Takes invoke asked) = area_more_below t row (area_of asked)
+verdict_below t row (Replies number came) = area_more_below t row (reply_in number came)
+verdict_below t row v = refl
+
 more_below : (t : Tables) (row : ClientRow) (v : Verdict) → are_tables (heard_more t row v) ≡ true
-more_below t row (Takes invoke asked) = area_more_below t row (area_of asked)
-more_below t row v = refl
+more_below t row v = verdict_below t row (resolved t row v)
 
 loss_below : (a : Association) → are_tables (loss_asks a) ≡ true
 loss_below Idle = refl

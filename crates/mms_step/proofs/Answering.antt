@@ -11,6 +11,7 @@ use Rattle.mms_types.specs.declared.pdu.Request.{Request}
 use Rattle.mms_types.specs.declared.pdu.Request.TheVariants as request
 use Rattle.mms_types.specs.declared.service_error.ServiceError.{ServiceError}
 use Rattle.association.specs.Client.{ClientRow}
+use Rattle.domain_upload.specs.Uploads.{AreOf}
 use Rattle.cell_client.specs.Areas.{AnswersOrWaitsIn}
 use Rattle.cell_client.specs.Association.{Takes, other_error}
 use Rattle.cell_client.specs.Requests.{answer_told, fits, is_done, refuses, request_told, size_of}
@@ -18,17 +19,22 @@ use Rattle.serve_semaphores.specs.AnswerLaws as semaphore_laws
 use Rattle.serve_semaphores.specs.Semaphores as of_semaphores
 use Rattle.serve_variables.specs.AnswerLaws as variable_laws
 use Rattle.serve_variables.specs.Variables as of_variables
+use Rattle.serve_domains.specs.AnswerLaws as domain_laws
+use Rattle.serve_domains.specs.Domains as of_domains
+use Rattle.mms_types.specs.declared.area.DomainRequest.{DomainRequest}
+use Rattle.mms_types.specs.declared.area.DomainRequest.TheVariants as domains
 use Rattle.cell_services.specs.Requests.{told_in}
 use Rattle.cell_services.specs.Services.{cause, effect}
 use Rattle.cell_services.specs.Serving.{also_told, own_told}
-use Rattle.cell_services.specs.Tables.{Tables, own_semaphores, own_variables}
+use Rattle.cell_services.specs.Tables.{Tables, own_semaphores, own_variables, own_domains}
 use Rattle.mms_step.specs.Answered.{AnswersOrWaits, waits_told}
 
 -- as an area looks at it
 abbrev seen : {X : Type 0} → X → Bor X
 seen x = record { ref_ptr = (0, 0); now = x }
 
-module _ (t : Tables) (row : ClientRow) (invoke : ℕ) where
+-- the domain of each open upload is there
+module _ (t : Tables) (row : ClientRow) (invoke : ℕ) (uploads : AreOf t.domains.uploads t.domains.domains) where
   -- ---- what a request comes to that is not refused, by its area
 
   of_the_variables : (x : VariableRequest) → (of_variables.request_in x).cause (told_in own_variables t row (of_variables.request_in x)) t.variables row ≡ None
@@ -38,6 +44,10 @@ module _ (t : Tables) (row : ClientRow) (invoke : ℕ) where
   of_the_semaphores : (x : SemaphoreRequest) → (of_semaphores.request_in x).cause (told_in own_semaphores t row (of_semaphores.request_in x)) t.semaphores row ≡ None
       → AnswersOrWaitsIn row.client invoke ((of_semaphores.request_in x).effect (told_in own_semaphores t row (of_semaphores.request_in x)) t.semaphores row invoke)
   of_the_semaphores x = semaphore_laws.answers_or_waits (told_in own_semaphores t row (of_semaphores.request_in x)) t.semaphores row invoke x
+
+  of_the_domains : (x : DomainRequest) → (of_domains.request_in x).cause (told_in own_domains t row (of_domains.request_in x)) t.domains row ≡ None
+      → AnswersOrWaitsIn row.client invoke ((of_domains.request_in x).effect (told_in own_domains t row (of_domains.request_in x)) t.domains row invoke)
+  of_the_domains x = domain_laws.answers_or_waits (told_in own_domains t row (of_domains.request_in x)) t.domains row invoke uploads x
 
   pub settled : (asked : Request) → cause t row asked ≡ None → AnswersOrWaitsIn row.client invoke (effect t row invoke asked)
   settled (request.GetNameList x) none = inl (_, refl, refl)
@@ -58,6 +68,12 @@ module _ (t : Tables) (row : ClientRow) (invoke : ℕ) where
   settled (request.ReportSemaphoreStatus x) none = of_the_semaphores (semaphores.ReportSemaphoreStatus (seen x)) none
   settled (request.ReportPoolSemaphoreStatus x) none = of_the_semaphores (semaphores.ReportPoolSemaphoreStatus (seen x)) none
   settled (request.ReportSemaphoreEntryStatus x) none = of_the_semaphores (semaphores.ReportSemaphoreEntryStatus (seen x)) none
+  settled (request.InitiateDownloadSequence x) none = of_the_domains (domains.InitiateDownloadSequence (seen x)) none
+  settled (request.InitiateUploadSequence x) none = of_the_domains (domains.InitiateUploadSequence (seen x)) none
+  settled (request.UploadSegment number) none = of_the_domains (domains.UploadSegment number) none
+  settled (request.TerminateUploadSequence number) none = of_the_domains (domains.TerminateUploadSequence number) none
+  settled (request.DeleteDomain x) none = of_the_domains (domains.DeleteDomain (seen x)) none
+  settled (request.GetDomainAttributes x) none = of_the_domains (domains.GetDomainAttributes (seen x)) none
 
   -- ---- what is told of it
 

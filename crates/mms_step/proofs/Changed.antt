@@ -5,12 +5,13 @@ use Rattle.association.specs.Client.{ClientRow, Client as RoomyRow}
 use Rattle.part_table.specs.Held.{held_at}
 use Rattle.part_table.specs.HeldLaws.{held_within}
 use Rattle.mms_step.specs.declared.part.Part.{Part}
-use Rattle.mms_step.specs.declared.part.Part.TheVariants.{Clock, Client, Semaphores, Variables}
+use Rattle.mms_step.specs.declared.part.Part.TheVariants.{Clock, Client, Domains, Semaphores, Variables}
 use Rattle.variable_services.specs.declared.tables.VariableTables.{VariableTables}
 use Rattle.parted_state.specs.Served.{change}
 use Rattle.cell_client.specs.Effects.{settled}
+use Rattle.serve_domains.specs.Tables.{DomainTables}
 use Rattle.mms_time.specs.Semaphores.{Rows}
-use Rattle.mms_step.specs.Partition.{clock_or, semaphores_or, variables_or, on_client, on_clock, on_semaphores, on_variables}
+use Rattle.mms_step.specs.Partition.{clock_or, domains_or, semaphores_or, variables_or, on_client, on_clock, on_domains, on_semaphores, on_variables}
 
 pub changed_part : {P : Type 0} (f : P → P) (hand : List (Option P)) (i : ℕ) (x : P) → held_at hand i ≡ Some x
     → set (set hand i None) i (Some (f x)) ≡ change (option_map f) hand i
@@ -119,6 +120,22 @@ no_variables_held f part other = refl
 pub no_variables_shown : (now : VariableTables) (part : Part) → ((was : VariableTables) → part ≡ Variables was → ⊥) → variables_or now (Some part) ≡ now
 no_variables_shown now (Variables was) other = absurd (other was refl)
 no_variables_shown now part other = refl
+
+-- of which that has the domains
+pub domains_arm : (now : DomainTables) (hand taken new : List (Option Part)) (place : ℕ) (part value : Part) (was after : DomainTables)
+    → Some part ≡ held_at hand place → taken ≡ set hand place None → value ≡ part → value ≡ Domains was → after ≡ now
+    → new ≡ set taken place (Some (Domains after)) → new ≡ change (option_map (on_domains (λ n. now))) hand place
+domains_arm now hand taken new place part value was after held out same is done back =
+    part_changed (on_domains (λ n. now)) hand taken new place part (Domains after) held out (ap Domains done ∙ ap (on_domains (λ n. now)) (sym is ∙ same)) back
+
+-- a part that has none stays as it is
+pub no_domains_held : (f : DomainTables → DomainTables) (part : Part) → ((now : DomainTables) → part ≡ Domains now → ⊥) → on_domains f part ≡ part
+no_domains_held f (Domains now) other = absurd (other now refl)
+no_domains_held f part other = refl
+
+pub no_domains_shown : (now : DomainTables) (part : Part) → ((was : DomainTables) → part ≡ Domains was → ⊥) → domains_or now (Some part) ≡ now
+no_domains_shown now (Domains was) other = absurd (other was refl)
+no_domains_shown now part other = refl
 
 -- of which that has the semaphores
 pub semaphores_arm : (now : Rows) (hand taken new : List (Option Part)) (place : ℕ) (part value : Part) (was after : Rows)

@@ -24,9 +24,9 @@ use Rattle.sem_ticks.specs.declared.granted.Granted.{Granted}
 use Rattle.mms_time.specs.declared.taking.TakeDone.{TakeDone}
 use Rattle.mms_time.specs.declared.taking.TakeDone.TheVariants as taken
 use Rattle.parted_state.specs.Served.{row_at}
-use Rattle.cell_client.specs.Association.{Verdict, Tells, Takes, Concludes, Cancels, Aborts, verdict}
-use Rattle.cell_services.specs.Services.{effect, relinquish_outcome, take_outcome}
-use Rattle.cell_services.specs.Serving.{aborted, is_served, meanwhile, tables_cancelled, tables_heard, tables_lost, waiting_of, without_clients}
+use Rattle.cell_client.specs.Association.{Verdict, Tells, Takes, Concludes, Cancels, Aborts, verdict, Came, Replies, Exhausts, keeps_open}
+use Rattle.cell_services.specs.Services.{effect, relinquish_outcome, take_outcome, area_of, effect_of, lacks_number, reply_in}
+use Rattle.cell_services.specs.Serving.{aborted, is_served, meanwhile, tables_cancelled, tables_heard, tables_lost, waiting_of, without_clients, is_served_in, keeps_upload, resolved}
 use Rattle.cell_services.specs.Tables.{Tables}
 use Rattle.mms_step.specs.Guarded.{IsWrittenByOwner}
 use Rattle.mms_step.specs.Partition.{cell}
@@ -102,9 +102,18 @@ module _ (t : Tables) (row : ClientRow) (number : ℕ) (was : Cell) (guard : Lis
       by_served true e = served_one invoke asked e
       by_served false e = inl there
 
+  replied : (number : ℕ) (came : Came) → Stays (tables_heard t row (Replies number came)).variables
+  replied number came = by_served (is_served_in t row number (reply_in number came))
+    where
+      by_served : (b : Bool) → Stays (if b then (effect_of t row number (reply_in number came)).tables else t).variables
+      by_served true = there
+      by_served false = there
+
   heard : (v : Verdict) → Stays (tables_heard t row v).variables ⊎ IsOwnersWrite guard t row v
   heard (Takes invoke asked) = taken_one invoke asked
   heard (Tells effects) = inl there
+  heard (Replies number came) = inl (replied number came)
+  heard (Exhausts invoke) = inl there
   heard Concludes = inl there
   heard (Cancels invoke) = by_waiting (waiting_of invoke row.waiting)
     where
@@ -117,20 +126,42 @@ module _ (t : Tables) (row : ClientRow) (number : ℕ) (was : Cell) (guard : Lis
   lost_one Idle client = there
   lost_one (Open values) client = there
 
+-- a request that is taken was one before
+pub taken_before : (t : Tables) (row : ClientRow) (v : Verdict) (invoke : ℕ) (asked : Request) → resolved t row v ≡ Takes invoke asked → v ≡ Takes invoke asked
+taken_before t row (Takes i a) invoke asked is = by_test (lacks_number t row i (area_of a)) is
+  where
+    by_test : (b : Bool) → (if b then Exhausts i else Takes i a) ≡ Takes invoke asked → Takes i a ≡ Takes invoke asked
+    by_test true e = absurd (cc e)
+    by_test false e = e
+taken_before t row (Replies number came) invoke asked is = by_test (lacks_number t row number (reply_in number came)) is
+  where
+    by_test : (b : Bool) → (if b then Aborts else Replies number came) ≡ Takes invoke asked → Replies number came ≡ Takes invoke asked
+    by_test true e = absurd (cc e)
+    by_test false e = e
+taken_before t row Concludes invoke asked is = by_test (keeps_upload t row) is
+  where
+    by_test : (b : Bool) → (if b then Tells keeps_open else Concludes) ≡ Takes invoke asked → Concludes ≡ Takes invoke asked
+    by_test true e = absurd (cc e)
+    by_test false e = e
+taken_before t row v invoke asked is = is
+
 -- ---- each event
 
 pub guarded_step : (s : State) (event : CellEvent) (number : ℕ) (was : Cell) (guard : List ℕ) → cell_at number s.variables.vars ≡ Some was → was.guard ≡ Some guard
     → (cell_at number (step s event).variables.vars ≡ Some was) ⊎ IsWrittenByOwner guard s event
-guarded_step s (Heard client octets) number was guard there is = by_heard (heard (cell.tables_of s) row number was guard there is (verdict row octets))
+guarded_step s (Heard client octets) number was guard there is = by_heard (heard (cell.tables_of s) row number was guard there is now)
   where
     row : ClientRow
     row = row_at cell client s.clients
 
-    by_heard : (cell_at number (tables_heard (cell.tables_of s) row (verdict row octets)).variables.vars ≡ Some was) ⊎ IsOwnersWrite guard (cell.tables_of s) row (verdict row octets)
+    now : Verdict
+    now = resolved (cell.tables_of s) row (verdict row octets)
+
+    by_heard : (cell_at number (tables_heard (cell.tables_of s) row now).variables.vars ≡ Some was) ⊎ IsOwnersWrite guard (cell.tables_of s) row now
         → (cell_at number (step s (Heard client octets)).variables.vars ≡ Some was) ⊎ IsWrittenByOwner guard s (Heard client octets)
     by_heard (inl stays) = inl stays
     by_heard (inr w) =
-        inr (record { client = client; octets = octets; heard = refl; invoke = w.invoke; asked = w.asked; taken = w.taken; served = w.served; owner = w.owner })
+        inr (record { client = client; octets = octets; heard = refl; invoke = w.invoke; asked = w.asked; taken = taken_before (cell.tables_of s) row (verdict row octets) w.invoke (request.Write w.asked) w.taken; served = w.served; owner = w.owner })
 guarded_step s (Lost client) number was guard there is =
     inl (lost_one (cell.tables_of s) (row_at cell client s.clients) number was guard there is (row_at cell client s.clients).association (row_at cell client s.clients).client)
 guarded_step s (Tick ms) number was guard there is =

@@ -16,18 +16,19 @@ use Rattle.cell_client.specs.Effects.{Effect, felt_all, settled, tell}
 use Rattle.cell_client.specs.declared.told.Told.{Told}
 use Rattle.cell_services.specs.Acts.{all_done, IsDoneIn}
 use Rattle.cell_services.specs.Serving.{hears}
-use Rattle.cell_services.specs.Tables.{Tables, own_semaphores, own_variables}
+use Rattle.cell_services.specs.Tables.{Tables, own_domains, own_semaphores, own_variables}
 use Rattle.mms_step.specs.declared.part.Part.{Part}
-use Rattle.mms_step.specs.declared.part.Part.TheVariants.{Client, Semaphores, Variables}
+use Rattle.mms_step.specs.declared.part.Part.TheVariants.{Client, Domains, Semaphores, Variables}
+use Rattle.serve_domains.specs.Tables.{DomainTables}
 use Rattle.mms_step.specs.State.{State}
 use Rattle.mms_step.specs.Lifting.{varied, with_semaphores}
 use Rattle.mms_step.specs.Needs.{is_held}
-use Rattle.mms_step.specs.Partition.{cell, parts_of, client_in, client_part, client_place, clients_among, clock_in, on_client, on_semaphores, on_variables, row_in, semaphores_in, semaphores_place, variables_in, IsClient, IsSemaphores, IsVariables}
+use Rattle.mms_step.specs.Partition.{cell, parts_of, client_in, client_part, client_place, clients_among, clock_in, domains_in, on_client, on_domains, on_semaphores, on_variables, row_in, semaphores_in, semaphores_place, variables_in, IsClient, IsDomains, IsSemaphores, IsVariables}
 use Rattle.mms_step.specs.Rooms.{no_room, with_room}
 use Rattle.mms_step.specs.Tasks.{row_held, AreDone, IsRoomless}
 use Rattle.mms_step.proofs.Changed.{client_arm}
 use Rattle.mms_step.proofs.Holding.{client_at, clients_counted, held_part}
-use Rattle.mms_step.proofs.ServeLaws.{behind_clients, both_changed, change_as, done_in_place, first_two, held_after_set, part_settled, put_tables, shown_own, told_row_at, two_same, varied_same}
+use Rattle.mms_step.proofs.ServeLaws.{behind_clients, both_changed, change_as, done_in_place, first_of, held_after_set, part_settled, put_tables, shown_own, told_row_at, three_same, domains_done_in_place, varied_same}
 
 -- ---- a held part of a state has no room
 
@@ -46,6 +47,11 @@ module _ (t after : Tables) (client : ℕ) (v : Verdict) (row its : ClientRow) (
     where
       at : ℕ → Done Tables Effect
       at k = record { tables = after; told = tell k effects }
+
+-- the part of the domains is as it was while that of a client is taken out
+pub domains_out : (hand out : List (Option Part)) (client : ℕ) (table : Part) → out ≡ set hand (client_place client) None → Some table ≡ held_at out 2 → Some table ≡ held_at hand 2
+domains_out hand out client table taken second =
+    second ∙ ap (λ (l : List (Option Part)). held_at l 2) taken ∙ held_after_set hand (client_place client) 2 None (λ same. omega (arith, same))
 
 module _ (s : State) (hand : List (Option Part)) (of : IsHandOf hand (parts_of s)) where
   pub held_roomless : (place : ℕ) (part : Part) → Some part ≡ held_at hand place → IsRoomless part
@@ -72,12 +78,12 @@ module _ (s : State) (hand : List (Option Part)) (of : IsHandOf hand (parts_of s
       lowered : with_tables cell (clients_among (length hand)) (record (tables_shown cell hand) { semaphores = rows }) hand ≡ with_semaphores rows hand
       lowered =
           put_tables s hand of (record (tables_shown cell hand) { semaphores = rows })
-          ∙ ap (λ (t : Tables). with_semaphores rows (first_two t.now t.variables hand)) (sym (shown_own hand))
-          ∙ ap (with_semaphores rows) (two_same hand)
+          ∙ ap (λ (t : Tables). with_semaphores rows (first_of t hand)) (sym (shown_own hand))
+          ∙ ap (with_semaphores rows) (three_same hand)
 
   -- ---- once both parts are put back, all is in place that the request does
 
-  module _ (client : ℕ) (v : Verdict) (out gone there new : List (Option Part)) (part table after now : Part) (some : 1 ≤ client) (few : client ≤ clients_among (length hand))
+  module _ (IsShown : Tables → Type 0) (client : ℕ) (v : Verdict) (out gone there new : List (Option Part)) (part table after now : Part) (some : 1 ≤ client) (few : client ≤ clients_among (length hand))
       (held : IsClient (held_at hand (client_place client))) (number : (row_held hand client).client ≡ client)
       (own : Some part ≡ held_at hand (client_place client)) (taken : out ≡ set hand (client_place client) None) where
     own_row : (before : RoomyRow) → part ≡ Client before → before.row ≡ row_held hand client
@@ -85,13 +91,14 @@ module _ (s : State) (hand : List (Option Part)) (of : IsHandOf hand (parts_of s
 
     pub variables_served : Some table ≡ held_at out 1 → IsVariables (held_at hand 1) → gone ≡ set out 1 None
         → (rows : Rows) → rows ≡ semaphores_in (held_at gone (semaphores_place (clients_among (length hand))))
-        → ((t : Tables) → t.variables ≡ variables_in (Some table) → t.semaphores ≡ rows → AreDone own_variables Variables t v part after now)
+        → ((t : Tables) → t.variables ≡ variables_in (Some table) → t.semaphores ≡ rows → IsShown t → AreDone own_variables Variables t v part after now)
+        → IsShown (tables_shown cell hand)
         → there ≡ set gone 1 (Some now) → new ≡ set there (client_place client) (Some after)
         → new ≡ put_in_place cell (hears (tables_shown cell hand) (row_held hand client) client v) hand
-    variables_served second there_is left rows beside served put back =
+    variables_served second there_is left rows beside served is_shown put back =
         let before = ap (λ (l : List (Option Part)). held_at l 1) taken ∙ held_after_set hand (client_place client) 1 None (λ same. omega (arith, same)) in
         let is_table : IsVariables (Some table) = subst IsVariables (sym (second ∙ before)) there_is in
-        let is = served (tables_shown cell hand) (shown ∙ ap variables_in (sym second)) (stand_by ∙ sym beside) in
+        let is = served (tables_shown cell hand) (shown ∙ ap variables_in (sym second)) (stand_by ∙ sym beside) is_shown in
         let table_is : table ≡ Variables (variables_in (Some table)) = cc is_table in
         both_changed (felt_all is.done.effects) (on_variables (λ was. is.become)) hand out gone there new (client_place client) 1 part table is.before is.after (λ same. omega (arith, same))
         own taken second left is.is_own is.done.is
@@ -116,16 +123,41 @@ module _ (s : State) (hand : List (Option Part)) (of : IsHandOf hand (parts_of s
             ∙ sym (held_after_set out 1 (behind_clients hand) None (λ same. omega (arith, same)))
             ∙ ap (λ (l : List (Option Part)). held_at l (behind_clients hand)) (sym left))
 
+    pub domains_served : Some table ≡ held_at out 2 → IsDomains (held_at hand 2) → gone ≡ set out 2 None
+        → ((t : Tables) → t.domains ≡ domains_in (Some table) → IsShown t → AreDone own_domains Domains t v part after now)
+        → IsShown (tables_shown cell hand)
+        → there ≡ set gone 2 (Some now) → new ≡ set there (client_place client) (Some after)
+        → new ≡ put_in_place cell (hears (tables_shown cell hand) (row_held hand client) client v) hand
+    domains_served second there_is left served is_shown put back =
+        let before = ap (λ (l : List (Option Part)). held_at l 2) taken ∙ held_after_set hand (client_place client) 2 None (λ same. omega (arith, same)) in
+        let is_table : IsDomains (Some table) = subst IsDomains (sym (second ∙ before)) there_is in
+        let is = served (tables_shown cell hand) (shown ∙ ap domains_in (sym second)) is_shown in
+        let table_is : table ≡ Domains (domains_in (Some table)) = cc is_table in
+        both_changed (felt_all is.done.effects) (on_domains (λ was. is.become)) hand out gone there new (client_place client) 2 part table is.before is.after (λ same. omega (arith, same))
+        own taken second left is.is_own is.done.is
+        (put ∙ ap (λ (p : Part). set gone 2 (Some p)) (is.is_now ∙ ap (on_domains (λ was. is.become)) (sym table_is)))
+        (back ∙ ap (λ (p : Part). set there (client_place client) (Some p)) is.is_after)
+        ∙ domains_done_in_place s hand of client is.done.effects is.become some few held
+        ∙ ap (λ (d : Done Tables Effect). put_in_place cell d hand)
+        (sym (heard_so (tables_shown cell hand) (record (tables_shown cell hand) { domains = is.become }) client v (row_held hand client) is.before.row (own_row is.before is.is_own) number
+        is.done.effects is.done.done))
+      where
+        shown : (tables_shown cell hand).domains ≡ domains_in (held_at out 2)
+        shown =
+            ap (λ (t : Tables). t.domains) (sym (shown_own hand))
+            ∙ ap domains_in (sym (ap (λ (l : List (Option Part)). held_at l 2) taken ∙ held_after_set hand (client_place client) 2 None (λ same. omega (arith, same))))
+
     pub semaphores_served : (n : ℕ) → n ≡ clients_among (length hand) → Some table ≡ held_at out (semaphores_place n) → IsSemaphores (held_at hand (semaphores_place n)) → gone ≡ set out (semaphores_place n) None
         → (moment : ℕ) → moment ≡ clock_in (held_at hand 0)
-        → ((t : Tables) → t.semaphores ≡ semaphores_in (Some table) → t.now ≡ moment → AreDone own_semaphores Semaphores t v part after now)
+        → ((t : Tables) → t.semaphores ≡ semaphores_in (Some table) → t.now ≡ moment → IsShown t → AreDone own_semaphores Semaphores t v part after now)
+        → IsShown (tables_shown cell hand)
         → there ≡ set gone (semaphores_place n) (Some now) → new ≡ set there (client_place client) (Some after)
         → new ≡ put_in_place cell (hears (tables_shown cell hand) (row_held hand client) client v) hand
-    semaphores_served n many second there_is left moment dated served put back =
+    semaphores_served n many second there_is left moment dated served is_shown put back =
         let before = ap (λ (l : List (Option Part)). held_at l (semaphores_place n)) taken
         ∙ held_after_set hand (client_place client) (semaphores_place n) None (λ same. omega (arith, same, many, few)) in
         let is_table : IsSemaphores (Some table) = subst IsSemaphores (sym (second ∙ before)) there_is in
-        let is = served (tables_shown cell hand) (stood ∙ ap semaphores_in (sym second)) (at ∙ sym dated) in
+        let is = served (tables_shown cell hand) (stood ∙ ap semaphores_in (sym second)) (at ∙ sym dated) is_shown in
         let table_is : table ≡ Semaphores (semaphores_in (Some table)) = cc is_table in
         both_changed (felt_all is.done.effects) (on_semaphores (λ was. is.become)) hand out gone there new (client_place client) (semaphores_place n) part table is.before is.after
         (λ same. omega (arith, same, many, few)) own taken second left is.is_own is.done.is
@@ -150,13 +182,14 @@ module _ (s : State) (hand : List (Option Part)) (of : IsHandOf hand (parts_of s
     -- what is left of a request that tells others something
     pub semaphores_left : (n : ℕ) → n ≡ clients_among (length hand) → Some table ≡ held_at out (semaphores_place n) → (moment : ℕ) → moment ≡ clock_in (held_at hand 0)
         → (become : ℕ → Rows → Rows) (told : List (ℕ × Told))
-        → ((t : Tables) → t.semaphores ≡ semaphores_in (Some table) → t.now ≡ moment
+        → ((t : Tables) → t.semaphores ≡ semaphores_in (Some table) → t.now ≡ moment → IsShown t
         → hears t (row_in (Some part)) (row_in (Some part)).client v ≡ all_done (own_semaphores.put (become (row_in (Some part)).client (semaphores_in (Some table))) t) told)
+        → IsShown (tables_shown cell hand)
         → hears (tables_shown cell hand) (row_held hand client) client v ≡ all_done (own_semaphores.put (become client (tables_shown cell hand).semaphores) (tables_shown cell hand)) told
-    semaphores_left n many second moment dated become told is =
+    semaphores_left n many second moment dated become told is is_shown =
         ap (λ (k : ℕ). hears (tables_shown cell hand) (row_held hand client) k v) (sym number)
         ∙ ap (λ (r : ClientRow). hears (tables_shown cell hand) r r.client v) (sym own_is)
-        ∙ is (tables_shown cell hand) stood (at ∙ sym dated)
+        ∙ is (tables_shown cell hand) stood (at ∙ sym dated) is_shown
         ∙ ap (λ (k : ℕ). all_done (own_semaphores.put (become k (semaphores_in (Some table))) (tables_shown cell hand)) told) (ap (λ (r : ClientRow). r.client) own_is ∙ number)
         ∙ ap (λ (rows : Rows). all_done (own_semaphores.put (become client rows) (tables_shown cell hand)) told) (sym stood)
       where
@@ -198,6 +231,12 @@ module _ (s : State) (hand : List (Option Part)) (of : IsHandOf hand (parts_of s
   variables_beside client out v taken is =
       ap (λ (t : Tables). t.variables) (sym (shown_own hand))
       ∙ ap variables_in (sym (ap (λ (l : List (Option Part)). held_at l 1) taken ∙ held_after_set hand (client_place client) 1 None (λ same. omega (arith, same))))
+      ∙ sym is
+
+  pub domains_beside : (client : ℕ) (out : List (Option Part)) (d : DomainTables) → out ≡ set hand (client_place client) None → d ≡ domains_in (held_at out 2) → (tables_shown cell hand).domains ≡ d
+  domains_beside client out d taken is =
+      ap (λ (t : Tables). t.domains) (sym (shown_own hand))
+      ∙ ap domains_in (sym (ap (λ (l : List (Option Part)). held_at l 2) taken ∙ held_after_set hand (client_place client) 2 None (λ same. omega (arith, same))))
       ∙ sym is
 
   pub semaphores_beside : (client n : ℕ) (out : List (Option Part)) (rows : Rows) → n ≡ clients_among (length hand) → client ≤ n → out ≡ set hand (client_place client) None

@@ -1,14 +1,18 @@
 pub mod AllParts
 pub mod Changed
+pub mod DomainNames
 pub mod Enough
 pub mod FinishLaws
 pub mod Guarded
 pub mod Holding
+pub mod Loading
+pub mod LoadsKept
 pub mod Needed
 pub mod Others
 pub mod Own
 pub mod Outboxes
 pub mod PartsAfter
+pub mod Rows
 pub mod Sound
 pub mod TokensKept
 pub mod TwoTicks
@@ -16,6 +20,8 @@ pub mod ToldLaws
 pub mod ServeLaws
 pub mod InPlace
 pub mod Ready
+pub mod Scoping
+pub mod Sent
 pub mod Answering
 pub mod Asked
 mod Configured

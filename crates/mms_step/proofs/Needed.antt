@@ -18,7 +18,7 @@ use Rattle.mms_step.specs.declared.part.Part.TheVariants.{Client}
 use Rattle.cell_services.specs.Tables.{Tables}
 use Rattle.cell_client.specs.Effects.{Drains, tell}
 use Rattle.cell_client.specs.Association.{Verdict, verdict, loss_told}
-use Rattle.cell_services.specs.Serving.{also_lost, also_told, hears, heard_asks, heard_more, loses, loss_asks, own_told, passes, services, time_asks}
+use Rattle.cell_services.specs.Serving.{also_lost, also_told, heard_asks, heard_more, hears, loses, loss_asks, own_told, passes, resolved, services, time_asks}
 use Rattle.mms_step.specs.Partition.{cell, parts_of, client_place, clients_among, row_in, state_in, no_client}
 use Rattle.mms_step.specs.Needs.{is_held, footprint, placed, two_stages, heard_need, lost_need, need, time_need}
 use Rattle.mms_step.specs.AfterLaws.{is_device}
@@ -147,11 +147,11 @@ heard_stages : (hand : List (Option Part)) (n client : ℕ) (t : Tables) (row : 
     then placed n (heard_more t row v) ++ (if are_held hand (placed n (heard_more t row v))
     then parted.told_places cell (hears t row client v).told n ++ (if are_held hand (parted.told_places cell (hears t row client v).told n) then [] else []) else []) else []))
     ≡ two_stages hand (placed n (heard_asks v))
-    (placed n (heard_more t row v) ++ (if are_held hand (placed n (heard_more t row v)) then parted.told_places cell (also_told t row v) n else []))
+    (placed n (heard_more t row v) ++ (if are_held hand (placed n (heard_more t row v)) then parted.told_places cell (also_told t row (resolved t row v)) n else []))
 heard_stages hand n client t row v held =
     missing_rest hand (placed n (heard_asks v)) _ _
     (missing_rest hand (placed n (heard_more t row v)) _ _
-    (missing_end hand (parted.told_places cell (hears t row client v).told n) ∙ own_skipped hand client (own_told t row v) (also_told t row v) n held))
+    (missing_end hand (parted.told_places cell (hears t row client v).told n) ∙ own_skipped hand client (own_told t row (resolved t row v)) (also_told t row (resolved t row v)) n held))
 
 pub need_heard : (hand : List (Option Part)) (client : ℕ) (octets : List ℕ) (n : ℕ) (part : RoomyRow) → n ≡ clients_among (length hand)
     → missing hand (footprint n (Heard client octets)) ≡ [] → 1 ≤ client → client ≤ n → held_at hand (client_place client) ≡ Some (Client part)

@@ -6,6 +6,7 @@ use Rattle.std.proofs.lemmas.List.Elements.{Contains-append_left, Contains-appen
 use native.Mathlib.Decide.{ℕ_discrete}
 use Rattle.mms_types.specs.declared.event.CellEvent.TheVariants.{Heard, Lost, Tick}
 use Rattle.mms_types.specs.declared.event.What.{What}
+use Rattle.mms_types.specs.declared.event.What.TheVariants.{Octets}
 use Rattle.mms_types.specs.declared.pdu.Request.TheVariants as request
 use Rattle.mms_types.specs.declared.semaphore.RelinquishControl.{RelinquishControl}
 use Rattle.association.specs.Admission.{admission, waiting_if}
@@ -21,14 +22,14 @@ use Rattle.sem_ticks.specs.declared.ticks.Happening.{Happening}
 use Rattle.sem_ticks.specs.declared.ticks.Happening.TheVariants as happens
 use Rattle.parted_state.specs.Lists.{get_changed, get_change, length-change}
 use Rattle.parted_state.specs.Served.{change, delivered, reached, row_at}
-use Rattle.cell_client.specs.Association.{Verdict, Takes, Concludes, Aborts, loss_told, verdict}
-use Rattle.cell_client.specs.Effects.{Effect, Sends, Opens, Closes, Waits, Answers, Drains, felt, tell}
+use Rattle.cell_client.specs.Association.{Verdict, Takes, Concludes, Aborts, loss_told, verdict, Exhausts}
+use Rattle.cell_client.specs.Effects.{Effect, Sends, Opens, Closes, Waits, Answers, Drains, felt, tell, Asks, Settles, asking_octets}
 use Rattle.cell_services.specs.Services.{effect, grant_told, grants_told, relinquish_outcome}
-use Rattle.cell_services.specs.Serving.{all_told, also_lost, also_told, happening_told, is_served, loss_also, meanwhile, own_told}
+use Rattle.cell_services.specs.Serving.{all_told, also_lost, also_told, happening_told, is_served, loss_also, meanwhile, own_told, resolved}
 use Rattle.mms_step.specs.Partition.{cell}
 use Rattle.mms_step.specs.State.{State}
 use Rattle.mms_step.specs.Step.{outbox_in, step}
-use Rattle.mms_step.specs.Answered.{grant_answer, IsAnswered}
+use Rattle.mms_step.specs.Answered.{grant_answer, IsAnswered, EndsIt}
 use Rattle.mms_step.proofs.PartsAfter.{step_sized}
 use Rattle.mms_step.proofs.Sound.{delivered_both}
 
@@ -40,6 +41,8 @@ Stays (Opens values) = Unit {0}
 Stays Closes = Unit {0}
 Stays (Waits request) = Unit {0}
 Stays (Answers invoke) = Unit {0}
+Stays (Asks kind domain) = Unit {0}
+Stays (Settles number) = Unit {0}
 Stays Drains = ⊥
 
 abbrev AllStay : List (ℕ × Effect) → Type 0
@@ -60,6 +63,8 @@ one_kept (Waits request) row output stays is = by_admission (admission request.i
     by_admission (Ok taken) = is
     by_admission (Err refusal) = is
 one_kept (Answers invoke) row output stays is = is
+one_kept (Asks kind domain) row output stays is = Contains-append_left row.outbox (Octets (asking_octets row.next_invoke kind domain) ∷ []) output is
+one_kept (Settles number) row output stays is = is
 one_kept Drains row output stays is = absurd stays
 
 row_kept : (effect : Effect) (o : Option ClientRow) (output : What) → Stays effect → Contains (outbox_in o) output → Contains (outbox_in (option_map (felt effect) o)) output
@@ -157,12 +162,15 @@ module _ (s : State) (client : ℕ) (octets : List ℕ) (g : Granted) where
   abbrev pub row : ClientRow
   row = row_at cell client s.clients
 
-  heard_besides : AllStay (also_told (cell.tables_of s) row (verdict row octets)) → Contains (also_told (cell.tables_of s) row (verdict row octets)) (g.client, Sends (grant_answer g))
+  abbrev now : Verdict
+  now = resolved (cell.tables_of s) row (verdict row octets)
+
+  heard_besides : AllStay (also_told (cell.tables_of s) row now) → Contains (also_told (cell.tables_of s) row now) (g.client, Sends (grant_answer g))
       → IsAnswered (step s (Heard client octets)) g
   heard_besides stay is some there =
-      let many = length-delivered (tell client (own_told (cell.tables_of s) row (verdict row octets))) s.clients in
+      let many = length-delivered (tell client (own_told (cell.tables_of s) row now)) s.clients in
       let sized = step_sized s (Heard client octets) in
-      besides (tell client (own_told (cell.tables_of s) row (verdict row octets))) (also_told (cell.tables_of s) row (verdict row octets)) s g stay is some
+      besides (tell client (own_told (cell.tables_of s) row now)) (also_told (cell.tables_of s) row now) s g stay is some
       (omega (arith, many, sized, there))
 
   pub given_back : (invoke : ℕ) (asked : RelinquishControl) → verdict row octets ≡ Takes invoke (request.RelinquishControl asked)
@@ -172,25 +180,26 @@ module _ (s : State) (client : ℕ) (octets : List ℕ) (g : Granted) where
       heard_besides (subst AllStay (sym told) (grants_stay (g ∷ [])))
       (subst (λ (l : List (ℕ × Effect)). Contains l (g.client, Sends (grant_answer g))) (sym told) (grants_there (g ∷ []) g (0, omega arith, refl)))
     where
-      told : also_told (cell.tables_of s) row (verdict row octets) ≡ grants_told (g ∷ [])
+      told : also_told (cell.tables_of s) row now ≡ grants_told (g ∷ [])
       told =
-          ap (λ (v : Verdict). also_told (cell.tables_of s) row v) takes
+          ap (λ (v : Verdict). also_told (cell.tables_of s) row (resolved (cell.tables_of s) row v)) takes
           ∙ ap (λ (b : Bool). if b then (effect (cell.tables_of s) row invoke (request.RelinquishControl asked)).also else []) served
           ∙ ap (λ (o : Option (Option Granted)). (relinquish_outcome (cell.tables_of s) row.client asked o).also) grant
 
-  pub left_to : (v : Verdict) → verdict row octets ≡ v → (v ≡ Concludes) ⊎ (v ≡ Aborts) → Contains (lost_granted row.client (record { 0 = s.now }) s.semaphores) g
-      → IsAnswered (step s (Heard client octets)) g
-  left_to v is ends grant =
+  pub left_to : EndsIt now → Contains (lost_granted row.client (record { 0 = s.now }) s.semaphores) g → IsAnswered (step s (Heard client octets)) g
+  left_to ends grant =
       heard_besides (subst AllStay (sym told) (grants_stay (lost_granted row.client (record { 0 = s.now }) s.semaphores)))
       (subst (λ (l : List (ℕ × Effect)). Contains l (g.client, Sends (grant_answer g))) (sym told)
       (grants_there (lost_granted row.client (record { 0 = s.now }) s.semaphores) g grant))
     where
-      by_end : (v ≡ Concludes) ⊎ (v ≡ Aborts) → also_told (cell.tables_of s) row v ≡ loss_also row.client (cell.tables_of s)
-      by_end (inl e) = ap (λ (x : Verdict). also_told (cell.tables_of s) row x) e
-      by_end (inr e) = ap (λ (x : Verdict). also_told (cell.tables_of s) row x) e
+      by_end : (v : Verdict) → EndsIt v → also_told (cell.tables_of s) row v ≡ loss_also row.client (cell.tables_of s)
+      by_end Concludes e = refl
+      by_end Aborts e = refl
+      by_end (Exhausts invoke) e = refl
+      by_end other e = absurd e
 
-      told : also_told (cell.tables_of s) row (verdict row octets) ≡ loss_also row.client (cell.tables_of s)
-      told = ap (λ (x : Verdict). also_told (cell.tables_of s) row x) is ∙ by_end ends
+      told : also_told (cell.tables_of s) row now ≡ loss_also row.client (cell.tables_of s)
+      told = by_end now ends
 
 pub lost_to : (s : State) (client : ℕ) (g : Granted) (values : Negotiated) → (row_at cell client s.clients).association ≡ Open values
     → Contains (lost_granted (row_at cell client s.clients).client (record { 0 = s.now }) s.semaphores) g → IsAnswered (step s (Lost client)) g

@@ -8,7 +8,7 @@ use Rattle.parted_state.specs.Lifted.{tables_shown}
 use Rattle.parted_state.specs.Served as parted
 use Rattle.cell_client.specs.Association.{Verdict, Tells, Takes}
 use Rattle.cell_client.specs.Effects.{Effect}
-use Rattle.cell_services.specs.Serving.{also_told, heard_asks, heard_more, is_served}
+use Rattle.cell_services.specs.Serving.{also_told, heard_asks, heard_more, is_served, resolved}
 use Rattle.cell_services.specs.Tables.{Tables}
 use Rattle.mms_step.specs.declared.part.Part.{Part}
 use Rattle.mms_step.specs.Partition.{cell}
@@ -37,7 +37,7 @@ either : (b : Bool) → (if b then nobody else nobody) ≡ nobody
 either true = refl
 either false = refl
 
-own_alone : (t : Tables) (row : ClientRow) (v : Verdict) → is_own v ≡ true → also_told t row v ≡ []
+own_alone : (t : Tables) (row : ClientRow) (v : Verdict) → is_own v ≡ true → also_told t row (resolved t row v) ≡ []
 own_alone t row (Tells effects) own = refl
 own_alone t row (Takes invoke (request.Status asked)) own = either (is_served t row invoke (request.Status asked))
 own_alone t row (Takes invoke request.Identify) own = either (is_served t row invoke request.Identify)

@@ -16,12 +16,12 @@ use Rattle.mms_step.specs.declared.part.Part.TheVariants.{Clock, Variables, Doma
 use Rattle.mms_step.specs.State.{State, start, device_of, first_rows, HasDate}
 use Rattle.cell_services.specs.Tables.{Tables}
 use Rattle.cell_client.specs.Effects.{Effect, felt, felt_all, tell}
-use Rattle.cell_client.specs.Association.{Verdict, Takes, Cancels, verdict}
-use Rattle.cell_services.specs.Services.{InArea, OfDevice, OfVariables, OfSemaphores, area_of, effect, effect_of}
+use Rattle.cell_client.specs.Association.{Verdict, Takes, Cancels, verdict, Replies}
+use Rattle.cell_services.specs.Services.{InArea, OfDevice, OfVariables, OfSemaphores, area_of, effect, effect_of, OfDomains, reply_in}
 use Rattle.association.specs.declared.negotiation.Association.{Association}
 use Rattle.association.specs.declared.negotiation.Association.TheVariants.{Idle, Open}
 use Rattle.association.specs.declared.waiting.Waiting.{Waiting}
-use Rattle.cell_services.specs.Serving.{is_served, tables_cancelled, tables_lost, tables_heard, services, waiting_of}
+use Rattle.cell_services.specs.Serving.{is_served, tables_cancelled, tables_lost, tables_heard, services, waiting_of, is_served_in, resolved}
 use Rattle.mms_step.specs.Partition.{cell, parts_of, client_part, client_place, on_client}
 use Rattle.mms_step.specs.AfterLaws.{is_device}
 use Rattle.mms_step.specs.Step.{step, replay, MayCome, MayFollow}
@@ -76,7 +76,7 @@ client_changed s client f some there =
     let rest : change (on_client f) (map client_part s.clients ++ Semaphores s.semaphores ∷ []) (client - 1) ≡ map client_part (change f s.clients (client - 1)) ++ Semaphores s.semaphores ∷ [] =
     change-append (on_client f) (map client_part s.clients) (Semaphores s.semaphores ∷ []) (client - 1) within
     ∙ ap (λ (l : List Part). l ++ Semaphores s.semaphores ∷ []) (change-map (on_client f) f client_part (λ x. refl) s.clients (client - 1)) in
-    ap (λ (l : List Part). Clock s.now ∷ Variables s.variables ∷ Domains ∷ Programs ∷ Conditions ∷ Journals ∷ l) (sym rest)
+    ap (λ (l : List Part). Clock s.now ∷ Variables s.variables ∷ Domains s.domains ∷ Programs ∷ Conditions ∷ Journals ∷ l) (sym rest)
     ∙ ap (λ (i : ℕ). change (on_client f) (parts_of s) i) (sym (in_front client some))
 
 -- ---- what is told to one client changes its row
@@ -89,6 +89,7 @@ told_one (effect ∷ effects) i rows = told_one effects i (change (felt effect) 
 now_kept : (t : Tables) (row : ClientRow) (invoke : ℕ) (a : InArea) → (effect_of t row invoke a).tables.now ≡ t.now
 now_kept t row invoke (OfDevice r) = refl
 now_kept t row invoke (OfVariables r) = refl
+now_kept t row invoke (OfDomains r) = refl
 now_kept t row invoke (OfSemaphores r) = refl
 
 now_heard : (t : Tables) (row : ClientRow) (v : Verdict) → (tables_heard t row v).now ≡ t.now
@@ -96,6 +97,11 @@ now_heard t row (Takes invoke asked) = by_test (is_served t row invoke asked)
   where
     by_test : (b : Bool) → (if b then (effect t row invoke asked).tables else t).now ≡ t.now
     by_test true = now_kept t row invoke (area_of asked)
+    by_test false = refl
+now_heard t row (Replies number came) = by_test (is_served_in t row number (reply_in number came))
+  where
+    by_test : (b : Bool) → (if b then (effect_of t row number (reply_in number came)).tables else t).now ≡ t.now
+    by_test true = now_kept t row number (reply_in number came)
     by_test false = refl
 now_heard t row (Cancels invoke) = by_waiting (waiting_of invoke row.waiting)
   where
@@ -118,7 +124,7 @@ step_drained s (suc i) some there =
     ap (λ (k : ℕ). at (change drained_row s.clients k)) (sym first)
   where
     at : List ClientRow → State
-    at rows = record { now = s.now; variables = s.variables; semaphores = s.semaphores; clients = rows }
+    at rows = record { now = s.now; variables = s.variables; domains = s.domains; semaphores = s.semaphores; clients = rows }
 
 -- as many clients
 pub step_sized : (s : State) (event : CellEvent) → length (step s event).clients ≡ length s.clients
@@ -128,7 +134,7 @@ step_sized s event = served.length-delivered cell is_device (parted.done_of cell
 pub step_still : (s : State) (client : ℕ) (octets : List ℕ) → (step s (Heard client octets)).now ≡ s.now
 step_still s client octets =
     let row = parted.row_of cell services s (Heard client octets) in
-    now_heard (cell.tables_of s) row (verdict row octets)
+    now_heard (cell.tables_of s) row (resolved (cell.tables_of s) row (verdict row octets))
 
 -- ---- what holds of each state
 

@@ -1,7 +1,8 @@
 -- What a client's octets come to is ready to be done where nothing is needed that isn't held.
 use Rattle.std.specs.Prelude.{◌≡◌, ℕ, ◌+◌, ◌-◌, ◌≤◌, Bool, true, false, ◌&&◌, Option, Some, None, List, [], ◌∷◌, ◌++◌, is_some, length, slice_get, IfSome, if◌then◌else◌, refl}
 use Rattle.std.proofs.Common.{ap, sym, ◌∙◌, subst, arith}
-use Rattle.mms_types.specs.Areas.{semaphore_request, variable_request}
+use Rattle.mms_types.specs.Areas.{domain_request, semaphore_request, variable_request}
+use Rattle.mms_types.specs.declared.area.DomainRequest.{DomainRequest}
 use Rattle.mms_types.specs.declared.area.SemaphoreRequest.{SemaphoreRequest}
 use Rattle.mms_types.specs.declared.area.VariableRequest.{VariableRequest}
 use Rattle.mms_types.specs.declared.event.CellEvent.TheVariants.{Heard}
@@ -13,23 +14,26 @@ use Rattle.parted_state.specs.Cut.{are_held, missing}
 use Rattle.parted_state.specs.CutLaws as laws
 use Rattle.parted_state.specs.DeviceLaws.{table_at}
 use Rattle.parted_state.specs.Lifted.{tables_shown}
-use Rattle.cell_client.specs.Association.{Verdict, Cancels, Takes, verdict}
+use Rattle.cell_client.specs.Association.{Verdict, Came, Cancels, Replies, Takes, verdict}
+use Rattle.cell_client.specs.declared.verdict.Came.{Came as Borrowed}
 use Rattle.cell_client.specs.declared.acts.Act.{Act}
 use Rattle.cell_client.specs.declared.acts.Act.TheVariants as act
-use Rattle.cell_client.specs.Meant.{act_verdict, uses_no_table}
+use Rattle.cell_client.specs.Meant.{act_verdict, came, uses_no_table}
 use Rattle.std.specs.Borrow.{Bor}
 use Rattle.cell_client.specs.Requests.{plain_answer}
+use Rattle.serve_domains.specs.Domains as domain
 use Rattle.serve_semaphores.specs.Semaphores as semaphore
 use Rattle.serve_variables.specs.Variables as variable
-use Rattle.cell_services.specs.AreaLaws.{in_semaphores, in_variables}
-use Rattle.cell_services.specs.Services.{InArea, OfSemaphores, OfVariables, area_of, asks_of}
+use Rattle.cell_services.specs.AreaLaws.{in_domains, in_semaphores, in_variables}
+use Rattle.cell_services.specs.Services.{InArea, OfDomains, OfSemaphores, OfVariables, area_of, asks_of}
 use Rattle.cell_services.specs.Serving.{heard_more}
 use Rattle.mms_step.specs.declared.part.Part.{Part}
-use Rattle.mms_step.specs.declared.part.Part.TheVariants.{Semaphores, Variables}
+use Rattle.mms_step.specs.declared.part.Part.TheVariants.{Domains, Semaphores, Variables}
 use Rattle.mms_step.specs.AfterLaws.{is_device}
 use Rattle.mms_step.specs.Needs.{also_parts, footprint, is_held, need, placed, two_stages, verdict_need}
-use Rattle.mms_step.specs.Partition.{cell, parts_of, client_part, client_place, clients_among, row_in, semaphores_in, semaphores_place, variables_in, IsClient, IsSemaphores, IsVariables}
+use Rattle.mms_step.specs.Partition.{cell, parts_of, client_part, client_place, clients_among, domains_in, row_in, semaphores_in, semaphores_place, variables_in, IsClient, IsDomains, IsSemaphores, IsVariables}
 use Rattle.mms_step.specs.State.{State}
+use Rattle.serve_domains.specs.Loads.{AreLoads}
 use Rattle.mms_step.specs.Tasks.{row_held, IsReady}
 use Rattle.mms_step.proofs.Enough.{words_held, OfState}
 use Rattle.mms_step.proofs.Holding.{client_at, clients_counted, held_part}
@@ -84,6 +88,22 @@ module _ (s : State) (hand : List (Option Part)) (of : IsHandOf hand (parts_of s
       (first_there hand (semaphores_place n) _ _ (in_area hand n (area_of asked) (OfSemaphores (semaphore.request_in x)) area _ ready.needed)) place in
       there ∙ sym (ap (λ (o : Option Part). Some (Semaphores (semaphores_in o))) there)
 
+  pub domains_there : (n client invoke : ℕ) (x : DomainRequest) (asked : Request) → domain_request x ≡ asked → IsReady n client (Takes invoke asked) hand → IsDomains (held_at hand 2)
+  domains_there n client invoke x asked is ready =
+      let area : area_of asked ≡ OfDomains (domain.request_in x) = ap area_of (sym is) ∙ in_domains x in
+      let there = held_part hand (parts_of s) 2 (Domains s.domains) of (first_there hand 2 _ _ (in_area hand n (area_of asked) (OfDomains (domain.request_in x)) area _ ready.needed)) refl in
+      there ∙ sym (ap (λ (o : Option Part). Some (Domains (domains_in o))) there)
+
+  -- by which a client answers the server
+  pub domains_to_reply : (n client number : ℕ) (came : Came) → IsReady n client (Replies number came) hand → IsDomains (held_at hand 2)
+  domains_to_reply n client number came ready =
+      let there = held_part hand (parts_of s) 2 (Domains s.domains) of
+      (first_there hand 2 [] (more ++ (if are_held hand more then also_parts n hand (row_held hand client) (Replies number came) else [])) ready.needed) refl in
+      there ∙ sym (ap (λ (o : Option Part). Some (Domains (domains_in o))) there)
+    where
+      more : List ℕ
+      more = placed n (heard_more (tables_shown cell hand) (row_held hand client) (Replies number came))
+
   -- by which a request that waits is cancelled
   pub semaphores_to_cancel : (n client invoke : ℕ) → n ≡ clients_among (length hand) → IsReady n client (Cancels invoke) hand → IsSemaphores (held_at hand (semaphores_place n))
   semaphores_to_cancel n client invoke counted ready =
@@ -104,6 +124,15 @@ cancels_left v (Some a) invoke is told =
     let both : Some (Cancels invoke) ≡ Some v = ap act_verdict (sym same) ∙ told in
     cc both
 
+-- what is left of what a client sent is its answer to the server
+pub replies_left : (v : Verdict) (left : Option Act) (number : ℕ) (answer : Borrowed) → left ≡ Some (act.Reply number answer) → IfSome left (λ a. act_verdict a ≡ Some v)
+    → Replies number (came answer) ≡ v
+replies_left v None number answer is told = absurd (cc is)
+replies_left v (Some a) number answer is told =
+    let same : a ≡ act.Reply number answer = cc is in
+    let both : Some (Replies number (came answer)) ≡ Some v = ap act_verdict (sym same) ∙ told in
+    cc both
+
 -- what is left of what a client sent is its request
 pub takes_left : (v : Verdict) (left : Option Act) (invoke : ℕ) (asked : Bor Request) → left ≡ Some (act.Request invoke asked) → IfSome left (λ a. act_verdict a ≡ Some v) → Takes invoke asked.now ≡ v
 takes_left v None invoke asked is told = absurd (cc is)
@@ -121,6 +150,20 @@ not_plain row invoke asked uses = by_value (plain_answer row asked) uses
     by_value (Some a) e = absurd (cc e)
 
 -- ---- at the beginning
+
+-- what the server asked of a client is of the domains that it loads
+pub loads_held : (hand : List (Option Part)) (client : ℕ) → OfState hand → (1 ≤ client) × (client ≤ clients_among (length hand)) → IsClient (held_at hand (client_place client))
+    → IsDomains (held_at hand 2) → AreLoads client (row_held hand client).asked (domains_in (held_at hand 2)).domains
+loads_held hand client (s, sound, of) among held table =
+    let counted = clients_counted s hand of in
+    let its = client_at s client among.0 (omega (arith, counted, among.1)) in
+    let there : held_at hand (client_place client) ≡ Some (client_part its.0) =
+    held_part hand (parts_of s) (client_place client) (client_part its.0) of (ap (λ (o : Option Part). is_some o) held) its.1 in
+    let shown : held_at hand 2 ≡ Some (Domains s.domains) = held_part hand (parts_of s) 2 (Domains s.domains) of (ap (λ (o : Option Part). is_some o) table) refl in
+    let own : client - 1 + 1 ≡ client = omega (arith, among.0) in
+    subst (λ (k : ℕ). AreLoads k (row_held hand client).asked (domains_in (held_at hand 2)).domains) own
+    (subst (λ (o : Option Part). AreLoads (client - 1 + 1) (row_in o).asked (domains_in (held_at hand 2)).domains) (sym there)
+    (subst (λ (o : Option Part). AreLoads (client - 1 + 1) its.0.asked (domains_in o).domains) (sym shown) (sound.1.loads (client - 1) its.0 its.2)))
 
 pub ready_to_hear : (hand : List (Option Part)) (client : ℕ) (octets : List ℕ) → OfState hand → (1 ≤ client) × (client ≤ clients_among (length hand)) → IsClient (held_at hand (client_place client))
     → need (Heard client octets) hand ≡ [] → IsReady (clients_among (length hand)) client (verdict (row_held hand client) octets) hand

@@ -29,6 +29,7 @@ use Rattle.mms_step.specs.declared.serving.Task.{Task}
 use Rattle.mms_step.specs.declared.serving.Task.TheVariants as task
 use Rattle.cell_client.specs.declared.told.Told.{Told}
 use Rattle.mms_step.specs.State.{State}
+use Rattle.serve_domains.specs.Tables.{DomainTables}
 use Rattle.cell_services.specs.Tables.{Tables}
 use Rattle.mms_step.specs.Needs.{is_held}
 use Rattle.cell_client.specs.Effects.{Effect, felt, felt_all, tell, settled}
@@ -39,9 +40,9 @@ use Rattle.cell_client.specs.declared.acts.Act.{Act}
 use Rattle.cell_services.specs.Acts.{act_done}
 use Rattle.cell_client.specs.Meant.{verdict_read}
 use Rattle.mms_step.specs.Tasks.{row_held, task_done, HoldsOwn, IsHeardInPlace, IsTimely}
-use Rattle.mms_step.specs.Lifting.{clocked, varied, tabled, with_semaphores}
+use Rattle.mms_step.specs.Lifting.{clocked, domained, varied, tabled, with_semaphores}
 use Rattle.variable_services.specs.declared.tables.VariableTables.{VariableTables}
-use Rattle.mms_step.specs.Partition.{cell, parts_of, client_part, client_place, clients_among, client_in, clock_in, clock_or, semaphores_in, semaphores_or, semaphores_place, variables_in, variables_or, on_client, on_clock, on_semaphores, on_variables, row_in, IsClient}
+use Rattle.mms_step.specs.Partition.{cell, parts_of, client_part, client_place, clients_among, client_in, clock_in, clock_or, domains_in, domains_or, semaphores_in, semaphores_or, semaphores_place, variables_in, variables_or, on_client, on_clock, on_domains, on_semaphores, on_variables, row_in, IsClient}
 use Rattle.cell_client.specs.Telling.{effects_told}
 use Rattle.mms_step.specs.declared.telling.Room.{Room}
 use Rattle.mms_step.specs.Rooms.{no_room, room_to, with_room, room_or_same, room_before, with_rooms, without_rooms, IsSettled, MayBeClient, AreClients}
@@ -61,7 +62,7 @@ in_parts semaphores (row ∷ rows) (suc i) part there = in_parts semaphores rows
 pub part_settled : (s : State) (i : ℕ) (part : Part) → slice_get (parts_of s) i ≡ Some part → with_room no_room part ≡ part
 part_settled s zero part there = let same : Clock s.now ≡ part = cc there in subst (λ (p : Part). with_room no_room p ≡ p) same refl
 part_settled s (suc zero) part there = let same : Variables s.variables ≡ part = cc there in subst (λ (p : Part). with_room no_room p ≡ p) same refl
-part_settled s (suc (suc zero)) part there = let same : Domains ≡ part = cc there in subst (λ (p : Part). with_room no_room p ≡ p) same refl
+part_settled s (suc (suc zero)) part there = let same : Domains s.domains ≡ part = cc there in subst (λ (p : Part). with_room no_room p ≡ p) same refl
 part_settled s (suc (suc (suc zero))) part there = let same : Programs ≡ part = cc there in subst (λ (p : Part). with_room no_room p ≡ p) same refl
 part_settled s (suc (suc (suc (suc zero)))) part there = let same : Conditions ≡ part = cc there in subst (λ (p : Part). with_room no_room p ≡ p) same refl
 part_settled s (suc (suc (suc (suc (suc zero))))) part there = let same : Journals ≡ part = cc there in subst (λ (p : Part). with_room no_room p ≡ p) same refl
@@ -129,6 +130,17 @@ varied_rooms variables last room hand =
     here None = refl
     here (Some part) = refl
 
+domained_rooms : (domains : DomainTables) (last : ℕ) (room : ℕ → Room) (hand : List (Option Part))
+    → domained domains (with_rooms last room hand) ≡ with_rooms last room (domained domains hand)
+domained_rooms domains last room hand =
+    change_placed (at_place last room) (at_place last room) (option_map (on_domains (λ was. domains))) (option_map (on_domains (λ was. domains))) hand 2
+    (λ j other held there. refl) (λ held there. here held)
+  where
+    here : (held : Option Part)
+        → option_map (on_domains (λ was. domains)) (at_place last room 2 held) ≡ at_place last room 2 (option_map (on_domains (λ was. domains)) held)
+    here None = refl
+    here (Some part) = refl
+
 -- the place of the semaphores is told by the number of parts
 abbrev pub behind_clients : List (Option Part) → ℕ
 behind_clients hand = semaphores_place (clients_among (length hand))
@@ -152,19 +164,24 @@ semaphores_rooms semaphores last room hand =
     here (Some r) (Some (Semaphores x)) = refl
     here (Some r) (Some (Clock x)) = refl
     here (Some r) (Some (Variables x)) = refl
-    here (Some r) (Some Domains) = refl
+    here (Some r) (Some (Domains x)) = refl
     here (Some r) (Some Programs) = refl
     here (Some r) (Some Conditions) = refl
     here (Some r) (Some Journals) = refl
 
--- the clock and the variables alone
-abbrev pub first_two : ℕ → VariableTables → List (Option Part) → List (Option Part)
-first_two now variables hand = varied variables (clocked now hand)
+-- the clock, the variables and the domains alone
+abbrev pub first_three : ℕ → VariableTables → DomainTables → List (Option Part) → List (Option Part)
+first_three now variables domains hand = domained domains (varied variables (clocked now hand))
+
+abbrev pub first_of : Tables → List (Option Part) → List (Option Part)
+first_of t hand = first_three t.now t.variables t.domains hand
 
 pub tabled_rooms : (t : Tables) (last : ℕ) (room : ℕ → Room) (hand : List (Option Part)) → tabled t (with_rooms last room hand) ≡ with_rooms last room (tabled t hand)
 tabled_rooms t last room hand =
-    ap (with_semaphores t.semaphores) (ap (varied t.variables) (clocked_rooms t.now last room hand) ∙ varied_rooms t.variables last room (clocked t.now hand))
-    ∙ semaphores_rooms t.semaphores last room (first_two t.now t.variables hand)
+    ap (with_semaphores t.semaphores)
+    (ap (domained t.domains) (ap (varied t.variables) (clocked_rooms t.now last room hand) ∙ varied_rooms t.variables last room (clocked t.now hand))
+    ∙ domained_rooms t.domains last room (varied t.variables (clocked t.now hand)))
+    ∙ semaphores_rooms t.semaphores last room (first_of t hand)
 
 clocked_twice : (now was : ℕ) (hand : List (Option Part)) → clocked now (clocked was hand) ≡ clocked now hand
 clocked_twice now was [] = refl
@@ -178,6 +195,14 @@ varied_twice now was (first ∷ []) = refl
 varied_twice now was (first ∷ None ∷ hand) = refl
 varied_twice now was (first ∷ Some (Variables v) ∷ hand) = refl
 varied_twice now was (first ∷ Some other ∷ hand) = refl
+
+domained_twice : (now was : DomainTables) (hand : List (Option Part)) → domained now (domained was hand) ≡ domained now hand
+domained_twice now was [] = refl
+domained_twice now was (first ∷ []) = refl
+domained_twice now was (first ∷ second ∷ []) = refl
+domained_twice now was (first ∷ second ∷ None ∷ hand) = refl
+domained_twice now was (first ∷ second ∷ Some (Domains d) ∷ hand) = refl
+domained_twice now was (first ∷ second ∷ Some other ∷ hand) = refl
 
 semaphores_twice : (now was : Rows) (hand : List (Option Part)) → with_semaphores now (with_semaphores was hand) ≡ with_semaphores now hand
 semaphores_twice now was hand =
@@ -193,80 +218,117 @@ semaphores_twice now was hand =
     here (Some (Client x)) = refl
     here (Some (Clock x)) = refl
     here (Some (Variables x)) = refl
-    here (Some Domains) = refl
+    here (Some (Domains x)) = refl
     here (Some Programs) = refl
     here (Some Conditions) = refl
     here (Some Journals) = refl
 
-as_long : (now : ℕ) (variables : VariableTables) (hand : List (Option Part)) → length (first_two now variables hand) ≡ length hand
-as_long now variables hand =
-    length-change (option_map (on_variables (λ was. variables))) (clocked now hand) 1 ∙ length-change (option_map (on_clock (λ was. now))) hand 0
+as_long : (now : ℕ) (variables : VariableTables) (domains : DomainTables) (hand : List (Option Part)) → length (first_three now variables domains hand) ≡ length hand
+as_long now variables domains hand =
+    length-change (option_map (on_domains (λ was. domains))) (varied variables (clocked now hand)) 2
+    ∙ length-change (option_map (on_variables (λ was. variables))) (clocked now hand) 1
+    ∙ length-change (option_map (on_clock (λ was. now))) hand 0
 
 -- what stands at another place
-beside_two : (t : Tables) (hand : List (Option Part)) (place : ℕ) → place ≢ 0 → place ≢ 1 → held_at (first_two t.now t.variables hand) place ≡ held_at hand place
-beside_two t hand place first second =
-    held_else (option_map (on_variables (λ was. t.variables))) (clocked t.now hand) 1 place second
+beside_three : (t : Tables) (hand : List (Option Part)) (place : ℕ) → place ≢ 0 → place ≢ 1 → place ≢ 2 → held_at (first_of t hand) place ≡ held_at hand place
+beside_three t hand place first second third =
+    held_else (option_map (on_domains (λ was. t.domains))) (varied t.variables (clocked t.now hand)) 2 place third
+    ∙ held_else (option_map (on_variables (λ was. t.variables))) (clocked t.now hand) 1 place second
     ∙ held_else (option_map (on_clock (λ was. t.now))) hand 0 place first
 
--- as many parts while the first two tables are exchanged
-pub still_many : (n now : ℕ) (variables : VariableTables) (hand first second : List (Option Part)) → n ≡ clients_among (length hand) → first ≡ clocked now hand
-    → second ≡ varied variables first → n ≡ clients_among (length second)
-still_many n now variables hand first second many one two =
+-- as many parts while the first three tables are exchanged
+pub still_many : (n now : ℕ) (variables : VariableTables) (domains : DomainTables) (hand first second third : List (Option Part)) → n ≡ clients_among (length hand)
+    → first ≡ clocked now hand → second ≡ varied variables first → third ≡ domained domains second → n ≡ clients_among (length third)
+still_many n now variables domains hand first second third many one two three =
     many
-    ∙ ap clients_among (sym (as_long now variables hand))
-    ∙ ap (λ (h : List (Option Part)). clients_among (length h)) (sym (two ∙ ap (varied variables) one))
+    ∙ ap clients_among (sym (as_long now variables domains hand))
+    ∙ ap (λ (h : List (Option Part)). clients_among (length h)) (sym (three ∙ ap (domained domains) (two ∙ ap (varied variables) one)))
 
-abbrev pub three : ℕ → VariableTables → Rows → Tables
-three now variables semaphores = record { now = now; variables = variables; semaphores = semaphores }
+abbrev pub four : ℕ → VariableTables → DomainTables → Rows → Tables
+four now variables domains semaphores = record { now = now; variables = variables; domains = domains; semaphores = semaphores }
 
--- all three are exchanged
-pub exchanged : (now : ℕ) (variables : VariableTables) (semaphores : Rows) (t : Tables) (hand first second third : List (Option Part)) → three now variables semaphores ≡ t
-    → first ≡ clocked now hand → second ≡ varied variables first → third ≡ with_semaphores semaphores second → third ≡ tabled t hand
-exchanged now variables semaphores t hand first second third is one two last =
-    last ∙ ap (with_semaphores semaphores) (two ∙ ap (varied variables) one) ∙ ap (λ (u : Tables). tabled u hand) is
+-- all four are exchanged
+pub exchanged : (now : ℕ) (variables : VariableTables) (domains : DomainTables) (semaphores : Rows) (t : Tables) (hand first second third fourth : List (Option Part))
+    → four now variables domains semaphores ≡ t → first ≡ clocked now hand → second ≡ varied variables first → third ≡ domained domains second
+    → fourth ≡ with_semaphores semaphores third → fourth ≡ tabled t hand
+exchanged now variables domains semaphores t hand first second third fourth is one two three last =
+    last ∙ ap (with_semaphores semaphores) (three ∙ ap (domained domains) (two ∙ ap (varied variables) one)) ∙ ap (λ (u : Tables). tabled u hand) is
 
 -- what is lifted is what was there
-pub lifted_tables : (was : Tables) (n : ℕ) (hand first second : List (Option Part)) (now : ℕ) (variables : VariableTables) (semaphores : Rows) → was ≡ no_tables → n ≡ clients_among (length hand)
-    → first ≡ clocked was.now hand → second ≡ varied was.variables first → now ≡ clock_or was.now (held_at hand 0) → variables ≡ variables_or was.variables (held_at first 1)
-    → semaphores ≡ semaphores_or was.semaphores (held_at second (semaphores_place n))
-    → three now variables semaphores ≡ three (clock_in (held_at hand 0)) (variables_in (held_at hand 1)) (semaphores_in (held_at hand (semaphores_place n)))
-lifted_tables was n hand first second now variables semaphores empty many one two moment has have =
-    ap₂ (λ (m : ℕ) (v : VariableTables). three m v semaphores)
+abbrev pub lifted_of : ℕ → List (Option Part) → Tables
+lifted_of n hand =
+    four (clock_in (held_at hand 0)) (variables_in (held_at hand 1)) (domains_in (held_at hand 2)) (semaphores_in (held_at hand (semaphores_place n)))
+
+pub lifted_tables : (was : Tables) (n : ℕ) (hand first second third : List (Option Part)) (now : ℕ) (variables : VariableTables) (domains : DomainTables) (semaphores : Rows)
+    → was ≡ no_tables → n ≡ clients_among (length hand)
+    → first ≡ clocked was.now hand → second ≡ varied was.variables first → third ≡ domained was.domains second
+    → now ≡ clock_or was.now (held_at hand 0) → variables ≡ variables_or was.variables (held_at first 1) → domains ≡ domains_or was.domains (held_at second 2)
+    → semaphores ≡ semaphores_or was.semaphores (held_at third (semaphores_place n))
+    → four now variables domains semaphores ≡ lifted_of n hand
+lifted_tables was n hand first second third now variables domains semaphores empty many one two three moment has has_domains have =
+    ap₂ (λ (m : ℕ) (v : VariableTables). four m v domains semaphores)
     (moment ∙ ap (λ (t : Tables). clock_or t.now (held_at hand 0)) empty)
     (has ∙ ap (λ (t : Tables). variables_or t.variables (held_at first 1)) empty
     ∙ ap variables_in (ap (λ (h : List (Option Part)). held_at h 1) one ∙ held_else (option_map (on_clock (λ x. was.now))) hand 0 1 (λ same. omega (arith, same))))
-    ∙ ap (λ (s : Rows). three (clock_in (held_at hand 0)) (variables_in (held_at hand 1)) s)
-    (have ∙ ap (λ (t : Tables). semaphores_or t.semaphores (held_at second (semaphores_place n))) empty
+    ∙ ap₂ (λ (d : DomainTables) (s : Rows). four (clock_in (held_at hand 0)) (variables_in (held_at hand 1)) d s)
+    (has_domains ∙ ap (λ (t : Tables). domains_or t.domains (held_at second 2)) empty
+    ∙ ap domains_in
+    (ap (λ (h : List (Option Part)). held_at h 2) (two ∙ ap (varied was.variables) one)
+    ∙ held_else (option_map (on_variables (λ x. was.variables))) (clocked was.now hand) 1 2 (λ same. omega (arith, same))
+    ∙ held_else (option_map (on_clock (λ x. was.now))) hand 0 2 (λ same. omega (arith, same))))
+    (have ∙ ap (λ (t : Tables). semaphores_or t.semaphores (held_at third (semaphores_place n))) empty
     ∙ ap semaphores_in
-    (ap (λ (h : List (Option Part)). held_at h (semaphores_place n)) (two ∙ ap (varied was.variables) one)
-    ∙ beside_two was hand (semaphores_place n) (λ same. omega (arith, same)) (λ same. omega (arith, same))))
+    (ap (λ (h : List (Option Part)). held_at h (semaphores_place n)) (three ∙ ap (domained was.domains) (two ∙ ap (varied was.variables) one))
+    ∙ beside_three was hand (semaphores_place n) (λ same. omega (arith, same)) (λ same. omega (arith, same)) (λ same. omega (arith, same))))
 
--- the semaphores stand beside both
-beside_both : (now : ℕ) (variables : VariableTables) (semaphores : Rows) (hand : List (Option Part))
-    → first_two now variables (with_semaphores semaphores hand) ≡ with_semaphores semaphores (first_two now variables hand)
-beside_both now variables semaphores hand =
-    ap (varied variables)
+-- the semaphores stand beside the others
+beside_all : (now : ℕ) (variables : VariableTables) (domains : DomainTables) (semaphores : Rows) (hand : List (Option Part))
+    → first_three now variables domains (with_semaphores semaphores hand) ≡ with_semaphores semaphores (first_three now variables domains hand)
+beside_all now variables domains semaphores hand =
+    ap (λ (h : List (Option Part)). domained domains (varied variables h))
     (change_other (option_map (on_clock (λ was. now))) (option_map (on_semaphores (λ was. semaphores))) hand (behind_clients hand) 0 (λ same. omega (arith, same)))
-    ∙ change_other (option_map (on_variables (λ was. variables))) (option_map (on_semaphores (λ was. semaphores))) (clocked now hand) (behind_clients hand) 1
+    ∙ ap (domained domains)
+    (change_other (option_map (on_variables (λ was. variables))) (option_map (on_semaphores (λ was. semaphores))) (clocked now hand) (behind_clients hand) 1
+    (λ same. omega (arith, same)))
+    ∙ change_other (option_map (on_domains (λ was. domains))) (option_map (on_semaphores (λ was. semaphores))) (varied variables (clocked now hand)) (behind_clients hand) 2
     (λ same. omega (arith, same))
-    ∙ ap (change (option_map (on_semaphores (λ was. semaphores))) (first_two now variables hand)) (same_place hand (first_two now variables hand) (sym (as_long now variables hand)))
+    ∙ ap (change (option_map (on_semaphores (λ was. semaphores))) (first_three now variables domains hand))
+    (same_place hand (first_three now variables domains hand) (sym (as_long now variables domains hand)))
 
 -- one beside the other
 apart : (now : ℕ) (variables : VariableTables) (hand : List (Option Part)) → clocked now (varied variables hand) ≡ varied variables (clocked now hand)
 apart now variables [] = refl
 apart now variables (first ∷ hand) = refl
 
-two_twice : (now was : ℕ) (variables before : VariableTables) (hand : List (Option Part)) → first_two now variables (first_two was before hand) ≡ first_two now variables hand
+clock_apart : (now : ℕ) (domains : DomainTables) (hand : List (Option Part)) → clocked now (domained domains hand) ≡ domained domains (clocked now hand)
+clock_apart now domains [] = refl
+clock_apart now domains (first ∷ hand) = refl
+
+vary_apart : (variables : VariableTables) (domains : DomainTables) (hand : List (Option Part)) → varied variables (domained domains hand) ≡ domained domains (varied variables hand)
+vary_apart variables domains [] = refl
+vary_apart variables domains (first ∷ []) = refl
+vary_apart variables domains (first ∷ second ∷ hand) = refl
+
+two_twice : (now was : ℕ) (variables before : VariableTables) (hand : List (Option Part))
+    → varied variables (clocked now (varied before (clocked was hand))) ≡ varied variables (clocked now hand)
 two_twice now was variables before hand =
     ap (varied variables) (apart now before (clocked was hand))
     ∙ varied_twice variables before (clocked now (clocked was hand))
     ∙ ap (varied variables) (clocked_twice now was hand)
 
+three_twice : (t u : Tables) (hand : List (Option Part)) → first_of t (first_of u hand) ≡ first_of t hand
+three_twice t u hand =
+    ap (domained t.domains)
+    (ap (varied t.variables) (clock_apart t.now u.domains (varied u.variables (clocked u.now hand)))
+    ∙ vary_apart t.variables u.domains (clocked t.now (varied u.variables (clocked u.now hand))))
+    ∙ domained_twice t.domains u.domains (varied t.variables (clocked t.now (varied u.variables (clocked u.now hand))))
+    ∙ ap (domained t.domains) (two_twice t.now u.now t.variables u.variables hand)
+
 pub tabled_twice : (t u : Tables) (hand : List (Option Part)) → tabled t (tabled u hand) ≡ tabled t hand
 tabled_twice t u hand =
-    ap (with_semaphores t.semaphores) (beside_both t.now t.variables u.semaphores (first_two u.now u.variables hand))
-    ∙ semaphores_twice t.semaphores u.semaphores (first_two t.now t.variables (first_two u.now u.variables hand))
-    ∙ ap (with_semaphores t.semaphores) (two_twice t.now u.now t.variables u.variables hand)
+    ap (with_semaphores t.semaphores) (beside_all t.now t.variables t.domains u.semaphores (first_of u hand))
+    ∙ semaphores_twice t.semaphores u.semaphores (first_of t (first_of u hand))
+    ∙ ap (with_semaphores t.semaphores) (three_twice t u hand)
 
 clocked_same : (hand : List (Option Part)) → clocked (clock_in (held_at hand 0)) hand ≡ hand
 clocked_same [] = refl
@@ -281,6 +343,14 @@ varied_same (first ∷ None ∷ hand) = refl
 varied_same (first ∷ Some (Variables v) ∷ hand) = refl
 varied_same (first ∷ Some other ∷ hand) = refl
 
+pub domained_same : (hand : List (Option Part)) → domained (domains_in (held_at hand 2)) hand ≡ hand
+domained_same [] = refl
+domained_same (first ∷ []) = refl
+domained_same (first ∷ second ∷ []) = refl
+domained_same (first ∷ second ∷ None ∷ hand) = refl
+domained_same (first ∷ second ∷ Some (Domains d) ∷ hand) = refl
+domained_same (first ∷ second ∷ Some other ∷ hand) = refl
+
 pub semaphores_same : (hand : List (Option Part)) → with_semaphores (semaphores_in (held_at hand (behind_clients hand))) hand ≡ hand
 semaphores_same hand =
     change_as (option_map (on_semaphores (λ was. semaphores_in (held_at hand (behind_clients hand))))) (λ held. held) hand (behind_clients hand) (here (held_at hand (behind_clients hand)))
@@ -292,7 +362,7 @@ semaphores_same hand =
     here (Some (Client x)) = refl
     here (Some (Clock x)) = refl
     here (Some (Variables x)) = refl
-    here (Some Domains) = refl
+    here (Some (Domains x)) = refl
     here (Some Programs) = refl
     here (Some Conditions) = refl
     here (Some Journals) = refl
@@ -302,66 +372,72 @@ abbrev pub own_tables : List (Option Part) → Tables
 own_tables hand = record {
   now = clock_in (held_at hand 0);
   variables = variables_in (held_at hand 1);
+  domains = domains_in (held_at hand 2);
   semaphores = semaphores_in (held_at hand (behind_clients hand));
 }
 
-pub two_same : (hand : List (Option Part)) → first_two (clock_in (held_at hand 0)) (variables_in (held_at hand 1)) hand ≡ hand
-two_same hand = ap (varied (variables_in (held_at hand 1))) (clocked_same hand) ∙ varied_same hand
+pub three_same : (hand : List (Option Part)) → first_of (own_tables hand) hand ≡ hand
+three_same hand =
+    ap (λ (h : List (Option Part)). domained (domains_in (held_at hand 2)) (varied (variables_in (held_at hand 1)) h)) (clocked_same hand)
+    ∙ ap (domained (domains_in (held_at hand 2))) (varied_same hand)
+    ∙ domained_same hand
 
 pub tabled_same : (hand : List (Option Part)) → tabled (own_tables hand) hand ≡ hand
-tabled_same hand = ap (with_semaphores (semaphores_in (held_at hand (behind_clients hand)))) (two_same hand) ∙ semaphores_same hand
+tabled_same hand = ap (with_semaphores (semaphores_in (held_at hand (behind_clients hand)))) (three_same hand) ∙ semaphores_same hand
 
-behind_two : (t : Tables) (hand : List (Option Part)) → behind_clients (first_two t.now t.variables hand) ≡ behind_clients hand
-behind_two t hand = same_place (first_two t.now t.variables hand) hand (as_long t.now t.variables hand)
+behind_three : (t : Tables) (hand : List (Option Part)) → behind_clients (first_of t hand) ≡ behind_clients hand
+behind_three t hand = same_place (first_of t hand) hand (as_long t.now t.variables t.domains hand)
 
-beside : (t : Tables) (hand : List (Option Part)) (place : ℕ) → place ≢ 0 → place ≢ 1 → place ≢ behind_clients hand → held_at (tabled t hand) place ≡ held_at hand place
-beside t hand place first second last =
-    held_else (option_map (on_semaphores (λ was. t.semaphores))) (first_two t.now t.variables hand) (behind_clients (first_two t.now t.variables hand)) place
-    (λ same. last (same ∙ behind_two t hand))
-    ∙ beside_two t hand place first second
+beside : (t : Tables) (hand : List (Option Part)) (place : ℕ) → place ≢ 0 → place ≢ 1 → place ≢ 2 → place ≢ behind_clients hand → held_at (tabled t hand) place ≡ held_at hand place
+beside t hand place first second third last =
+    held_else (option_map (on_semaphores (λ was. t.semaphores))) (first_of t hand) (behind_clients (first_of t hand)) place
+    (λ same. last (same ∙ behind_three t hand))
+    ∙ beside_three t hand place first second third
 
 pub beside_tables : (t : Tables) (hand : List (Option Part)) (client : ℕ) → client ≤ clients_among (length hand)
     → held_at (tabled t hand) (client_place client) ≡ held_at hand (client_place client)
-beside_tables t hand client few = beside t hand (client_place client) (λ same. omega (arith, same)) (λ same. omega (arith, same)) (λ same. omega (arith, same, few))
+beside_tables t hand client few =
+    beside t hand (client_place client) (λ same. omega (arith, same)) (λ same. omega (arith, same)) (λ same. omega (arith, same)) (λ same. omega (arith, same, few))
 
 -- a client's part that is held stays, wherever it stands
 pub beside_client : (t : Tables) (hand : List (Option Part)) (client : ℕ) → IsClient (held_at hand (client_place client))
     → held_at (tabled t hand) (client_place client) ≡ held_at hand (client_place client)
-beside_client t hand client held = by_place (ℕ_discrete (client_place client) (behind_clients (first_two t.now t.variables hand)))
+beside_client t hand client held = by_place (ℕ_discrete (client_place client) (behind_clients (first_of t hand)))
   where
-    two : held_at (first_two t.now t.variables hand) (client_place client) ≡ held_at hand (client_place client)
-    two = beside_two t hand (client_place client) (λ same. omega (arith, same)) (λ same. omega (arith, same))
+    three : held_at (first_of t hand) (client_place client) ≡ held_at hand (client_place client)
+    three = beside_three t hand (client_place client) (λ same. omega (arith, same)) (λ same. omega (arith, same)) (λ same. omega (arith, same))
 
-    by_place : Dec (client_place client ≡ behind_clients (first_two t.now t.variables hand)) → held_at (tabled t hand) (client_place client) ≡ held_at hand (client_place client)
+    by_place : Dec (client_place client ≡ behind_clients (first_of t hand)) → held_at (tabled t hand) (client_place client) ≡ held_at hand (client_place client)
     by_place (yes same) =
-        ap (λ (i : ℕ). held_at (change (option_map (on_semaphores (λ was. t.semaphores))) (first_two t.now t.variables hand) i) (client_place client)) (sym same)
-        ∙ held_changed (option_map (on_semaphores (λ was. t.semaphores))) (first_two t.now t.variables hand) (client_place client)
-        (Client (client_in (held_at hand (client_place client)))) (two ∙ held)
+        ap (λ (i : ℕ). held_at (change (option_map (on_semaphores (λ was. t.semaphores))) (first_of t hand) i) (client_place client)) (sym same)
+        ∙ held_changed (option_map (on_semaphores (λ was. t.semaphores))) (first_of t hand) (client_place client)
+        (Client (client_in (held_at hand (client_place client)))) (three ∙ held)
         ∙ sym held
     by_place (no other) =
-        held_else (option_map (on_semaphores (λ was. t.semaphores))) (first_two t.now t.variables hand) (behind_clients (first_two t.now t.variables hand)) (client_place client) other
-        ∙ two
+        held_else (option_map (on_semaphores (λ was. t.semaphores))) (first_of t hand) (behind_clients (first_of t hand)) (client_place client) other
+        ∙ three
 
 pub shown_own : (hand : List (Option Part)) → own_tables hand ≡ tables_shown cell hand
 shown_own hand =
-    ap₂ (λ (o p : Option (Option Part)). of (unwrap_or o None) (unwrap_or p None) (held_at hand (behind_clients hand)))
+    ap₂ (λ (o p : Option (Option Part)). of (unwrap_or o None) (unwrap_or p None) (held_at hand 2) (held_at hand (behind_clients hand)))
     (sym (around_at cell is_device (clients_among (length hand)) hand 0)) (sym (around_at cell is_device (clients_among (length hand)) hand 1))
-    ∙ ap (λ (q : Option (Option Part)). of (held_at (around 6 (clients_among (length hand)) hand) 0) (held_at (around 6 (clients_among (length hand)) hand) 1) (unwrap_or q None))
-    (sym (around_at cell is_device (clients_among (length hand)) hand 6))
+    ∙ ap₂ (λ (q r : Option (Option Part)). of (held_at (around 6 (clients_among (length hand)) hand) 0) (held_at (around 6 (clients_among (length hand)) hand) 1) (unwrap_or q None)
+    (unwrap_or r None))
+    (sym (around_at cell is_device (clients_among (length hand)) hand 2)) (sym (around_at cell is_device (clients_among (length hand)) hand 6))
   where
-    of : Option Part → Option Part → Option Part → Tables
-    of o p q = record { now = clock_in o; variables = variables_in p; semaphores = semaphores_in q }
+    of : Option Part → Option Part → Option Part → Option Part → Tables
+    of o p q r = record { now = clock_in o; variables = variables_in p; domains = domains_in q; semaphores = semaphores_in r }
 
 -- ---- tables are put back
 
--- those behind the clock and the variables, in which there is nothing yet
+-- those behind the clock, the variables and the domains, in which there is nothing yet
 abbrev behind : List Part
-behind = Domains ∷ Programs ∷ Conditions ∷ Journals ∷ []
+behind = Programs ∷ Conditions ∷ Journals ∷ []
 
-no_first_place : (n l place : ℕ) → place < 2 → table_place cell n (2 + l) ≢ place
-no_first_place n l place small same = by_test (nat_lt (2 + l) 6) same
+no_first_place : (n l place : ℕ) → place < 3 → table_place cell n (3 + l) ≢ place
+no_first_place n l place small same = by_test (nat_lt (3 + l) 6) same
   where
-    by_test : (b : Bool) → (if b then 2 + l else 2 + l + n) ≡ place → ⊥
+    by_test : (b : Bool) → (if b then 3 + l else 3 + l + n) ≡ place → ⊥
     by_test true s = omega (arith, s, small)
     by_test false s = omega (arith, s, small)
 
@@ -380,44 +456,48 @@ module _ (s : State) (hand : List (Option Part)) (of : IsHandOf hand (parts_of s
       by_value None e = refl
       by_value (Some held) e = ap Some (sym is ∙ ap f (is_part place part held there e))
 
-  -- the clock, the variables and the semaphores are put back: there is nothing yet in the others
+  -- the clock, the variables, the domains and the semaphores are put back: there is nothing yet in the others
   pub put_tables : (t : Tables) → with_tables cell (clients_among (length hand)) t hand ≡ tabled t hand
   put_tables t =
-      ap (λ (h : List (Option Part)). put_from cell (clients_among (length hand)) 2 (behind ++ Semaphores t.semaphores ∷ []) (change (option_map (λ held. Variables t.variables)) h 1))
+      ap (λ (h : List (Option Part)). put_from cell (clients_among (length hand)) 3 (behind ++ Semaphores t.semaphores ∷ [])
+      (change (option_map (λ held. Domains t.domains)) (change (option_map (λ held. Variables t.variables)) h 1) 2))
       (put_changed (on_clock (λ was. t.now)) (Clock t.now) (Clock s.now) hand 0 refl refl refl)
-      ∙ ap (put_from cell (clients_among (length hand)) 2 (behind ++ Semaphores t.semaphores ∷ []))
+      ∙ ap (λ (h : List (Option Part)). put_from cell (clients_among (length hand)) 3 (behind ++ Semaphores t.semaphores ∷ []) (change (option_map (λ held. Domains t.domains)) h 2))
       (put_changed (on_variables (λ was. t.variables)) (Variables t.variables) (Variables s.variables) (clocked t.now hand) 1
       (held_else (option_map (on_clock (λ was. t.now))) hand 0 1 (λ same. omega (arith, same))) refl refl)
+      ∙ ap (put_from cell (clients_among (length hand)) 3 (behind ++ Semaphores t.semaphores ∷ []))
+      (put_changed (on_domains (λ was. t.domains)) (Domains t.domains) (Domains s.domains) (varied t.variables (clocked t.now hand)) 2
+      (held_else (option_map (on_variables (λ was. t.variables))) (clocked t.now hand) 1 2 (λ same. omega (arith, same))
+      ∙ held_else (option_map (on_clock (λ was. t.now))) hand 0 2 (λ same. omega (arith, same))) refl refl)
       ∙ ap (λ (h : List (Option Part)). change (option_map (λ held. Semaphores t.semaphores)) h (behind_clients hand))
-      (put_as_held cell is_device (clients_among (length hand)) behind 2 (first_two t.now t.variables hand) same)
-      ∙ put_changed (on_semaphores (λ was. t.semaphores)) (Semaphores t.semaphores) (Semaphores s.semaphores) (first_two t.now t.variables hand) (behind_clients hand)
-      (beside_two t hand (behind_clients hand) (λ same. omega (arith, same)) (λ same. omega (arith, same)))
+      (put_as_held cell is_device (clients_among (length hand)) behind 3 (first_of t hand) same)
+      ∙ put_changed (on_semaphores (λ was. t.semaphores)) (Semaphores t.semaphores) (Semaphores s.semaphores) (first_of t hand) (behind_clients hand)
+      (beside_three t hand (behind_clients hand) (λ same. omega (arith, same)) (λ same. omega (arith, same)) (λ same. omega (arith, same)))
       (ap (λ (m : ℕ). slice_get (parts_of s) (semaphores_place m)) counted ∙ table_at cell is_device s 6) refl
-      ∙ ap (change (option_map (on_semaphores (λ was. t.semaphores))) (first_two t.now t.variables hand)) (sym (behind_two t hand))
+      ∙ ap (change (option_map (on_semaphores (λ was. t.semaphores))) (first_of t hand)) (sym (behind_three t hand))
     where
       counted : clients_among (length hand) ≡ length s.clients
       counted = clients_counted s hand of
 
-      same : (l : ℕ) (x y : Part) → slice_get behind l ≡ Some x → held_at (first_two t.now t.variables hand) (table_place cell (clients_among (length hand)) (2 + l)) ≡ Some y → x ≡ y
+      same : (l : ℕ) (x y : Part) → slice_get behind l ≡ Some x → held_at (first_of t hand) (table_place cell (clients_among (length hand)) (3 + l)) ≡ Some y → x ≡ y
       same l x y there held =
-          let next : 2 + l ≡ suc (suc l) = omega arith in
-          let was : held_at hand (table_place cell (clients_among (length hand)) (2 + l)) ≡ Some y =
-          sym (beside_two t hand (table_place cell (clients_among (length hand)) (2 + l)) (no_first_place (clients_among (length hand)) l 0 (omega arith))
-          (no_first_place (clients_among (length hand)) l 1 (omega arith))) ∙ held in
+          let next : 3 + l ≡ suc (suc (suc l)) = omega arith in
+          let was : held_at hand (table_place cell (clients_among (length hand)) (3 + l)) ≡ Some y =
+          sym (beside_three t hand (table_place cell (clients_among (length hand)) (3 + l)) (no_first_place (clients_among (length hand)) l 0 (omega arith))
+          (no_first_place (clients_among (length hand)) l 1 (omega arith)) (no_first_place (clients_among (length hand)) l 2 (omega arith))) ∙ held in
           let both : Some x ≡ Some y =
           sym (there_too l x there)
           ∙ ap (λ (k : ℕ). slice_get (cell.table_parts (cell.tables_of s)) k) (sym next)
-          ∙ sym (table_at cell is_device s (2 + l))
-          ∙ ap (λ (m : ℕ). slice_get (parts_of s) (table_place cell m (2 + l))) (sym counted)
-          ∙ held_of_list hand (parts_of s) (table_place cell (clients_among (length hand)) (2 + l)) y of was in
+          ∙ sym (table_at cell is_device s (3 + l))
+          ∙ ap (λ (m : ℕ). slice_get (parts_of s) (table_place cell m (3 + l))) (sym counted)
+          ∙ held_of_list hand (parts_of s) (table_place cell (clients_among (length hand)) (3 + l)) y of was in
           cc both
         where
-          there_too : (l : ℕ) (x : Part) → slice_get behind l ≡ Some x → slice_get (cell.table_parts (cell.tables_of s)) (suc (suc l)) ≡ Some x
+          there_too : (l : ℕ) (x : Part) → slice_get behind l ≡ Some x → slice_get (cell.table_parts (cell.tables_of s)) (suc (suc (suc l))) ≡ Some x
           there_too zero x e = e
           there_too (suc zero) x e = e
           there_too (suc (suc zero)) x e = e
-          there_too (suc (suc (suc zero))) x e = e
-          there_too (suc (suc (suc (suc l)))) x e = absurd (cc e)
+          there_too (suc (suc (suc l))) x e = absurd (cc e)
 
 -- ---- rooms are made on held parts whose tables are lifted, and clients are told once they are put back
 
@@ -455,8 +535,8 @@ module _ (s : State) (hand : List (Option Part)) (of : IsHandOf hand (parts_of s
 
 length-tabled : (t : Tables) (hand : List (Option Part)) → length (tabled t hand) ≡ length hand
 length-tabled t hand =
-    length-change (option_map (on_semaphores (λ was. t.semaphores))) (first_two t.now t.variables hand) (behind_clients (first_two t.now t.variables hand))
-    ∙ as_long t.now t.variables hand
+    length-change (option_map (on_semaphores (λ was. t.semaphores))) (first_of t hand) (behind_clients (first_of t hand))
+    ∙ as_long t.now t.variables t.domains hand
 
 -- as many parts while the tables are lifted, and where rooms are made
 pub many_lifted : (n : ℕ) (u : Tables) (hand lifted : List (Option Part)) → n ≡ clients_among (length hand) → lifted ≡ tabled u hand → n ≡ clients_among (length lifted)
@@ -471,13 +551,10 @@ many_roomed n last room u hand lifted now many is roomed =
     ∙ ap (λ (h : List (Option Part)). clients_among (length h)) (sym roomed)
 
 -- the tables that are lifted are those that the parts show
-pub lifted_own : (t : Tables) (n : ℕ) (hand : List (Option Part)) → n ≡ clients_among (length hand)
-    → t ≡ three (clock_in (held_at hand 0)) (variables_in (held_at hand 1)) (semaphores_in (held_at hand (semaphores_place n))) → t ≡ own_tables hand
-lifted_own t n hand many is =
-    is ∙ ap (λ (m : ℕ). three (clock_in (held_at hand 0)) (variables_in (held_at hand 1)) (semaphores_in (held_at hand (semaphores_place m)))) many
+pub lifted_own : (t : Tables) (n : ℕ) (hand : List (Option Part)) → n ≡ clients_among (length hand) → t ≡ lifted_of n hand → t ≡ own_tables hand
+lifted_own t n hand many is = is ∙ ap (λ (m : ℕ). lifted_of m hand) many
 
-pub lifted_shown : (t : Tables) (n : ℕ) (hand : List (Option Part)) → n ≡ clients_among (length hand)
-    → t ≡ three (clock_in (held_at hand 0)) (variables_in (held_at hand 1)) (semaphores_in (held_at hand (semaphores_place n))) → t ≡ tables_shown cell hand
+pub lifted_shown : (t : Tables) (n : ℕ) (hand : List (Option Part)) → n ≡ clients_among (length hand) → t ≡ lifted_of n hand → t ≡ tables_shown cell hand
 lifted_shown t n hand many is = lifted_own t n hand many is ∙ shown_own hand
 
 pub timely_kept : (a : Task) (t u : Tables) → t ≡ u → IsTimely a u → IsTimely a t
@@ -597,13 +674,44 @@ module _ (s : State) (hand : List (Option Part)) (of : IsHandOf hand (parts_of s
       lowered : with_tables cell (clients_among (length hand)) (record (tables_shown cell hand) { variables = variables }) hand ≡ varied variables hand
       lowered =
           put_tables s hand of (record (tables_shown cell hand) { variables = variables })
-          ∙ ap (λ (t : Tables). with_semaphores t.semaphores (varied variables (clocked t.now hand))) (sym (shown_own hand))
-          ∙ ap (λ (h : List (Option Part)). with_semaphores (semaphores_in (held_at hand (behind_clients hand))) (varied variables h)) (clocked_same hand)
+          ∙ ap (λ (t : Tables). with_semaphores t.semaphores (domained t.domains (varied variables (clocked t.now hand)))) (sym (shown_own hand))
+          ∙ ap (λ (h : List (Option Part)). with_semaphores (semaphores_in (held_at hand (behind_clients hand))) (domained (domains_in (held_at hand 2)) (varied variables h)))
+          (clocked_same hand)
+          ∙ ap (with_semaphores (semaphores_in (held_at hand (behind_clients hand))))
+          (sym (vary_apart variables (domains_in (held_at hand 2)) hand) ∙ ap (varied variables) (domained_same hand))
           ∙ sym (change_other (option_map (on_variables (λ was. variables))) (option_map (on_semaphores (λ was. semaphores_in (held_at hand (behind_clients hand))))) hand (behind_clients hand) 1
           (λ same. omega (arith, same))
           ∙ ap (change (option_map (on_semaphores (λ was. semaphores_in (held_at hand (behind_clients hand))))) (varied variables hand))
           (same_place hand (varied variables hand) (sym (length-change (option_map (on_variables (λ was. variables))) hand 1))))
           ∙ ap (varied variables) (semaphores_same hand)
+
+  pub domains_done_in_place : (client : ℕ) (effects : List Effect) (domains : DomainTables) → 1 ≤ client → client ≤ clients_among (length hand) → IsClient (held_at hand (client_place client))
+      → change (option_map (on_client (felt_all effects))) (domained domains hand) (client_place client)
+      ≡ put_in_place cell (record { tables = record (tables_shown cell hand) { domains = domains }; told = tell client effects }) hand
+  domains_done_in_place client effects domains some few held =
+      let counted = clients_counted s hand of in
+      let found = client_at s client some (omega (arith, few, counted)) in
+      let is_on : is_held hand (client_place client) ≡ true = ap (λ (o : Option Part). is_some o) held in
+      let there : held_at hand (client_place client) ≡ Some (client_part found.0) =
+      held_part hand (parts_of s) (client_place client) (client_part found.0) of is_on found.1 in
+      let row : held_at (domained domains hand) (client_place client) ≡ Some (client_part found.0) =
+      held_else (option_map (on_domains (λ was. domains))) hand 2 (client_place client) (λ same. omega (arith, same)) ∙ there in
+      change_as (option_map (on_client (felt_all effects))) (λ o. Some (client_part (felt_all effects found.0))) (domained domains hand) (client_place client)
+      (ap (option_map (on_client (felt_all effects))) row)
+      ∙ sym (told_row_at (clients_among (length hand)) effects client (domained domains hand) found.0 some few row)
+      ∙ ap (told_all cell (clients_among (length hand)) (tell client effects)) (sym lowered)
+    where
+      lowered : with_tables cell (clients_among (length hand)) (record (tables_shown cell hand) { domains = domains }) hand ≡ domained domains hand
+      lowered =
+          put_tables s hand of (record (tables_shown cell hand) { domains = domains })
+          ∙ ap (λ (t : Tables). with_semaphores t.semaphores (domained domains (varied t.variables (clocked t.now hand)))) (sym (shown_own hand))
+          ∙ ap (λ (h : List (Option Part)). with_semaphores (semaphores_in (held_at hand (behind_clients hand))) (domained domains h))
+          (ap (varied (variables_in (held_at hand 1))) (clocked_same hand) ∙ varied_same hand)
+          ∙ sym (change_other (option_map (on_domains (λ was. domains))) (option_map (on_semaphores (λ was. semaphores_in (held_at hand (behind_clients hand))))) hand (behind_clients hand) 2
+          (λ same. omega (arith, same))
+          ∙ ap (change (option_map (on_semaphores (λ was. semaphores_in (held_at hand (behind_clients hand))))) (domained domains hand))
+          (same_place hand (domained domains hand) (sym (length-change (option_map (on_domains (λ was. domains))) hand 2))))
+          ∙ ap (domained domains) (semaphores_same hand)
 
 -- both parts are put back as they were
 pub both_back : (hand out gone there new : List (Option Part)) (place other : ℕ) (part table : Part) → Some part ≡ held_at hand place → out ≡ set hand place None

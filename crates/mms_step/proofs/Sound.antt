@@ -1,8 +1,11 @@
 -- Every state is sound that the device reaches from its start.
-use Rattle.std.specs.Prelude.{◌≡◌, ℕ, zero, suc, ◌+◌, ◌-◌, ◌<◌, ◌≤◌, nat_le, nat_lt, Bool, true, false, not, ◌==◌, Option, None, Some, List, [], ◌∷◌, ◌++◌, option_to_list, fold, map, length, slice_get, unwrap_or, Result, Ok, Err, if◌then◌else◌, refl}
+use Rattle.std.specs.Prelude.{◌≡◌, ◌≢◌, ℕ, zero, suc, ◌+◌, ◌-◌, ◌<◌, ◌≤◌, nat_le, nat_lt, Bool, true, false, not, ◌==◌, Option, None, Some, List, [], ◌∷◌, ◌++◌, option_to_list, fold, map, length, slice_get, Result, Ok, Err, if◌then◌else◌, refl}
 use Rattle.std.specs.Option.{option_map}
 use Rattle.std.proofs.Common.{ap, sym, ◌∙◌, subst, arith, length-append}
 use Rattle.std.proofs.lemmas.Bool.Decides.{nat_tests}
+use Rattle.std.proofs.lemmas.List.Elements.{All-filter, All-nil, All-push, All-weaker}
+use Rattle.std.proofs.lemmas.List.Kept.{AllPairs-filter}
+use Rattle.std.proofs.lemmas.List.Quantifiers.{all_pairs_push}
 use native.Mathlib.Decide.{ℕ_discrete}
 use Rattle.mms_types.specs.Actors.{clients_to}
 use Rattle.mms_types.specs.declared.event.CellEvent.{CellEvent}
@@ -19,6 +22,17 @@ use Rattle.mms_pdu.specs.declared.refusal.Refusal.{Refusal}
 use Rattle.mms_pdu.specs.Heard.{pdu_heard}
 use Rattle.mms_pdu.specs.Hearing.{depth_of}
 use Rattle.mms_pdu.specs.Rejects.{reject_of}
+use Rattle.mms_types.specs.declared.asked.Asked.{Asked}
+use Rattle.mms_types.specs.declared.asked.Asked.TheVariants as asks
+use Rattle.mms_types.specs.declared.pdu.ClientAnswer.{ClientAnswer}
+use Rattle.mms_types.specs.declared.pdu.ClientAnswer.TheVariants.{DownloadSegment, TerminateDownloadSequence}
+use Rattle.association.specs.Asked.{AreApart, AreBelow, asked_of}
+use Rattle.association.specs.declared.unanswered.Unanswered.{Unanswered}
+use Rattle.domain_load.specs.Loading.{asked_next}
+use Rattle.serve_domains.specs.Domains.{asks_next, replied_to, reply_of}
+use Rattle.mms_step.proofs.Loading.{first_loads, first_names, first_uploads, loads_after, names_after, uploads_after}
+pub use Rattle.mms_step.proofs.Rows.{delivered_both}
+use Rattle.mms_step.proofs.Rows.{nobody_told, row_of_it}
 use Rattle.association.specs.declared.client_part.NotAdmitted.{NotAdmitted}
 use Rattle.association.specs.declared.client_part.NotAdmitted.TheVariants as not_admitted
 use Rattle.association.specs.declared.negotiation.Association.{Association}
@@ -63,13 +77,13 @@ use Rattle.sem_ticks.specs.declared.ticks.Happening.{Happening}
 use Rattle.sem_ticks.specs.declared.ticks.Happening.TheVariants as happens
 use Rattle.mms_types.specs.declared.pdu.Request.TheVariants as request
 use Rattle.mms_step.specs.State.{State, start, device_of, HaveMadeAtMost, IsSound, IsSoundRow, AreNumbered}
-use Rattle.cell_client.specs.Effects.{Effect, Sends, Opens, Closes, Waits, Answers, Drains, felt, felt_all, tell}
-use Rattle.cell_client.specs.Association.{Verdict, other_error, Tells, Takes, Concludes, Cancels, Aborts, verdict, verdict_by, idle_verdict, open_verdict, admitted, requested, concluded, cancelled, negotiated, refused, loss_told}
+use Rattle.cell_client.specs.Effects.{Effect, Sends, Opens, Closes, Waits, Answers, Drains, felt, felt_all, tell, Asks, Settles}
+use Rattle.cell_client.specs.Association.{Verdict, other_error, Tells, Takes, Concludes, Cancels, Aborts, verdict, verdict_by, idle_verdict, open_verdict, admitted, requested, concluded, cancelled, negotiated, refused, loss_told, Came, Replies, Exhausts, answered_by, failed_by, heard_response, heard_error, heard_reject, rejected, keeps_open}
 use Rattle.cell_services.specs.Tables.{Tables, moment_after, moment_of}
-use Rattle.mms_step.specs.Partition.{cell, no_client}
-use Rattle.cell_services.specs.Services.{cause, effect, grant_told, grants_told, relinquish_outcome, take_outcome}
+use Rattle.mms_step.specs.Partition.{cell}
+use Rattle.cell_services.specs.Services.{cause, effect, grant_told, grants_told, relinquish_outcome, take_outcome, area_of, reply_in, cause_of, effect_of, lacks_number}
 use Rattle.cell_client.specs.Requests.{fits, refuses, request_told, answer_told, size_of}
-use Rattle.cell_services.specs.Serving.{all_told, also_lost, also_told, happening_told, is_served, meanwhile, own_told}
+use Rattle.cell_services.specs.Serving.{all_told, also_lost, also_told, happening_told, is_served, meanwhile, own_told, is_served_in, keeps_upload, resolved}
 use Rattle.mms_step.specs.Step.{step, replay}
 use Rattle.mms_step.proofs.PartsAfter.{length-start, length-clients_to, now_lost, step_sized, step_still, told_one}
 use Rattle.mms_step.proofs.TokensKept.{AreKept, kept_heard, kept_later, kept_lost, kept_ticked, waits_numbered}
@@ -100,28 +114,55 @@ fewer_without invoke (request ∷ waiting) = by_test (not (request.invoke == inv
     by_test true rest = omega (arith, rest)
     by_test false rest = omega (arith, rest)
 
+-- ---- the server's requests, by their numbers
+
+none_together : AreApart []
+none_together = λ i j d before below. absurd (omega (arith, below))
+
+none_above : (next : ℕ) → AreBelow next []
+none_above next = All-nil (λ (u : Unanswered). u.invoke < next)
+
+-- one more has the next number
+apart_asked : (new : Unanswered) (rows : List Unanswered) → AreApart rows → AreBelow new.invoke rows → AreApart (rows ++ new ∷ [])
+apart_asked new rows apart below =
+    all_pairs_push (λ (one : Unanswered) (other : Unanswered). one.invoke ≢ other.invoke) rows new apart
+    (λ k d low same. let less = below k d low in absurd (omega (arith, less, same)))
+
+below_asked : (new : Unanswered) (rows : List Unanswered) → AreBelow new.invoke rows → AreBelow (new.invoke + 1) (rows ++ new ∷ [])
+below_asked new rows below =
+    All-push (λ (u : Unanswered). u.invoke < new.invoke + 1) rows new
+    (All-weaker (λ (u : Unanswered). u.invoke < new.invoke) (λ (u : Unanswered). u.invoke < new.invoke + 1) (λ u less. omega (arith, less)) rows below) (omega arith)
+
 -- ---- a row, after what its client is told
 
 row_later : (count client : ℕ) (row : ClientRow) → IsSoundRow count client row → IsSoundRow (suc count) client row
-row_later count client row sound = record { number = sound.number; allowed = sound.allowed; entries = numbered_later count row.waiting sound.entries }
+row_later count client row sound = record {
+  number = sound.number;
+  allowed = sound.allowed;
+  entries = numbered_later count row.waiting sound.entries;
+  apart = sound.apart;
+  below = sound.below;
+}
 
 module _ (count client : ℕ) where
   sent : (output : _) (row : ClientRow) → IsSoundRow count client row → IsSoundRow count client (felt (Sends output) row)
-  sent output row sound = record { number = sound.number; allowed = sound.allowed; entries = sound.entries }
+  sent output row sound = record { number = sound.number; allowed = sound.allowed; entries = sound.entries; apart = sound.apart; below = sound.below }
 
   opened : (values : Negotiated) (row : ClientRow) → row.association ≡ Idle → IsSoundRow count client row → IsSoundRow count client (felt (Opens values) row)
   opened values row idle sound =
       let none : length row.waiting ≤ 0 = subst (λ (a : Association). length row.waiting ≤ called_of a) idle sound.allowed in
-      record { number = sound.number; allowed = omega (arith, none); entries = sound.entries }
+      record { number = sound.number; allowed = omega (arith, none); entries = sound.entries; apart = sound.apart; below = sound.below }
 
   closed : (row : ClientRow) → IsSoundRow count client row → IsSoundRow count client (felt Closes row)
-  closed row sound = record { number = sound.number; allowed = omega arith; entries = tt }
+  closed row sound = record { number = sound.number; allowed = omega arith; entries = tt; apart = none_together; below = none_above 1 }
 
   answered : (invoke : ℕ) (row : ClientRow) → IsSoundRow count client row → IsSoundRow count client (felt (Answers invoke) row)
   answered invoke row sound = record {
     number = sound.number;
     allowed = let few = fewer_without invoke row.waiting in omega (arith, few, sound.allowed);
     entries = numbered_without count invoke row.waiting sound.entries;
+    apart = sound.apart;
+    below = sound.below;
   }
 
   -- a request waits where it is admitted
@@ -139,10 +180,30 @@ module _ (count client : ℕ) where
             let many = length-append row.waiting (request ∷ []) in
             omega (arith, room, many);
         entries = numbered_with count row.waiting request sound.entries numbered;
+        apart = sound.apart;
+        below = sound.below;
       }
 
+  asked : (kind : Asked) (domain : List ℕ) (row : ClientRow) → IsSoundRow count client row → IsSoundRow count client (felt (Asks kind domain) row)
+  asked kind domain row sound = record {
+    number = sound.number;
+    allowed = sound.allowed;
+    entries = sound.entries;
+    apart = apart_asked (record { invoke = row.next_invoke; kind = kind; domain = domain }) row.asked sound.apart sound.below;
+    below = below_asked (record { invoke = row.next_invoke; kind = kind; domain = domain }) row.asked sound.below;
+  }
+
+  settles : (number : ℕ) (row : ClientRow) → IsSoundRow count client row → IsSoundRow count client (felt (Settles number) row)
+  settles number row sound = record {
+    number = sound.number;
+    allowed = sound.allowed;
+    entries = sound.entries;
+    apart = AllPairs-filter (λ (one : Unanswered) (other : Unanswered). one.invoke ≢ other.invoke) (λ row. not (row.invoke == number)) row.asked sound.apart;
+    below = All-filter (λ row. not (row.invoke == number)) (λ (u : Unanswered). u.invoke < row.next_invoke) row.asked sound.below;
+  }
+
   drained : (row : ClientRow) → IsSoundRow count client row → IsSoundRow count client (felt Drains row)
-  drained row sound = record { number = sound.number; allowed = sound.allowed; entries = sound.entries }
+  drained row sound = record { number = sound.number; allowed = sound.allowed; entries = sound.entries; apart = sound.apart; below = sound.below }
 
   -- ---- what a client is told by what it sends
 
@@ -174,6 +235,9 @@ module _ (count client : ℕ) where
   own_sound : (t : Tables) (row told : ClientRow) (v : Verdict) → IsSoundRow count client row → Fine row v → IsSoundRow count client (felt_all (own_told t told v) row)
   own_sound t row told (Tells effects) sound fine = fine
   own_sound t row told (Takes invoke asked) sound fine = request_sound row (size_of told.association) invoke (cause t told asked) (effect t told invoke asked).answer sound
+  own_sound t row told (Replies number came) sound fine =
+      request_sound row (size_of told.association) number (cause_of t told (reply_in number came)) (effect_of t told number (reply_in number came)).answer sound
+  own_sound t row told (Exhausts invoke) sound fine = closed _ (sent _ _ (sent _ row sound))
   own_sound t row told Concludes sound fine = closed (felt (Sends _) row) (sent _ row sound)
   own_sound t row told (Cancels invoke) sound fine = sent _ _ (sent _ _ (answered invoke row sound))
   own_sound t row told Aborts sound fine = closed (felt (Sends _) row) (sent _ row sound)
@@ -187,9 +251,39 @@ module _ (count client : ℕ) where
   requested_fine row true invoke asked sound = sent _ row sound
   requested_fine row false invoke asked sound = admitted_fine row (admission invoke row) invoke asked sound
 
-  concluded_fine : (row : ClientRow) (waiting : List Waiting) → IsSoundRow count client row → Fine row (concluded waiting)
-  concluded_fine row [] sound = tt
-  concluded_fine row (first ∷ rest) sound = sent _ row sound
+  concluded_fine : (row : ClientRow) (waiting : List Waiting) (rows : List Unanswered) → IsSoundRow count client row → Fine row (concluded waiting rows)
+  concluded_fine row [] [] sound = tt
+  concluded_fine row [] (first ∷ rest) sound = sent _ row sound
+  concluded_fine row (first ∷ rest) rows sound = sent _ row sound
+
+  answered_fine : (row : ClientRow) (number : ℕ) (kind : Asked) (told : ClientAnswer) → IsSoundRow count client row → Fine row (answered_by number kind told)
+  answered_fine row number asks.Segment (DownloadSegment segment) sound = tt
+  answered_fine row number asks.Segment TerminateDownloadSequence sound = sent _ row sound
+  answered_fine row number asks.Terminate TerminateDownloadSequence sound = tt
+  answered_fine row number asks.Terminate (DownloadSegment segment) sound = sent _ row sound
+  answered_fine row number asks.Discard TerminateDownloadSequence sound = settles number row sound
+  answered_fine row number asks.Discard (DownloadSegment segment) sound = sent _ row sound
+
+  failed_fine : (row : ClientRow) (number : ℕ) (kind : Asked) → IsSoundRow count client row → Fine row (failed_by number kind)
+  failed_fine row number asks.Segment sound = tt
+  failed_fine row number asks.Terminate sound = tt
+  failed_fine row number asks.Discard sound = settles number row sound
+
+  response_fine : (row : ClientRow) (number : ℕ) (told : ClientAnswer) (o : Option (Asked × List ℕ)) → IsSoundRow count client row → Fine row (heard_response number told o)
+  response_fine row number told None sound = sent _ row sound
+  response_fine row number told (Some of) sound = answered_fine row number of.0 told sound
+
+  error_fine : (row : ClientRow) (number : ℕ) (o : Option (Asked × List ℕ)) → IsSoundRow count client row → Fine row (heard_error number o)
+  error_fine row number None sound = sent _ row sound
+  error_fine row number (Some of) sound = failed_fine row number of.0 sound
+
+  reject_fine : (row : ClientRow) (number : ℕ) (o : Option (Asked × List ℕ)) → IsSoundRow count client row → Fine row (heard_reject number o)
+  reject_fine row number None sound = sound
+  reject_fine row number (Some of) sound = failed_fine row number of.0 sound
+
+  rejected_fine : (row : ClientRow) (number : Option ℕ) → IsSoundRow count client row → Fine row (rejected number row.asked)
+  rejected_fine row None sound = sound
+  rejected_fine row (Some number) sound = reject_fine row number (asked_of number row.asked) sound
 
   cancelled_fine : (row : ClientRow) (waits : Bool) (invoke : ℕ) → IsSoundRow count client row → Fine row (cancelled waits invoke)
   cancelled_fine row true invoke sound = tt
@@ -202,20 +296,42 @@ module _ (count client : ℕ) where
   open_fine : (values : Negotiated) (row : ClientRow) (heard : Result Pdu Refusal) → IsSoundRow count client row → Fine row (open_verdict values row heard)
   open_fine values row (Err refusal) sound = refused_sound row (reject_of refusal) sound
   open_fine values row (Ok (pdu.InitiateRequest proposal)) sound = tt
-  open_fine values row (Ok pdu.ConcludeRequest) sound = concluded_fine row row.waiting sound
+  open_fine values row (Ok pdu.ConcludeRequest) sound = concluded_fine row row.waiting row.asked sound
   open_fine values row (Ok (pdu.CancelRequest invoke)) sound = cancelled_fine row (is_waiting invoke row.waiting) invoke sound
   open_fine values row (Ok (pdu.ConfirmedRequest invoke asked)) sound = requested_fine row (nat_lt values.nesting (depth_of (pdu.ConfirmedRequest invoke asked))) invoke asked sound
-  open_fine values row (Ok (pdu.ConfirmedResponse invoke told)) sound = sent _ row sound
-  open_fine values row (Ok (pdu.HeardError invoke)) sound = sent _ row sound
+  open_fine values row (Ok (pdu.HeardResponse number told)) sound = response_fine row number told (asked_of number row.asked) sound
+  open_fine values row (Ok (pdu.HeardError number)) sound = error_fine row number (asked_of number row.asked) sound
+  open_fine values row (Ok (pdu.HeardReject number)) sound = rejected_fine row number sound
   open_fine values row (Ok heard) sound = sound
 
   verdict_fine : (row : ClientRow) (a : Association) (heard : Result Pdu Refusal) → row.association ≡ a → IsSoundRow count client row → Fine row (verdict_by a row heard)
   verdict_fine row Idle heard is sound = idle_fine row heard is sound
   verdict_fine row (Open values) heard is sound = open_fine values row heard sound
 
-  heard_sound : (t : Tables) (row : ClientRow) (octets : List ℕ) → IsSoundRow count client row → IsSoundRow count client (felt_all (own_told t row (verdict row octets)) row)
+  resolved_fine : (t : Tables) (row : ClientRow) (v : Verdict) → IsSoundRow count client row → Fine row v → Fine row (resolved t row v)
+  resolved_fine t row (Takes invoke asked) sound fine = by_test (lacks_number t row invoke (area_of asked))
+    where
+      by_test : (b : Bool) → Fine row (if b then Exhausts invoke else Takes invoke asked)
+      by_test true = tt
+      by_test false = tt
+  resolved_fine t row (Replies number came) sound fine = by_test (lacks_number t row number (reply_in number came))
+    where
+      by_test : (b : Bool) → Fine row (if b then Aborts else Replies number came)
+      by_test true = tt
+      by_test false = tt
+  resolved_fine t row Concludes sound fine = by_test (keeps_upload t row)
+    where
+      by_test : (b : Bool) → Fine row (if b then Tells keeps_open else Concludes)
+      by_test true = sent _ row sound
+      by_test false = tt
+  resolved_fine t row (Tells effects) sound fine = fine
+  resolved_fine t row v sound fine = fine
+
+  heard_sound : (t : Tables) (row : ClientRow) (octets : List ℕ) → IsSoundRow count client row
+      → IsSoundRow count client (felt_all (own_told t row (resolved t row (verdict row octets))) row)
   heard_sound t row octets sound =
-      own_sound t row row (verdict row octets) sound (verdict_fine row row.association (pdu_heard row.constants.edition octets) refl sound)
+      own_sound t row row (resolved t row (verdict row octets)) sound
+      (resolved_fine t row (verdict row octets) sound (verdict_fine row row.association (pdu_heard row.constants.edition octets) refl sound))
 
   lost_sound : (row : ClientRow) (a : Association) → IsSoundRow count client row → IsSoundRow count client (felt_all (loss_told a) row)
   lost_sound row Idle sound = sound
@@ -242,13 +358,6 @@ changed_sound count f rows k sound here i row there = by_place (ℕ_discrete i k
         (by_value (slice_get rows k) refl (sym (get_changed f rows k) ∙ ap (λ (m : ℕ). slice_get (change f rows k) m) (sym same) ∙ there))
     by_place (no other) = sound i row (sym (get_change f rows k i other) ∙ there)
 
-nobody_told : (effects : List Effect) (rows : List ClientRow) → delivered cell (tell 0 effects) rows ≡ rows
-nobody_told [] rows = refl
-nobody_told (effect ∷ effects) rows = nobody_told effects rows
-
-row_of_it : (rows : List ClientRow) (k : ℕ) (row : ClientRow) → slice_get rows k ≡ Some row → row_at cell (suc k) rows ≡ row
-row_of_it rows k row there = ap (λ (o : Option ClientRow). unwrap_or o no_client) there
-
 -- the rows after one client was told what is told to its row
 told_sound : (count client : ℕ) (told : ClientRow → List Effect) (rows : List ClientRow) → RowsAreSound count rows
     → ((k : ℕ) (row : ClientRow) → IsSoundRow count k row → IsSoundRow count k (felt_all (told row) row))
@@ -268,6 +377,8 @@ Steady count (Opens values) = ⊥
 Steady count Closes = Unit {0}
 Steady count (Waits request) = request.entry ≤ count
 Steady count (Answers invoke) = Unit {0}
+Steady count (Asks kind domain) = Unit {0}
+Steady count (Settles number) = Unit {0}
 Steady count Drains = Unit {0}
 
 abbrev AreSteady : ℕ → List (ℕ × Effect) → Type 0
@@ -280,6 +391,8 @@ steady_sound count client (Opens values) row steady sound = absurd steady
 steady_sound count client Closes row steady sound = closed count client row sound
 steady_sound count client (Waits request) row steady sound = waited count client request row steady sound
 steady_sound count client (Answers invoke) row steady sound = answered count client invoke row sound
+steady_sound count client (Asks kind domain) row steady sound = asked count client kind domain row sound
+steady_sound count client (Settles number) row steady sound = settles count client number row sound
 steady_sound count client Drains row steady sound = drained count client row sound
 
 both_steady : (count : ℕ) (xs ys : List (ℕ × Effect)) → AreSteady count xs → AreSteady count ys → AreSteady count (xs ++ ys)
@@ -294,10 +407,6 @@ reached_sound count (suc k) effect rows steady sound =
 all_sound : (count : ℕ) (told : List (ℕ × Effect)) (rows : List ClientRow) → AreSteady count told → RowsAreSound count rows → RowsAreSound count (delivered cell told rows)
 all_sound count [] rows steady sound = sound
 all_sound count (t ∷ told) rows steady sound = all_sound count told (reached cell t.0 t.1 rows) steady.1 (reached_sound count t.0 t.1 rows steady.0 sound)
-
-pub delivered_both : (xs ys : List (ℕ × Effect)) (rows : List ClientRow) → delivered cell (xs ++ ys) rows ≡ delivered cell ys (delivered cell xs rows)
-delivered_both [] ys rows = refl
-delivered_both (x ∷ xs) ys rows = delivered_both xs ys (reached cell x.0 x.1 rows)
 
 -- what one client is told, and what is told besides
 both_sound : (count client : ℕ) (told : ClientRow → List Effect) (also : List (ℕ × Effect)) (rows : List ClientRow) → RowsAreSound count rows
@@ -332,7 +441,16 @@ module _ (count : ℕ) (t : Tables) (made : HaveMadeAtMost count t.semaphores) w
       by_grant : (o : Option (Option Granted)) → AreSteady (suc count) (relinquish_outcome t row.client x o).also
       by_grant None = tt
       by_grant (Some grant) = grants_steady (suc count) (option_to_list grant)
+  effect_steady row invoke (request.InitiateDownloadSequence x) = (tt, tt)
   effect_steady row invoke asked = tt
+
+  reply_steady : (client number : ℕ) (came : Came) (o : Option (Asked × List ℕ)) → AreSteady (suc count) (replied_to client number came o t.domains).also
+  reply_steady client number came None = tt
+  reply_steady client number came (Some of) = (tt, next (asked_next (reply_of came of) t.domains.domains))
+    where
+      next : (o : Option Asked) → AreSteady (suc count) (asks_next client o of.1)
+      next None = tt
+      next (Some kind) = (tt, tt)
 
   also_steady : (row : ClientRow) (v : Verdict) → AreSteady (suc count) (also_told t row v)
   also_steady row (Takes invoke asked) = by_test (is_served t row invoke asked)
@@ -341,6 +459,12 @@ module _ (count : ℕ) (t : Tables) (made : HaveMadeAtMost count t.semaphores) w
       by_test true = effect_steady row invoke asked
       by_test false = tt
   also_steady row (Tells effects) = tt
+  also_steady row (Replies number came) = by_test (is_served_in t row number (reply_in number came))
+    where
+      by_test : (b : Bool) → AreSteady (suc count) (if b then (effect_of t row number (reply_in number came)).also else [])
+      by_test true = reply_steady row.client number came (asked_of number row.asked)
+      by_test false = tt
+  also_steady row (Exhausts invoke) = grants_steady (suc count) (lost_granted row.client (moment_of t) t.semaphores)
   also_steady row Concludes = grants_steady (suc count) (lost_granted row.client (moment_of t) t.semaphores)
   also_steady row (Cancels invoke) = tt
   also_steady row Aborts = grants_steady (suc count) (lost_granted row.client (moment_of t) t.semaphores)
@@ -351,10 +475,12 @@ module _ (count : ℕ) (t : Tables) (made : HaveMadeAtMost count t.semaphores) w
 
 rows_after : (count : ℕ) (s : State) (event : CellEvent) → HaveMadeAtMost count s.semaphores → RowsAreSound (suc count) s.clients → RowsAreSound (suc count) (step s event).clients
 rows_after count s (Heard client octets) made sound =
-    both_sound (suc count) client (λ row. own_told (cell.tables_of s) row (verdict row octets))
-    (also_told (cell.tables_of s) (row_at cell client s.clients) (verdict (row_at cell client s.clients) octets)) s.clients sound
+    both_sound (suc count) client (λ row. own_told (cell.tables_of s) row (resolved (cell.tables_of s) row (verdict row octets)))
+    (also_told (cell.tables_of s) (row_at cell client s.clients)
+    (resolved (cell.tables_of s) (row_at cell client s.clients) (verdict (row_at cell client s.clients) octets))) s.clients sound
     (λ k row. heard_sound (suc count) k (cell.tables_of s) row octets)
-    (also_steady count (cell.tables_of s) made (row_at cell client s.clients) (verdict (row_at cell client s.clients) octets))
+    (also_steady count (cell.tables_of s) made (row_at cell client s.clients)
+    (resolved (cell.tables_of s) (row_at cell client s.clients) (verdict (row_at cell client s.clients) octets)))
 rows_after count s (Lost client) made sound =
     both_sound (suc count) client (λ row. loss_told row.association)
     (also_lost (row_at cell client s.clients).association (row_at cell client s.clients).client (cell.tables_of s)) s.clients sound
@@ -371,7 +497,8 @@ semaphores_after : (count : ℕ) (s : State) (event : CellEvent) → AreKept cou
     → AreKept (suc count) (record { 0 = (step s event).now }) (step s event).semaphores
 semaphores_after count s (Heard client octets) are =
     subst (λ (now : ℕ). AreKept (suc count) (record { 0 = now }) (step s (Heard client octets)).semaphores) (sym (step_still s client octets))
-    (kept_heard count (cell.tables_of s) (row_at cell client s.clients) (verdict (row_at cell client s.clients) octets) are)
+    (kept_heard count (cell.tables_of s) (row_at cell client s.clients)
+    (resolved (cell.tables_of s) (row_at cell client s.clients) (verdict (row_at cell client s.clients) octets)) are)
 semaphores_after count s (Lost client) are =
     subst (λ (now : ℕ). AreKept (suc count) (record { 0 = now }) (step s (Lost client)).semaphores)
     (sym (now_lost (row_at cell client s.clients).association (row_at cell client s.clients).client (cell.tables_of s)))
@@ -396,6 +523,9 @@ step_sound count s event sound =
       semaphores = kept.sound;
       made = subst (λ (m : ℕ). HaveMadeAtMost m (step s event).semaphores) next kept.made;
       ahead = kept.ahead;
+      names = names_after count s event sound;
+      loads = loads_after count s event sound;
+      uploads = uploads_after count s event sound;
     }
 
 sound_along : (count : ℕ) (s : State) (history : List CellEvent) → IsSound count s → IsSound (count + length history) (fold step s history)
@@ -435,7 +565,7 @@ first_rows_sound config n i row there = by_value (slice_get (clients_to n) i) re
     by_value None e is = absurd (cc is)
     by_value (Some c) e is =
         let same : new_row c (device_of config) ≡ row = cc is in
-        subst (λ (r : ClientRow). IsSoundRow 0 (i + 1) r) same (record { number = client_at n i c e; allowed = omega arith; entries = tt })
+        subst (λ (r : ClientRow). IsSoundRow 0 (i + 1) r) same (record { number = client_at n i c e; allowed = omega arith; entries = tt; apart = none_together; below = none_above 1 })
 
 -- the pools of a configuration have no entries
 none_made : (pools : List PoolRow) → HaveMadeAtMost 0 (configured_pools pools)
@@ -460,6 +590,9 @@ start_sound config is =
       semaphores = record { names = pools_apart config.pools (pools_apart_in config is).names; each = each_sound config.pools (pools_apart_in config is).each };
       made = none_made config.pools;
       ahead = pools_ahead (record { 0 = config.start.0 }) config.pools;
+      names = first_names;
+      loads = first_loads config;
+      uploads = first_uploads;
     }
 
 pub replay_sound : (config : Config) (history : List CellEvent) → IsConfig config → IsSound (length history) (replay config history)

@@ -47,11 +47,13 @@ use Rattle.sem_ticks.proofs.Kept.{keeps_lost, keeps_ticked}
 use Rattle.sem_ticks.proofs.Later.{ahead_cancelled, ahead_defined, ahead_deleted, ahead_lost, ahead_relinquished, ahead_taken}
 use Rattle.sem_ticks.proofs.Requests.{keeps_cancelled, keeps_defined, keeps_deleted, keeps_relinquished, keeps_taken}
 use Rattle.sem_ticks.proofs.Settling.{settle-keeps}
-use Rattle.cell_client.specs.Association.{Verdict, Tells, Takes, Concludes, Cancels, Aborts}
-use Rattle.cell_services.specs.Services.{cause, effect, relinquish_outcome, take_outcome}
+use Rattle.cell_client.specs.Association.{Verdict, Tells, Takes, Concludes, Cancels, Aborts, Replies, Exhausts}
+use Rattle.cell_services.specs.Services.{cause, effect, relinquish_outcome, take_outcome, effect_of as effect_in_area, reply_in}
 use Rattle.cell_client.specs.Requests.{fits, is_done, size_of}
-use Rattle.cell_services.specs.Serving.{tables_cancelled, tables_heard, tables_lost, waiting_of}
-use Rattle.cell_services.specs.Tables.{Tables, moment_of}
+use Rattle.cell_services.specs.Serving.{tables_cancelled, tables_heard, tables_lost, waiting_of, is_served_in}
+use Rattle.cell_services.specs.Requests.{told_in}
+use Rattle.cell_services.specs.Tables.{Tables, moment_of, own_semaphores}
+use Rattle.serve_semaphores.specs.Semaphores.{define_semaphore}
 use Rattle.mms_step.specs.State.{HaveMadeAtMost}
 
 -- ---- what each of the things that are done to semaphores keeps
@@ -62,7 +64,7 @@ pub record IsKept (now : Moment) (P Q : Rows → Type 0) : Type 0 where
   pub taken : (client invoke : ℕ) (asked : TakeControl) (rows : Rows) → P rows → Q (take_after client invoke now asked rows)
   pub relinquished : (key : Key) (client : ℕ) (token : Option (List ℕ)) (rows : Rows) → P rows → Q (relinquished key client token now rows)
   pub cancelled : (key : Key) (number : ℕ) (rows : Rows) → P rows → Q (cancelled key number rows)
-  pub defined : (client : ℕ) (asked : DefineSemaphore) (rows : Rows) → define_cause false client asked rows ≡ None → P rows → Q (define_after client asked rows)
+  pub defined : (live : Bool) (client : ℕ) (asked : DefineSemaphore) (rows : Rows) → define_cause live client asked rows ≡ None → P rows → Q (define_after client asked rows)
   pub deleted : (key : Key) (rows : Rows) → P rows → Q (deleted key rows)
   pub lost : (client : ℕ) (rows : Rows) → P rows → Q (lost client now rows)
 
@@ -82,7 +84,7 @@ module _ (P Q : Rows → Type 0) (t : Tables) (kept : IsKept (moment_of t) P Q) 
       by_grant : (o : Option (Option Granted)) → Q (relinquish_outcome t row.client x o).tables.semaphores
       by_grant None = as_they_were
       by_grant (Some grant) = kept.relinquished (key_of row.client x.name) row.client x.token t.semaphores is
-  effect_kept row invoke (request.DefineSemaphore x) none = kept.defined row.client x t.semaphores none is
+  effect_kept row invoke (request.DefineSemaphore x) none = kept.defined (told_in own_semaphores t row (define_semaphore x)).live row.client x t.semaphores none is
   effect_kept row invoke (request.DeleteSemaphore x) none = kept.deleted (key_of row.client x) t.semaphores is
   effect_kept row invoke asked none = as_they_were
 
@@ -98,6 +100,12 @@ module _ (P Q : Rows → Type 0) (t : Tables) (kept : IsKept (moment_of t) P Q) 
       by_cause None e = by_fit (fits (size_of row.association) invoke (effect t row invoke asked).answer) e
       by_cause (Some refusal) e = as_they_were
   heard_kept row (Tells effects) = as_they_were
+  heard_kept row (Replies number came) = by_served (is_served_in t row number (reply_in number came))
+    where
+      by_served : (b : Bool) → Q (if b then (effect_in_area t row number (reply_in number came)).tables else t).semaphores
+      by_served true = as_they_were
+      by_served false = as_they_were
+  heard_kept row (Exhausts invoke) = kept.lost row.client t.semaphores is
   heard_kept row Concludes = kept.lost row.client t.semaphores is
   heard_kept row (Cancels invoke) = by_waiting (waiting_of invoke row.waiting)
     where
@@ -118,7 +126,7 @@ sound_kept now = record {
   taken = λ client invoke asked rows is. keeps_taken client invoke now asked rows is;
   relinquished = λ key client token rows is. keeps_relinquished key client token now rows is;
   cancelled = λ key number rows is. keeps_cancelled key number rows is;
-  defined = λ client asked rows none is. keeps_defined false client asked rows none is;
+  defined = λ live client asked rows none is. keeps_defined live client asked rows none is;
   deleted = λ key rows is. keeps_deleted key rows is;
   lost = λ client rows is. keeps_lost client now rows is;
 }
@@ -129,7 +137,7 @@ ahead_kept now = record {
   taken = λ client invoke asked rows is. ahead_taken now client invoke asked rows is;
   relinquished = λ key client token rows is. ahead_relinquished now key client token rows is;
   cancelled = λ key number rows is. ahead_cancelled now key number rows is;
-  defined = λ client asked rows none is. ahead_defined now client asked rows is;
+  defined = λ live client asked rows none is. ahead_defined now client asked rows is;
   deleted = λ key rows is. ahead_deleted now key rows is;
   lost = λ client rows is. ahead_lost now client rows is;
 }
@@ -283,7 +291,7 @@ made_kept count now = record {
       (made_more count rows all) all;
   relinquished = λ key client token rows all. made_more count _ (made_still count (with_token_back client token now) key rows (made_back client token now) all);
   cancelled = λ key number rows all. made_more count _ (made_cancelled count key number rows all);
-  defined = λ client asked rows none all. made_defined count client asked rows all;
+  defined = λ live client asked rows none all. made_defined count client asked rows all;
   deleted = λ key rows all. made_more count _ (All-map-remove_entry (key_eq key) (λ e. e.1) (HasMadeAtMost count) rows all);
   lost = λ client rows all. made_more count _ (made_lost count client now rows all);
 }

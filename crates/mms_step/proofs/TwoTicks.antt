@@ -16,8 +16,9 @@ use Rattle.sem_ticks.specs.declared.ticks.Happening.TheVariants as happens
 use Rattle.sem_ticks.proofs.Settling.{settle_by}
 use Rattle.sem_ticks.proofs.Twice.{twice}
 use Rattle.cell_client.specs.Effects.{Effect}
-use Rattle.cell_services.specs.Serving.{aborted, all_told, happening_told, without_clients}
+use Rattle.cell_services.specs.Serving.{aborted, all_told, happening_told, without_clients, domains_without}
 use Rattle.mms_step.specs.Partition.{cell}
+use Rattle.serve_domains.specs.Tables.{DomainTables}
 use Rattle.mms_step.specs.State.{State}
 use Rattle.mms_step.specs.Step.{step}
 use Rattle.mms_step.proofs.Sound.{delivered_both}
@@ -82,15 +83,24 @@ without_both : (xs ys : List ℕ) (v : VariableTables) → without_clients (xs +
 without_both [] ys v = refl
 without_both (x ∷ xs) ys v = without_both xs ys (without_clients (x ∷ []) v)
 
+domains_both : (xs ys : List ℕ) (d : DomainTables) → domains_without (xs ++ ys) d ≡ domains_without ys (domains_without xs d)
+domains_both [] ys d = refl
+domains_both (x ∷ xs) ys d = domains_both xs ys (domains_without (x ∷ []) d)
+
 -- ---- the state after two ticks
 
 pub two_ticks : (s : State) (a b : ℕ) → step (step s (Tick a)) (Tick b) ≡ step s (Tick (a + b))
 two_ticks s a b =
     let same : s.now + a + b ≡ s.now + (a + b) = omega arith in
-    ap₂ (λ (v : VariableTables) (rows : List ClientRow). at (s.now + a + b) v (ticked later (ticked first s.semaphores).rows).rows rows)
+    ap₂ (λ (v : VariableTables) (rows : List ClientRow).
+    at (s.now + a + b) v (domains_without (aborted two) (domains_without (aborted one) s.domains)) (ticked later (ticked first s.semaphores).rows).rows rows)
     (sym (without_both (aborted one) (aborted two) s.variables) ∙ ap (λ (l : List ℕ). without_clients l s.variables) (sym (aborted_both one two)))
     (sym (delivered_both (all_told one) (all_told two) s.clients) ∙ ap (λ (l : List (ℕ × Effect)). delivered cell l s.clients) (sym (told_both one two)))
-    ∙ ap (λ (t : Ticking). at (s.now + a + b) (without_clients (aborted t.happened) s.variables) t.rows (delivered cell (all_told t.happened) s.clients))
+    ∙ ap (λ (d : DomainTables). at (s.now + a + b) (without_clients (aborted (one ++ two)) s.variables) d (ticked later (ticked first s.semaphores).rows).rows
+    (delivered cell (all_told (one ++ two)) s.clients))
+    (sym (domains_both (aborted one) (aborted two) s.domains) ∙ ap (λ (l : List ℕ). domains_without l s.domains) (sym (aborted_both one two)))
+    ∙ ap (λ (t : Ticking). at (s.now + a + b) (without_clients (aborted t.happened) s.variables) (domains_without (aborted t.happened) s.domains) t.rows
+    (delivered cell (all_told t.happened) s.clients))
     (ticked_twice first later s.semaphores (omega arith))
     ∙ ap (λ (m : ℕ). of m) same
   where
@@ -106,10 +116,11 @@ two_ticks s a b =
     two : List Happening
     two = (ticked later (ticked first s.semaphores).rows).happened
 
-    at : ℕ → VariableTables → Rows → List ClientRow → State
-    at now variables semaphores clients = record { now = now; variables = variables; semaphores = semaphores; clients = clients }
+    at : ℕ → VariableTables → DomainTables → Rows → List ClientRow → State
+    at now variables domains semaphores clients = record { now = now; variables = variables; domains = domains; semaphores = semaphores; clients = clients }
 
     of : ℕ → State
     of m =
-        at m (without_clients (aborted (ticked (record { 0 = m }) s.semaphores).happened) s.variables) (ticked (record { 0 = m }) s.semaphores).rows
+        at m (without_clients (aborted (ticked (record { 0 = m }) s.semaphores).happened) s.variables)
+        (domains_without (aborted (ticked (record { 0 = m }) s.semaphores).happened) s.domains) (ticked (record { 0 = m }) s.semaphores).rows
         (delivered cell (all_told (ticked (record { 0 = m }) s.semaphores).happened) s.clients)

@@ -21,6 +21,15 @@ use Rattle.mms_pdu.specs.declared.refusal.Refusal.{Refusal}
 use Rattle.mms_pdu.specs.Heard.{pdu_heard}
 use Rattle.mms_pdu.specs.Hearing.{depth_of}
 use Rattle.mms_pdu.specs.Rejects.{reject_of}
+use Rattle.mms_types.specs.declared.asked.Asked.{Asked}
+use Rattle.mms_types.specs.declared.asked.Asked.TheVariants as asks
+use Rattle.mms_types.specs.declared.pdu.ClientAnswer.{ClientAnswer}
+use Rattle.mms_types.specs.declared.pdu.ClientAnswer.TheVariants.{DownloadSegment, TerminateDownloadSequence}
+use Rattle.association.specs.Asked.{asked_of}
+use Rattle.association.specs.declared.unanswered.Unanswered.{Unanswered}
+use Rattle.domain_load.specs.Loading.{asked_next}
+use Rattle.serve_domains.specs.Domains.{asks_next, replied_to, reply_of}
+use Rattle.serve_domains.specs.Tables.{DomainTables}
 use Rattle.association.specs.Admission.{admission}
 use Rattle.association.specs.Client.{ClientRow}
 use Rattle.association.specs.Negotiation.{negotiation}
@@ -40,11 +49,11 @@ use Rattle.mms_time.specs.declared.taking.TakeDone.TheVariants as taken
 use Rattle.sem_ticks.specs.declared.ticks.Happening.{Happening}
 use Rattle.sem_ticks.specs.declared.ticks.Happening.TheVariants as happens
 use Rattle.parted_state.specs.Served.{done_of, row_of}
-use Rattle.cell_client.specs.Association.{Verdict, Tells, Takes, Concludes, Cancels, Aborts, admitted, cancel_error, cancelled, concluded, confirmed_error, idle_verdict, loss_told, negotiated, open_verdict, other_error, sends, refused, requested, timeout_error, verdict, verdict_by}
-use Rattle.cell_client.specs.Effects.{Effect, Sends, Opens, Closes, Waits, Answers, Drains, tell}
-use Rattle.cell_services.specs.Services.{cause, effect, grant_told, grants_told, relinquish_outcome, take_outcome}
+use Rattle.cell_client.specs.Association.{Verdict, Tells, Takes, Concludes, Cancels, Aborts, admitted, cancel_error, cancelled, concluded, confirmed_error, idle_verdict, loss_told, negotiated, open_verdict, other_error, sends, refused, requested, timeout_error, verdict, verdict_by, Came, Replies, Exhausts, answered_by, failed_by, heard_response, heard_error, heard_reject, rejected, keeps_open}
+use Rattle.cell_client.specs.Effects.{Effect, Sends, Opens, Closes, Waits, Answers, Drains, tell, Asks, Settles}
+use Rattle.cell_services.specs.Services.{cause, effect, grant_told, grants_told, relinquish_outcome, take_outcome, area_of, reply_in, cause_of, effect_of, lacks_number}
 use Rattle.cell_client.specs.Requests.{answer_told, fits, refuses, request_told, size_of}
-use Rattle.cell_services.specs.Serving.{all_told, also_lost, also_told, happening_told, is_served, meanwhile, own_told, services}
+use Rattle.cell_services.specs.Serving.{all_told, also_lost, also_told, happening_told, is_served, meanwhile, own_told, services, is_served_in, keeps_upload, resolved}
 use Rattle.cell_services.specs.Tables.{Tables, moment_of}
 use Rattle.mms_step.specs.Answered.{AreAnswered, IsAnswerTo, grant_answer}
 use Rattle.mms_step.specs.Partition.{cell}
@@ -58,6 +67,8 @@ Plain (Opens values) = Unit {0}
 Plain Closes = Unit {0}
 Plain (Waits request) = Unit {0}
 Plain (Answers invoke) = ⊥
+Plain (Asks kind domain) = Unit {0}
+Plain (Settles number) = Unit {0}
 Plain Drains = Unit {0}
 
 abbrev ArePlain : List (ℕ × Effect) → Type 0
@@ -148,9 +159,39 @@ requested_plain : (too_deep : Bool) (row : ClientRow) (invoke : ℕ) (asked : Re
 requested_plain true row invoke asked = (tt, tt)
 requested_plain false row invoke asked = admitted_plain (admission invoke row) invoke asked
 
-concluded_plain : (waiting : List Waiting) → TellsPlain (concluded waiting)
-concluded_plain [] = tt
-concluded_plain (first ∷ rest) = (tt, tt)
+concluded_plain : (waiting : List Waiting) (rows : List Unanswered) → TellsPlain (concluded waiting rows)
+concluded_plain [] [] = tt
+concluded_plain [] (first ∷ rest) = (tt, tt)
+concluded_plain (first ∷ rest) rows = (tt, tt)
+
+answered_plain : (number : ℕ) (kind : Asked) (told : ClientAnswer) → TellsPlain (answered_by number kind told)
+answered_plain number asks.Segment (DownloadSegment segment) = tt
+answered_plain number asks.Segment TerminateDownloadSequence = (tt, tt)
+answered_plain number asks.Terminate TerminateDownloadSequence = tt
+answered_plain number asks.Terminate (DownloadSegment segment) = (tt, tt)
+answered_plain number asks.Discard TerminateDownloadSequence = (tt, tt)
+answered_plain number asks.Discard (DownloadSegment segment) = (tt, tt)
+
+failed_plain : (number : ℕ) (kind : Asked) → TellsPlain (failed_by number kind)
+failed_plain number asks.Segment = tt
+failed_plain number asks.Terminate = tt
+failed_plain number asks.Discard = (tt, tt)
+
+response_plain : (number : ℕ) (told : ClientAnswer) (o : Option (Asked × List ℕ)) → TellsPlain (heard_response number told o)
+response_plain number told None = (tt, tt)
+response_plain number told (Some of) = answered_plain number of.0 told
+
+error_plain : (number : ℕ) (o : Option (Asked × List ℕ)) → TellsPlain (heard_error number o)
+error_plain number None = (tt, tt)
+error_plain number (Some of) = failed_plain number of.0
+
+reject_plain : (number : ℕ) (o : Option (Asked × List ℕ)) → TellsPlain (heard_reject number o)
+reject_plain number None = tt
+reject_plain number (Some of) = failed_plain number of.0
+
+rejected_plain : (number : Option ℕ) (rows : List Unanswered) → TellsPlain (rejected number rows)
+rejected_plain None rows = tt
+rejected_plain (Some number) rows = reject_plain number (asked_of number rows)
 
 cancelled_plain : (waits : Bool) (invoke : ℕ) → TellsPlain (cancelled waits invoke)
 cancelled_plain true invoke = tt
@@ -163,16 +204,36 @@ idle_plain heard = (tt, tt)
 open_plain : (values : Negotiated) (row : ClientRow) (heard : Result Pdu Refusal) → TellsPlain (open_verdict values row heard)
 open_plain values row (Err refusal) = refused_plain (reject_of refusal)
 open_plain values row (Ok (pdu.InitiateRequest proposal)) = tt
-open_plain values row (Ok pdu.ConcludeRequest) = concluded_plain row.waiting
+open_plain values row (Ok pdu.ConcludeRequest) = concluded_plain row.waiting row.asked
 open_plain values row (Ok (pdu.CancelRequest invoke)) = cancelled_plain (is_waiting invoke row.waiting) invoke
 open_plain values row (Ok (pdu.ConfirmedRequest invoke asked)) = requested_plain (nat_lt values.nesting (depth_of (pdu.ConfirmedRequest invoke asked))) row invoke asked
-open_plain values row (Ok (pdu.ConfirmedResponse invoke told)) = (tt, tt)
-open_plain values row (Ok (pdu.HeardError invoke)) = (tt, tt)
+open_plain values row (Ok (pdu.HeardResponse number told)) = response_plain number told (asked_of number row.asked)
+open_plain values row (Ok (pdu.HeardError number)) = error_plain number (asked_of number row.asked)
+open_plain values row (Ok (pdu.HeardReject number)) = rejected_plain number row.asked
 open_plain values row (Ok heard) = tt
 
 verdict_plain : (row : ClientRow) (a : Association) (heard : Result Pdu Refusal) → TellsPlain (verdict_by a row heard)
 verdict_plain row Idle heard = idle_plain heard
 verdict_plain row (Open values) heard = open_plain values row heard
+
+resolved_plain : (t : Tables) (row : ClientRow) (v : Verdict) → TellsPlain v → TellsPlain (resolved t row v)
+resolved_plain t row (Takes invoke asked) plain = by_test (lacks_number t row invoke (area_of asked))
+  where
+    by_test : (b : Bool) → TellsPlain (if b then Exhausts invoke else Takes invoke asked)
+    by_test true = tt
+    by_test false = tt
+resolved_plain t row (Replies number came) plain = by_test (lacks_number t row number (reply_in number came))
+  where
+    by_test : (b : Bool) → TellsPlain (if b then Aborts else Replies number came)
+    by_test true = tt
+    by_test false = tt
+resolved_plain t row Concludes plain = by_test (keeps_upload t row)
+  where
+    by_test : (b : Bool) → TellsPlain (if b then Tells keeps_open else Concludes)
+    by_test true = (tt, tt)
+    by_test false = tt
+resolved_plain t row (Tells effects) plain = plain
+resolved_plain t row v plain = plain
 
 request_plain : (size invoke : ℕ) (why : Option ServiceError) (told : Option Answer) → AllPlain (request_told size invoke why told)
 request_plain size invoke (Some refusal) told = (tt, tt)
@@ -188,6 +249,11 @@ own_answered t row client (Tells effects) plain = plain_answered (tell client ef
 own_answered t row client (Takes invoke asked) plain =
     plain_answered (tell client (own_told t row (Takes invoke asked)))
     (tell_plain client (own_told t row (Takes invoke asked)) (request_plain (size_of row.association) invoke (cause t row asked) (effect t row invoke asked).answer))
+own_answered t row client (Replies number came) plain =
+    plain_answered (tell client (own_told t row (Replies number came)))
+    (tell_plain client (own_told t row (Replies number came))
+    (request_plain (size_of row.association) number (cause_of t row (reply_in number came)) (effect_of t row number (reply_in number came)).answer))
+own_answered t row client (Exhausts invoke) plain = plain_answered (tell client (own_told t row (Exhausts invoke))) (tt, (tt, (tt, tt)))
 own_answered t row client Concludes plain = plain_answered (tell client (own_told t row Concludes)) (tt, (tt, tt))
 own_answered t row client (Cancels invoke) plain =
     answered_behind client invoke (refusal invoke cancel_error) ((client, sends (pdu.CancelResponse invoke)) ∷ (client, Sends (refusal invoke cancel_error)) ∷ [])
@@ -206,7 +272,16 @@ effect_answered t row invoke (request.RelinquishControl x) = by_grant (relinquis
     by_grant : (o : Option (Option Granted)) → AreAnswered (relinquish_outcome t row.client x o).also
     by_grant None = plain_answered [] tt
     by_grant (Some grant) = grants_answered (option_to_list grant)
+effect_answered t row invoke (request.InitiateDownloadSequence x) = plain_answered (effect t row invoke (request.InitiateDownloadSequence x)).also (tt, tt)
 effect_answered t row invoke asked = plain_answered [] tt
+
+reply_plain : (client number : ℕ) (came : Came) (o : Option (Asked × List ℕ)) (d : DomainTables) → ArePlain (replied_to client number came o d).also
+reply_plain client number came None d = tt
+reply_plain client number came (Some of) d = (tt, next (asked_next (reply_of came of) d.domains))
+  where
+    next : (o : Option Asked) → ArePlain (asks_next client o of.1)
+    next None = tt
+    next (Some kind) = (tt, tt)
 
 also_answered : (t : Tables) (row : ClientRow) (v : Verdict) → AreAnswered (also_told t row v)
 also_answered t row (Takes invoke asked) = by_test (is_served t row invoke asked)
@@ -215,6 +290,12 @@ also_answered t row (Takes invoke asked) = by_test (is_served t row invoke asked
     by_test true = effect_answered t row invoke asked
     by_test false = plain_answered [] tt
 also_answered t row (Tells effects) = plain_answered [] tt
+also_answered t row (Replies number came) = by_test (is_served_in t row number (reply_in number came))
+  where
+    by_test : (b : Bool) → AreAnswered (if b then (effect_of t row number (reply_in number came)).also else [])
+    by_test true = plain_answered _ (reply_plain row.client number came (asked_of number row.asked) t.domains)
+    by_test false = plain_answered [] tt
+also_answered t row (Exhausts invoke) = grants_answered (lost_granted row.client (moment_of t) t.semaphores)
 also_answered t row Concludes = grants_answered (lost_granted row.client (moment_of t) t.semaphores)
 also_answered t row (Cancels invoke) = plain_answered [] tt
 also_answered t row Aborts = grants_answered (lost_granted row.client (moment_of t) t.semaphores)
@@ -232,9 +313,11 @@ lost_answered (Open values) client t = grants_answered (lost_granted client (mom
 pub all_answered : (s : State) (event : CellEvent) → AreAnswered (done_of cell services s event).told
 all_answered s (Heard client octets) =
     let row = row_of cell services s (Heard client octets) in
-    both_answered (tell client (own_told (cell.tables_of s) row (verdict row octets))) (also_told (cell.tables_of s) row (verdict row octets))
-    (own_answered (cell.tables_of s) row client (verdict row octets) (verdict_plain row row.association (pdu_heard row.constants.edition octets)))
-    (also_answered (cell.tables_of s) row (verdict row octets))
+    let now = resolved (cell.tables_of s) row (verdict row octets) in
+    both_answered (tell client (own_told (cell.tables_of s) row now)) (also_told (cell.tables_of s) row now)
+    (own_answered (cell.tables_of s) row client now
+    (resolved_plain (cell.tables_of s) row (verdict row octets) (verdict_plain row row.association (pdu_heard row.constants.edition octets))))
+    (also_answered (cell.tables_of s) row now)
 all_answered s (Lost client) =
     let row = row_of cell services s (Lost client) in
     both_answered (tell client (loss_told row.association)) (also_lost row.association row.client (cell.tables_of s)) (loss_answered client row.association)

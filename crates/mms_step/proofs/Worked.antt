@@ -18,6 +18,7 @@ use Rattle.token_sem.specs.declared.entry.SemState.{SemState}
 use Rattle.token_sem.specs.declared.entry.SemState.TheVariants.{Owner, Queued}
 use Rattle.mms_time.specs.declared.row.Semaphore.TheVariants.{Token}
 use Rattle.variable_services.specs.Services.{no_variables}
+use Rattle.serve_domains.specs.Tables.{no_domains}
 use Rattle.cell_client.specs.Association.{Verdict, Tells, Takes, Concludes, Cancels, Aborts}
 use Rattle.mms_step.specs.declared.part.Part.{Part}
 use Rattle.mms_step.specs.State.{State}
@@ -50,6 +51,7 @@ abbrev device : State
 device = record {
   now = 0;
   variables = no_variables;
+  domains = no_domains;
   semaphores = (
     record { scope = scope.Vmd; item = codes "S" },
     record {

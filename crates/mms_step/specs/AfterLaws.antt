@@ -1,12 +1,14 @@
 -- Laws of what an event makes of the parts that are held: the device is one of tables and clients, and each event reads and changes the tables that it uses alone.
-use Rattle.std.specs.Prelude.{◌≡◌, ℕ, zero, suc, ◌+◌, Bool, true, false, ◌++◌, Option, None, Some, is_some, List, [], ◌∷◌, if◌then◌else◌, slice_get, refl}
+use Rattle.std.specs.Prelude.{◌≡◌, ℕ, zero, suc, ◌+◌, Bool, true, false, ◌||◌, ◌++◌, Option, None, Some, is_some, List, [], ◌∷◌, if◌then◌else◌, slice_get, refl}
 use Rattle.std.specs.List.{list_any}
-use Rattle.std.proofs.Common.{ap, sym, ◌∙◌, arith}
+use Rattle.std.proofs.Common.{ap, ap₂, sym, ◌∙◌, arith}
 use Rattle.mms_types.specs.declared.event.CellEvent.{CellEvent}
 use Rattle.mms_types.specs.declared.event.CellEvent.TheVariants.{Heard, Lost, Tick, Ends, Drain}
 use Rattle.mms_types.specs.declared.name_list.ObjectClass.TheVariants as class
 use Rattle.mms_types.specs.declared.service_error.ServiceError.{ServiceError}
+use Rattle.mms_types.specs.declared.key.Scope.TheVariants.{Domain}
 use Rattle.object_names.specs.Listing.{names_after}
+use Rattle.object_names.specs.Scopes.{has_any_of}
 use Rattle.variables.specs.Access.{flags_of}
 use Rattle.variable_services.specs.declared.tables.VariableTables.{VariableTables}
 use Rattle.mms_time.specs.Guards.{owns_guard}
@@ -17,23 +19,28 @@ use Rattle.association.specs.declared.waiting.Waiting.{Waiting}
 use Rattle.association.specs.Client.{ClientRow}
 use Rattle.part_table.specs.Held.{held_at, places_held, laid_over, IsHandOf}
 use Rattle.parted_state.specs.Area.{Own, no_table, Area, Plan, area_plan, AllIn, IsTable, IsOwn, AreTold, IsPlan}
-use Rattle.parted_state.specs.AreaLaws.{none_own, table_same, table_own, area_law}
-use Rattle.parted_state.specs.Cut.{IsFramed}
+use Rattle.parted_state.specs.AreaLaws.{merged_within, none_own, table_same, table_own, area_law}
+use Rattle.parted_state.specs.Cut.{is_in, IsFramed}
+use Rattle.parted_state.specs.CutLaws.{in_back, in_front}
 use Rattle.parted_state.specs.Served.{Done, IsDevice, IsServed}
 use Rattle.parted_state.specs.Served as parted
 use Rattle.parted_state.specs.ServedLaws as served
 use Rattle.mms_step.specs.declared.part.Part.{Part}
-use Rattle.mms_step.specs.declared.part.Part.TheVariants.{Clock, Semaphores, Variables}
+use Rattle.mms_step.specs.declared.part.Part.TheVariants.{Clock, Domains, Semaphores, Variables}
 use Rattle.mms_step.specs.State.{State}
-use Rattle.cell_services.specs.Tables.{Tables, clock_table, variables_table, semaphores_table, own_clock, own_variables, own_semaphores}
+use Rattle.cell_services.specs.Tables.{Tables, clock_table, variables_table, domains_table, conditions_table, journals_table, semaphores_table, loss_tables, own_clock, own_variables, own_domains, own_semaphores}
+use Rattle.domain_upload.specs.Uploads.{has_upload}
+use Rattle.cell_client.specs.Areas.{lacks_number_in}
+use Rattle.cell_client.specs.Facts.{no_facts}
 use Rattle.cell_client.specs.Effects.{Effect, tell}
-use Rattle.cell_client.specs.Association.{Verdict, Tells, Takes, Cancels, verdict, cancel_told, loss_told}
-use Rattle.cell_services.specs.Facts.{Question, Now, Live, Owned, Names, Facts, guard_tables, tables_for, noted, tells}
+use Rattle.cell_client.specs.Association.{Verdict, Tells, Takes, Replies, Exhausts, Concludes, Cancels, Aborts, verdict, cancel_told, keeps_open, loss_told}
+use Rattle.cell_services.specs.Facts.{Question, Now, Live, Owned, Scoped, Names, Facts, domains_listed, guard_tables, is_domain_live, tables_for, noted, tells}
+use Rattle.serve_domains.specs.Tables.{DomainTables}
 use Rattle.cell_services.specs.Requests.{OutcomeIn, RequestIn, asks_in, more_in, told_in, cause_in, effect_in}
-use Rattle.cell_services.specs.Services.{InArea, OfDevice, OfVariables, OfSemaphores, area_of, asks_of, more_of, cause_of, effect_of}
+use Rattle.cell_services.specs.Services.{InArea, OfDevice, OfVariables, OfDomains, OfSemaphores, area_of, reply_in, asks_of, more_of, cause_of, effect_of, lacks_number}
 use Rattle.cell_client.specs.Requests.{is_done, request_told, size_of}
-use Rattle.cell_services.specs.Serving.{tables_cancelled, tables_lost, waiting_of, without_clients, also_lost, all_told, hears, heard_asks, heard_more, loss_asks, meanwhile, abort_asks, aborted, passes, time_asks, services, words}
-use Rattle.mms_step.specs.Partition.{cell, clock_in, semaphores_in, variables_in, parts_of}
+use Rattle.cell_services.specs.Serving.{tables_cancelled, tables_lost, waiting_of, without_clients, also_lost, all_told, comes_of, domains_without, hears, keeps_upload, more_of_verdict, resolved, heard_asks, heard_more, loss_asks, meanwhile, abort_asks, aborted, passes, time_asks, services, words}
+use Rattle.mms_step.specs.Partition.{cell, clock_in, domains_in, semaphores_in, variables_in, parts_of}
 use Rattle.mms_step.specs.Step.{step}
 use Rattle.mms_step.specs.Needs.{need, wants}
 use Rattle.mms_step.specs.After.{after, parts_after}
@@ -44,7 +51,7 @@ by_place : (one other : List (Option Part)) (table : ℕ) → held_at one table 
     → slice_get (cell.table_parts (cell.tables_in one)) table ≡ slice_get (cell.table_parts (cell.tables_in other)) table
 by_place one other zero same = ap (λ (o : Option Part). Some (Clock (clock_in o))) same
 by_place one other (suc zero) same = ap (λ (o : Option Part). Some (Variables (variables_in o))) same
-by_place one other (suc (suc zero)) same = refl
+by_place one other (suc (suc zero)) same = ap (λ (o : Option Part). Some (Domains (domains_in o))) same
 by_place one other (suc (suc (suc zero))) same = refl
 by_place one other (suc (suc (suc (suc zero)))) same = refl
 by_place one other (suc (suc (suc (suc (suc zero))))) same = refl
@@ -79,6 +86,9 @@ is_clock = record { number = clock_table; part = Clock; part_in = clock_in; one 
 abbrev is_variables : IsTable cell own_variables
 is_variables = record { number = variables_table; part = Variables; part_in = variables_in; one = refl; shown = λ hand. refl; puts = λ new t. refl }
 
+abbrev is_domains : IsTable cell own_domains
+is_domains = record { number = domains_table; part = Domains; part_in = domains_in; one = refl; shown = λ hand. refl; puts = λ new t. refl }
+
 abbrev is_semaphores : IsTable cell own_semaphores
 is_semaphores = record { number = semaphores_table; part = Semaphores; part_in = semaphores_in; one = refl; shown = λ hand. refl; puts = λ new t. refl }
 
@@ -89,10 +99,19 @@ none_owned client rows other [] none = refl
 none_owned client rows other (None ∷ guards) none = ap (λ (owned : List Bool). false ∷ owned) (none_owned client rows other guards none)
 none_owned client rows other (Some guard ∷ guards) none = absurd (cc none)
 
+abbrev scope_used : List ℕ → VariableTables → Rows → Bool
+scope_used domain v rows = has_any_of (Domain domain) v.vars.variables || has_any_of (Domain domain) v.lists || has_any_of (Domain domain) rows
+
 told_same : (k : Question) (facts : Facts) (us : List ℕ) (t : Tables) → AllIn cell (tables_for k) us → noted k (alone us t) facts ≡ noted k t facts
 told_same Now facts us t all =
     ap (λ (now : ℕ). record facts { now = record { 0 = now } }) (table_same cell is_device own_clock is_clock us t (all clock_table refl))
-told_same (Live of_domain) facts us t all = refl
+told_same (Live true domain) facts us t all =
+    ap (λ (d : DomainTables). record facts { live = is_domain_live domain d }) (table_same cell is_device own_domains is_domains us t (all domains_table refl))
+told_same (Live false domain) facts us t all = refl
+told_same (Scoped domain) facts us t all =
+    ap₂ (λ (v : VariableTables) (rows : Rows). record facts { scoped = scope_used domain v rows })
+    (table_same cell is_device own_variables is_variables us t (all variables_table refl))
+    (table_same cell is_device own_semaphores is_semaphores us t (all semaphores_table refl))
 told_same (Owned client guards) facts us t all = by_guards (list_any is_some guards) refl all
   where
     by_guards : (b : Bool) → list_any is_some guards ≡ b → AllIn cell (guard_tables b) us
@@ -110,6 +129,9 @@ told_same (Names class.NamedVariableList) facts us t all =
 told_same (Names class.Semaphore) facts us t all =
     ap (λ (rows : Rows). record facts { names = λ s after. names_after s after rows })
     (table_same cell is_device own_semaphores is_semaphores us t (all semaphores_table refl))
+told_same (Names class.Domain) facts us t all =
+    ap (λ (d : DomainTables). record facts { names = λ s after. domains_listed d s after })
+    (table_same cell is_device own_domains is_domains us t (all domains_table refl))
 told_same (Names c) facts us t all = refl
 
 are_told : AreTold cell tells
@@ -168,6 +190,9 @@ module _ {A : Type 0} (own : Own Tables A) (is_own : IsOwn cell own) (stays : (t
 variables_own : IsOwn cell own_variables
 variables_own = table_own cell is_device own_variables is_variables
 
+domains_own : IsOwn cell own_domains
+domains_own = table_own cell is_device own_domains is_domains
+
 semaphores_own : IsOwn cell own_semaphores
 semaphores_own = table_own cell is_device own_semaphores is_semaphores
 
@@ -176,6 +201,7 @@ semaphores_own = table_own cell is_device own_semaphores is_semaphores
 more_law : (t : Tables) (row : ClientRow) (a : InArea) → more_of (alone (asks_of a) t) row a ≡ more_of t row a
 more_law t row (OfDevice r) = (is_plan no_table (none_own cell is_device) (λ u. refl) row 0 0 r).more_same t
 more_law t row (OfVariables r) = (is_plan own_variables variables_own (λ u. refl) row 0 0 r).more_same t
+more_law t row (OfDomains r) = (is_plan own_domains domains_own (λ u. refl) row 0 0 r).more_same t
 more_law t row (OfSemaphores r) = (is_plan own_semaphores semaphores_own (λ u. refl) row 0 0 r).more_same t
 
 abbrev area_uses : Tables → ClientRow → InArea → List ℕ
@@ -188,30 +214,164 @@ takes_law : (t : Tables) (row : ClientRow) (client invoke : ℕ) (a : InArea)
     → area_taken t row client invoke a ≡ parted.done_within cell (area_uses t row a) t (area_taken (alone (area_uses t row a) t) row client invoke a)
 takes_law t row client invoke (OfDevice r) = taken_within no_table (none_own cell is_device) (λ u. refl) row client invoke r t
 takes_law t row client invoke (OfVariables r) = taken_within own_variables variables_own (λ u. refl) row client invoke r t
+takes_law t row client invoke (OfDomains r) = taken_within own_domains domains_own (λ u. refl) row client invoke r t
 takes_law t row client invoke (OfSemaphores r) = taken_within own_semaphores semaphores_own (λ u. refl) row client invoke r t
+
+-- ---- what is done with all tables in which a client may have anything
+
+-- they are shown as they are
+all_shown : (us : List ℕ) (t : Tables) → AllIn cell loss_tables us → alone us t ≡ t
+all_shown us t all =
+    ap₂ (λ (n : ℕ) (v : VariableTables). record (alone us t) { now = n; variables = v })
+    (table_same cell is_device own_clock is_clock us t (all clock_table refl)) (table_same cell is_device own_variables is_variables us t (all variables_table refl))
+    ∙ ap₂ (λ (d : DomainTables) (rows : Rows). record t { domains = d; semaphores = rows })
+    (table_same cell is_device own_domains is_domains us t (all domains_table refl)) (table_same cell is_device own_semaphores is_semaphores us t (all semaphores_table refl))
+
+-- and whatever becomes of them is within these
+all_within : (us : List ℕ) (f : Tables → Done Tables Effect) (t : Tables) → AllIn cell loss_tables us → f t ≡ parted.done_within cell us t (f (alone us t))
+all_within us f t all =
+    ap (λ (u : Tables). record { tables = u; told = (f t).told })
+    (merged_within cell is_device us (λ u. (f t).tables) t (record { alone = sym (all_shown us (f t).tables all); others = others }))
+    ∙ ap (λ (u : Tables). parted.done_within cell us t (f u)) (sym (all_shown us t all))
+  where
+    out : (k : ℕ) → is_in loss_tables k ≡ true → is_in us k ≡ false → slice_get (cell.table_parts (f t).tables) k ≡ slice_get (cell.table_parts t) k
+    out k there off = absurd (cc (sym (all k there) ∙ off))
+
+    others : (k : ℕ) → is_in us k ≡ false → slice_get (cell.table_parts (f t).tables) k ≡ slice_get (cell.table_parts t) k
+    others zero off = out zero refl off
+    others (suc zero) off = out 1 refl off
+    others (suc (suc zero)) off = out 2 refl off
+    others (suc (suc (suc zero))) off = refl
+    others (suc (suc (suc (suc zero)))) off = refl
+    others (suc (suc (suc (suc (suc zero))))) off = refl
+    others (suc (suc (suc (suc (suc (suc zero)))))) off = out 6 refl off
+    others (suc (suc (suc (suc (suc (suc (suc k))))))) off = refl
 
 -- ---- each event
 
+-- whether a number is lacking is shown by the tables of its words
+lacks_law : (us : List ℕ) (t : Tables) (row : ClientRow) (invoke : ℕ) (a : InArea) → AllIn cell (asks_of a) us
+    → lacks_number (alone us t) row invoke a ≡ lacks_number t row invoke a
+lacks_law us t row invoke (OfDevice r) all = refl
+lacks_law us t row invoke (OfVariables r) all = refl
+lacks_law us t row invoke (OfSemaphores r) all = refl
+lacks_law us t row invoke (OfDomains r) all =
+    ap (λ (d : DomainTables). lacks_number_in r no_facts row invoke d) (table_same cell is_device own_domains is_domains us t (all domains_table refl))
+
+-- and so is what a verdict comes to
+resolved_law : (us : List ℕ) (t : Tables) (row : ClientRow) (v : Verdict) → AllIn cell (heard_asks v) us → resolved (alone us t) row v ≡ resolved t row v
+resolved_law us t row (Takes invoke asked) all =
+    ap (λ (b : Bool). if b then Exhausts invoke else Takes invoke asked) (lacks_law us t row invoke (area_of asked) all)
+resolved_law us t row (Replies number came) all =
+    ap (λ (b : Bool). if b then Aborts else Replies number came) (lacks_law us t row number (reply_in number came) all)
+resolved_law us t row Concludes all =
+    ap (λ (d : DomainTables). if has_upload row.client d.uploads then Tells keeps_open else Concludes)
+    (table_same cell is_device own_domains is_domains us t (all domains_table refl))
+resolved_law us t row other all = refl
+
+itself : (us : List ℕ) → AllIn cell us us
+itself us k on = on
+
+-- what a verdict uses beside the tables of its words is shown by these
+more_shown : (t : Tables) (row : ClientRow) (v : Verdict)
+    → more_of_verdict (alone (heard_asks v) t) row (resolved t row v) ≡ more_of_verdict t row (resolved t row v)
+more_shown t row (Takes invoke asked) = by_test (lacks_number t row invoke (area_of asked))
+  where
+    us : List ℕ
+    us = asks_of (area_of asked)
+
+    turned : Bool → Verdict
+    turned b = if b then Exhausts invoke else Takes invoke asked
+
+    by_test : (b : Bool) → more_of_verdict (alone us t) row (turned b) ≡ more_of_verdict t row (turned b)
+    by_test true = refl
+    by_test false = more_law t row (area_of asked)
+more_shown t row (Replies number came) = by_test (lacks_number t row number (reply_in number came))
+  where
+    us : List ℕ
+    us = asks_of (reply_in number came)
+
+    turned : Bool → Verdict
+    turned b = if b then Aborts else Replies number came
+
+    by_test : (b : Bool) → more_of_verdict (alone us t) row (turned b) ≡ more_of_verdict t row (turned b)
+    by_test true = refl
+    by_test false = more_law t row (reply_in number came)
+more_shown t row Concludes = by_test (keeps_upload t row)
+  where
+    turned : Bool → Verdict
+    turned b = if b then Tells keeps_open else Concludes
+
+    by_test : (b : Bool) → more_of_verdict (alone (heard_asks Concludes) t) row (turned b) ≡ more_of_verdict t row (turned b)
+    by_test true = refl
+    by_test false = refl
+more_shown t row (Tells effects) = refl
+more_shown t row (Exhausts invoke) = refl
+more_shown t row (Cancels invoke) = refl
+more_shown t row Aborts = refl
+
 heard_more_law : (t : Tables) (row : ClientRow) (v : Verdict) → heard_more (alone (heard_asks v) t) row v ≡ heard_more t row v
-heard_more_law t row (Takes invoke asked) = more_law t row (area_of asked)
-heard_more_law t row other = refl
+heard_more_law t row v =
+    ap (more_of_verdict (alone (heard_asks v) t) row) (resolved_law (heard_asks v) t row v (itself (heard_asks v)))
+    ∙ more_shown t row v
+
+-- what a verdict comes to reads and changes the tables that it uses alone
+module _ (t : Tables) (row : ClientRow) (client : ℕ) where
+  abbrev ComesWithin : List ℕ → Verdict → Type 0
+  ComesWithin us w = comes_of t row client w ≡ parted.done_within cell us t (comes_of (alone us t) row client w)
+
+  lost_within : (asks : List ℕ) (w : Verdict) → ComesWithin (asks ++ (loss_tables ++ [])) w
+  lost_within asks w =
+      all_within (asks ++ (loss_tables ++ [])) (λ u. comes_of u row client w) t (λ k on. in_back asks (loss_tables ++ []) k (in_front loss_tables [] k on))
+
+  comes_within : (v : Verdict) → ComesWithin (heard_asks v ++ (more_of_verdict t row (resolved t row v) ++ [])) (resolved t row v)
+  comes_within (Takes invoke asked) = by_test (lacks_number t row invoke (area_of asked))
+    where
+      turned : Bool → Verdict
+      turned b = if b then Exhausts invoke else Takes invoke asked
+
+      by_test : (b : Bool) → ComesWithin (asks_of (area_of asked) ++ (more_of_verdict t row (turned b) ++ [])) (turned b)
+      by_test true = lost_within (asks_of (area_of asked)) (Exhausts invoke)
+      by_test false = takes_law t row client invoke (area_of asked)
+  comes_within (Replies number came) = by_test (lacks_number t row number (reply_in number came))
+    where
+      turned : Bool → Verdict
+      turned b = if b then Aborts else Replies number came
+
+      by_test : (b : Bool) → ComesWithin (asks_of (reply_in number came) ++ (more_of_verdict t row (turned b) ++ [])) (turned b)
+      by_test true = lost_within (asks_of (reply_in number came)) Aborts
+      by_test false = takes_law t row client number (reply_in number came)
+  comes_within Concludes = by_test (keeps_upload t row)
+    where
+      turned : Bool → Verdict
+      turned b = if b then Tells keeps_open else Concludes
+
+      by_test : (b : Bool) → ComesWithin (heard_asks Concludes ++ (more_of_verdict t row (turned b) ++ [])) (turned b)
+      by_test true = served.unchanged cell is_device (heard_asks Concludes) t (tell client keeps_open ++ [])
+      by_test false = lost_within (heard_asks Concludes) Concludes
+  comes_within (Cancels invoke) = by_waiting (waiting_of invoke row.waiting)
+    where
+      us : List ℕ
+      us = clock_table ∷ semaphores_table ∷ []
+
+      at : Option Waiting → Tables → Done Tables Effect
+      at o u = record { tables = tables_cancelled o u; told = tell client (cancel_told invoke) ++ [] }
+
+      by_waiting : (o : Option Waiting) → at o t ≡ parted.done_within cell us t (at o (alone us t))
+      by_waiting None = refl
+      by_waiting (Some request) = refl
+  comes_within (Tells effects) = served.unchanged cell is_device [] t (tell client effects ++ [])
+  comes_within (Exhausts invoke) = lost_within loss_tables (Exhausts invoke)
+  comes_within Aborts = lost_within loss_tables Aborts
 
 hears_law : (t : Tables) (row : ClientRow) (client : ℕ) (v : Verdict)
     → hears t row client v ≡ parted.done_within cell (heard_asks v ++ (heard_more t row v ++ [])) t (hears (alone (heard_asks v ++ (heard_more t row v ++ [])) t) row client v)
-hears_law t row client (Takes invoke asked) = takes_law t row client invoke (area_of asked)
-hears_law t row client (Tells effects) = refl
-hears_law t row client (Cancels invoke) = by_waiting (waiting_of invoke row.waiting)
+hears_law t row client v =
+    comes_within t row client v
+    ∙ ap (λ (w : Verdict). parted.done_within cell us t (comes_of (alone us t) row client w)) (sym (resolved_law us t row v (λ k on. in_front (heard_asks v) (heard_more t row v ++ []) k on)))
   where
     us : List ℕ
-    us = clock_table ∷ semaphores_table ∷ []
-
-    at : Option Waiting → Tables → Done Tables Effect
-    at o u = record { tables = tables_cancelled o u; told = tell client (cancel_told invoke) ++ [] }
-
-    by_waiting : (o : Option Waiting) → at o t ≡ parted.done_within cell us t (at o (alone us t))
-    by_waiting None = refl
-    by_waiting (Some request) = refl
-hears_law t row client other = refl
+    us = heard_asks v ++ (heard_more t row v ++ [])
 
 -- where there is an association, what belongs to it is gone
 lost_law : (t : Tables) (number client : ℕ) (a : Association)
@@ -231,7 +391,12 @@ time_law ms t = by_clients (aborted (meanwhile ms t).happened) refl
 
     at : List ℕ → Tables → Done Tables Effect
     at clients u = record {
-      tables = record { now = t.now + ms; variables = without_clients clients u.variables; semaphores = (meanwhile ms t).rows };
+      tables = record {
+        now = t.now + ms;
+        variables = without_clients clients u.variables;
+        domains = domains_without clients u.domains;
+        semaphores = (meanwhile ms t).rows;
+      };
       told = all_told (meanwhile ms t).happened;
     }
 

@@ -9,7 +9,7 @@ use Rattle.mms_types.specs.declared.service_error.ServiceError.{ServiceError}
 use Rattle.mms_pdu.specs.Pdus.{pdu_octets}
 use Rattle.association.specs.declared.waiting.Waiting.{Waiting}
 use Rattle.sem_ticks.specs.declared.granted.Granted.{Granted}
-use Rattle.cell_client.specs.Association.{confirmed_error}
+use Rattle.cell_client.specs.Association.{Verdict, Concludes, Aborts, Exhausts, confirmed_error}
 use Rattle.cell_client.specs.Effects.{Effect, Sends, Waits, Answers}
 pub use Rattle.cell_client.specs.Effects.{wait_of, waits_told}
 use Rattle.mms_step.specs.State.{State}
@@ -24,6 +24,15 @@ grant_answer g = Octets (pdu_octets (pdu.ConfirmedResponse g.invoke (answer.Take
 -- it is to be sent to the client that is granted the token
 abbrev pub IsAnswered : State → Granted → Type 0
 IsAnswered s g = 1 ≤ g.client → g.client ≤ length s.clients → Contains (outbox_of s g.client) (grant_answer g)
+
+-- ---- the end of an association
+
+-- a verdict by which the association of the client ends that is heard
+abbrev pub EndsIt : Verdict → Type 0
+EndsIt Concludes = Unit {0}
+EndsIt Aborts = Unit {0}
+EndsIt (Exhausts invoke) = Unit {0}
+EndsIt other = ⊥
 
 -- ---- any request
 

@@ -10,7 +10,7 @@ use Rattle.mms_step.specs.declared.part.Part.{Part}
 use Rattle.mms_step.specs.State.{State}
 use Rattle.association.specs.Client.{ClientRow}
 use Rattle.cell_client.specs.Association.{Verdict, Tells, Takes, verdict}
-use Rattle.cell_services.specs.Serving.{services, abort_asks, aborted, all_told, also_lost, also_told, heard_asks, heard_more, loss_asks, meanwhile}
+use Rattle.cell_services.specs.Serving.{services, abort_asks, aborted, all_told, also_lost, also_told, heard_asks, heard_more, loss_asks, meanwhile, resolved}
 use Rattle.sem_ticks.specs.declared.ticks.Happening.{Happening}
 use Rattle.mms_step.specs.Partition.{cell, client_place, parts_of, state_in}
 
@@ -60,7 +60,7 @@ client_parts n clients = map client_place (filter (λ c. nat_le 1 c && nat_le c 
 -- what a verdict on what a client sends needs, and so what its octets need, once its part is held: the tables that it uses, in two stages, and then the parts of
 -- those that are told something besides
 abbrev pub also_parts : ℕ → List (Option Part) → ClientRow → Verdict → List ℕ
-also_parts n hand row v = parted.told_places cell (also_told (tables_shown cell hand) row v) n
+also_parts n hand row v = parted.told_places cell (also_told (tables_shown cell hand) row (resolved (tables_shown cell hand) row v)) n
 
 abbrev pub verdict_need : ℕ → List (Option Part) → ClientRow → Verdict → List ℕ
 verdict_need n hand row v =

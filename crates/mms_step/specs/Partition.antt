@@ -13,6 +13,7 @@ use Rattle.mms_step.specs.State.{State}
 use Rattle.mms_time.specs.Semaphores.{Rows}
 use Rattle.cell_client.specs.Effects.{Effect, felt, settled}
 use Rattle.cell_services.specs.Tables.{Tables}
+use Rattle.serve_domains.specs.Tables.{DomainTables, no_domains}
 use Rattle.variable_services.specs.declared.tables.VariableTables.{VariableTables}
 use Rattle.variable_services.specs.Services.{no_variables}
 
@@ -41,7 +42,7 @@ client_part row = Client (settled row)
 
 -- the parts of a state
 abbrev pub parts_of : State → List Part
-parts_of s = Clock s.now ∷ Variables s.variables ∷ Domains ∷ Programs ∷ Conditions ∷ Journals ∷ (map client_part s.clients ++ Semaphores s.semaphores ∷ [])
+parts_of s = Clock s.now ∷ Variables s.variables ∷ Domains s.domains ∷ Programs ∷ Conditions ∷ Journals ∷ (map client_part s.clients ++ Semaphores s.semaphores ∷ [])
 
 -- ---- what held parts show
 
@@ -60,6 +61,14 @@ variables_or variables other = variables
 
 abbrev pub variables_in : Option Part → VariableTables
 variables_in part = variables_or no_variables part
+
+-- the domains, where they are held, and else these
+abbrev pub domains_or : DomainTables → Option Part → DomainTables
+domains_or domains (Some (Domains held)) = held
+domains_or domains other = domains
+
+abbrev pub domains_in : Option Part → DomainTables
+domains_in part = domains_or no_domains part
 
 -- the semaphores, where they are held, and else these
 abbrev pub semaphores_or : Rows → Option Part → Rows
@@ -91,7 +100,7 @@ abbrev pub client_in : Option Part → RoomyRow
 client_in (Some (Client client)) = client
 client_in other = settled no_client
 
--- the part of a client with its row changed, the clock with its moment changed, and variables and semaphores that are changed
+-- the part of a client with its row changed, the clock with its moment changed, and variables, domains and semaphores that are changed
 abbrev pub on_client : (ClientRow → ClientRow) → Part → Part
 on_client f (Client client) = client_part (f client.row)
 on_client f other = other
@@ -104,6 +113,10 @@ abbrev pub on_variables : (VariableTables → VariableTables) → Part → Part
 on_variables f (Variables variables) = Variables (f variables)
 on_variables f other = other
 
+abbrev pub on_domains : (DomainTables → DomainTables) → Part → Part
+on_domains f (Domains domains) = Domains (f domains)
+on_domains f other = other
+
 abbrev pub on_semaphores : (Rows → Rows) → Part → Part
 on_semaphores f (Semaphores semaphores) = Semaphores (f semaphores)
 on_semaphores f other = other
@@ -112,9 +125,12 @@ on_semaphores f other = other
 abbrev pub IsClient : Option Part → Type 0
 IsClient part = part ≡ Some (Client (client_in part))
 
--- the variables are, and the semaphores
+-- the variables are, the domains, and the semaphores
 abbrev pub IsVariables : Option Part → Type 0
 IsVariables part = part ≡ Some (Variables (variables_in part))
+
+abbrev pub IsDomains : Option Part → Type 0
+IsDomains part = part ≡ Some (Domains (domains_in part))
 
 abbrev pub IsSemaphores : Option Part → Type 0
 IsSemaphores part = part ≡ Some (Semaphores (semaphores_in part))
@@ -124,16 +140,17 @@ IsSemaphores part = part ≡ Some (Semaphores (semaphores_in part))
 -- Where a part isn't held, its table is empty in what is shown.
 abbrev pub cell : Device State Tables ClientRow Effect Part
 cell = record {
-  tables_of = λ s. record { now = s.now; variables = s.variables; semaphores = s.semaphores };
+  tables_of = λ s. record { now = s.now; variables = s.variables; domains = s.domains; semaphores = s.semaphores };
   clients_of = λ s. s.clients;
-  state_of = λ t rows. record { now = t.now; variables = t.variables; semaphores = t.semaphores; clients = rows };
-  table_parts = λ t. Clock t.now ∷ Variables t.variables ∷ Domains ∷ Programs ∷ Conditions ∷ Journals ∷ Semaphores t.semaphores ∷ [];
+  state_of = λ t rows. record { now = t.now; variables = t.variables; domains = t.domains; semaphores = t.semaphores; clients = rows };
+  table_parts = λ t. Clock t.now ∷ Variables t.variables ∷ Domains t.domains ∷ Programs ∷ Conditions ∷ Journals ∷ Semaphores t.semaphores ∷ [];
   tables = tables_many;
   last = 5;
   client_part = client_part;
   tables_in = λ hand. record {
     now = clock_in (held_at hand 0);
     variables = variables_in (held_at hand 1);
+    domains = domains_in (held_at hand 2);
     semaphores = semaphores_in (held_at hand 6);
   };
   row_in = row_in;
@@ -141,6 +158,6 @@ cell = record {
   felt = felt;
 }
 
--- the state that held parts show: the moment, the variables, the semaphores, and the rows of the clients
+-- the state that held parts show: the moment, the variables, the domains, the semaphores, and the rows of the clients
 abbrev pub state_in : List (Option Part) → State
 state_in hand = parted.state_in cell hand

@@ -1,13 +1,18 @@
 -- The state of the device: plain lists of rows and the moment (ISO 9506-1, the virtual manufacturing device).
 use Rattle.std.specs.Prelude.{◌≡◌, ℕ, ◌+◌, ◌≤◌, List, [], ◌∷◌, Some, map, length, slice_get}
-use Rattle.std.specs.List.{All}
-use Rattle.std.specs.Map.{values_of}
+use Rattle.std.specs.List.{All, IsDistinct}
+use Rattle.std.specs.Map.{keys_of, values_of}
 use Rattle.mms_types.specs.Actors.{clients_to}
 use Rattle.association.specs.Admission.{called_of}
+use Rattle.association.specs.Asked.{AreApart, AreBelow}
 use Rattle.association.specs.Client.{ClientRow, new_row}
 use Rattle.association.specs.declared.constants.Constants.{Constants}
 use Rattle.association.specs.declared.waiting.Waiting.{Waiting}
 use Rattle.cell_config.specs.declared.config.Config.{Config}
+use Rattle.domain_load.specs.Domains.{name_eq}
+use Rattle.domain_upload.specs.Uploads.{AreOf}
+use Rattle.serve_domains.specs.Loads.{AreLoads}
+use Rattle.serve_domains.specs.Tables.{DomainTables, no_domains}
 use Rattle.variable_services.specs.declared.tables.VariableTables.{VariableTables}
 use Rattle.variable_services.specs.Services.{configured}
 use Rattle.mms_time.specs.Opening as pools
@@ -20,6 +25,8 @@ pub record State : Type 0 where
   pub now : ℕ
   -- cells, named variables and their lists
   pub variables : VariableTables
+  -- domains and the uploads of them
+  pub domains : DomainTables
   -- semaphores
   pub semaphores : Rows
   -- the rows of clients 1 to n, in this order
@@ -33,11 +40,12 @@ device_of config = record { edition = config.edition; vendor = config.vendor; mo
 abbrev pub first_rows : Config → ℕ → List ClientRow
 first_rows config n = map (λ c. new_row c (device_of config)) (clients_to n)
 
--- the start: it is the configured moment, there are the configured cells, variables and pools, and as many clients as are configured
+-- the start: it is the configured moment, there are the configured cells, variables and pools, no domains, and as many clients as are configured
 abbrev pub start : Config → State
 start config = record {
   now = config.start.0;
   variables = configured config.cells config.variables;
+  domains = no_domains;
   semaphores = pools.configured config.pools;
   clients = first_rows config config.clients;
 }
@@ -48,18 +56,22 @@ AreNumbered count [] = Unit {0}
 AreNumbered count (request ∷ waiting) = (request.entry ≤ count) × AreNumbered count waiting
 
 -- What holds of the row of a client after so many events: it has the client's number; no more requests wait than the association allows, and so none without
--- one; and each of them has the number of one of the events.
+-- one; each of them has the number of one of the events; and the numbers of the server's unanswered requests are distinct and below the next one.
 pub record IsSoundRow (count client : ℕ) (row : ClientRow) : Type 0 where
   pub number : row.client ≡ client
   pub allowed : length row.waiting ≤ called_of row.association
   pub entries : AreNumbered count row.waiting
+  pub apart : AreApart row.asked
+  pub below : AreBelow row.next_invoke row.asked
 
 -- each semaphore has made so many entries at most: an event makes one entry at most
 abbrev pub HaveMadeAtMost : ℕ → Rows → Type 0
 HaveMadeAtMost count semaphores = All (λ row. made_in row.semaphore ≤ count) (values_of semaphores)
 
 -- What holds of each state of the device after so many events: it has 1 to 64 clients, in the order of their numbers, and their rows are sound; no token of its
--- semaphores is owned twice, and no free one is waited for; each semaphore has made no more entries than there were events; and each deadline lies ahead.
+-- semaphores is owned twice, and no free one is waited for; each semaphore has made no more entries than there were events; each deadline lies ahead; no two domains
+-- have one name; of each client the server's unanswered requests of a load are of the domains that it loads, one of each; and the domain of each open upload is there,
+-- and isn't LOADING.
 pub record IsSound (count : ℕ) (s : State) : Type 0 where
   pub some : 1 ≤ length s.clients
   pub few : length s.clients ≤ 64
@@ -67,6 +79,9 @@ pub record IsSound (count : ℕ) (s : State) : Type 0 where
   pub semaphores : AreSound s.semaphores
   pub made : HaveMadeAtMost count s.semaphores
   pub ahead : LieAhead (record { 0 = s.now }) s.semaphores
+  pub names : IsDistinct name_eq (keys_of s.domains.domains)
+  pub loads : (i : ℕ) (row : ClientRow) → slice_get s.clients i ≡ Some row → AreLoads (i + 1) row.asked s.domains.domains
+  pub uploads : AreOf s.domains.uploads s.domains.domains
 
 -- six octets name its moment, which the ticks of all callers together keep and no caller alone can tell
 abbrev pub HasDate : State → Type 0

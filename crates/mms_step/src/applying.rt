@@ -4,7 +4,9 @@ ghost use Rattle.std.specs.Prelude.{◌≡◌, ℕ, ◌+◌, ◌<◌, ◌≤◌,
 ghost use Rattle.std.specs.Option.{option_map};
 ghost use Rattle.mms_types.specs.Actors.{IsAmong};
 ghost use Rattle.mms_types.specs.declared.event.CellEvent.TheVariants.{Drain};
+ghost use Rattle.association.specs.Asked.{is_open};
 ghost use Rattle.association.specs.Client.{drained_row};
+ghost use Rattle.serve_domains.specs.Loads.{AreLoads};
 ghost use Rattle.mms_types.specs.declared.pdu.Pdu.{Pdu};
 ghost use Rattle.mms_pdu.specs.Heard.{pdu_heard};
 ghost use Rattle.mms_pdu.specs.Hearing.{Hears};
@@ -14,7 +16,7 @@ ghost use Rattle.parted_state.specs.Served.{change};
 ghost use Rattle.mms_step.specs.State.{State, IsSound};
 ghost use Rattle.cell_client.specs.Association.{verdict, verdict_by, Takes};
 ghost use Rattle.mms_step.specs.Step.{step, IsInTime};
-ghost use Rattle.mms_step.specs.Partition.{cell, parts_of, clients_among, clock_in, client_place, outbox_held, on_client, IsClient};
+ghost use Rattle.mms_step.specs.Partition.{cell, domains_in, parts_of, clients_among, clock_in, client_place, outbox_held, on_client, IsClient, IsDomains};
 ghost use Rattle.mms_step.specs.Needs.{need};
 ghost use Rattle.cell_client.specs.Reads.{IsDeep, IsReadOf, IsReadingOf};
 ghost use Rattle.cell_client.specs.Meant.{act_verdict, verdict_read, uses_no_table};
@@ -24,6 +26,7 @@ ghost use Rattle.cell_services.specs.Serving.{hears};
 ghost use Rattle.mms_step.specs.After.{after};
 
 use crate::areas::{cancel, serve_on_device, serve_on_semaphores, serve_on_variables};
+use crate::domains::{reply_on_domains, serve_on_domains};
 use crate::needs::client_held;
 use crate::passing::tick;
 use crate::serving::{Task, serve};
@@ -105,6 +108,7 @@ fn serve_request(
     requires held { IsClient (held_at held.old (client_place client)) }
     requires ready { IsReady clients client (Takes invoke asked.now) held.old }
     requires tables { plain_answer (row_held held.old client) asked.now ≡ None }
+    requires open { is_open (row_held held.old client).association ≡ true }
     ensures put { OnOk result (held.new ≡ put_in_place cell
         (hears (tables_shown cell held.old) (row_held held.old client) client
         (Takes invoke asked.now)) held.old) }
@@ -119,6 +123,9 @@ fn serve_request(
         }
         AreaRequest::Semaphores(asked) => {
             serve_on_semaphores(alloc, held, clients, client, invoke, asked)
+        }
+        AreaRequest::Domains(asked) => {
+            serve_on_domains(alloc, held, clients, client, invoke, asked)
         }
     }
 }
@@ -139,6 +146,8 @@ fn hear_read(
     requires held { IsClient (held_at held.old (client_place client)) }
     requires ready { IsReady clients client (verdict_read (row_held held.old client) read.now)
         held.old }
+    requires loads { IsDomains (held_at held.old 2) → AreLoads client
+        (row_held held.old client).asked (domains_in (held_at held.old 2)).domains }
     ensures heard { OnOk result (held.new ≡ put_in_place cell
         (hears (tables_shown cell held.old) (row_held held.old client) client
         (verdict_read (row_held held.old client) read.now)) held.old) }
@@ -148,6 +157,9 @@ fn hear_read(
         None => Ok(()),
         Some(Act::Request { invoke, asked }) => {
             serve_request(alloc, held, clients, client, invoke, asked)
+        }
+        Some(Act::Reply { number, answer }) => {
+            reply_on_domains(alloc, held, clients, client, number, answer)
         }
         Some(Act::Cancel { invoke }) => cancel(alloc, held, clients, client, invoke),
         Some(act) => serve(alloc, held, clients, &Task::Client(client, act)),
@@ -171,6 +183,8 @@ fn hear_told(
     requires ready { (told : Result Pdu Refusal) × Hears (λ r. r.pdu) read.now told
         × IsReady clients client (verdict_by (row_held held.old client).association
         (row_held held.old client) told) held.old }
+    requires loads { IsDomains (held_at held.old 2) → AreLoads client
+        (row_held held.old client).asked (domains_in (held_at held.old 2)).domains }
     ensures heard { (told : Result Pdu Refusal) → Hears (λ r. r.pdu) read.now told
         → OnOk result (held.new ≡ put_in_place cell
         (hears (tables_shown cell held.old) (row_held held.old client) client
@@ -200,6 +214,8 @@ fn hear_octets(
     requires held { IsClient (held_at held.old (client_place client)) }
     requires ready { IsReady clients client (verdict_by (row_held held.old client).association
         (row_held held.old client) (pdu_heard edition octets.now)) held.old }
+    requires loads { IsDomains (held_at held.old 2) → AreLoads client
+        (row_held held.old client).asked (domains_in (held_at held.old 2)).domains }
     ensures heard { OnOk result (held.new ≡ put_in_place cell
         (hears (tables_shown cell held.old) (row_held held.old client) client
         (verdict_by (row_held held.old client).association (row_held held.old client)
@@ -228,6 +244,8 @@ fn hear_from(
     requires held { IsClient (held_at held.old (client_place client)) }
     requires ready { IsReady clients client (verdict (row_held held.old client) octets.now)
         held.old }
+    requires loads { IsDomains (held_at held.old 2) → AreLoads client
+        (row_held held.old client).asked (domains_in (held_at held.old 2)).domains }
     ensures heard { OnOk result (held.new ≡ put_in_place cell
         (hears (tables_shown cell held.old) (row_held held.old client) client
         (verdict (row_held held.old client) octets.now)) held.old) }

@@ -11,12 +11,16 @@ ghost use Rattle.parted_state.specs.Area.{no_table};
 ghost use Rattle.cell_services.specs.Acts.{all_done, IsDoneIn};
 ghost use Rattle.cell_services.specs.Serving.{hears};
 ghost use Rattle.cell_services.specs.Tables.{Tables, own_semaphores, own_variables};
+ghost use Rattle.serve_semaphores.specs.Semaphores as of_semaphores;
 ghost use Rattle.serve_semaphores.specs.Tokens.{told_after};
+ghost use Rattle.serve_variables.specs.Variables as of_variables;
+ghost use Rattle.cell_services.specs.Facts.{is_domain_live};
 ghost use Rattle.mms_step.specs.State.{State};
-ghost use Rattle.mms_step.specs.Partition.{cell, parts_of, clients_among, clock_in, client_in, client_place, row_in, semaphores_in, semaphores_place, variables_in, IsClient, IsSemaphores, IsVariables};
+ghost use Rattle.mms_step.specs.Partition.{cell, parts_of, clients_among, clock_in, client_in, client_place, row_in, semaphores_in, semaphores_place, variables_in, domains_in, IsClient, IsSemaphores, IsVariables};
 ghost use Rattle.mms_step.specs.Tasks.{row_held, AreDone, IsRoomless};
 
 use crate::applying::{put_client, take_client};
+use crate::domains::{domains_held, live_held};
 use crate::needs::{now_held, semaphores_held, variables_held};
 use crate::tables::{VARIABLES, semaphores as semaphores_part};
 use crate::telling::{make_rooms, tell_all};
@@ -25,6 +29,7 @@ use cell_client::Told;
 use mms_time::Semaphores;
 use mms_types::{DeviceRequest, Memory, Moment, SemaphoreRequest, VariableRequest};
 use part_table::Hand;
+use serve_domains::DomainTables;
 use std::alloc::Global;
 use variable_services::VariableTables;
 
@@ -78,6 +83,7 @@ fn variables_in_parts(
     part: &mut Part,
     table: &mut Part,
     semaphores: &Semaphores,
+    live: bool,
     invoke: u32,
     asked: VariableRequest<'_>,
 ) -> Result<(), Memory>
@@ -85,14 +91,16 @@ fn variables_in_parts(
     requires variables { IsVariables (Some table.old) }
     requires settled { IsRoomless part.old }
     ensures served { OnOk result ((t : Tables) → t.variables ≡ variables_in (Some table.old)
-        → t.semaphores ≡ semaphores.now → AreDone own_variables Part.Variables t
+        → t.semaphores ≡ semaphores.now
+        → live ≡ is_domain_live (of_variables.domain_asked asked.entry) t.domains
+        → AreDone own_variables Part.Variables t
         (Takes invoke (variable_request asked.entry)) part.old part.new table.new) }
     ensures kept { OnErr result (part.new ≡ part.old) }
     ensures same { OnErr result (table.new ≡ table.old) }
 {
     match (part, table) {
         (Part::Client(own), Part::Variables(variables)) => {
-            cell_services::serve_variables(alloc, own, variables, semaphores, invoke, asked)
+            cell_services::serve_variables(alloc, own, variables, semaphores, live, invoke, asked)
         }
         _ => unreachable!(),
     }
@@ -119,11 +127,14 @@ pub(crate) fn serve_on_variables(
         (Takes invoke (variable_request asked.entry))) held.old) }
     ensures kept { OnErr result (held.new ≡ held.old) }
 {
+    let live = live_held(held, serve_variables::domain_asked(asked));
     let mut part = take_client(held, client);
     let mut table = take_variables(held);
     let none = Semaphores::new(alloc);
     let semaphores = semaphores_held(held, clients, &none);
-    let done = variables_in_parts(alloc, &mut part, &mut table, semaphores, invoke, asked);
+    let done = variables_in_parts(
+        alloc, &mut part, &mut table, semaphores, live, invoke, asked,
+    );
     put_variables(held, table);
     put_client(held, client, part);
     done
@@ -136,6 +147,7 @@ fn semaphores_in_parts(
     part: &mut Part,
     table: &mut Part,
     now: Moment,
+    live: bool,
     invoke: u32,
     asked: SemaphoreRequest<'_>,
 ) -> Result<Option<Vec<(u32, Told)>>, Memory>
@@ -145,10 +157,12 @@ fn semaphores_in_parts(
     requires settled { IsRoomless part.old }
     ensures served { IfOk result (λ left. IfNone left ((t : Tables)
         → t.semaphores ≡ semaphores_in (Some table.old) → t.now ≡ now.0
+        → live ≡ is_domain_live (of_semaphores.domain_asked asked.entry) t.domains
         → AreDone own_semaphores Part.Semaphores t
         (Takes invoke (semaphore_request asked.entry)) part.old part.new table.new)) }
     ensures left { IfOk result (λ left. IfSome left (λ told. (t : Tables)
         → t.semaphores ≡ semaphores_in (Some table.old) → t.now ≡ now.0
+        → live ≡ is_domain_live (of_semaphores.domain_asked asked.entry) t.domains
         → hears t (row_in (Some part.old)) (row_in (Some part.old)).client
         (Takes invoke (semaphore_request asked.entry)) ≡ all_done (own_semaphores.put
         (told_after (row_in (Some part.old)).client now asked.entry
@@ -160,7 +174,7 @@ fn semaphores_in_parts(
 {
     match (part, table) {
         (Part::Client(own), Part::Semaphores(rows)) => {
-            cell_services::serve_semaphores(alloc, own, rows, now, invoke, asked)
+            cell_services::serve_semaphores(alloc, own, rows, now, live, invoke, asked)
         }
         _ => unreachable!(),
     }
@@ -197,9 +211,10 @@ fn serve_alone(
     ensures same { IfOk result (λ left. OnSome left (held.new ≡ held.old)) }
     ensures kept { OnErr result (held.new ≡ held.old) }
 {
+    let live = live_held(held, serve_semaphores::domain_asked(asked));
     let mut part = take_client(held, client);
     let mut table = take_semaphores(held, clients);
-    let left = semaphores_in_parts(alloc, &mut part, &mut table, now, invoke, asked);
+    let left = semaphores_in_parts(alloc, &mut part, &mut table, now, live, invoke, asked);
     put_semaphores(held, clients, table);
     put_client(held, client, part);
     left
@@ -330,6 +345,7 @@ fn device_in_part(
     alloc: Global,
     part: &mut Part,
     variables: &VariableTables,
+    domains: &DomainTables,
     semaphores: &Semaphores,
     invoke: u32,
     asked: DeviceRequest<'_>,
@@ -337,20 +353,20 @@ fn device_in_part(
     requires client { IsClient (Some part.old) }
     requires tables { plain_answer (row_in (Some part.old)) (device_request asked) ≡ None }
     ensures served { OnOk result ((t : Tables) → t.variables ≡ variables.now
-        → t.semaphores ≡ semaphores.now → IsDoneIn no_table t (row_in (Some part.old)) tt
+        → t.domains ≡ domains.now → t.semaphores ≡ semaphores.now → IsDoneIn no_table t (row_in (Some part.old)) tt
         (client_in (Some part.new)) (Takes invoke (device_request asked.entry))) }
     ensures client { IsClient (Some part.new) }
     ensures kept { OnErr result (part.new ≡ part.old) }
 {
     match part {
         Part::Client(own) => {
-            cell_services::serve_device(alloc, own, variables, semaphores, invoke, asked)
+            cell_services::serve_device(alloc, own, variables, domains, semaphores, invoke, asked)
         }
         _ => unreachable!(),
     }
 }
 
-/// The same, where the semaphores are those that are held.
+/// The same, where the domains and the semaphores are those that are held.
 fn device_beside(
     alloc: Global,
     held: &Hand<Cell>,
@@ -363,7 +379,8 @@ fn device_beside(
     requires few { clients ≤ 64 }
     requires client { IsClient (Some part.old) }
     requires tables { plain_answer (row_in (Some part.old)) (device_request asked) ≡ None }
-    ensures served { OnOk result ((t : Tables) → t.variables ≡ variables.now → t.semaphores
+    ensures served { OnOk result ((t : Tables) → t.variables ≡ variables.now
+        → t.domains ≡ domains_in (held_at held.now 2) → t.semaphores
         ≡ semaphores_in (held_at held.now (semaphores_place clients)) → IsDoneIn no_table t
         (row_in (Some part.old)) tt (client_in (Some part.new))
         (Takes invoke (device_request asked.entry))) }
@@ -372,7 +389,9 @@ fn device_beside(
 {
     let none = Semaphores::new(alloc);
     let semaphores = semaphores_held(held, clients, &none);
-    device_in_part(alloc, part, variables, semaphores, invoke, asked)
+    let no_domains = DomainTables::empty(alloc);
+    let domains = domains_held(held, &no_domains);
+    device_in_part(alloc, part, variables, domains, semaphores, invoke, asked)
 }
 
 /// The same, where the variables are those that are held, too.
@@ -388,6 +407,7 @@ fn device_on(
     requires client { IsClient (Some part.old) }
     requires tables { plain_answer (row_in (Some part.old)) (device_request asked) ≡ None }
     ensures served { OnOk result ((t : Tables) → t.variables ≡ variables_in (held_at held.now 1)
+        → t.domains ≡ domains_in (held_at held.now 2)
         → t.semaphores ≡ semaphores_in (held_at held.now (semaphores_place clients))
         → IsDoneIn no_table t (row_in (Some part.old)) tt (client_in (Some part.new))
         (Takes invoke (device_request asked.entry))) }

@@ -1,6 +1,6 @@
 //! The tables that a confirmed request uses (this profile's choice).
 
-ghost use Rattle.std.specs.Prelude.{◌≡◌, ◌≤◌, [], ◌∷◌, ◌++◌, is_some, MatchOption};
+ghost use Rattle.std.specs.Prelude.{◌≡◌, ◌≤◌, ℕ, List, Option, [], ◌∷◌, ◌++◌, is_some, if◌then◌else◌, MatchOption};
 ghost use Rattle.std.specs.List.{flat_map, list_any};
 ghost use Rattle.parted_state.specs.Sets.{IsSetOf};
 ghost use Rattle.association.specs.Client.{ClientRow};
@@ -9,11 +9,11 @@ ghost use Rattle.parted_state.specs.Lifted.{tables_shown};
 ghost use Rattle.serve_variables.specs.Variables.{guards_asked};
 ghost use Rattle.mms_step.specs.Needs.{placed};
 ghost use Rattle.mms_step.specs.Partition.{cell, variables_in};
-ghost use Rattle.cell_services.specs.Device.{is_domain};
-ghost use Rattle.cell_services.specs.Facts.{Live, Names, guard_tables, tables_for};
+ghost use Rattle.cell_services.specs.Device.{domain_of, is_domain};
+ghost use Rattle.cell_services.specs.Facts.{Live, Names, guard_tables, scope_tables, tables_for};
 ghost use Rattle.serve_semaphores.specs.Semaphores.{at_its_moment};
-ghost use Rattle.cell_services.specs.Services.{request_asks, request_more};
-ghost use Rattle.cell_services.specs.Tables.{own_semaphores, own_variables};
+ghost use Rattle.cell_services.specs.Services.{area_of, more_of, request_asks};
+ghost use Rattle.cell_services.specs.Tables.{own_domains, own_semaphores, own_variables};
 
 use crate::Cell;
 use crate::needs::variables_held;
@@ -21,6 +21,7 @@ use crate::tables::{CLOCK, CONDITIONS, DOMAINS, JOURNALS, PROGRAMS, VARIABLES, s
 use mms_types::{AreaRequest, DeviceRequest, ObjectClass, ObjectScope, Request, VariableRequest};
 use part_table::Hand;
 use parted_state::Parts;
+use serve_domains::scope_asked;
 use serve_variables::is_guarded;
 use std::alloc::Global;
 use variable_services::VariableTables;
@@ -49,7 +50,8 @@ fn class_part(clients: u32, class: ObjectClass) -> Option<u8>
 fn listing(scope: &ObjectScope, class: ObjectClass, clients: u32) -> Parts
     requires few { clients ≤ 64 }
     ensures { IsSetOf result (placed clients
-        (flat_map tables_for (Live (is_domain scope.now) ∷ Names class ∷ []))) }
+        (flat_map tables_for (Live (is_domain scope.now) (domain_of scope.now)
+        ∷ Names class ∷ []))) }
 {
     match (scope, class_part(clients, class)) {
         (ObjectScope::Domain(_), Some(part)) => Parts::of(&[DOMAINS, part]),
@@ -61,8 +63,8 @@ fn listing(scope: &ObjectScope, class: ObjectClass, clients: u32) -> Parts
 
 /// The part of the variables, and that of the domains where one is written in the request.
 fn variable_asks(of_domain: bool, clients: u32) -> Parts
-    ensures { IsSetOf result (placed clients
-        (own_variables.numbers ++ flat_map tables_for (Live of_domain ∷ []))) }
+    ensures { (domain : Option (List ℕ)) → IsSetOf result (placed clients
+        (own_variables.numbers ++ flat_map tables_for (Live of_domain domain ∷ []))) }
 {
     let _clients = clients;
     if of_domain {
@@ -75,13 +77,32 @@ fn variable_asks(of_domain: bool, clients: u32) -> Parts
 /// The parts of the semaphores and of the clock, and that of the domains where one is written in the request.
 fn semaphore_asks(of_domain: bool, clients: u32) -> Parts
     requires few { clients ≤ 64 }
-    ensures { IsSetOf result (placed clients
-        (own_semaphores.numbers ++ flat_map tables_for (at_its_moment of_domain))) }
+    ensures { (domain : Option (List ℕ)) → IsSetOf result (placed clients
+        (own_semaphores.numbers ++ flat_map tables_for (at_its_moment of_domain domain))) }
 {
     if of_domain {
         Parts::of(&[semaphores(clients), CLOCK, DOMAINS])
     } else {
         Parts::of(&[semaphores(clients), CLOCK])
+    }
+}
+
+/// The part of the domains, and those of the objects that have a scope, where it is asked whether one has it.
+fn domain_asks(scoped: bool, clients: u32) -> Parts
+    requires few { clients ≤ 64 }
+    ensures { IsSetOf result (placed clients
+        (own_domains.numbers ++ (if scoped then scope_tables else []))) }
+{
+    if scoped {
+        Parts::of(&[
+            DOMAINS,
+            VARIABLES,
+            CONDITIONS,
+            JOURNALS,
+            semaphores(clients),
+        ])
+    } else {
+        Parts::of(&[DOMAINS])
     }
 }
 
@@ -101,6 +122,7 @@ pub(crate) fn request_asks(asked: &Request, clients: u32) -> Parts
         AreaRequest::Semaphores(asked) => {
             semaphore_asks(serve_semaphores::names_domain(asked), clients)
         }
+        AreaRequest::Domains(asked) => domain_asks(scope_asked(asked).is_some(), clients),
     }
 }
 
@@ -134,10 +156,12 @@ pub(crate) fn request_more(
 ) -> Parts
     requires few { clients ≤ 64 }
     ensures { (row : ClientRow) → row.client ≡ client → IsSetOf result
-        (placed clients (request_more (tables_shown cell held.now) row asked.now)) }
+        (placed clients (more_of (tables_shown cell held.now) row (area_of asked.now))) }
 {
     match asked.area() {
         AreaRequest::Variables(asked) => guards_asked(alloc, held, client, asked, clients),
-        AreaRequest::Device(_) | AreaRequest::Semaphores(_) => Parts::new(),
+        AreaRequest::Device(_) | AreaRequest::Semaphores(_) | AreaRequest::Domains(_) => {
+            Parts::new()
+        }
     }
 }

@@ -10,6 +10,7 @@ ghost use Rattle.mms_types.specs.declared.semaphore.RelinquishControl.{Relinquis
 ghost use Rattle.mms_types.specs.declared.event.CellEvent.TheVariants.{Heard, Lost, Tick};
 ghost use Rattle.association.specs.declared.negotiation.Association.TheVariants.{Open};
 ghost use Rattle.association.specs.declared.negotiation.Negotiated.{Negotiated};
+ghost use Rattle.domain_upload.specs.Uploads.{AreOf};
 ghost use Rattle.token_sem.specs.Semaphore.{Rises, Sem, is_queued, tokens_held};
 ghost use Rattle.pool_sem.specs.Pools.{Pool as NamedTokens, has, is_free, wants};
 ghost use Rattle.variables.specs.Rows.{cell_at};
@@ -23,11 +24,11 @@ ghost use Rattle.mms_time.specs.declared.row.Semaphore.TheVariants.{Token, Pool}
 ghost use Rattle.mms_time.specs.declared.row.SemaphoreRow.{SemaphoreRow};
 ghost use Rattle.sem_ticks.specs.declared.ticks.Happening.TheVariants.{Grants};
 ghost use Rattle.parted_state.specs.Served.{done_of, row_at};
-ghost use Rattle.cell_client.specs.Association.{Verdict, Takes, Concludes, Aborts, verdict};
-ghost use Rattle.cell_services.specs.Serving.{also_told, is_served, meanwhile, own_told, services};
+ghost use Rattle.cell_client.specs.Association.{Takes, verdict};
+ghost use Rattle.cell_services.specs.Serving.{also_told, is_served, meanwhile, own_told, resolved, services};
 ghost use Rattle.cell_services.specs.Tables.{Tables};
 ghost use Rattle.association.specs.Client.{ClientRow};
-ghost use Rattle.mms_step.specs.Answered.{AnswersOrWaits, AreAnswered, IsAnswered};
+ghost use Rattle.mms_step.specs.Answered.{AnswersOrWaits, AreAnswered, EndsIt, IsAnswered};
 ghost use Rattle.mms_types.specs.declared.event.CellEvent.{CellEvent};
 ghost use Rattle.mms_types.specs.Actors.{IsAmong};
 ghost use Rattle.part_table.specs.Held.{held_at, IsHandOf};
@@ -62,8 +63,9 @@ pub fn a_step_is_of_the_held_parts()
 
 /// Every state is sound that the device reaches from its start: its clients are as many as they were, each in its
 /// place, and no more requests of one wait than it may have, each with the number of one of the events; its semaphores
-/// are sound, and each deadline lies ahead. Where the events are some that may come, its moment is one that six octets
-/// name.
+/// are sound, and each deadline lies ahead; no two domains have one name; of the requests of a load that a client hasn't
+/// answered there is one for each domain that it loads, and no other; and the domain of each open upload is there, and
+/// isn't LOADING. Where the events are some that may come, its moment is one that six octets name.
 pub fn each_state_is_sound()
     ensures sound { (config : Config) (history : List CellEvent) → IsConfig config
         → IsSound (length history) (replay config history) }
@@ -139,8 +141,9 @@ pub fn a_grant_is_answered_at_once()
         → relinquish_granted (row_at cell client s.clients).client asked s.semaphores
         ≡ Some (Some g)
         → IsAnswered (step s (Heard client octets)) g }
-    ensures left { (s : State) (client : ℕ) (octets : List ℕ) (g : Granted) (v : Verdict)
-        → verdict (row_at cell client s.clients) octets ≡ v → (v ≡ Concludes) ⊎ (v ≡ Aborts)
+    ensures left { (s : State) (client : ℕ) (octets : List ℕ) (g : Granted)
+        → EndsIt (resolved (cell.tables_of s) (row_at cell client s.clients)
+        (verdict (row_at cell client s.clients) octets))
         → Contains
         (lost_granted (row_at cell client s.clients).client (record { 0 = s.now }) s.semaphores) g
         → IsAnswered (step s (Heard client octets)) g }
@@ -155,9 +158,15 @@ pub fn a_grant_is_answered_at_once()
 {}
 
 /// Each request that is taken is answered in that event by one output, or its client is told that it waits, and nothing
-/// is sent for it then.
+/// is sent for it then, in any state that the device reaches; and so on any tables where the domain of each open upload
+/// is there, without which an upload has no answer.
 pub fn each_request_is_answered_or_waits()
-    ensures { (t : Tables) (row : ClientRow) (invoke : ℕ) (asked : Request)
+    ensures reached { (config : Config) (history : List CellEvent) → IsConfig config
+        → (row : ClientRow) (invoke : ℕ) (asked : Request) → AnswersOrWaits row.client invoke
+        (own_told (cell.tables_of (replay config history)) row (Takes invoke asked))
+        (also_told (cell.tables_of (replay config history)) row (Takes invoke asked)) }
+    ensures any { (t : Tables) (row : ClientRow) (invoke : ℕ)
+        → AreOf t.domains.uploads t.domains.domains → (asked : Request)
         → AnswersOrWaits row.client invoke (own_told t row (Takes invoke asked))
         (also_told t row (Takes invoke asked)) }
 {}

@@ -6,6 +6,7 @@ mod applying;
 mod areas;
 mod asks;
 mod cell;
+mod domains;
 pub mod laws;
 mod lifted;
 mod needs;

@@ -2,15 +2,16 @@
 
 ghost use Rattle.std.specs.Prelude.{◌≡◌, ◌≤◌, length};
 ghost use Rattle.part_table.specs.Held.{held_at};
-ghost use Rattle.mms_step.specs.Lifting.{clocked, tabled, varied, with_semaphores};
+ghost use Rattle.mms_step.specs.Lifting.{clocked, domained, tabled, varied, with_semaphores};
 ghost use Rattle.cell_services.specs.Meant.{no_tables};
-ghost use Rattle.mms_step.specs.Partition.{clients_among, clock_in, clock_or, semaphores_in, semaphores_or, semaphores_place, variables_in, variables_or};
+ghost use Rattle.mms_step.specs.Partition.{clients_among, clock_in, clock_or, domains_in, domains_or, semaphores_in, semaphores_or, semaphores_place, variables_in, variables_or};
 
 use crate::tables::semaphores as semaphores_part;
 use crate::{Cell, Part};
 use cell_services::{Clock, Tables};
 use mms_time::Semaphores;
 use part_table::Hand;
+use serve_domains::DomainTables;
 use std::alloc::Global;
 use std::mem;
 use variable_services::VariableTables;
@@ -47,6 +48,22 @@ fn exchange_variables(held: &mut Hand<Cell>, variables: &mut VariableTables)
     held.put(1, part);
 }
 
+/// Exchanges the domains with those of the part, where they are held.
+fn exchange_domains(held: &mut Hand<Cell>, domains: &mut DomainTables)
+    ensures part { held.new ≡ domained domains.old held.old }
+    ensures domains { domains.new ≡ domains_or domains.old (held_at held.old 2) }
+{
+    let Some(mut part) = held.take(2) else {
+        return;
+    };
+    if let Part::Domains(own) = &mut *part {
+        mem::swap(own, domains);
+        held.put(2, part);
+        return;
+    }
+    held.put(2, part);
+}
+
 /// Exchanges the semaphores with those of the part, where they are held, with so many clients.
 fn exchange_semaphores(held: &mut Hand<Cell>, clients: u32, semaphores: &mut Semaphores)
     requires many { clients ≡ clients_among (length held.old) }
@@ -74,6 +91,7 @@ pub(crate) fn lift(alloc: Global, held: &mut Hand<Cell>, clients: u32) -> Tables
     ensures tables { result ≡ record {
       now = clock_in (held_at held.old 0);
       variables = variables_in (held_at held.old 1);
+      domains = domains_in (held_at held.old 2);
       semaphores = semaphores_in (held_at held.old (semaphores_place clients));
     } }
     ensures left { held.new ≡ tabled no_tables held.old }
@@ -81,6 +99,7 @@ pub(crate) fn lift(alloc: Global, held: &mut Hand<Cell>, clients: u32) -> Tables
     let mut tables = Tables::empty(alloc);
     exchange_clock(held, &mut tables.clock);
     exchange_variables(held, &mut tables.variables);
+    exchange_domains(held, &mut tables.domains);
     exchange_semaphores(held, clients, &mut tables.semaphores);
     tables
 }
@@ -94,5 +113,6 @@ pub(crate) fn lower(held: &mut Hand<Cell>, clients: u32, tables: Tables)
     let mut tables = tables;
     exchange_clock(held, &mut tables.clock);
     exchange_variables(held, &mut tables.variables);
+    exchange_domains(held, &mut tables.domains);
     exchange_semaphores(held, clients, &mut tables.semaphores);
 }

@@ -3,7 +3,7 @@
 ghost use Rattle.std.specs.Prelude.{◌≡◌, ℕ, ◌+◌, ◌<◌, ◌≤◌, [], true, Some, length, IfOk};
 ghost use Rattle.mms_types.specs.Actors.{IsAmong};
 ghost use Rattle.part_table.specs.Held.{held_at, IsHandOf};
-ghost use Rattle.cell_client.specs.Meant.{meant};
+ghost use Rattle.cell_client.specs.Meant.{came, meant};
 ghost use Rattle.variable_services.specs.Services.{no_variables};
 ghost use Rattle.parted_state.specs.Lifted.{tables_shown};
 ghost use Rattle.mms_step.specs.State.{State, IsSound};
@@ -14,26 +14,29 @@ ghost use Rattle.sem_ticks.specs.Ticks.{ticked};
 ghost use Rattle.parted_state.specs.Cut.{missing};
 ghost use Rattle.parted_state.specs.Sets.{IsSetOf};
 ghost use Rattle.mms_step.specs.Partition.{cell, parts_of, client_place, clients_among, clock_in, semaphores_in, semaphores_place, variables_in, IsClient};
-ghost use Rattle.cell_client.specs.Association.{verdict_by};
+ghost use Rattle.cell_client.specs.Association.{verdict_by, Concludes, Replies, Takes};
+ghost use Rattle.cell_services.specs.Services.{area_of, lacks_number};
 ghost use Rattle.mms_step.specs.Needs.{also_parts, client_parts, footprint, happened_need, heard_need, is_held, is_own, lost_need, need, placed, time_need, verdict_need};
 ghost use Rattle.mms_step.specs.Step.{IsInTime};
 ghost use Rattle.cell_client.specs.Reads.{pdu_read, IsDeep, IsReadOf, IsReadingOf};
 
 use crate::asks::{request_asks, request_more};
+use crate::domains::domains_held;
 use crate::tables::{
     BEFORE_CLIENTS, CLOCK, CONDITIONS, DOMAINS, JOURNALS, PROGRAMS, VARIABLES, clients_of,
     semaphores,
 };
 use crate::{Cell, Part};
 use association::ClientPart;
-use cell_client::{Found, Reading, read, verdict_of};
+use cell_client::{Came, Found, Reading, read, verdict_of};
 use cell_services::{also_told, happened_to, is_lossy, loss_told};
 use mms_pdu::{Read, Refusal};
 use mms_time::Semaphores;
-use mms_types::{CellEvent, Memory, Moment, Request};
+use mms_types::{AreaRequest, CellEvent, Memory, Moment, Request};
 use part_table::Hand;
 use parted_state::Parts;
 use sem_ticks::{Happening, tick};
+use serve_domains::{DomainTables, lacks_number, reply_lacks_number};
 use std::alloc::Global;
 use variable_services::VariableTables;
 
@@ -76,9 +79,85 @@ fn heard_asks(found: &Found<'_>, clients: u32) -> Parts
     match *found {
         Found::Tells(_) => Parts::new(),
         Found::Takes(_, asked) => request_asks(asked, clients),
-        Found::Concludes => Parts::of(&[DOMAINS]),
+        Found::Replies(_, _) | Found::Concludes => Parts::of(&[DOMAINS]),
         Found::Cancels(_) => Parts::of(&[CLOCK, semaphores(clients)]),
         Found::Aborts => loss_parts(clients),
+    }
+}
+
+/// Whether something would be asked of a client by its request, and no number is left for that.
+fn request_lacks(
+    alloc: Global,
+    held: &Hand<Cell>,
+    part: &ClientPart,
+    invoke: u32,
+    asked: &Request,
+) -> Result<bool, Memory>
+    ensures { IfOk result (λ lacks. lacks ≡ lacks_number (tables_shown cell held.now)
+        part.now.row invoke (area_of asked.now)) }
+{
+    match asked.area() {
+        AreaRequest::Domains(asked) => {
+            let none = DomainTables::empty(alloc);
+            lacks_number(alloc, part, domains_held(held, &none), invoke, asked)
+        }
+        AreaRequest::Device(_) | AreaRequest::Variables(_) | AreaRequest::Semaphores(_) => {
+            Ok(false)
+        }
+    }
+}
+
+/// The parts of the tables that a request uses beside those of its words, by what they show.
+fn taken_more(
+    alloc: Global,
+    held: &Hand<Cell>,
+    part: &ClientPart,
+    invoke: u32,
+    asked: &Request,
+    clients: u32,
+) -> Result<Parts, Memory>
+    requires few { clients ≤ 64 }
+    ensures { IfOk result (λ parts. IsSetOf parts (placed clients
+        (heard_more (tables_shown cell held.now) part.now.row (Takes invoke asked.now)))) }
+{
+    if request_lacks(alloc, held, part, invoke, asked)? {
+        Ok(loss_parts(clients))
+    } else {
+        Ok(request_more(alloc, held, part.client(), asked, clients))
+    }
+}
+
+/// The same of what a client answers to the server: none, unless it is aborted.
+fn reply_more(
+    held: &Hand<Cell>,
+    part: &ClientPart,
+    number: u32,
+    answer: Came<'_>,
+    clients: u32,
+) -> Parts
+    requires few { clients ≤ 64 }
+    ensures { IsSetOf result (placed clients (heard_more (tables_shown cell held.now)
+        part.now.row (Replies number (came answer.entry)))) }
+{
+    let _held = held;
+    if reply_lacks_number(part, number, answer) {
+        loss_parts(clients)
+    } else {
+        Parts::new()
+    }
+}
+
+/// The same of a conclusion: none where an open upload refuses it.
+fn conclusion_more(alloc: Global, held: &Hand<Cell>, part: &ClientPart, clients: u32) -> Parts
+    requires few { clients ≤ 64 }
+    ensures { IsSetOf result (placed clients
+        (heard_more (tables_shown cell held.now) part.now.row Concludes)) }
+{
+    let none = DomainTables::empty(alloc);
+    if domains_held(held, &none).has_upload(part.client()) {
+        Parts::new()
+    } else {
+        loss_parts(clients)
     }
 }
 
@@ -89,21 +168,17 @@ fn heard_more(
     part: &ClientPart,
     found: &Found<'_>,
     clients: u32,
-) -> Parts
+) -> Result<Parts, Memory>
     requires few { clients ≤ 64 }
-    ensures { IsSetOf result (placed clients
-        (heard_more (tables_shown cell held.now) part.now.row (meant found.now))) }
+    ensures { IfOk result (λ parts. IsSetOf parts (placed clients
+        (heard_more (tables_shown cell held.now) part.now.row (meant found.now)))) }
 {
     match *found {
-        Found::Takes(_, asked) => request_more(alloc, held, part.client(), asked, clients),
-        Found::Concludes => Parts::of(&[
-            CLOCK,
-            VARIABLES,
-            CONDITIONS,
-            JOURNALS,
-            semaphores(clients),
-        ]),
-        Found::Tells(_) | Found::Cancels(_) | Found::Aborts => Parts::new(),
+        Found::Takes(invoke, asked) => taken_more(alloc, held, part, invoke, asked, clients),
+        Found::Replies(number, answer) => { Ok(reply_more(held, part, number, answer, clients)) }
+        Found::Concludes => Ok(conclusion_more(alloc, held, part, clients)),
+        Found::Aborts => Ok(loss_parts(clients)),
+        Found::Tells(_) | Found::Cancels(_) => Ok(Parts::new()),
     }
 }
 
@@ -217,7 +292,9 @@ fn also_need(
 {
     let none = Semaphores::new(alloc);
     let semaphores = semaphores_held(held, clients, &none);
-    let told = also_told(alloc, semaphores, now_held(held), part, found)?;
+    let no_domains = DomainTables::empty(alloc);
+    let domains = domains_held(held, &no_domains);
+    let told = also_told(alloc, domains, semaphores, now_held(held), part, found)?;
     Ok(untold(&told, clients, held))
 }
 
@@ -252,7 +329,8 @@ fn found_need(
     if !missing.is_empty() {
         return Ok(missing);
     }
-    let missing = unheld(&heard_more(alloc, held, part, found, clients), held);
+    let more = heard_more(alloc, held, part, found, clients)?;
+    let missing = unheld(&more, held);
     if !missing.is_empty() {
         return Ok(missing);
     }

@@ -3,6 +3,7 @@
 use cell_client::Client;
 use cell_services::Clock;
 use mms_time::Semaphores;
+use serve_domains::DomainTables;
 use variable_services::VariableTables;
 
 /// A part of the device. With n clients there are n + 7 of them, in this order, with a part for each client.
@@ -11,8 +12,8 @@ pub enum Part {
     Clock(Clock),
     /// Part 1: cells, named variables and lists of variables.
     Variables(VariableTables),
-    /// Part 2: domains and uploads. There are none yet.
-    Domains,
+    /// Part 2: domains and uploads.
+    Domains(DomainTables),
     /// Part 3: program invocations. There are none yet.
     Programs,
     /// Part 4: event conditions and enrolments. There are none yet.
@@ -30,7 +31,7 @@ impl Drop for Part {
         match self {
             Part::Clock(_clock) => {}
             Part::Variables(_variables) => {}
-            Part::Domains => {}
+            Part::Domains(_domains) => {}
             Part::Programs => {}
             Part::Conditions => {}
             Part::Journals => {}

@@ -12,7 +12,7 @@ use Rattle.mms_step.specs.Partition.{cell, clients_among, clock_in}
 use Rattle.mms_step.specs.Needs.{need}
 use Rattle.cell_services.specs.Serving.{hears}
 use Rattle.mms_step.proofs.Enough.{client_is_held, lost_is_held, heard_becomes, lost_becomes, ticked_becomes, ended_becomes, drained_becomes, becomes_as, places_either}
-use Rattle.mms_step.proofs.Ready.{ready_to_hear}
+use Rattle.mms_step.proofs.Ready.{loads_held, ready_to_hear}
 use Rattle.mms_step.proofs.applying.apply_read.Goals as goal
 
 pub hear_from-requires-clause-held : goal.hear_from-requires-clause-held
@@ -31,6 +31,14 @@ hear_from-requires-clause-ready c =
     subst (λ (n : ℕ). IsReady n c.in-Heard.client (verdict (row_held hand c.in-Heard.client) c.as_slice.result.now) hand) (sym c.clients_of-clients.ensures)
     (subst (λ (o : List ℕ). IsReady (clients_among (length hand)) c.in-Heard.client (verdict (row_held hand c.in-Heard.client) o) hand) (sym c.as_slice.ensures)
     (ready_to_hear hand c.in-Heard.client c.in-Heard.octets c.requires.of among (client_is_held hand told c.in-Heard.client c.requires.of among refl enough) enough))
+
+pub hear_from-requires-clause-loads : goal.hear_from-requires-clause-loads
+hear_from-requires-clause-loads c = λ table.
+    let hand = c.args.held.now in
+    let told = Heard c.in-Heard.client c.in-Heard.octets in
+    let among = subst (λ (e : CellEvent). IsAmong (clients_among (length hand)) e) c.in-Heard.is c.requires.among in
+    let enough = subst (λ (e : CellEvent). need e hand ≡ []) c.in-Heard.is c.requires.held in
+    loads_held hand c.in-Heard.client c.requires.of among (client_is_held hand told c.in-Heard.client c.requires.of among refl enough) table
 
 pub serve-requires-clause-own : goal.serve-requires-clause-own
 serve-requires-clause-own c =

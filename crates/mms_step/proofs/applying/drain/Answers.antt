@@ -1,7 +1,9 @@
+use denote.Param.Send.{param_send, arg_send}
 use Rattle.std.proofs.Common.{◌+◌}
 use Rattle.association.specs.Client.{drained_row}
 use Rattle.mms_step.proofs.Changed.{client_changed}
 use Rattle.mms_step.proofs.Enough.{drained_is_after}
+use Rattle.mms_step.proofs.Sent.{part_send}
 use Rattle.mms_step.proofs.applying.drain.Goals as goal
 
 pub returns-clause-emptied : goal.returns-clause-emptied
@@ -14,3 +16,9 @@ returns-clause-parts c s of among =
     drained_is_after c.args.held.now c.put.new.self c.args.client s of among c.requires.held
     (client_changed drained_row c.args.held.now c.take.new.self c.put.new.self (5 + c.args.client) c.in-Some.part.value c.deref_mut.result.now c.in-Client.client
     c.drain-outputs.new.self c.in-Some.ensures.part c.in-Some.ensures.left c.deref_mut.ensures.value c.in-Client.is c.drain-outputs.ensures.emptied c.put.ensures)
+
+pub take-requires-send-O-Part : goal.take-requires-send-O-Part
+take-requires-send-O-Part _ _ = param_send 1 _ (arg_send _ denote.Exit.yes _ part_send)
+
+pub put-requires-send-O-Part : goal.put-requires-send-O-Part
+put-requires-send-O-Part _ _ = param_send 1 _ (arg_send _ denote.Exit.yes _ part_send)

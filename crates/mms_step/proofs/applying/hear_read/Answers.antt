@@ -1,21 +1,26 @@
-use Rattle.std.proofs.Common.{◌≡◌, false, is_none, Some, ap, sym, ◌∙◌, List, Option, arith, subst}
+use Rattle.std.proofs.Common.{◌≡◌, ℕ, false, true, is_none, Some, ap, sym, ◌∙◌, List, Option, arith, subst}
 use Rattle.std.proofs.lemmas.Result.{on_err_weaker, on_ok_weaker}
 use Rattle.parted_state.specs.Lifted.{put_in_place, tables_shown}
 use Rattle.parted_state.specs.Served.{Done}
 use Rattle.mms_step.specs.declared.part.Part.{Part}
 use Rattle.cell_client.specs.declared.acts.Act.{Act}
 use Rattle.cell_client.specs.declared.acts.Act.TheVariants as act
-use Rattle.cell_client.specs.Association.{Verdict, Cancels, Takes}
-use Rattle.cell_client.specs.Meant.{act_verdict, uses_no_table, verdict_read}
+use Rattle.association.specs.Asked.{is_open}
+use Rattle.cell_client.specs.Association.{Verdict, Cancels, Replies, Takes}
+use Rattle.cell_client.specs.Reads.{pdu_read}
+use Rattle.serve_domains.specs.Domains.{AnswersLoad}
+use Rattle.serve_domains.specs.Loads.{AreLoads}
+use Rattle.serve_domains.proofs.Answered.{answers_load_by, is_open_reply, is_open_request}
+use Rattle.cell_client.specs.Meant.{act_verdict, came, uses_no_table, verdict_read}
 use Rattle.cell_services.specs.Acts.{act_done}
 use Rattle.cell_services.specs.Serving.{hears}
 use Rattle.mms_step.specs.Tasks.{row_held, IsReady}
 use Rattle.cell_client.specs.Effects.{Effect}
 use Rattle.part_table.specs.Held.{held_at}
-use Rattle.mms_step.specs.Partition.{cell, semaphores_place, IsSemaphores}
+use Rattle.mms_step.specs.Partition.{cell, domains_in, semaphores_place, IsDomains, IsSemaphores}
 use Rattle.cell_services.specs.Tables.{Tables}
 use Rattle.cell_services.proofs.PlanLaws.{left_of}
-use Rattle.mms_step.proofs.Ready.{cancels_left, not_plain, semaphores_to_cancel, takes_left}
+use Rattle.mms_step.proofs.Ready.{cancels_left, domains_to_reply, not_plain, replies_left, semaphores_to_cancel, takes_left}
 use Rattle.mms_step.proofs.ServeLaws.{alone_in_place, if_none, if_some, on_some}
 use Rattle.mms_step.proofs.applying.hear_read.Goals as goal
 
@@ -55,6 +60,60 @@ returns-in-Some-Request-clause-heard c =
     (takes_left (verdict_read (row_held c.args.held.now c.args.client) c.args.read.now) c.in_ok-hear_own.field-0 c.in-Some-Request.invoke c.in-Some-Request.asked (c.in-Some-Request.is ∙ ap Some c.in-Some-Request.field-0-is)
     c.in_ok-hear_own.ensures.left))
     c.serve_request.ensures.put
+
+pub serve_request-requires-clause-open : goal.serve_request-requires-clause-open
+serve_request-requires-clause-open c =
+    let same = on_some c.in_ok-hear_own.field-0 (act.Request c.in-Some-Request.invoke c.in-Some-Request.asked) (c.in-Some-Request.is ∙ ap Some c.in-Some-Request.field-0-is) c.in_ok-hear_own.ensures.same in
+    subst (λ (h : List (Option Part)). is_open (row_held h c.args.client).association ≡ true) (sym same)
+    (is_open_request (row_held c.args.held.now c.args.client) (row_held c.args.held.now c.args.client).association (pdu_read c.args.read.now) c.in-Some-Request.invoke c.in-Some-Request.asked.now
+    (sym (takes_left (verdict_read (row_held c.args.held.now c.args.client) c.args.read.now) c.in_ok-hear_own.field-0 c.in-Some-Request.invoke c.in-Some-Request.asked (c.in-Some-Request.is ∙ ap Some c.in-Some-Request.field-0-is)
+    c.in_ok-hear_own.ensures.left)))
+
+-- ---- what a client answers to the server
+
+pub reply_on_domains-requires-clause-number : goal.reply_on_domains-requires-clause-number
+reply_on_domains-requires-clause-number c =
+    let same = on_some c.in_ok-hear_own.field-0 (act.Reply c.in-Some-Reply.number c.in-Some-Reply.answer) (c.in-Some-Reply.is ∙ ap Some c.in-Some-Reply.field-0-is) c.in_ok-hear_own.ensures.same in
+    subst (λ (h : List (Option Part)). (row_held h c.args.client).client ≡ c.args.client) (sym same) c.requires.ready.number
+
+pub reply_on_domains-requires-clause-table : goal.reply_on_domains-requires-clause-table
+reply_on_domains-requires-clause-table c =
+    let same = on_some c.in_ok-hear_own.field-0 (act.Reply c.in-Some-Reply.number c.in-Some-Reply.answer) (c.in-Some-Reply.is ∙ ap Some c.in-Some-Reply.field-0-is) c.in_ok-hear_own.ensures.same in
+    subst (λ (h : List (Option Part)). IsDomains (held_at h 2)) (sym same)
+    (domains_to_reply c.requires.of.0 c.args.held.now c.requires.of.1 c.args.clients c.args.client c.in-Some-Reply.number (came c.in-Some-Reply.answer)
+    (subst (λ (v : Verdict). IsReady c.args.clients c.args.client v c.args.held.now) (sym (replies_left (verdict_read (row_held c.args.held.now c.args.client) c.args.read.now) c.in_ok-hear_own.field-0 c.in-Some-Reply.number c.in-Some-Reply.answer (c.in-Some-Reply.is ∙ ap Some c.in-Some-Reply.field-0-is)
+    c.in_ok-hear_own.ensures.left)) c.requires.ready))
+
+pub reply_on_domains-requires-clause-open : goal.reply_on_domains-requires-clause-open
+reply_on_domains-requires-clause-open c =
+    let same = on_some c.in_ok-hear_own.field-0 (act.Reply c.in-Some-Reply.number c.in-Some-Reply.answer) (c.in-Some-Reply.is ∙ ap Some c.in-Some-Reply.field-0-is) c.in_ok-hear_own.ensures.same in
+    subst (λ (h : List (Option Part)). is_open (row_held h c.args.client).association ≡ true) (sym same)
+    (is_open_reply (row_held c.args.held.now c.args.client) (row_held c.args.held.now c.args.client).association (pdu_read c.args.read.now) c.in-Some-Reply.number (came c.in-Some-Reply.answer)
+    (sym (replies_left (verdict_read (row_held c.args.held.now c.args.client) c.args.read.now) c.in_ok-hear_own.field-0 c.in-Some-Reply.number c.in-Some-Reply.answer (c.in-Some-Reply.is ∙ ap Some c.in-Some-Reply.field-0-is)
+    c.in_ok-hear_own.ensures.left)))
+
+pub reply_on_domains-requires-clause-load : goal.reply_on_domains-requires-clause-load
+reply_on_domains-requires-clause-load c =
+    let same = on_some c.in_ok-hear_own.field-0 (act.Reply c.in-Some-Reply.number c.in-Some-Reply.answer) (c.in-Some-Reply.is ∙ ap Some c.in-Some-Reply.field-0-is) c.in_ok-hear_own.ensures.same in
+    let table = domains_to_reply c.requires.of.0 c.args.held.now c.requires.of.1 c.args.clients c.args.client c.in-Some-Reply.number (came c.in-Some-Reply.answer)
+    (subst (λ (v : Verdict). IsReady c.args.clients c.args.client v c.args.held.now) (sym (replies_left (verdict_read (row_held c.args.held.now c.args.client) c.args.read.now) c.in_ok-hear_own.field-0 c.in-Some-Reply.number c.in-Some-Reply.answer (c.in-Some-Reply.is ∙ ap Some c.in-Some-Reply.field-0-is)
+    c.in_ok-hear_own.ensures.left)) c.requires.ready) in
+    subst (λ (h : List (Option Part)). AnswersLoad (row_held h c.args.client) c.in-Some-Reply.number (came c.in-Some-Reply.answer) (domains_in (held_at h 2))) (sym same)
+    (answers_load_by (domains_in (held_at c.args.held.now 2)) (row_held c.args.held.now c.args.client) (pdu_read c.args.read.now) c.in-Some-Reply.number (came c.in-Some-Reply.answer)
+    (sym (replies_left (verdict_read (row_held c.args.held.now c.args.client) c.args.read.now) c.in_ok-hear_own.field-0 c.in-Some-Reply.number c.in-Some-Reply.answer (c.in-Some-Reply.is ∙ ap Some c.in-Some-Reply.field-0-is)
+    c.in_ok-hear_own.ensures.left))
+    (subst (λ (k : ℕ). AreLoads k (row_held c.args.held.now c.args.client).asked (domains_in (held_at c.args.held.now 2)).domains) (sym c.requires.ready.number) (c.requires.loads table)))
+
+pub returns-in-Some-Reply-clause-heard : goal.returns-in-Some-Reply-clause-heard
+returns-in-Some-Reply-clause-heard c =
+    let same = on_some c.in_ok-hear_own.field-0 (act.Reply c.in-Some-Reply.number c.in-Some-Reply.answer) (c.in-Some-Reply.is ∙ ap Some c.in-Some-Reply.field-0-is) c.in_ok-hear_own.ensures.same in
+    on_ok_weaker c.reply_on_domains.result
+    (λ put. put
+    ∙ ap (λ (h : List (Option Part)). put_in_place cell (hears (tables_shown cell h) (row_held h c.args.client) c.args.client (Replies c.in-Some-Reply.number (came c.in-Some-Reply.answer))) h) same
+    ∙ ap (λ (v : Verdict). put_in_place cell (hears (tables_shown cell c.args.held.now) (row_held c.args.held.now c.args.client) c.args.client v) c.args.held.now)
+    (replies_left (verdict_read (row_held c.args.held.now c.args.client) c.args.read.now) c.in_ok-hear_own.field-0 c.in-Some-Reply.number c.in-Some-Reply.answer (c.in-Some-Reply.is ∙ ap Some c.in-Some-Reply.field-0-is)
+    c.in_ok-hear_own.ensures.left))
+    c.reply_on_domains.ensures.put
 
 pub cancel-requires-clause-number : goal.cancel-requires-clause-number
 cancel-requires-clause-number c =

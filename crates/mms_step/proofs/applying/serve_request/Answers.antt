@@ -7,7 +7,7 @@ use Rattle.cell_client.specs.Requests.{plain_answer}
 use Rattle.cell_services.specs.Serving.{hears}
 use Rattle.mms_step.specs.Partition.{cell}
 use Rattle.mms_step.specs.Tasks.{row_held}
-use Rattle.mms_step.proofs.Ready.{semaphores_there, variables_there}
+use Rattle.mms_step.proofs.Ready.{domains_there, semaphores_there, variables_there}
 use Rattle.mms_step.proofs.applying.serve_request.Goals as goal
 
 pub serve_on_device-requires-clause-tables : goal.serve_on_device-requires-clause-tables
@@ -22,6 +22,17 @@ pub serve_on_semaphores-requires-clause-table : goal.serve_on_semaphores-require
 serve_on_semaphores-requires-clause-table c =
     semaphores_there c.requires.of.0 c.args.held.now c.requires.of.1 c.args.clients c.args.client c.args.invoke c.in-Semaphores.asked c.args.asked.now c.requires.many c.in-Semaphores.ensures
     c.requires.ready
+
+pub serve_on_domains-requires-clause-table : goal.serve_on_domains-requires-clause-table
+serve_on_domains-requires-clause-table c =
+    domains_there c.requires.of.0 c.args.held.now c.requires.of.1 c.args.clients c.args.client c.args.invoke c.in-Domains.asked c.args.asked.now c.in-Domains.ensures c.requires.ready
+
+pub returns-in-Domains-clause-put : goal.returns-in-Domains-clause-put
+returns-in-Domains-clause-put c =
+    on_ok_weaker c.serve_on_domains.result
+    (λ put. put
+    ∙ ap (λ (r : Request). put_in_place cell (hears (tables_shown cell c.args.held.now) (row_held c.args.held.now c.args.client) c.args.client (Takes c.args.invoke r)) c.args.held.now) c.in-Domains.ensures)
+    c.serve_on_domains.ensures.put
 
 pub returns-in-Device-clause-put : goal.returns-in-Device-clause-put
 returns-in-Device-clause-put c =

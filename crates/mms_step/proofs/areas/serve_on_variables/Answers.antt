@@ -4,12 +4,14 @@ use Rattle.mms_types.specs.Areas.{variable_request}
 use Rattle.part_table.specs.Held.{held_at}
 use Rattle.cell_client.specs.Association.{Takes}
 use Rattle.cell_services.specs.Tables.{Tables, own_variables}
-use Rattle.mms_step.specs.Partition.{semaphores_in, semaphores_place, variables_in, IsVariables}
+use Rattle.cell_services.specs.Facts.{is_domain_live}
+use Rattle.serve_variables.specs.Variables.{domain_asked}
+use Rattle.mms_step.specs.Partition.{domains_in, semaphores_in, semaphores_place, variables_in, IsVariables}
 use Rattle.mms_step.specs.declared.part.Part.{Part}
 use Rattle.mms_step.specs.declared.part.Part.TheVariants.{Variables}
 use Rattle.mms_step.specs.Tasks.{AreDone, IsRoomless}
 use Rattle.mms_step.proofs.InPlace.{held_roomless, variables_served}
-use Rattle.mms_step.proofs.ServeLaws.{both_back, held_after_set, on_err_both}
+use Rattle.mms_step.proofs.ServeLaws.{both_back, held_after_set, on_err_both, shown_own}
 use Rattle.mms_step.proofs.areas.serve_on_variables.Goals as goal
 
 pub variables_in_parts-done-requires-clause-settled : goal.variables_in_parts-done-requires-clause-settled
@@ -29,17 +31,19 @@ pub returns-clause-put : goal.returns-clause-put
 returns-clause-put c =
     on_ok_weaker c.variables_in_parts-done.result
     (λ served.
-    variables_served c.requires.of.0 c.args.held.now c.requires.of.1 c.args.client (Takes c.args.invoke (variable_request c.args.asked)) c.take_client-part.new.held c.take_variables-table.new.held
+    variables_served c.requires.of.0 c.args.held.now c.requires.of.1 (λ t. c.live_held-live.result ≡ is_domain_live (domain_asked c.args.asked) t.domains) c.args.client (Takes c.args.invoke (variable_request c.args.asked)) c.take_client-part.new.held c.take_variables-table.new.held
     c.put_variables.new.held c.put_client.new.held c.take_client-part.result.value c.take_variables-table.result.value c.variables_in_parts-done.new.part c.variables_in_parts-done.new.table
     c.requires.among.0 (subst (λ (m : ℕ). c.args.client ≤ m) c.requires.many c.requires.among.1) c.requires.held c.requires.number c.take_client-part.ensures.part c.take_client-part.ensures.left
     c.take_variables-table.ensures.part
     c.requires.table c.take_variables-table.ensures.left
     c.semaphores_held-semaphores.result.now (c.semaphores_held-semaphores.ensures ∙ ap (λ (m : ℕ). semaphores_in (held_at c.take_variables-table.new.held (semaphores_place m))) c.requires.many)
     (subst (λ (p : Part). (t : Tables) → t.variables ≡ variables_in (Some c.take_variables-table.result.value) → t.semaphores ≡ c.semaphores_held-semaphores.result.now
-    → AreDone own_variables Variables t (Takes c.args.invoke (variable_request c.args.asked)) p c.variables_in_parts-done.new.part c.variables_in_parts-done.new.table) c.deref_mut.ensures.value
+    → c.live_held-live.result ≡ is_domain_live (domain_asked c.args.asked) t.domains → AreDone own_variables Variables t (Takes c.args.invoke (variable_request c.args.asked)) p c.variables_in_parts-done.new.part c.variables_in_parts-done.new.table) c.deref_mut.ensures.value
     (subst (λ (p : Part). (t : Tables) → t.variables ≡ variables_in (Some p) → t.semaphores ≡ c.semaphores_held-semaphores.result.now
-    → AreDone own_variables Variables t (Takes c.args.invoke (variable_request c.args.asked)) c.deref_mut.result.now c.variables_in_parts-done.new.part c.variables_in_parts-done.new.table) c.deref_mut-2.ensures.value
+    → c.live_held-live.result ≡ is_domain_live (domain_asked c.args.asked) t.domains → AreDone own_variables Variables t (Takes c.args.invoke (variable_request c.args.asked)) c.deref_mut.result.now c.variables_in_parts-done.new.part c.variables_in_parts-done.new.table) c.deref_mut-2.ensures.value
     served))
+    (c.live_held-live.ensures ∙ ap (λ (o : Option (List ℕ)). is_domain_live o (domains_in (held_at c.args.held.now 2))) c.domain_asked.ensures
+    ∙ ap (λ (t : Tables). is_domain_live (domain_asked c.args.asked) t.domains) (shown_own c.args.held.now))
     c.put_variables.ensures c.put_client.ensures)
     c.variables_in_parts-done.ensures.served
 

@@ -1,7 +1,9 @@
+use denote.Param.Send.{param_send, arg_send}
 use Rattle.std.proofs.Common.{◌∙◌, ap, sym, Some}
 use Rattle.mms_step.specs.declared.part.Part.{Part}
 use Rattle.mms_step.specs.Partition.{clock_or, on_clock}
 use Rattle.mms_step.proofs.Changed.{clock_arm, other_arm, free_changed, no_clock, no_moment, told_of}
+use Rattle.mms_step.proofs.Sent.{part_send}
 use Rattle.mms_step.proofs.lifted.exchange_clock.Goals as goal
 
 pub returns-in_default-clause-part : goal.returns-in_default-clause-part
@@ -31,3 +33,12 @@ pub returns-clause-clock : goal.returns-clause-clock
 returns-clause-clock c =
     sym (no_moment c.args.clock.now c.deref_mut.result.now c.in_default-deref_mut.not-Clock)
     ∙ told_of (clock_or c.args.clock.now) c.args.held.now 0 c.in-Some.part.value c.deref_mut.result.now c.in-Some.ensures.part c.deref_mut.ensures.value
+
+pub take-requires-send-O-Part : goal.take-requires-send-O-Part
+take-requires-send-O-Part _ _ = param_send 1 _ (arg_send _ denote.Exit.yes _ part_send)
+
+pub put-requires-send-O-Part : goal.put-requires-send-O-Part
+put-requires-send-O-Part _ _ = param_send 1 _ (arg_send _ denote.Exit.yes _ part_send)
+
+pub put-requires-2-send-O-Part : goal.put-requires-2-send-O-Part
+put-requires-2-send-O-Part _ _ = param_send 1 _ (arg_send _ denote.Exit.yes _ part_send)

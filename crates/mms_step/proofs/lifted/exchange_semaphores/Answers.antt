@@ -1,9 +1,11 @@
+use denote.Param.Send.{param_send, arg_send}
 use Rattle.std.proofs.Common.{ℕ, ◌∙◌, ap, sym}
 use Rattle.std.specs.Option.{option_map}
 use Rattle.part_table.specs.Held.{held_at}
 use Rattle.parted_state.specs.Served.{change}
 use Rattle.mms_step.specs.Partition.{on_semaphores, semaphores_or, semaphores_place}
 use Rattle.mms_step.proofs.Changed.{semaphores_arm, other_arm, free_changed, place_left, no_semaphores_held, no_semaphores_shown, told_of}
+use Rattle.mms_step.proofs.Sent.{part_send}
 use Rattle.mms_step.proofs.lifted.exchange_semaphores.Goals as goal
 
 pub returns-in_default-clause-part : goal.returns-in_default-clause-part
@@ -38,3 +40,12 @@ returns c = record {
       ∙ told_of (semaphores_or c.args.semaphores.now) c.args.held.now c.from-place.result c.in-Some.part.value c.deref_mut.result.now c.in-Some.ensures.part c.deref_mut.ensures.value
       ∙ ap (λ (place : ℕ). semaphores_or c.args.semaphores.now (held_at c.args.held.now place)) (c.from-place.ensures ∙ c.semaphores.ensures);
 }
+
+pub take-requires-send-O-Part : goal.take-requires-send-O-Part
+take-requires-send-O-Part _ _ = param_send 1 _ (arg_send _ denote.Exit.yes _ part_send)
+
+pub put-requires-send-O-Part : goal.put-requires-send-O-Part
+put-requires-send-O-Part _ _ = param_send 1 _ (arg_send _ denote.Exit.yes _ part_send)
+
+pub put-requires-2-send-O-Part : goal.put-requires-2-send-O-Part
+put-requires-2-send-O-Part _ _ = param_send 1 _ (arg_send _ denote.Exit.yes _ part_send)

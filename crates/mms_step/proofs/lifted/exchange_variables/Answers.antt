@@ -1,7 +1,9 @@
+use denote.Param.Send.{param_send, arg_send}
 use Rattle.std.proofs.Common.{◌∙◌, ap, sym, Some}
 use Rattle.mms_step.specs.declared.part.Part.{Part}
 use Rattle.mms_step.specs.Partition.{variables_or, on_variables}
 use Rattle.mms_step.proofs.Changed.{variables_arm, other_arm, free_changed, no_variables_held, no_variables_shown, told_of}
+use Rattle.mms_step.proofs.Sent.{part_send}
 use Rattle.mms_step.proofs.lifted.exchange_variables.Goals as goal
 
 pub returns-in_default-clause-part : goal.returns-in_default-clause-part
@@ -31,3 +33,12 @@ pub returns-clause-variables : goal.returns-clause-variables
 returns-clause-variables c =
     sym (no_variables_shown c.args.variables.now c.deref_mut.result.now c.in_default-deref_mut.not-Variables)
     ∙ told_of (variables_or c.args.variables.now) c.args.held.now 1 c.in-Some.part.value c.deref_mut.result.now c.in-Some.ensures.part c.deref_mut.ensures.value
+
+pub take-requires-send-O-Part : goal.take-requires-send-O-Part
+take-requires-send-O-Part _ _ = param_send 1 _ (arg_send _ denote.Exit.yes _ part_send)
+
+pub put-requires-send-O-Part : goal.put-requires-send-O-Part
+put-requires-send-O-Part _ _ = param_send 1 _ (arg_send _ denote.Exit.yes _ part_send)
+
+pub put-requires-2-send-O-Part : goal.put-requires-2-send-O-Part
+put-requires-2-send-O-Part _ _ = param_send 1 _ (arg_send _ denote.Exit.yes _ part_send)

@@ -30,8 +30,8 @@ returns-then-not-is_empty-2 c =
     (placed c.args.clients (heard_more (tables_shown cell c.args.held.now) c.args.part.now.row (meant c.args.found.now))) _ c.unheld-missing.result c.unheld-missing-2.result
     (missing_set c.args.held.now c.heard_asks.result (placed c.args.clients (heard_asks (meant c.args.found.now))) c.unheld-missing.result c.heard_asks.ensures c.unheld-missing.ensures)
     (sym c.is_empty.ensures ∙ c.if-not-is_empty.false)
-    (missing_set c.args.held.now c.heard_more.result (placed c.args.clients (heard_more (tables_shown cell c.args.held.now) c.args.part.now.row (meant c.args.found.now))) c.unheld-missing-2.result
-    c.heard_more.ensures c.unheld-missing-2.ensures)
+    (missing_set c.args.held.now c.in_ok-more.more (placed c.args.clients (heard_more (tables_shown cell c.args.held.now) c.args.part.now.row (meant c.args.found.now))) c.unheld-missing-2.result
+    c.in_ok-more.ensures c.unheld-missing-2.ensures)
     (sym c.is_empty-2.ensures ∙ c.if-not-is_empty-2.true)
 
 pub returns : goal.returns
@@ -45,8 +45,8 @@ returns c =
     (also_parts c.args.clients c.args.held.now c.args.part.now.row (meant c.args.found.now)) c.unheld-missing.result c.unheld-missing-2.result parts
     (missing_set c.args.held.now c.heard_asks.result (placed c.args.clients (heard_asks (meant c.args.found.now))) c.unheld-missing.result c.heard_asks.ensures c.unheld-missing.ensures)
     (sym c.is_empty.ensures ∙ c.if-not-is_empty.false)
-    (missing_set c.args.held.now c.heard_more.result (placed c.args.clients (heard_more (tables_shown cell c.args.held.now) c.args.part.now.row (meant c.args.found.now))) c.unheld-missing-2.result
-    c.heard_more.ensures c.unheld-missing-2.ensures)
+    (missing_set c.args.held.now c.in_ok-more.more (placed c.args.clients (heard_more (tables_shown cell c.args.held.now) c.args.part.now.row (meant c.args.found.now))) c.unheld-missing-2.result
+    c.in_ok-more.ensures c.unheld-missing-2.ensures)
     (sym c.is_empty-2.ensures ∙ c.if-not-is_empty-2.false)
     is)
     c.also_need.ensures

@@ -1,9 +1,11 @@
+use denote.Param.Send.{param_send, arg_send}
 use Rattle.std.proofs.Common.{◌+◌, ap}
 use Rattle.std.proofs.lemmas.Result.{on_ok_weaker, on_err_weaker}
 use Rattle.mms_step.specs.declared.part.Part.TheVariants.{Client}
 use Rattle.mms_step.specs.Rooms.{with_room}
 use Rattle.mms_step.proofs.Changed.{client_arm, other_arm, free_changed, place_left, client_kept}
 use Rattle.mms_step.proofs.ToldLaws.{with_room_other}
+use Rattle.mms_step.proofs.Sent.{part_send}
 use Rattle.mms_step.proofs.telling.make_room.Goals as goal
 
 pub returns-in_default-clause-made : goal.returns-in_default-clause-made
@@ -38,3 +40,12 @@ returns-in_default-deref_mut c = record {
       (with_room_other c.args.room c.deref_mut.result.now c.in_default-deref_mut.not-Client) c.put-in_default-deref_mut.ensures;
   kept = tt;
 }
+
+pub take-requires-send-O-Part : goal.take-requires-send-O-Part
+take-requires-send-O-Part _ _ = param_send 1 _ (arg_send _ denote.Exit.yes _ part_send)
+
+pub put-requires-send-O-Part : goal.put-requires-send-O-Part
+put-requires-send-O-Part _ _ = param_send 1 _ (arg_send _ denote.Exit.yes _ part_send)
+
+pub put-requires-in_default-deref_mut-send-O-Part : goal.put-requires-in_default-deref_mut-send-O-Part
+put-requires-in_default-deref_mut-send-O-Part _ _ = param_send 1 _ (arg_send _ denote.Exit.yes _ part_send)

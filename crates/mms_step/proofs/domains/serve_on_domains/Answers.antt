@@ -1,0 +1,25 @@
+use Rattle.std.proofs.Common.{◌≡◌, true, false, ap, sym, ◌∙◌}
+use Rattle.std.proofs.lemmas.Result.{on_ok_weaker}
+use Rattle.part_table.specs.Held.{held_at}
+use Rattle.parted_state.specs.Lifted.{put_in_place, tables_shown}
+use Rattle.parted_state.specs.Served.{Done}
+use Rattle.cell_client.specs.Effects.{Effect}
+use Rattle.cell_client.specs.Facts.{no_facts}
+use Rattle.cell_services.specs.Tables.{Tables}
+use Rattle.mms_step.specs.Partition.{cell, domains_in}
+use Rattle.mms_step.specs.Tasks.{row_held}
+use Rattle.mms_step.proofs.Asked.{shown_domains}
+use Rattle.mms_step.proofs.Scoping.{exhausts}
+use Rattle.mms_step.proofs.domains.serve_on_domains.Goals as goal
+
+pub returns-then-branch-clause-put : goal.returns-then-branch-clause-put
+returns-then-branch-clause-put c =
+    on_ok_weaker c.serve.result
+    (λ put. put
+    ∙ ap (λ (d : Done Tables Effect). put_in_place cell d c.args.held.now)
+    (exhausts (tables_shown cell c.args.held.now) (row_held c.args.held.now c.args.client) c.args.client c.args.invoke c.args.asked (domains_in (held_at c.args.held.now 2)) (shown_domains c.args.held.now)
+    (sym c.if-branch.true ∙ c.in_ok-lacks.ensures no_facts)))
+    c.serve.ensures.put
+
+pub serve_in_place-requires-clause-numbered : goal.serve_in_place-requires-clause-numbered
+serve_in_place-requires-clause-numbered c facts = sym (c.in_ok-lacks.ensures facts) ∙ c.if-branch.false
