@@ -17,26 +17,27 @@ use Rattle.association.specs.Waiting.{is_waiting}
 use Rattle.cell_config.specs.declared.config.Config.{Config}
 use Rattle.cell_config.specs.Said.{IsConfig}
 use Rattle.parted_state.specs.Served.{row_at, reached, delivered}
-use Rattle.cell_client.specs.Association.{Verdict, Tells, Takes, Concludes, Cancels, Aborts, sends, verdict}
+use Rattle.cell_client.specs.Association.{Verdict, Tells, Takes, Replies, Exhausts, Concludes, Cancels, Aborts, sends, verdict}
 use Rattle.cell_client.specs.Effects.{Effect, Sends, Opens, Drains, tell}
-use Rattle.cell_services.specs.Serving.{all_told, also_told, meanwhile, own_told, waiting_of}
-use Rattle.cell_services.specs.Tables.{moment_after}
+use Rattle.cell_services.specs.Serving.{all_told, also_told, meanwhile, own_told, resolved, waiting_of}
+use Rattle.cell_services.specs.Tables.{Tables, moment_after}
 use Rattle.mms_step.specs.Partition.{cell}
 use Rattle.mms_step.specs.State.{State, IsSound, start}
 use Rattle.mms_step.specs.Step.{step, replay}
 use Rattle.mms_step.proofs.Sound.{start_sound, step_sound}
 use Rattle.cell_laws.specs.Linked.{asker}
 use Rattle.cell_laws.specs.Tally.{Account, HaveOneAnswerEach, AreSpelled, account, account_after, is_opening, opens, sent_to, taken_by, taken_from, told_in}
-use Rattle.cell_laws.proofs.Answering.{cancels-fair, ends-fair, loses-fair, takes-fair}
+use Rattle.cell_laws.proofs.Answering.{cancels-fair, ends-fair, exhausts-fair, loses-fair, replies-fair, takes-fair}
 use Rattle.cell_laws.proofs.Bound.{Bound, nat-same}
 use Rattle.cell_laws.proofs.Counted.{answers-small, octets-counted, small-along}
 use Rattle.cell_laws.proofs.Counting.{many, many-counts}
-use Rattle.cell_laws.proofs.Events.{Told, verdict-told}
+use Rattle.cell_laws.proofs.Events.{Told, resolved-told, verdict-told}
 use Rattle.cell_laws.proofs.Fair.{IsIdle, IsQuiet, Outcome, Unopening, bit, idle-stays, many-append, none_taken, one_of, piece-abort, piece-drains, piece-quiet, spelled-append, waits}
 use Rattle.cell_laws.proofs.Hears.{reached-still, row-other, waits_in}
-use Rattle.cell_laws.proofs.Linking.{Linked, Meant, linked_step, numbered-client, verdict-meant}
+use Rattle.cell_laws.proofs.Linking.{Linked, Meant, linked_step, numbered-client, resolved-meant, verdict-meant}
 use Rattle.cell_laws.proofs.Passing.{fair-ticked, told-unopening}
 use Rattle.cell_laws.proofs.Replayed.{linked-start, none-at-first, none-unopened}
+use Rattle.cell_laws.proofs.Verdicts.{by-tables}
 
 -- what was taken is answered, or waits, or there is no association
 pub record Settled (c : ℕ) (clients : List ClientRow) (taken : List ℕ) (sent : List What) : Type 0 where
@@ -49,7 +50,7 @@ Kept c clients taken sent = Settled c clients taken sent ⊎ IsIdle c clients
 
 abbrev After : ℕ → List (ℕ × Effect) → List ClientRow → List ℕ → List What → List ℕ → Type 0
 After c told clients taken sent more =
-    Kept c (delivered cell told clients) ((if opens c told then [] else taken) ++ more) ((if opens c told then [] else sent) ++ sent_to c told)
+    Kept c (delivered cell told clients) ((if opens c told then [] else taken) ++ more) ((if opens c told then [] else sent) ++ sent_to c clients told)
 
 opens-none : (c : ℕ) (told : List (ℕ × Effect)) → Unopening told → opens c told ≡ false
 opens-none c [] un = refl
@@ -63,14 +64,14 @@ opens-none c (t ∷ told) un = by_tests (c == t.0) (is_opening t.1) un.0 (opens-
 kept-more : (c : ℕ) (told : List (ℕ × Effect)) (clients : List ClientRow) (taken : List ℕ) (sent : List What) (more : List ℕ) (t : ℕ → ℕ) → ((i : ℕ) → t i ≡ many (λ j. i == j) more)
     → Outcome c told clients t × Unopening told → Kept c clients taken sent → After c told clients taken sent more
 kept-more c told clients taken sent more t counted fair kept =
-    subst (λ (b : Bool). Kept c (delivered cell told clients) ((if b then [] else taken) ++ more) ((if b then [] else sent) ++ sent_to c told)) (sym (opens-none c told fair.1)) (by_parts kept fair.0)
+    subst (λ (b : Bool). Kept c (delivered cell told clients) ((if b then [] else taken) ++ more) ((if b then [] else sent) ++ sent_to c clients told)) (sym (opens-none c told fair.1)) (by_parts kept fair.0)
   where
-    by_parts : Kept c clients taken sent → Outcome c told clients t → Kept c (delivered cell told clients) (taken ++ more) (sent ++ sent_to c told)
+    by_parts : Kept c clients taken sent → Outcome c told clients t → Kept c (delivered cell told clients) (taken ++ more) (sent ++ sent_to c clients told)
     by_parts (inr idle) outcome = inr (idle-stays told c clients fair.1 idle)
     by_parts (inl was) (inr idle) = inr idle
     by_parts (inl was) (inl new) = inl (record {
       pdus = was.pdus ++ new.pdus;
-      spelled = spelled-append sent (sent_to c told) was.pdus new.pdus was.spelled new.spelled;
+      spelled = spelled-append sent (sent_to c clients told) was.pdus new.pdus was.spelled new.spelled;
       balance = λ i.
           let a = was.balance i in
           let b = new.balance i in
@@ -146,11 +147,20 @@ found-waits invoke (x ∷ ws) h = by_test (x.invoke == invoke) (found-waits invo
     by_test true ih g = (x, refl)
     by_test false ih g = ih g
 
+-- what the tables show doesn't make a request one that isn't taken
+taken-resolved : (t : Tables) (row : ClientRow) (v : Verdict) → taken_by (resolved t row v) ≡ taken_by v
+taken-resolved t row v = by-tables (λ w. taken_by w ≡ taken_by v) t row (λ invoke asked is. is) (λ number came is. is) (λ is. is) v refl
+
 module _ (count : ℕ) (s : State) (sound : IsSound count s) (bound : Bound (asker s.semaphores) (waits_in s.clients)) (c : ℕ) (taken : List ℕ) (sent : List What) (kept : Kept c s.clients taken sent) where
   -- of a verdict by which none is taken
   none-taken : (b : Bool) (i : ℕ) → none_taken i ≡ many (λ j. i == j) (cond {A = List ℕ} b [] [])
   none-taken true i = refl
   none-taken false i = refl
+
+  -- and of one by which a request is
+  counted : (invoke i : ℕ) (b : Bool) → bit (b && i == invoke) ≡ many (λ j. i == j) (if b then invoke ∷ [] else [])
+  counted invoke i true = omega arith
+  counted invoke i false = refl
 
   heard-kept : (client : ℕ) (v : Verdict) → Meant (row_at cell client s.clients) v → Told (row_at cell client s.clients) v
       → After c (tell client (own_told (cell.tables_of s) (row_at cell client s.clients) v) ++ also_told (cell.tables_of s) (row_at cell client s.clients) v) s.clients taken sent
@@ -163,11 +173,13 @@ module _ (count : ℕ) (s : State) (sound : IsSound count s) (bound : Bound (ask
       (kept-opened c client opening.values opening.answer s.clients taken sent (if c == client then [] else []) (none-counted (c == client)) opening.quiet
       (λ i. ap (waiting_of i) (none-unopened count s sound client opening.idle)) kept)
   heard-kept client (Takes invoke asked) meant told =
-      kept-more c _ s.clients taken sent (if c == client then invoke ∷ [] else []) (one_of client invoke c) (λ i. counted i (c == client)) (takes-fair count s sound bound client c invoke asked meant) kept
-    where
-      counted : (i : ℕ) (b : Bool) → bit (b && i == invoke) ≡ many (λ j. i == j) (if b then invoke ∷ [] else [])
-      counted i true = omega arith
-      counted i false = refl
+      kept-more c _ s.clients taken sent (if c == client then invoke ∷ [] else []) (one_of client invoke c) (λ i. counted invoke i (c == client))
+      (takes-fair count s sound bound client c invoke asked meant) kept
+  heard-kept client (Replies number came) meant told =
+      kept-more c _ s.clients taken sent (if c == client then [] else []) none_taken (none-taken (c == client)) (replies-fair count s sound bound client c number came) kept
+  heard-kept client (Exhausts invoke) meant told =
+      kept-more c _ s.clients taken sent (if c == client then invoke ∷ [] else []) (one_of client invoke c) (λ i. counted invoke i (c == client))
+      (exhausts-fair count s sound bound client c invoke (numbered-client count s client sound meant)) kept
   heard-kept client Concludes meant told =
       kept-more c _ s.clients taken sent (if c == client then [] else []) none_taken (none-taken (c == client))
       (ends-fair count s sound bound client c (sends pdu.ConcludeResponse) refl (λ rows. piece-quiet c client pdu.ConcludeResponse rows (λ i. refl))
@@ -182,7 +194,11 @@ module _ (count : ℕ) (s : State) (sound : IsSound count s) (bound : Bound (ask
 
   event-kept : (event : CellEvent) → After c (told_in s event) s.clients taken sent (taken_from c s event)
   event-kept (Heard client octets) =
-      heard-kept client (verdict (row_at cell client s.clients) octets) (verdict-meant (row_at cell client s.clients) octets) (verdict-told (row_at cell client s.clients) octets)
+      let row = row_at cell client s.clients in
+      let t = cell.tables_of s in
+      let v = verdict row octets in
+      subst (λ (l : List ℕ). After c (told_in s (Heard client octets)) s.clients taken sent (if c == client then l else [])) (taken-resolved t row v)
+      (heard-kept client (resolved t row v) (resolved-meant t row v (verdict-meant row octets)) (resolved-told t row v (verdict-told row octets)))
   event-kept (Lost client) = kept-more c _ s.clients taken sent [] none_taken (λ i. refl) (loses-fair count s sound bound client c (row_at cell client s.clients).association refl) kept
   event-kept (Tick ms) =
       kept-more c (all_told (meanwhile ms (cell.tables_of s)).happened) s.clients taken sent [] none_taken (λ i. refl) (

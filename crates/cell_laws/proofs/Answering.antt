@@ -3,7 +3,9 @@ use Rattle.std.proofs.Common.{◌≡◌, ℕ, ◌+◌, inl, inr, Bool, true, fal
 use Rattle.std.specs.Map.{lookup}
 use Rattle.mms_types.specs.Errors.{first_of}
 use Rattle.mms_types.specs.Order.{key_eq, key_of}
-use Rattle.mms_types.specs.declared.event.What.TheVariants.{Octets}
+use Rattle.mms_types.specs.declared.asked.Asked.{Asked}
+use Rattle.mms_types.specs.declared.asked.Asked.TheVariants as asks
+use Rattle.mms_types.specs.declared.event.What.TheVariants.{Octets, Abort}
 use Rattle.mms_types.specs.declared.key.Key.{Key}
 use Rattle.mms_types.specs.declared.pdu.Answer.{Answer}
 use Rattle.mms_types.specs.declared.pdu.Answer.TheVariants as answer
@@ -19,7 +21,11 @@ use Rattle.mms_pdu.specs.Pdus.{pdu_octets}
 use Rattle.association.specs.declared.negotiation.Association.{Association}
 use Rattle.association.specs.declared.negotiation.Association.TheVariants.{Idle, Open}
 use Rattle.association.specs.declared.waiting.Waiting.{Waiting}
+use Rattle.association.specs.Asked.{asked_of}
 use Rattle.association.specs.Client.{ClientRow}
+use Rattle.domain_load.specs.Loading.{asked_next}
+use Rattle.serve_domains.specs.Domains.{asks_next, replied_to, reply_of}
+use Rattle.serve_domains.specs.Tables.{DomainTables}
 use Rattle.token_sem.specs.declared.entry.Grant.{Grant}
 use Rattle.token_sem.proofs.Least.{Stands}
 use Rattle.mms_time.specs.Semaphores.{Rows}
@@ -33,8 +39,8 @@ use Rattle.sem_ticks.specs.Sound.{AreSound}
 use Rattle.sem_ticks.specs.declared.granted.Granted.{Granted}
 use Rattle.sem_ticks.proofs.Kept.{row_found}
 use Rattle.cell_client.specs.Areas.{AnswersOrWaitsIn, OutcomeIn}
-use Rattle.cell_client.specs.Association.{Takes, Cancels, sends, confirmed_error, cancel_error, loss_told, other_error}
-use Rattle.cell_client.specs.Effects.{Effect, Closes, Waits, Answers, tell}
+use Rattle.cell_client.specs.Association.{Came, Takes, Replies, Exhausts, Cancels, sends, confirmed_error, cancel_error, loss_told, other_error}
+use Rattle.cell_client.specs.Effects.{Effect, Sends, Closes, Waits, Answers, Asks, Settles, tell}
 use Rattle.cell_services.specs.Services.{cause, effect, grants_told, relinquish_outcome, take_outcome}
 use Rattle.cell_client.specs.Requests.{answer_told, fits, is_done, refuses, request_told, size_of}
 use Rattle.cell_services.specs.Serving.{also_lost, also_told, own_told}
@@ -48,7 +54,7 @@ use Rattle.cell_laws.proofs.Bound.{Bound, nat-same}
 use Rattle.cell_laws.proofs.Bounds.{given-back, told_of}
 use Rattle.cell_laws.proofs.Counting.{many}
 use Rattle.cell_laws.proofs.Events.{fair-grants, unopening-grants}
-use Rattle.cell_laws.proofs.Fair.{Fair, IsAnswerTo, Outcome, bit, waits, Unopening, join, none_taken, one_of, piece-closes, piece-own, piece-waits}
+use Rattle.cell_laws.proofs.Fair.{Fair, IsAnswerTo, Outcome, bit, waits, Unopening, join, none_taken, one_of, piece-abort, piece-asks, piece-closes, piece-own, piece-settles, piece-waits}
 use Rattle.cell_laws.proofs.Hears.{IsAdmitted, admitted-open, reached-answered, reached-closed, reached-still, waits_in}
 use Rattle.cell_laws.proofs.Linking.{numbered-client}
 use Rattle.cell_laws.proofs.Once.{AnswerApart, lost-apart, lost-waits}
@@ -154,13 +160,28 @@ module _ (count : ℕ) (s : State) (sound : IsSound count s) (bound : Bound (ask
       apart None = tt
       apart (Some g) = (refl, tt)
 
+  -- a load is answered, and its first segment is asked for
+  downloading : (invoke : ℕ) (domain : List ℕ)
+      → Answered ((client, sends (pdu.ConfirmedResponse invoke answer.InitiateDownloadSequence)) ∷ (its.client, Asks asks.Segment domain) ∷ []) (one_of client invoke c)
+  downloading invoke domain = (
+    retake c ((client, sends own) ∷ (its.client, Asks asks.Segment domain) ∷ []) s.clients (λ i. one_of client invoke c i + none_taken i) (one_of client invoke c) (λ i. omega arith)
+        (join c ((client, sends own) ∷ []) ((its.client, Asks asks.Segment domain) ∷ []) s.clients (one_of client invoke c) none_taken (refl, tt)
+        (inl (piece-own c client invoke own s.clients (λ i. refl)))
+        (inl (piece-asks c its.client asks.Segment domain (reached cell client (sends own) s.clients)))),
+    (refl, (refl, tt)),
+  )
+    where
+      own : Pdu
+      own = pdu.ConfirmedResponse invoke answer.InitiateDownloadSequence
+
   doing : (invoke : ℕ) (asked : Request) → IsAdmitted invoke its → its.client ≡ client → cause old its asked ≡ None
       → Answered (tell client (answer_told invoke (effect old its invoke asked).answer) ++ (effect old its invoke asked).also) (one_of client invoke c)
   doing invoke (request.TakeControl x) may is none = taking invoke x may is (take_told its.client x s.semaphores) refl none
   doing invoke (request.RelinquishControl x) may is none = giving invoke x (relinquish_granted its.client x s.semaphores) refl none
+  doing invoke (request.InitiateDownloadSequence x) may is none = downloading invoke x.domain
   doing invoke asked may is none =
       plain invoke (effect old its invoke asked).answer (effect old its invoke asked).also
-      (answer-there its.client invoke (effect old its invoke asked) (settled old its invoke asked none) refl) refl
+      (answer-there its.client invoke (effect old its invoke asked) (settled old its invoke sound.uploads asked none) refl) refl
 
   pub takes-fair : (invoke : ℕ) (asked : Request) → IsAdmitted invoke its → Answered (tell client (own_told old its (Takes invoke asked)) ++ also_told old its (Takes invoke asked)) (one_of client invoke c)
   takes-fair invoke asked may = by_cause (cause old its asked) refl
@@ -177,6 +198,33 @@ module _ (count : ℕ) (s : State) (sound : IsSound count s) (bound : Bound (ask
           → Answered (tell client (request_told size invoke o (effect old its invoke asked).answer) ++ (if is_done size invoke o (effect old its invoke asked).answer then (effect old its invoke asked).also else [])) (one_of client invoke c)
       by_cause None e = by_fit (fits size invoke (effect old its invoke asked).answer) e
       by_cause (Some refusal) e = answered invoke (confirmed_error invoke refusal) (λ i. refl)
+
+  -- a client answers what the server asked: its request is unanswered no more, and what is next may be asked
+  pub replies-fair : (number : ℕ) (came : Came) → Answered (tell client (own_told old its (Replies number came)) ++ also_told old its (Replies number came)) none_taken
+  replies-fair number came = by_of (asked_of number its.asked)
+    where
+      size : ℕ
+      size = size_of its.association
+
+      done_by : Option (Asked × List ℕ) → OutcomeIn DomainTables
+      done_by o = replied_to its.client number came o old.domains
+
+      settled_row : List ClientRow
+      settled_row = reached cell its.client (Settles number) s.clients
+
+      by_next : (o : Option Asked) (domain : List ℕ) → Answered ((its.client, Settles number) ∷ asks_next its.client o domain) none_taken
+      by_next None domain = (inl (piece-settles c its.client number s.clients), (refl, tt))
+      by_next (Some kind) domain = (
+        retake c ((its.client, Settles number) ∷ (its.client, Asks kind domain) ∷ []) s.clients (λ i. none_taken i + none_taken i) none_taken (λ i. omega arith)
+            (join c ((its.client, Settles number) ∷ []) ((its.client, Asks kind domain) ∷ []) s.clients none_taken none_taken (refl, tt)
+            (inl (piece-settles c its.client number s.clients)) (inl (piece-asks c its.client kind domain settled_row))),
+        (refl, (refl, tt)),
+      )
+
+      by_of : (o : Option (Asked × List ℕ))
+          → Answered (tell client (request_told size number None (done_by o).answer) ++ (if is_done size number None (done_by o).answer then (done_by o).also else [])) none_taken
+      by_of None = (inl (record { pdus = []; spelled = refl; balance = λ i. refl }), tt)
+      by_of (Some of) = by_next (asked_next (reply_of came of) old.domains.domains) of.1
 
   -- a request is cancelled: a cancel response, and then its error
   pub cancels-fair : (invoke : ℕ) (w : Waiting) → waits_in s.clients client invoke ≡ Some w → Answered (tell client (own_told old its (Cancels invoke)) ++ []) none_taken
@@ -259,6 +307,33 @@ module _ (count : ℕ) (s : State) (sound : IsSound count s) (bound : Bound (ask
     where
       grants : List Granted
       grants = lost_granted its.client (moment_of old) s.semaphores
+
+  -- a load is answered, and its client is aborted
+  pub exhausts-fair : (invoke : ℕ) → its.client ≡ client → Answered (tell client (own_told old its (Exhausts invoke)) ++ also_told old its (Exhausts invoke)) (one_of client invoke c)
+  exhausts-fair invoke is = (
+    retake c ((client, sends own) ∷ aborting) s.clients (λ i. one_of client invoke c i + none_taken i) (one_of client invoke c) (λ i. omega arith)
+        (join c ((client, sends own) ∷ []) aborting s.clients (one_of client invoke c) none_taken (refl, (refl, unopening-grants grants))
+        (inl (piece-own c client invoke own s.clients (λ i. refl)))
+        (retake c aborting answered_rows (λ i. none_taken i + none_taken i) none_taken (λ i. omega arith)
+        (join c ((client, Sends Abort) ∷ []) (tell client (Closes ∷ []) ++ grants_told grants) answered_rows none_taken none_taken (refl, unopening-grants grants)
+        (inl (piece-abort c client answered_rows)) (closes-fair is (reached cell client (Sends Abort) answered_rows) same)))),
+    (refl, (refl, (refl, unopening-grants grants))),
+  )
+    where
+      own : Pdu
+      own = pdu.ConfirmedResponse invoke answer.InitiateDownloadSequence
+
+      grants : List Granted
+      grants = lost_granted its.client (moment_of old) s.semaphores
+
+      aborting : List (ℕ × Effect)
+      aborting = (client, Sends Abort) ∷ (client, Closes) ∷ grants_told grants
+
+      answered_rows : List ClientRow
+      answered_rows = reached cell client (sends own) s.clients
+
+      same : (d i : ℕ) → waits_in (reached cell client (Sends Abort) answered_rows) d i ≡ waits_in s.clients d i
+      same d i = reached-still (Sends Abort) tt client answered_rows d i ∙ reached-still (sends own) tt client s.clients d i
 
   pub loses-fair : (a : Association) → its.association ≡ a → Answered (tell client (loss_told a) ++ also_lost a its.client old) none_taken
   loses-fair Idle is = (inl (record { pdus = []; spelled = refl; balance = λ i. refl }), tt)

@@ -23,7 +23,10 @@ use Rattle.mms_pdu.specs.declared.refusal.Refusal.{Refusal}
 use Rattle.mms_pdu.specs.declared.refusal.Refusal.TheVariants as refusal
 use Rattle.mms_pdu.specs.Heard.{as_pdu, pdu_heard, pdu_of}
 use Rattle.mms_pdu.specs.Hearing.{Asked, and_then, argued, asked_at, asked_value, heard, is_pdu, kept_pdus, noted_pdus, part_told, reject_told, request_told, served, sole_part, valid}
-use Rattle.mms_pdu.specs.Services.{requests, services}
+use Rattle.mms_pdu.specs.Services.{request_shares, requests}
+use Rattle.pdu_areas.specs.Joined.{joined}
+use Rattle.pdu_areas.specs.Services.{arms_of}
+use Rattle.pdu_names.specs.Kinds.{Arms}
 use Rattle.pdu_names.specs.Editions.{lengths_of}
 
 -- ---- components that are numbers lie in their range
@@ -133,8 +136,12 @@ second : (b : Bool) (x y : Request) → b ≡ false → RequestFew y → Request
 second true x y none more = absurd (cc none)
 second false x y none more = more
 
+-- what clients ask
+abbrev asked_arms : Arms Request
+asked_arms = arms_of request.Identify (joined request_shares)
+
 -- other services than that of number 19
-other-few : (n : ℕ) (v : Value) → (n == 19) ≡ false → RequestFew (services.requests.made n v)
+other-few : (n : ℕ) (v : Value) → (n == 19) ≡ false → RequestFew (asked_arms.made n v)
 other-few n v none =
     either (n == 0) _ _ (record { few = tt })
     (either (n == 1) _ _ (record { few = tt })
@@ -153,7 +160,13 @@ other-few n v none =
     (either (n == 22) _ _ (record { few = tt })
     (either (n == 23) _ _ (record { few = tt })
     (either (n == 24) _ _ (record { few = tt })
-    (either (n == 25) _ _ (record { few = tt }) (record { few = tt }))))))))))))))))))
+    (either (n == 25) _ _ (record { few = tt })
+    (either (n == 26) _ _ (record { few = tt })
+    (either (n == 29) _ _ (record { few = tt })
+    (either (n == 30) _ _ (record { few = tt })
+    (either (n == 31) _ _ (record { few = tt })
+    (either (n == 36) _ _ (record { few = tt })
+    (either (n == 37) _ _ (record { few = tt }) (record { few = tt }))))))))))))))))))))))))
 
 abbrev members : Form → Components
 members (sequence cs) = cs
@@ -192,9 +205,9 @@ module _ (lengths : Lengths) (edition : Edition) where
   unfolding requests
   read-few n f c w found e = by_test (n == 19) refl
     where
-      by_test : (b : Bool) → (n == 19) ≡ b → RequestFew (services.requests.made n w)
+      by_test : (b : Bool) → (n == 19) ≡ b → RequestFew (asked_arms.made n w)
       by_test false h = other-few n w h
-      by_test true h = subst (λ (k : ℕ). form_at k (services.requests.alternatives edition) ≡ Some f → RequestFew (services.requests.made k w)) (sym (eqb-true n 19 h))
+      by_test true h = subst (λ (k : ℕ). form_at k (asked_arms.alternatives edition) ≡ Some f → RequestFew (asked_arms.made k w)) (sym (eqb-true n 19 h))
           (λ g.
           let same : take_control.form edition ≡ f = cc g in
           record { few = take-few c w (ap (λ (x : Form). reading lengths x c) same ∙ e) }) found

@@ -43,9 +43,9 @@ use Rattle.sem_ticks.specs.declared.granted.Granted.{Granted}
 use Rattle.sem_ticks.specs.Ticks.{Ticking, after_abort, entries_left, met, met_as, next_met}
 use Rattle.sem_ticks.proofs.Kept.{row_found}
 use Rattle.sem_ticks.proofs.Settling.{settle-keeps}
-use Rattle.cell_client.specs.Association.{Verdict, Tells, Takes, Concludes, Cancels, Aborts, verdict}
-use Rattle.cell_services.specs.Services.{effect, relinquish_outcome, take_outcome}
-use Rattle.cell_services.specs.Serving.{all_told, is_served, tables_cancelled, tables_heard, tables_lost, waiting_of}
+use Rattle.cell_client.specs.Association.{Verdict, Tells, Takes, Replies, Exhausts, Concludes, Cancels, Aborts, verdict}
+use Rattle.cell_services.specs.Services.{effect, effect_of, relinquish_outcome, reply_in, take_outcome}
+use Rattle.cell_services.specs.Serving.{all_told, is_served, is_served_in, resolved, tables_cancelled, tables_heard, tables_lost, waiting_of}
 use Rattle.cell_services.specs.Tables.{Tables, moment_after, moment_of}
 use Rattle.mms_step.specs.Partition.{cell}
 use Rattle.mms_step.specs.State.{State, IsSound as IsSoundState, start}
@@ -207,6 +207,12 @@ module _ (t : Tables) (row : ClientRow) (sound : AreSound t.semaphores) (single 
       by_served true = effect-single invoke asked
       by_served false = single
   heard-single (Tells effects) = single
+  heard-single (Replies number came) = by_served (is_served_in t row number (reply_in number came))
+    where
+      by_served : (b : Bool) → AreSingle (if b then (effect_of t row number (reply_in number came)).tables else t).semaphores
+      by_served true = single
+      by_served false = single
+  heard-single (Exhausts invoke) = lost-single row.client (moment_of t) t.semaphores sound single
   heard-single Concludes = lost-single row.client (moment_of t) t.semaphores sound single
   heard-single (Cancels invoke) = by_waiting (waiting_of invoke row.waiting)
     where
@@ -247,7 +253,8 @@ next-single clients until u v same are = (next-keeps clients until u v same are.
 
 single-step : (count : ℕ) (s : State) (event : CellEvent) → IsSoundState count s → Linked s → AreSingle s.semaphores → AreSingle (step s event).semaphores
 single-step count s (Heard client octets) sound linked single =
-    heard-single (cell.tables_of s) (row_at cell client s.clients) sound.semaphores single (verdict (row_at cell client s.clients) octets)
+    heard-single (cell.tables_of s) (row_at cell client s.clients) sound.semaphores single
+    (resolved (cell.tables_of s) (row_at cell client s.clients) (verdict (row_at cell client s.clients) octets))
 single-step count s (Lost client) sound linked single =
     loss-single (cell.tables_of s) (row_at cell client s.clients) sound.semaphores single (row_at cell client s.clients).association
 single-step count s (Tick ms) sound linked single =

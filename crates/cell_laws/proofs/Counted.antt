@@ -20,16 +20,17 @@ use Rattle.association.specs.declared.client_part.NotAdmitted.TheVariants as not
 use Rattle.association.specs.declared.negotiation.Association.{Association}
 use Rattle.association.specs.declared.negotiation.Association.TheVariants.{Idle, Open}
 use Rattle.association.specs.declared.negotiation.Negotiated.{Negotiated}
-use Rattle.association.specs.declared.waiting.Waiting.{Waiting}
 use Rattle.association.specs.Admission.{admission}
+use Rattle.association.specs.Asked.{asked_of}
 use Rattle.association.specs.Client.{ClientRow}
 use Rattle.association.specs.Waiting.{is_waiting}
 use Rattle.parted_state.specs.Served.{row_at}
-use Rattle.cell_client.specs.Association.{admitted, cancelled, concluded, idle_verdict, open_verdict, requested, verdict, verdict_by}
+use Rattle.cell_client.specs.Association.{Verdict, admitted, cancelled, idle_verdict, open_verdict, requested, verdict, verdict_by}
 use Rattle.mms_step.specs.Partition.{cell}
 use Rattle.mms_step.specs.State.{State}
 use Rattle.cell_laws.specs.Tally.{Account, AreSpelled, HaveAnswers, account_after, opens, taken_by, taken_from, told_in}
 use Rattle.cell_laws.proofs.Counting.{many}
+use Rattle.cell_laws.proofs.Verdicts.{by-conclusion, by-error, by-rejected, by-response}
 
 -- ---- what is taken
 
@@ -49,9 +50,8 @@ requested-small : (row : ClientRow) (too_deep : Bool) (invoke : ℕ) (asked : Re
 requested-small row true invoke asked small = tt
 requested-small row false invoke asked small = admitted-small (admission invoke row) invoke asked small
 
-concluded-small : (waiting : List Waiting) → AreSmall (taken_by (concluded waiting))
-concluded-small [] = tt
-concluded-small (first ∷ rest) = tt
+abbrev TakesSmall : Verdict → Type 0
+TakesSmall v = AreSmall (taken_by v)
 
 cancelled-small : (waits : Bool) (invoke : ℕ) → AreSmall (taken_by (cancelled waits invoke))
 cancelled-small true invoke = tt
@@ -64,9 +64,12 @@ idle-small heard = tt
 open-small : (values : Negotiated) (row : ClientRow) (heard : Result Pdu Refusal) → HeardSmall heard → AreSmall (taken_by (open_verdict values row heard))
 open-small values row (Err refusal) small = tt
 open-small values row (Ok (pdu.InitiateRequest proposal)) small = tt
-open-small values row (Ok pdu.ConcludeRequest) small = concluded-small row.waiting
+open-small values row (Ok pdu.ConcludeRequest) small = by-conclusion TakesSmall tt tt row.waiting row.asked
 open-small values row (Ok (pdu.CancelRequest invoke)) small = cancelled-small (is_waiting invoke row.waiting) invoke
 open-small values row (Ok (pdu.ConfirmedRequest invoke asked)) small = requested-small row (nat_lt values.nesting (depth_of (pdu.ConfirmedRequest invoke asked))) invoke asked small
+open-small values row (Ok (pdu.HeardResponse number told)) small = by-response TakesSmall (λ n came. tt) (λ n. tt) tt tt number told (asked_of number row.asked)
+open-small values row (Ok (pdu.HeardError number)) small = by-error TakesSmall (λ n came. tt) (λ n. tt) tt tt number (asked_of number row.asked)
+open-small values row (Ok (pdu.HeardReject number)) small = by-rejected TakesSmall (λ n came. tt) (λ n. tt) tt tt number row.asked
 open-small values row (Ok heard) small = tt
 
 by-small : (row : ClientRow) (a : Association) (heard : Result Pdu Refusal) → HeardSmall heard → AreSmall (taken_by (verdict_by a row heard))

@@ -22,21 +22,25 @@ use Rattle.association.specs.declared.negotiation.Association.TheVariants.{Idle,
 use Rattle.association.specs.declared.negotiation.Negotiated.{Negotiated}
 use Rattle.association.specs.declared.waiting.Waiting.{Waiting}
 use Rattle.association.specs.Admission.{admission}
+use Rattle.association.specs.Asked.{asked_of}
 use Rattle.association.specs.Client.{ClientRow}
 use Rattle.association.specs.Negotiation.{negotiation, values_of}
 use Rattle.association.specs.Waiting.{is_waiting}
 use Rattle.token_sem.proofs.Least.{Stands}
 use Rattle.sem_ticks.specs.declared.granted.Granted.{Granted}
 use Rattle.parted_state.specs.Served.{reached, delivered}
-use Rattle.cell_client.specs.Association.{Verdict, Tells, Takes, Concludes, Cancels, Aborts, sends, verdict, verdict_by, idle_verdict, open_verdict, admitted, requested, concluded, cancelled, negotiated, refused, rejects, rejects_invalid, further_error, unknown_error}
-use Rattle.cell_client.specs.Effects.{Effect, Sends, Opens, Answers, tell}
+use Rattle.cell_client.specs.Association.{Verdict, Tells, Takes, Replies, Exhausts, Concludes, Cancels, Aborts, sends, verdict, verdict_by, idle_verdict, open_verdict, admitted, requested, cancelled, keeps_open, negotiated, refused, rejects, rejects_invalid, further_error, unknown_error}
+use Rattle.cell_client.specs.Effects.{Effect, Sends, Opens, Answers, Settles, tell}
 use Rattle.cell_services.specs.Services.{grant_told, grants_told}
+use Rattle.cell_services.specs.Serving.{resolved}
+use Rattle.cell_services.specs.Tables.{Tables}
 use Rattle.mms_step.specs.Partition.{cell}
 use Rattle.cell_laws.proofs.Bound.{nat-same, nat-test, of-both, both-true}
-use Rattle.cell_laws.proofs.Fair.{IsQuiet, Outcome, Unopening, join, none_taken, piece-abort, piece-answered, piece-quiet}
+use Rattle.cell_laws.proofs.Fair.{IsQuiet, Outcome, Unopening, join, none_taken, piece-abort, piece-answered, piece-quiet, piece-settles}
 use Rattle.cell_laws.proofs.Hears.{reached-answered, reached-still, waits_in}
 use Rattle.cell_laws.proofs.Once.{AnswerApart}
 use Rattle.cell_laws.proofs.Queues.{stands-any}
+use Rattle.cell_laws.proofs.Verdicts.{by-conclusion, by-error, by-rejected, by-response, by-tables}
 
 -- ---- tokens are granted
 
@@ -84,6 +88,8 @@ pub record Opening (row : ClientRow) (effects : List Effect) : Type 0 where
 abbrev pub Told : ClientRow → Verdict → Type 0
 Told row (Tells effects) = Silent effects ⊎ Opening row effects
 Told row (Takes invoke asked) = Unit {0}
+Told row (Replies number came) = Unit {0}
+Told row (Exhausts invoke) = Unit {0}
 Told row Concludes = Unit {0}
 Told row (Cancels invoke) = is_waiting invoke row.waiting ≡ true
 Told row Aborts = Unit {0}
@@ -96,6 +102,12 @@ silent-one p quiet c k rows = (inl (piece-quiet c k p rows quiet), (refl, tt))
 
 silent-abort : Silent (Sends Abort ∷ [])
 silent-abort c k rows = (inl (piece-abort c k rows), (refl, tt))
+
+silent-settles : (number : ℕ) → Silent (Settles number ∷ [])
+silent-settles number c k rows = (inl (piece-settles c k number rows), (refl, tt))
+
+silent-keeps : Silent keeps_open
+silent-keeps = silent-one (pdu.ConcludeError further_error) (λ i. refl)
 
 silent-reject : (invoke : ℕ) (reason : RejectReason) → Silent (rejects invoke reason ∷ [])
 silent-reject invoke reason = silent-one (pdu.Reject (record { invoke = Some invoke; reason = reason })) (λ i. refl)
@@ -120,10 +132,6 @@ requested-told : (row : ClientRow) (too_deep : Bool) (invoke : ℕ) (asked : Req
 requested-told row true invoke asked = inl (silent-reject invoke MaxRecursionExceeded)
 requested-told row false invoke asked = admitted-told row (admission invoke row) invoke asked
 
-concluded-told : (row : ClientRow) (waiting : List Waiting) → Told row (concluded waiting)
-concluded-told row [] = tt
-concluded-told row (first ∷ rest) = inl (silent-one (pdu.ConcludeError further_error) (λ i. refl))
-
 cancelled-told : (row : ClientRow) (waits : Bool) (invoke : ℕ) → is_waiting invoke row.waiting ≡ waits → Told row (cancelled waits invoke)
 cancelled-told row true invoke is = is
 cancelled-told row false invoke is = inl (silent-one (pdu.CancelError (record { invoke = invoke; error = unknown_error })) (λ i. refl))
@@ -135,11 +143,15 @@ idle-told row heard idle = inl silent-abort
 open-told : (values : Negotiated) (row : ClientRow) (heard : Result Pdu Refusal) → Told row (open_verdict values row heard)
 open-told values row (Err refusal) = inl (refused-told (reject_of refusal))
 open-told values row (Ok (pdu.InitiateRequest proposal)) = tt
-open-told values row (Ok pdu.ConcludeRequest) = concluded-told row row.waiting
+open-told values row (Ok pdu.ConcludeRequest) = by-conclusion (Told row) tt (inl silent-keeps) row.waiting row.asked
 open-told values row (Ok (pdu.CancelRequest invoke)) = cancelled-told row (is_waiting invoke row.waiting) invoke refl
 open-told values row (Ok (pdu.ConfirmedRequest invoke asked)) = requested-told row (nat_lt values.nesting (depth_of (pdu.ConfirmedRequest invoke asked))) invoke asked
-open-told values row (Ok (pdu.ConfirmedResponse invoke told)) = inl silent-invalid
-open-told values row (Ok (pdu.HeardError invoke)) = inl silent-invalid
+open-told values row (Ok (pdu.HeardResponse number told)) =
+    by-response (Told row) (λ n came. tt) (λ n. inl (silent-settles n)) (inl silent-invalid) (inl silent-none) number told (asked_of number row.asked)
+open-told values row (Ok (pdu.HeardError number)) =
+    by-error (Told row) (λ n came. tt) (λ n. inl (silent-settles n)) (inl silent-invalid) (inl silent-none) number (asked_of number row.asked)
+open-told values row (Ok (pdu.HeardReject number)) =
+    by-rejected (Told row) (λ n came. tt) (λ n. inl (silent-settles n)) (inl silent-invalid) (inl silent-none) number row.asked
 open-told values row (Ok heard) = inl silent-none
 
 by-told : (row : ClientRow) (a : Association) (heard : Result Pdu Refusal) → row.association ≡ a → Told row (verdict_by a row heard)
@@ -148,3 +160,6 @@ by-told row (Open values) heard is = open-told values row heard
 
 pub verdict-told : (row : ClientRow) (octets : List ℕ) → Told row (verdict row octets)
 verdict-told row octets = by-told row row.association (pdu_heard row.constants.edition octets) refl
+
+pub resolved-told : (t : Tables) (row : ClientRow) (v : Verdict) → Told row v → Told row (resolved t row v)
+resolved-told t row = by-tables (Told row) t row (λ invoke asked is. tt) (λ number came is. tt) (λ is. inl silent-keeps)

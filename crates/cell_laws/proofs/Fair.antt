@@ -1,8 +1,10 @@
 -- What a client is told answers as many of its requests as are taken, but for those that wait.
 use Rattle.std.proofs.Common.{◌≡◌, ℕ, zero, suc, ◌+◌, ◌⊎◌, inl, inr, Bool, true, false, cond, ◌==◌, ◌&&◌, List, [], ◌∷◌, ◌++◌, slice_get, unwrap_or, Option, None, Some, is_some, option_map, Result, Ok, Err, if◌then◌else◌, refl, sym, ◌∙◌, ap, subst, arith}
+use Rattle.mms_types.specs.declared.asked.Asked.{Asked}
 use Rattle.mms_types.specs.declared.event.What.{What}
 use Rattle.mms_types.specs.declared.event.What.TheVariants.{Octets, Abort}
 use Rattle.mms_types.specs.declared.pdu.Pdu.{Pdu}
+use Rattle.mms_types.specs.declared.pdu.Pdu.TheVariants as pdu
 use Rattle.association.specs.declared.client_part.NotAdmitted.{NotAdmitted}
 use Rattle.association.specs.declared.negotiation.Association.TheVariants.{Idle}
 use Rattle.association.specs.declared.waiting.Waiting.{Waiting}
@@ -13,7 +15,7 @@ use Rattle.mms_pdu.specs.Pdus.{pdu_octets}
 use Rattle.parted_state.specs.Lists.{get_changed}
 use Rattle.parted_state.specs.Served.{row_at, reached, delivered}
 use Rattle.cell_client.specs.Association.{sends}
-use Rattle.cell_client.specs.Effects.{Effect, Sends, Opens, Closes, Waits, Answers, Drains, felt}
+use Rattle.cell_client.specs.Effects.{Effect, Sends, Opens, Closes, Waits, Answers, Asks, Settles, Drains, felt, server_request}
 use Rattle.cell_services.specs.Serving.{waiting_of}
 use Rattle.mms_step.specs.Partition.{cell, no_client}
 use Rattle.mms_step.proofs.Sound.{delivered_both}
@@ -40,7 +42,7 @@ one_of k j c i = bit (c == k && i == j)
 -- what is told to a client answers what was taken and what waited, but for what waits then
 pub record Fair (c : ℕ) (told : List (ℕ × Effect)) (rows : List ClientRow) (taken : ℕ → ℕ) : Type 0 where
   pub pdus : List Pdu
-  pub spelled : AreSpelled (sent_to c told) pdus
+  pub spelled : AreSpelled (sent_to c rows told) pdus
   pub balance : (i : ℕ) → taken i + waits rows c i ≡ many (is_answer i) pdus + waits (delivered cell told rows) c i
 
 -- or there is no association then
@@ -63,10 +65,12 @@ append-all : {A : Type 0} (xs ys zs : List A) → (xs ++ ys) ++ zs ≡ xs ++ (ys
 append-all [] ys zs = refl
 append-all (x ∷ xs) ys zs = ap (λ l. x ∷ l) (append-all xs ys zs)
 
-sent-append : (c : ℕ) (xs ys : List (ℕ × Effect)) → sent_to c (xs ++ ys) ≡ sent_to c xs ++ sent_to c ys
-sent-append c [] ys = refl
-sent-append c (x ∷ xs) ys =
-    ap (λ l. (if c == x.0 then sent_by x.1 else []) ++ l) (sent-append c xs ys) ∙ sym (append-all (if c == x.0 then sent_by x.1 else []) (sent_to c xs) (sent_to c ys))
+sent-append : (c : ℕ) (xs ys : List (ℕ × Effect)) (rows : List ClientRow) → sent_to c rows (xs ++ ys) ≡ sent_to c rows xs ++ sent_to c (delivered cell xs rows) ys
+sent-append c [] ys rows = refl
+sent-append c (x ∷ xs) ys rows =
+    let first = if c == x.0 then sent_by (row_at cell c rows) x.1 else [] in
+    let next = reached cell x.0 x.1 rows in
+    ap (λ l. first ++ l) (sent-append c xs ys next) ∙ sym (append-all first (sent_to c next xs) (sent_to c (delivered cell xs next) ys))
 
 pub spelled-append : (xs ys : List What) (ps qs : List Pdu) → AreSpelled xs ps → AreSpelled ys qs → AreSpelled (xs ++ ys) (ps ++ qs)
 spelled-append [] ys ps qs a b = subst (λ (l : List Pdu). AreSpelled ys (l ++ qs)) (sym a) b
@@ -94,6 +98,8 @@ felt-idle (Waits request) row no_open idle = by_admission (admission request.inv
     by_admission (Ok may) = idle
     by_admission (Err refusal) = idle
 felt-idle (Answers invoke) row no_open idle = idle
+felt-idle (Asks kind domain) row no_open idle = idle
+felt-idle (Settles number) row no_open idle = idle
 felt-idle Drains row no_open idle = idle
 
 reached-idle : (effect : Effect) (k c : ℕ) (rows : List ClientRow) → is_opening effect ≡ false → IsIdle c rows → IsIdle c (reached cell k effect rows)
@@ -124,8 +130,8 @@ join c xs ys rows t u un (inr idle) second = inr (subst (IsIdle c) (sym (deliver
 join c xs ys rows t u un (inl first) (inr idle) = inr (subst (IsIdle c) (sym (delivered_both xs ys rows)) idle)
 join c xs ys rows t u un (inl first) (inl second) = inl (record {
   pdus = first.pdus ++ second.pdus;
-  spelled = subst (λ (l : List What). AreSpelled l (first.pdus ++ second.pdus)) (sym (sent-append c xs ys))
-      (spelled-append (sent_to c xs) (sent_to c ys) first.pdus second.pdus first.spelled second.spelled);
+  spelled = subst (λ (l : List What). AreSpelled l (first.pdus ++ second.pdus)) (sym (sent-append c xs ys rows))
+      (spelled-append (sent_to c rows xs) (sent_to c (delivered cell xs rows) ys) first.pdus second.pdus first.spelled second.spelled);
   balance = λ i.
       let a = first.balance i in
       let b = second.balance i in
@@ -136,26 +142,28 @@ join c xs ys rows t u un (inl first) (inl second) = inl (record {
 
 -- ---- pieces
 
-sent-single : (c k : ℕ) (effect : Effect) (ps : List Pdu) (b : Bool) → (c == k) ≡ b → AreSpelled (sent_by effect) ps → AreSpelled (sent_to c ((k, effect) ∷ [])) (if b then ps else [])
-sent-single c k effect ps true e spelled =
-    subst (λ (t : Bool). AreSpelled ((if t then sent_by effect else []) ++ []) ps) (sym e) (subst (λ (l : List What). AreSpelled l ps) (sym (nothing-more (sent_by effect))) spelled)
+sent-single : (c k : ℕ) (effect : Effect) (rows : List ClientRow) (ps : List Pdu) (b : Bool) → (c == k) ≡ b → AreSpelled (sent_by (row_at cell c rows) effect) ps
+    → AreSpelled (sent_to c rows ((k, effect) ∷ [])) (if b then ps else [])
+sent-single c k effect rows ps true e spelled =
+    subst (λ (t : Bool). AreSpelled ((if t then sent_by (row_at cell c rows) effect else []) ++ []) ps) (sym e)
+    (subst (λ (l : List What). AreSpelled l ps) (sym (nothing-more (sent_by (row_at cell c rows) effect))) spelled)
   where
     nothing-more : (xs : List What) → xs ++ [] ≡ xs
     nothing-more [] = refl
     nothing-more (x ∷ xs) = ap (λ l. x ∷ l) (nothing-more xs)
-sent-single c k effect ps false e spelled = subst (λ (t : Bool). AreSpelled ((if t then sent_by effect else []) ++ []) []) (sym e) refl
+sent-single c k effect rows ps false e spelled = subst (λ (t : Bool). AreSpelled ((if t then sent_by (row_at cell c rows) effect else []) ++ []) []) (sym e) refl
 
 -- one effect, by what it does to the client and to others
-piece : (c k : ℕ) (effect : Effect) (rows : List ClientRow) (ps : List Pdu) (taken : ℕ → ℕ) → AreSpelled (sent_by effect) ps
+piece : (c k : ℕ) (effect : Effect) (rows : List ClientRow) (ps : List Pdu) (taken : ℕ → ℕ) → AreSpelled (sent_by (row_at cell c rows) effect) ps
     → ((c == k) ≡ true → (i : ℕ) → taken i + waits rows c i ≡ many (is_answer i) ps + waits (reached cell k effect rows) c i)
     → ((c == k) ≡ false → (i : ℕ) → taken i ≡ 0) → Fair c ((k, effect) ∷ []) rows taken
 piece c k effect rows ps taken spelled here there = by_test (c == k) refl
   where
     by_test : (b : Bool) → (c == k) ≡ b → Fair c ((k, effect) ∷ []) rows taken
-    by_test true e = record { pdus = ps; spelled = sent-single c k effect ps true e spelled; balance = here e }
+    by_test true e = record { pdus = ps; spelled = sent-single c k effect rows ps true e spelled; balance = here e }
     by_test false e = record {
       pdus = [];
-      spelled = sent-single c k effect ps false e spelled;
+      spelled = sent-single c k effect rows ps false e spelled;
       balance = λ i.
           let none = there e i in
           let same : waits (reached cell k effect rows) c i ≡ waits rows c i = ap (λ (row : ClientRow). bit (is_some (waiting_of i row.waiting))) (row-other effect k c rows e) in
@@ -188,6 +196,24 @@ piece-drains c k rows =
     piece c k Drains rows [] none_taken refl
     (λ e i.
     let same : waits (reached cell k Drains rows) c i ≡ waits rows c i = ap (λ (o : Option Waiting). bit (is_some o)) (reached-still Drains tt k rows c i) in
+    omega (arith, same))
+    (λ e i. refl)
+
+-- a request of the server is no answer
+pub piece-asks : (c k : ℕ) (kind : Asked) (domain : List ℕ) (rows : List ClientRow) → Fair c ((k, Asks kind domain) ∷ []) rows none_taken
+piece-asks c k kind domain rows =
+    piece c k (Asks kind domain) rows (pdu.ServerRequest (row_at cell c rows).next_invoke (server_request kind domain) ∷ []) none_taken (refl, refl)
+    (λ e i.
+    let same : waits (reached cell k (Asks kind domain) rows) c i ≡ waits rows c i =
+    ap (λ (o : Option Waiting). bit (is_some o)) (reached-still (Asks kind domain) tt k rows c i) in
+    omega (arith, same))
+    (λ e i. refl)
+
+pub piece-settles : (c k number : ℕ) (rows : List ClientRow) → Fair c ((k, Settles number) ∷ []) rows none_taken
+piece-settles c k number rows =
+    piece c k (Settles number) rows [] none_taken refl
+    (λ e i.
+    let same : waits (reached cell k (Settles number) rows) c i ≡ waits rows c i = ap (λ (o : Option Waiting). bit (is_some o)) (reached-still (Settles number) tt k rows c i) in
     omega (arith, same))
     (λ e i. refl)
 

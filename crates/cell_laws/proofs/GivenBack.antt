@@ -37,7 +37,7 @@ use Rattle.cell_client.specs.Association.{Verdict, Takes, verdict}
 use Rattle.cell_client.specs.Effects.{Effect, tell}
 use Rattle.cell_services.specs.Services.{cause, effect, grants_told, relinquish_outcome}
 use Rattle.cell_client.specs.Requests.{is_done, size_of}
-use Rattle.cell_services.specs.Serving.{also_told, is_served, own_told, tables_heard}
+use Rattle.cell_services.specs.Serving.{also_told, is_served, own_told, resolved, tables_heard}
 use Rattle.cell_services.specs.Tables.{Tables, moment_of}
 use Rattle.mms_step.specs.Answered.{IsAnswered}
 use Rattle.mms_step.specs.Partition.{cell}
@@ -185,13 +185,13 @@ module _ (count : ℕ) (s : State) (sound : IsSoundState count s) (bound : Bound
 
   became : after.semaphores ≡ relinquished key its.client asked.token (moment_of old) s.semaphores
   became =
-      ap (λ (v : Verdict). (tables_heard old its v).semaphores) taken
+      ap (λ (v : Verdict). (tables_heard old its (resolved old its v)).semaphores) taken
       ∙ ap (λ (b : Bool). (if b then (effect old its invoke (request.RelinquishControl asked)).tables else old).semaphores) served
       ∙ ap (λ (o : Option (Option Granted)). (relinquish_outcome old its.client asked o).tables.semaphores) grant
 
-  also : also_told old its (verdict its octets) ≡ grants_told (option_to_list (told_of s.semaphores key who))
+  also : also_told old its (resolved old its (verdict its octets)) ≡ grants_told (option_to_list (told_of s.semaphores key who))
   also =
-      ap (also_told old its) taken
+      ap (λ (v : Verdict). also_told old its (resolved old its v)) taken
       ∙ ap (λ (b : Bool). if b then (effect old its invoke (request.RelinquishControl asked)).also else []) served
       ∙ ap (λ (o : Option (Option Granted)). (relinquish_outcome old its.client asked o).also) grant
 
@@ -204,13 +204,13 @@ module _ (count : ℕ) (s : State) (sound : IsSoundState count s) (bound : Bound
       heir : who ≡ Some (grant_of named e)
       heir = (gone has.sem has.owner (moment_of old) has.sound has.among has.holds).heir ∙ ap (option_map (grant_of named)) first
 
-      gets : also_told old its (verdict its octets) ≡ grants_told (granted s.semaphores (key, grant_of named e) ∷ [])
+      gets : also_told old its (resolved old its (verdict its octets)) ≡ grants_told (granted s.semaphores (key, grant_of named e) ∷ [])
       gets = also ∙ ap (λ (o : Option Grant). grants_told (option_to_list (told_of s.semaphores key o))) heir
 
       none : waits_in after.clients e.client e.invoke ≡ None
       none =
-          ap (λ (l : List (ℕ × Effect)). waits_in (delivered cell (tell client (own_told old its (verdict its octets)) ++ l) s.clients) e.client e.invoke) gets
-          ∙ answered-none (tell client (own_told old its (verdict its octets))) (granted s.semaphores (key, grant_of named e) ∷ []) s.clients
+          ap (λ (l : List (ℕ × Effect)). waits_in (delivered cell (tell client (own_told old its (resolved old its (verdict its octets))) ++ l) s.clients) e.client e.invoke) gets
+          ∙ answered-none (tell client (own_told old its (resolved old its (verdict its octets)))) (granted s.semaphores (key, grant_of named e) ∷ []) s.clients
           (granted s.semaphores (key, grant_of named e)) (inl refl)
 
       answered : IsAnswered after (granted s.semaphores (key, grant_of named e))

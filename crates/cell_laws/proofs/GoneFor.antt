@@ -35,7 +35,7 @@ use Rattle.sem_ticks.proofs.Kept.{keeps_lost}
 use Rattle.sem_ticks.proofs.Settling.{settle-keeps}
 use Rattle.cell_client.specs.Association.{Takes, verdict}
 use Rattle.cell_services.specs.Services.{relinquish_outcome, take_outcome}
-use Rattle.cell_services.specs.Serving.{is_served}
+use Rattle.cell_services.specs.Serving.{is_served, resolved}
 use Rattle.cell_services.specs.Tables.{Tables, moment_after, moment_of}
 use Rattle.mms_step.specs.Partition.{cell}
 use Rattle.mms_step.specs.State.{State, IsSound as IsSoundState}
@@ -86,7 +86,7 @@ module _ (count : ℕ) (s : State) (sound : IsSoundState count s) (single : AreS
       x = gives.asked
 
       same : row.client ≡ e.client
-      same = numbered-so count s sound key e at holding e.client octets gives.invoke (request.RelinquishControl x) gives.taken gives.served
+      same = numbered-so count s sound key e at holding e.client octets gives.invoke (request.RelinquishControl x) (ap (resolved (cell.tables_of s) row) gives.taken) gives.served
 
       k : Key
       k = key_of row.client x.name
@@ -114,7 +114,7 @@ module _ (count : ℕ) (s : State) (sound : IsSoundState count s) (single : AreS
           ∙ ap (λ (o : Option SemaphoreRow). option_map (option_map (λ grant. granted s.semaphores (k, grant))) (relinquish_grant_of row.client x o)) there))
       by_grant (Some grant) told =
           ap (entry_in key e.number)
-          (became count s sound key e at holding e.client octets gives.invoke (request.RelinquishControl x) gives.taken gives.served
+          (became count s sound key e at holding e.client octets gives.invoke (request.RelinquishControl x) (ap (resolved (cell.tables_of s) row) gives.taken) gives.served
           ∙ ap (λ (o : Option (Option Granted)). (relinquish_outcome old row.client x o).tables.semaphores) told)
           ∙ gone_there
 
@@ -127,7 +127,7 @@ module _ (count : ℕ) (s : State) (sound : IsSoundState count s) (single : AreS
       row = row_at cell client s.clients
 
       same : row.client ≡ client
-      same = numbered-so count s sound key e at holding client octets invoke (request.TakeControl x) taken served
+      same = numbered-so count s sound key e at holding client octets invoke (request.TakeControl x) (ap (resolved (cell.tables_of s) row) taken) served
 
       k : Key
       k = key_of row.client x.name
@@ -141,7 +141,7 @@ module _ (count : ℕ) (s : State) (sound : IsSoundState count s) (single : AreS
       conditions : first_of (take_conditions_in row.client x its.sem) ≡ None
       conditions =
           sym (ap (λ (o : Option SemaphoreRow). first_of (take_conditions row.client x o)) there ∙ ap (λ (t : Semaphore). first_of (take_conditions_in row.client x t)) its.found.is)
-          ∙ refused-not count s sound key e at holding client octets invoke (request.TakeControl x) taken served
+          ∙ refused-not count s sound key e at holding client octets invoke (request.TakeControl x) (ap (resolved (cell.tables_of s) row) taken) served
 
       gone_there : entry_in key e.number (changed (with_take row.client invoke x now) k s.semaphores) ≡ None
       gone_there =
@@ -152,7 +152,7 @@ module _ (count : ℕ) (s : State) (sound : IsSoundState count s) (single : AreS
 
       became_so : (o : Option TakeDone) → take_told row.client x s.semaphores ≡ o → (step s (Heard client octets)).semaphores ≡ (take_outcome old row.client invoke x o).tables.semaphores
       became_so o told =
-          became count s sound key e at holding client octets invoke (request.TakeControl x) taken served
+          became count s sound key e at holding client octets invoke (request.TakeControl x) (ap (resolved (cell.tables_of s) row) taken) served
           ∙ ap (λ (p : Option TakeDone). (take_outcome old row.client invoke x p).tables.semaphores) told
 
       by_told : (o : Option TakeDone) → take_told row.client x s.semaphores ≡ o → entry_in key e.number (step s (Heard client octets)).semaphores ≡ None

@@ -3,6 +3,7 @@ use Rattle.std.proofs.Common.{◌≡◌, ◌≢◌, ℕ, zero, suc, ◌<◌, Boo
 use Rattle.std.proofs.lemmas.Bool.Decides.{nat_tests}
 use Rattle.std.proofs.lemmas.List.Kept.{AllPairs-filter}
 use Rattle.std.proofs.lemmas.List.Quantifiers.{all_pairs_push}
+use Rattle.mms_types.specs.declared.asked.Asked.{Asked}
 use Rattle.association.specs.declared.client_part.NotAdmitted.{NotAdmitted}
 use Rattle.association.specs.declared.client_part.NotAdmitted.TheVariants as not_admitted
 use Rattle.association.specs.declared.negotiation.Association.TheVariants.{Idle}
@@ -13,9 +14,10 @@ use Rattle.association.specs.Waiting.{AreDistinct, is_waiting, without}
 use Rattle.sem_ticks.specs.declared.granted.Granted.{Granted}
 use Rattle.parted_state.specs.Lists.{get_changed, get_change}
 use Rattle.parted_state.specs.Served.{row_at, reached, delivered}
-use Rattle.cell_client.specs.Effects.{Effect, Sends, Opens, Closes, Waits, Answers, Drains, felt, tell}
+use Rattle.cell_client.specs.Effects.{Effect, Sends, Opens, Closes, Waits, Answers, Asks, Settles, Drains, felt, tell}
 use Rattle.cell_services.specs.Services.{grant_told, grants_told}
 use Rattle.cell_services.specs.Serving.{waiting_of}
+use Rattle.serve_domains.specs.Domains.{asks_next}
 use Rattle.mms_step.specs.Partition.{cell, no_client}
 use Rattle.cell_laws.proofs.Bound.{nat-same, nat-test}
 use Rattle.cell_laws.proofs.Queues.{is_answered}
@@ -103,6 +105,8 @@ IsStill (Opens values) = Unit {0}
 IsStill Closes = ⊥
 IsStill (Waits request) = ⊥
 IsStill (Answers invoke) = ⊥
+IsStill (Asks kind domain) = Unit {0}
+IsStill (Settles number) = Unit {0}
 IsStill Drains = Unit {0}
 
 both : {A : Type 0} (b : Bool) (o : A) → cond b o o ≡ o
@@ -118,6 +122,8 @@ reached-still effect still k rows c i = reached-by effect (λ j o. o) (λ j. ref
     one Closes s row j = absurd s
     one (Waits request) s row j = absurd s
     one (Answers invoke) s row j = absurd s
+    one (Asks kind domain) s row j = refl
+    one (Settles number) s row j = refl
     one Drains s row j = refl
 
 pub reached-closed : (k : ℕ) (rows : List ClientRow) (c i : ℕ) → waits_in (reached cell k Closes rows) c i ≡ cond (c == k) None (waits_in rows c i)
@@ -203,6 +209,20 @@ pub told-still : (k : ℕ) (effects : List Effect) (rows : List ClientRow) → A
 told-still k [] rows still c i = refl
 told-still k (effect ∷ effects) rows still c i = told-still k effects (reached cell k effect rows) still.1 c i ∙ reached-still effect still.0 k rows c i
 
+-- also where several clients are told
+abbrev pub AllStill : List (ℕ × Effect) → Type 0
+AllStill [] = Unit {0}
+AllStill (t ∷ told) = IsStill t.1 × AllStill told
+
+pub all-still : (told : List (ℕ × Effect)) (rows : List ClientRow) → AllStill told → (c i : ℕ) → waits_in (delivered cell told rows) c i ≡ waits_in rows c i
+all-still [] rows still c i = refl
+all-still (t ∷ told) rows still c i = all-still told (reached cell t.0 t.1 rows) still.1 c i ∙ reached-still t.1 still.0 t.0 rows c i
+
+-- what is asked next, where anything is
+pub next-still : (client : ℕ) (o : Option Asked) (domain : List ℕ) → AllStill (asks_next client o domain)
+next-still client None domain = tt
+next-still client (Some kind) domain = (tt, tt)
+
 pub granted-left : (grants : List Granted) (rows : List ClientRow) (c i : ℕ) → waits_in (delivered cell (grants_told grants) rows) c i ≡ cond (is_answered grants c i) None (waits_in rows c i)
 granted-left [] rows c i = refl
 granted-left (g ∷ grants) rows c i =
@@ -241,6 +261,8 @@ distinct-felt (Waits request) row distinct = by_admission (admission request.inv
     by_admission (Ok may) h = distinct-push row.waiting request (admitted-new request.invoke row h) distinct
     by_admission (Err refusal) h = distinct
 distinct-felt (Answers invoke) row distinct = AllPairs-filter (λ one other. one.invoke ≢ other.invoke) (λ w. not (w.invoke == invoke)) row.waiting distinct
+distinct-felt (Asks kind domain) row distinct = distinct
+distinct-felt (Settles number) row distinct = distinct
 distinct-felt Drains row distinct = distinct
 
 abbrev pub RowsDistinct : List ClientRow → Type 0

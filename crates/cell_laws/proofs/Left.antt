@@ -39,11 +39,11 @@ use Rattle.sem_ticks.specs.declared.granted.Granted.{Granted}
 use Rattle.sem_ticks.specs.Ticks.{Ticking, abort_told, expiry_told}
 use Rattle.sem_ticks.specs.declared.ticks.Happening.TheVariants as happens
 use Rattle.sem_ticks.proofs.Kept.{row_found}
-use Rattle.cell_client.specs.Association.{Verdict, Concludes, Aborts, loss_told, verdict}
+use Rattle.cell_client.specs.Association.{Verdict, Concludes, Aborts, Exhausts, loss_told, verdict}
 use Rattle.cell_client.specs.Effects.{Effect, tell}
 use Rattle.cell_services.specs.Services.{grants_told}
-use Rattle.cell_services.specs.Serving.{all_told, also_lost, also_told, own_told, tables_heard, tables_lost}
-use Rattle.mms_step.specs.Answered.{IsAnswered}
+use Rattle.cell_services.specs.Serving.{all_told, also_lost, also_told, own_told, resolved, tables_heard, tables_lost}
+use Rattle.mms_step.specs.Answered.{EndsIt, IsAnswered}
 use Rattle.mms_step.specs.Partition.{cell}
 use Rattle.mms_step.specs.State.{State, IsSound as IsSoundState}
 use Rattle.mms_step.specs.Step.{replay, step}
@@ -59,7 +59,7 @@ use Rattle.cell_laws.proofs.Entries.{leaving}
 use Rattle.cell_laws.proofs.Freeing.{Found, IsTold, freed, gone, next_of, passes-on, stands-contains}
 use Rattle.cell_laws.proofs.Granted.{answered-none, in-range, told-of}
 use Rattle.cell_laws.proofs.Hears.{waits_in}
-use Rattle.cell_laws.proofs.Linking.{Meanwhile, Meant, expiry-left, numbered-client, verdict-meant}
+use Rattle.cell_laws.proofs.Linking.{Meanwhile, Meant, expiry-left, numbered-client, resolved-meant, verdict-meant}
 use Rattle.cell_laws.proofs.Meetings.{bound-met, sound-met}
 use Rattle.cell_laws.proofs.Once.{lost-waits}
 use Rattle.cell_laws.proofs.Queues.{map-stands, rise, sorted-stands}
@@ -216,25 +216,34 @@ module _ (count : ℕ) (s : State) (sound : IsSoundState count s) (bound : Bound
     abbrev pub its : ClientRow
     its = row_at cell client s.clients
 
-    unidle : (v : Verdict) → (v ≡ Concludes) ⊎ (v ≡ Aborts) → Meant its v → its.association ≡ Idle → ⊥
-    unidle v (inl e) m = subst (Meant its) e m
-    unidle v (inr e) m = subst (Meant its) e m
+    unidle : (v : Verdict) → EndsIt v → Meant its v → its.association ≡ Idle → ⊥
+    unidle Concludes so m = m
+    unidle Aborts so m = m
+    unidle (Exhausts invoke) so m = m
+    unidle other so m = absurd so
 
-    ending : (v : Verdict) → (v ≡ Concludes) ⊎ (v ≡ Aborts) → (tables_heard (cell.tables_of s) its v).semaphores ≡ lost its.client now s.semaphores
-    ending v (inl e) = ap (λ (w : Verdict). (tables_heard (cell.tables_of s) its w).semaphores) e
-    ending v (inr e) = ap (λ (w : Verdict). (tables_heard (cell.tables_of s) its w).semaphores) e
+    ending : (v : Verdict) → EndsIt v → (tables_heard (cell.tables_of s) its v).semaphores ≡ lost its.client now s.semaphores
+    ending Concludes so = refl
+    ending Aborts so = refl
+    ending (Exhausts invoke) so = refl
+    ending other so = absurd so
 
-    telling : (v : Verdict) → (v ≡ Concludes) ⊎ (v ≡ Aborts) → also_told (cell.tables_of s) its v ≡ grants_told (lost_granted its.client now s.semaphores)
-    telling v (inl e) = ap (λ (w : Verdict). also_told (cell.tables_of s) its w) e
-    telling v (inr e) = ap (λ (w : Verdict). also_told (cell.tables_of s) its w) e
+    telling : (v : Verdict) → EndsIt v → also_told (cell.tables_of s) its v ≡ grants_told (lost_granted its.client now s.semaphores)
+    telling Concludes so = refl
+    telling Aborts so = refl
+    telling (Exhausts invoke) so = refl
+    telling other so = absurd so
 
-    heard-ends : (leaver : ℕ) (octets : List ℕ) → client ≡ leaver → (verdict its octets ≡ Concludes) ⊎ (verdict its octets ≡ Aborts) → IsLost leaver (Heard client octets)
+    abbrev comes_to : List ℕ → Verdict
+    comes_to octets = resolved (cell.tables_of s) its (verdict its octets)
+
+    heard-ends : (leaver : ℕ) (octets : List ℕ) → client ≡ leaver → EndsIt (comes_to octets) → IsLost leaver (Heard client octets)
     heard-ends leaver octets same so =
         ends its.client leaver (Heard client octets)
-        (numbered-client count s client sound (unidle (verdict its octets) so (verdict-meant its octets)) ∙ same)
-        (tell client (own_told (cell.tables_of s) its (verdict its octets))) (ending (verdict its octets) so)
-        (ap (λ (l : List (ℕ × Effect)). delivered cell (tell client (own_told (cell.tables_of s) its (verdict its octets)) ++ l) s.clients) (telling (verdict its octets) so))
-        (λ g grants. left_to s client octets g (verdict its octets) refl so grants)
+        (numbered-client count s client sound (unidle (comes_to octets) so (resolved-meant (cell.tables_of s) its (verdict its octets) (verdict-meant its octets))) ∙ same)
+        (tell client (own_told (cell.tables_of s) its (comes_to octets))) (ending (comes_to octets) so)
+        (ap (λ (l : List (ℕ × Effect)). delivered cell (tell client (own_told (cell.tables_of s) its (comes_to octets)) ++ l) s.clients) (telling (comes_to octets) so))
+        (λ g grants. left_to s client octets g so grants)
 
   lost-ends : (client leaver : ℕ) (values : Negotiated) → client ≡ leaver → (row_at cell client s.clients).association ≡ Open values → IsLost leaver (Lost client)
   lost-ends client leaver values same is =

@@ -5,6 +5,7 @@ pub mod Losing
 pub mod Requests
 pub mod Bounds
 pub mod Meetings
+pub mod Verdicts
 pub mod Hears
 pub mod Linking
 pub mod Replayed
@@ -35,3 +36,4 @@ pub mod Gone
 pub mod GoneFor
 pub mod Worked
 pub mod WorkedLost
+pub mod WorkedTally

@@ -1,6 +1,8 @@
 -- Each event keeps what links requests that wait and entries that are queued.
 use Rattle.std.proofs.Common.{◌≡◌, ℕ, zero, suc, Bool, true, false, cond, ◌==◌, ◌&&◌, nat_lt, List, [], ◌∷◌, ◌++◌, map, slice_get, unwrap_or, Option, None, Some, option_map, option_and_then, option_to_list, Result, Ok, Err, if◌then◌else◌, refl, sym, ◌∙◌, ap, subst, arith}
 use Rattle.mms_types.specs.Order.{key_of}
+use Rattle.mms_types.specs.declared.asked.Asked.{Asked}
+use Rattle.mms_types.specs.declared.asked.Asked.TheVariants as asks
 use Rattle.mms_types.specs.declared.event.CellEvent.{CellEvent}
 use Rattle.mms_types.specs.declared.event.CellEvent.TheVariants.{Heard, Lost, Tick, Ends, Drain}
 use Rattle.mms_types.specs.declared.event.What.{What}
@@ -28,6 +30,7 @@ use Rattle.association.specs.declared.negotiation.Association.TheVariants.{Idle,
 use Rattle.association.specs.declared.negotiation.Negotiated.{Negotiated}
 use Rattle.association.specs.declared.waiting.Waiting.{Waiting}
 use Rattle.association.specs.Admission.{admission}
+use Rattle.association.specs.Asked.{asked_of}
 use Rattle.association.specs.Client.{ClientRow}
 use Rattle.association.specs.Negotiation.{negotiation}
 use Rattle.association.specs.Waiting.{is_waiting}
@@ -50,12 +53,17 @@ use Rattle.sem_ticks.specs.declared.ticks.Happening.{Happening}
 use Rattle.sem_ticks.specs.declared.ticks.Happening.TheVariants as happens
 use Rattle.sem_ticks.proofs.Kept.{keeps_lost}
 use Rattle.sem_ticks.proofs.Settling.{settle-keeps}
-use Rattle.cell_client.specs.Association.{Verdict, Tells, Takes, Concludes, Cancels, Aborts, other_error, verdict, verdict_by, idle_verdict, open_verdict, admitted, requested, concluded, cancelled, negotiated, refused, loss_told}
-use Rattle.cell_client.specs.Effects.{Effect, Sends, Closes, Answers, Drains, felt, tell}
+use Rattle.cell_client.specs.Association.{Came, Verdict, Tells, Takes, Replies, Exhausts, Concludes, Cancels, Aborts, other_error, verdict, verdict_by, idle_verdict, open_verdict, admitted, requested, cancelled, negotiated, refused, loss_told}
+use Rattle.cell_client.specs.Effects.{Effect, Sends, Closes, Answers, Asks, Settles, Drains, felt, tell}
+use Rattle.cell_services.specs.Requests.{among}
 use Rattle.cell_services.specs.Services.{cause, effect, grants_told, relinquish_outcome, take_outcome}
+use Rattle.cell_client.specs.Areas.{OutcomeIn}
 use Rattle.cell_client.specs.Requests.{answer_told, fits, is_done, refuses, request_told, size_of}
-use Rattle.cell_services.specs.Serving.{all_told, also_lost, also_told, happening_told, own_told, services, tables_cancelled, tables_heard, tables_lost, waiting_of}
-use Rattle.cell_services.specs.Tables.{Tables, moment_after, moment_of}
+use Rattle.cell_services.specs.Serving.{all_told, also_lost, also_told, happening_told, own_told, resolved, services, tables_cancelled, tables_heard, tables_lost, waiting_of}
+use Rattle.cell_services.specs.Tables.{Tables, moment_after, moment_of, own_domains}
+use Rattle.serve_domains.specs.Domains.{asks_next, replied_to, reply_of}
+use Rattle.serve_domains.specs.Tables.{DomainTables}
+use Rattle.domain_load.specs.Loading.{asked_next}
 use Rattle.mms_step.specs.Partition.{cell, no_client}
 use Rattle.mms_step.specs.State.{State, IsSound}
 use Rattle.mms_step.specs.Step.{step}
@@ -63,10 +71,11 @@ use Rattle.mms_step.proofs.Sound.{delivered_both}
 use Rattle.cell_laws.specs.Linked.{asker}
 use Rattle.cell_laws.proofs.Bound.{Bound, bound-same, nat-same, of-both}
 use Rattle.cell_laws.proofs.Bounds.{bound-answered, bound-cancelled, bound-defined, bound-deleted, bound-given, bound-waits, told_of}
-use Rattle.cell_laws.proofs.Hears.{AreStill, IsAdmitted, RowsDistinct, admitted-none, admitted-open, distinct-told, granted-left, reached-answered, reached-closed, reached-still, reached-waits, told-still, waits_in}
+use Rattle.cell_laws.proofs.Hears.{AllStill, AreStill, IsAdmitted, RowsDistinct, admitted-none, admitted-open, all-still, distinct-told, granted-left, next-still, reached-answered, reached-closed, reached-still, reached-waits, told-still, waits_in}
 use Rattle.cell_laws.proofs.Losing.{bound-lost}
 use Rattle.cell_laws.proofs.Meetings.{bound-met, is_met, sound-met}
 use Rattle.cell_laws.proofs.Queues.{is_answered, rise}
+use Rattle.cell_laws.proofs.Verdicts.{by-conclusion, by-error, by-rejected, by-response, by-tables}
 
 -- what links the requests that wait and the entries that are queued
 pub record Linked (s : State) : Type 0 where
@@ -78,6 +87,8 @@ pub record Linked (s : State) : Type 0 where
 abbrev pub Meant : ClientRow → Verdict → Type 0
 Meant row (Tells effects) = AreStill effects
 Meant row (Takes invoke asked) = IsAdmitted invoke row
+Meant row (Replies number came) = row.association ≡ Idle → ⊥
+Meant row (Exhausts invoke) = row.association ≡ Idle → ⊥
 Meant row Concludes = row.association ≡ Idle → ⊥
 Meant row (Cancels invoke) = Unit {0}
 Meant row Aborts = row.association ≡ Idle → ⊥
@@ -99,10 +110,6 @@ requested-meant : (row : ClientRow) (too_deep : Bool) (invoke : ℕ) (asked : Re
 requested-meant row true invoke asked = (tt, tt)
 requested-meant row false invoke asked = admitted-meant row (admission invoke row) invoke asked refl
 
-concluded-meant : (row : ClientRow) (waiting : List Waiting) → (row.association ≡ Idle → ⊥) → Meant row (concluded waiting)
-concluded-meant row [] is = is
-concluded-meant row (first ∷ rest) is = (tt, tt)
-
 cancelled-meant : (row : ClientRow) (waits : Bool) (invoke : ℕ) → Meant row (cancelled waits invoke)
 cancelled-meant row true invoke = tt
 cancelled-meant row false invoke = (tt, tt)
@@ -114,11 +121,13 @@ idle-meant row heard = (tt, tt)
 open-meant : (values : Negotiated) (row : ClientRow) (heard : Result Pdu Refusal) → (row.association ≡ Idle → ⊥) → Meant row (open_verdict values row heard)
 open-meant values row (Err refusal) is = refused-meant (reject_of refusal)
 open-meant values row (Ok (pdu.InitiateRequest proposal)) is = is
-open-meant values row (Ok pdu.ConcludeRequest) is = concluded-meant row row.waiting is
+open-meant values row (Ok pdu.ConcludeRequest) is = by-conclusion (Meant row) is (tt, tt) row.waiting row.asked
 open-meant values row (Ok (pdu.CancelRequest invoke)) is = cancelled-meant row (is_waiting invoke row.waiting) invoke
 open-meant values row (Ok (pdu.ConfirmedRequest invoke asked)) is = requested-meant row (nat_lt values.nesting (depth_of (pdu.ConfirmedRequest invoke asked))) invoke asked
-open-meant values row (Ok (pdu.ConfirmedResponse invoke told)) is = (tt, tt)
-open-meant values row (Ok (pdu.HeardError invoke)) is = (tt, tt)
+open-meant values row (Ok (pdu.HeardResponse number told)) is =
+    by-response (Meant row) (λ n came. is) (λ n. (tt, tt)) (tt, tt) tt number told (asked_of number row.asked)
+open-meant values row (Ok (pdu.HeardError number)) is = by-error (Meant row) (λ n came. is) (λ n. (tt, tt)) (tt, tt) tt number (asked_of number row.asked)
+open-meant values row (Ok (pdu.HeardReject number)) is = by-rejected (Meant row) (λ n came. is) (λ n. (tt, tt)) (tt, tt) tt number row.asked
 open-meant values row (Ok heard) is = tt
 
 by-meant : (row : ClientRow) (a : Association) (heard : Result Pdu Refusal) → row.association ≡ a → Meant row (verdict_by a row heard)
@@ -127,6 +136,9 @@ by-meant row (Open values) heard is = open-meant values row heard (λ idle. cc (
 
 pub verdict-meant : (row : ClientRow) (octets : List ℕ) → Meant row (verdict row octets)
 verdict-meant row octets = by-meant row row.association (pdu_heard row.constants.edition octets) refl
+
+pub resolved-meant : (t : Tables) (row : ClientRow) (v : Verdict) → Meant row v → Meant row (resolved t row v)
+resolved-meant t row = by-tables (Meant row) t row (λ invoke asked may. admitted-open invoke row may) (λ number came is. is) (λ is. (tt, tt))
 
 -- ---- rows
 
@@ -202,6 +214,10 @@ module _ (count : ℕ) (s : State) (sound : IsSound count s) (bound : Bound (ask
         bound-waits s.semaphores (waits_in rows) now_bound sound.semaphores its.client invoke (moment_of old) x entry _ none told (admitted-none invoke its.client rows mine)
         (reached-waits (record { invoke = invoke; key = key_of its.client x.name; entry = entry }) its.client rows mine)
 
+    told-nothing : (also : List (ℕ × Effect)) → AllStill also → Then s.semaphores also
+    told-nothing also are =
+        bound-same (asker s.semaphores) (asker s.semaphores) (waits_in rows) (waits_in (delivered cell also rows)) now_bound (λ k n. refl) (all-still also rows are)
+
     done : (asked : Request) → cause old its asked ≡ None → Then (effect old its invoke asked).tables.semaphores (effect old its invoke asked).also
     done (request.TakeControl x) none = taking x (take_told its.client x s.semaphores) refl none
     done (request.RelinquishControl x) none = by_grant (relinquish_granted its.client x s.semaphores) refl
@@ -213,6 +229,7 @@ module _ (count : ℕ) (s : State) (sound : IsSound count s) (bound : Bound (ask
             bound-given s.semaphores (waits_in rows) now_bound sound.semaphores its.client (moment_of old) x grant _ told (granted-left (option_to_list grant) rows)
     done (request.DefineSemaphore x) none = bound-defined s.semaphores (waits_in rows) now_bound its.client x
     done (request.DeleteSemaphore x) none = bound-deleted s.semaphores (waits_in rows) now_bound sound.semaphores its.client x none
+    done (request.InitiateDownloadSequence x) none = told-nothing ((its.client, Asks asks.Segment x.domain) ∷ []) (tt, tt)
     done asked none = now_bound
 
   answered-still : (invoke : ℕ) (told : Option Answer) → AreStill (answer_told invoke told)
@@ -251,6 +268,27 @@ module _ (count : ℕ) (s : State) (sound : IsSound count s) (bound : Bound (ask
       by_cause None e = by_fit (fits size invoke (effect old its invoke asked).answer) e
       by_cause (Some refusal) e = still (refuses invoke refusal ∷ []) (tt, tt)
 
+  -- a client answers what the server asked: its request is unanswered no more, and what is next may be asked
+  replies-one : (number : ℕ) (came : Came)
+      → After (tables_heard old its (Replies number came)).semaphores (tell client (own_told old its (Replies number came)) ++ also_told old its (Replies number came))
+  replies-one number came = by_of (asked_of number its.asked)
+    where
+      size : ℕ
+      size = size_of its.association
+
+      done_by : Option (Asked × List ℕ) → OutcomeIn DomainTables
+      done_by o = replied_to its.client number came o old.domains
+
+      by_of : (o : Option (Asked × List ℕ))
+          → After (if is_done size number None (done_by o).answer then (among own_domains old (done_by o)).tables else old).semaphores
+          (tell client (request_told size number None (done_by o).answer) ++ (if is_done size number None (done_by o).answer then (done_by o).also else []))
+      by_of None = bound
+      by_of (Some of) =
+          let next : Option Asked = asked_next (reply_of came of) old.domains.domains in
+          let also : List (ℕ × Effect) = (its.client, Settles number) ∷ asks_next its.client next of.1 in
+          bound-same (asker s.semaphores) (asker s.semaphores) (waits_in s.clients) (waits_in (delivered cell also s.clients)) bound (λ k n. refl)
+          (all-still also s.clients (tt, next-still its.client next of.1))
+
   -- a request is cancelled
   cancels-one : (invoke : ℕ) → After (tables_heard old its (Cancels invoke)).semaphores (tell client (own_told old its (Cancels invoke)) ++ [])
   cancels-one invoke = by_waiting (waiting_of invoke its.waiting) refl
@@ -278,6 +316,8 @@ module _ (count : ℕ) (s : State) (sound : IsSound count s) (bound : Bound (ask
   heard : (v : Verdict) → Meant its v → After (tables_heard old its v).semaphores (tell client (own_told old its v) ++ also_told old its v)
   heard (Tells effects) meant = still effects meant
   heard (Takes invoke asked) meant = takes-one invoke asked meant
+  heard (Replies number came) meant = replies-one number came
+  heard (Exhausts invoke) meant = ends (_ ∷ _ ∷ []) (tt, (tt, tt)) meant
   heard Concludes meant = ends (_ ∷ []) (tt, tt) meant
   heard (Cancels invoke) meant = cancels-one invoke
   heard Aborts meant = ends (_ ∷ []) (tt, tt) meant
@@ -387,7 +427,9 @@ module _ (clients : List ClientRow) where
 pub linked-bound : (count : ℕ) (s : State) (event : CellEvent) → IsSound count s → Bound (asker s.semaphores) (waits_in s.clients)
     → Bound (asker (step s event).semaphores) (waits_in (step s event).clients)
 linked-bound count s (Heard client octets) sound bound =
-    heard count s sound bound client (verdict (row_at cell client s.clients) octets) (verdict-meant (row_at cell client s.clients) octets)
+    let row = row_at cell client s.clients in
+    heard count s sound bound client (resolved (cell.tables_of s) row (verdict row octets))
+    (resolved-meant (cell.tables_of s) row (verdict row octets) (verdict-meant row octets))
 linked-bound count s (Lost client) sound bound = loses-one count s sound bound client (row_at cell client s.clients).association refl
 linked-bound count s (Tick ms) sound bound =
     (ticked-keeps s.clients (moment_after ms (cell.tables_of s)) (record { rows = s.semaphores; happened = [] }) (record { bound = bound; sound = sound.semaphores })).bound

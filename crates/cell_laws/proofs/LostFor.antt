@@ -41,14 +41,16 @@ use Rattle.sem_ticks.specs.declared.granted.Granted.{Granted}
 use Rattle.sem_ticks.proofs.Kept.{keeps_lost}
 use Rattle.sem_ticks.proofs.Requests.{keeps_relinquished, keeps_taken}
 use Rattle.sem_ticks.proofs.Settling.{settle-keeps}
-use Rattle.cell_client.specs.Association.{Verdict, Tells, Takes, Concludes, Cancels, Aborts, verdict}
-use Rattle.cell_services.specs.Services.{cause, effect, relinquish_outcome, take_outcome}
+use Rattle.cell_client.specs.Association.{Verdict, Tells, Takes, Replies, Exhausts, Concludes, Cancels, Aborts, verdict}
+use Rattle.cell_services.specs.Services.{cause, effect, effect_of, relinquish_outcome, reply_in, take_outcome}
 use Rattle.cell_client.specs.Requests.{is_done, size_of}
-use Rattle.cell_services.specs.Serving.{is_served, tables_cancelled, tables_heard, tables_lost, waiting_of}
+use Rattle.cell_services.specs.Serving.{is_served, is_served_in, resolved, tables_cancelled, tables_heard, tables_lost, waiting_of}
 use Rattle.cell_services.specs.Tables.{Tables, moment_after, moment_of}
 use Rattle.mms_step.specs.Partition.{cell}
 use Rattle.mms_step.specs.State.{State, IsSound as IsSoundState}
 use Rattle.mms_step.specs.Step.{replay, step}
+use Rattle.mms_step.specs.Answered.{EndsIt}
+use Rattle.mms_step.proofs.Guarded.{taken_before}
 use Rattle.mms_step.proofs.Sound.{replay_sound}
 use Rattle.cell_laws.specs.Freed.{GivesBack, TimesOut, after_met, token_held}
 use Rattle.cell_laws.specs.Lost.{HasStill, IsLost, IsLostFor, given_back, gone, hung, left, preempted, preempted_found, preempted_in, timed_out}
@@ -57,7 +59,7 @@ use Rattle.cell_laws.proofs.Entries.{owned_owner}
 use Rattle.cell_laws.proofs.Freeing.{Found}
 use Rattle.cell_laws.proofs.Hears.{admitted-open}
 use Rattle.cell_laws.proofs.Holding.{Holder, cancelled-stays, changed-cases, defined-stays, deleted-stays, due-cases, held-there, holder, lost-cases, named-there, sound-expired, there}
-use Rattle.cell_laws.proofs.Linking.{Meant, numbered-client, verdict-meant}
+use Rattle.cell_laws.proofs.Linking.{Meant, numbered-client, resolved-meant, verdict-meant}
 use Rattle.cell_laws.proofs.Stays.{GivenUp, TakenFrom, back-stays, take-stays}
 
 -- ---- where it stands, at a point of an event
@@ -145,9 +147,16 @@ module _ (count : ℕ) (s : State) (sound : IsSoundState count s) (key : Key) (e
     abbrev now_are : Rows
     now_are = (step s (Heard client octets)).semaphores
 
-    module _ (invoke : ℕ) (asked : Request) (is : verdict its octets ≡ Takes invoke asked) (served : is_served old its invoke asked ≡ true) where
+    -- what the octets come to
+    abbrev comes_to : Verdict
+    comes_to = resolved old its (verdict its octets)
+
+    meant_so : Meant its comes_to
+    meant_so = resolved-meant old its (verdict its octets) (verdict-meant its octets)
+
+    module _ (invoke : ℕ) (asked : Request) (is : comes_to ≡ Takes invoke asked) (served : is_served old its invoke asked ≡ true) where
       pub numbered-so : its.client ≡ client
-      numbered-so = numbered-client count s client sound (admitted-open invoke its (subst (Meant its) is (verdict-meant its octets)))
+      numbered-so = numbered-client count s client sound (admitted-open invoke its (subst (Meant its) is meant_so))
 
       pub refused-not : cause old its asked ≡ None
       refused-not = done-none (size_of its.association) invoke (cause old its asked) (effect old its invoke asked).answer served
@@ -158,7 +167,7 @@ module _ (count : ℕ) (s : State) (sound : IsSoundState count s) (key : Key) (e
           ∙ ap (λ (b : Bool). (if b then (effect old its invoke asked).tables else old).semaphores) served
 
     -- a token is taken
-    module _ (invoke : ℕ) (x : TakeControl) (is : verdict its octets ≡ Takes invoke (request.TakeControl x)) (served : is_served old its invoke (request.TakeControl x) ≡ true) where
+    module _ (invoke : ℕ) (x : TakeControl) (is : comes_to ≡ Takes invoke (request.TakeControl x)) (served : is_served old its invoke (request.TakeControl x) ≡ true) where
       abbrev taken_rows : Rows
       taken_rows = take_after its.client invoke (moment_of old) x s.semaphores
 
@@ -181,7 +190,7 @@ module _ (count : ℕ) (s : State) (sound : IsSoundState count s) (key : Key) (e
                 heard = refl;
                 invoke = invoke;
                 asked = x;
-                taken = is;
+                taken = taken_before old its (verdict its octets) invoke (request.TakeControl x) is;
                 served = served;
                 named = sym named ∙ ap (λ (c : ℕ). key_of c x.name) (numbered-so invoke (request.TakeControl x) is served);
                 preempts = from.preempts;
@@ -215,7 +224,7 @@ module _ (count : ℕ) (s : State) (sound : IsSoundState count s) (key : Key) (e
           by_told o told = subst After (sym (same o told)) (by_done o told)
 
     -- a token is given back
-    module _ (invoke : ℕ) (x : RelinquishControl) (is : verdict its octets ≡ Takes invoke (request.RelinquishControl x))
+    module _ (invoke : ℕ) (x : RelinquishControl) (is : comes_to ≡ Takes invoke (request.RelinquishControl x))
         (served : is_served old its invoke (request.RelinquishControl x) ≡ true) where
       abbrev given_rows : Rows
       given_rows = relinquished (key_of its.client x.name) its.client x.token (moment_of old) s.semaphores
@@ -245,7 +254,7 @@ module _ (count : ℕ) (s : State) (sound : IsSoundState count s) (key : Key) (e
                   asked = x;
                   named = sym named ∙ ap (λ (c : ℕ). key_of c x.name) same;
                   which = refl;
-                  taken = is;
+                  taken = taken_before old its (verdict its octets) invoke (request.RelinquishControl x) is;
                   served = served;
                 });
                 named = named-there key s.semaphores where_it_is.sem x.token where_it_is.found ∙ up.which ∙ sym (held-there key s.semaphores where_it_is.sem e where_it_is.found);
@@ -267,7 +276,7 @@ module _ (count : ℕ) (s : State) (sound : IsSoundState count s) (key : Key) (e
           by_grant (Some grant) = giving
 
     -- each request
-    done : (invoke : ℕ) (asked : Request) → verdict its octets ≡ Takes invoke asked → is_served old its invoke asked ≡ true → After now_are
+    done : (invoke : ℕ) (asked : Request) → comes_to ≡ Takes invoke asked → is_served old its invoke asked ≡ true → After now_are
     done invoke (request.TakeControl x) is served = took invoke x is served
     done invoke (request.RelinquishControl x) is served = subst After (sym (became invoke (request.RelinquishControl x) is served)) (gave invoke x is served)
     done invoke (request.DefineSemaphore x) is served =
@@ -278,13 +287,12 @@ module _ (count : ℕ) (s : State) (sound : IsSoundState count s) (key : Key) (e
     done invoke asked is served = subst After (sym (became invoke asked is served)) (as_was at)
 
     -- the client's association ends
-    closing : (v : Verdict) → verdict its octets ≡ v → (its.association ≡ Idle → ⊥) → (verdict its octets ≡ Concludes) ⊎ (verdict its octets ≡ Aborts)
-        → After (lost its.client (moment_of old) s.semaphores)
-    closing v is opened which =
+    closing : (its.association ≡ Idle → ⊥) → EndsIt comes_to → After (lost its.client (moment_of old) s.semaphores)
+    closing opened which =
         lost-standing s (Heard client octets) key e its.client (moment_of old) s.semaphores holds sound.semaphores
         (inl (sym (numbered-client count s client sound opened), which)) (as_was at)
 
-    heard : (v : Verdict) → verdict its octets ≡ v → Meant its v → After now_are
+    heard : (v : Verdict) → comes_to ≡ v → Meant its v → After now_are
     heard (Takes invoke asked) is meant = by_test (is_served old its invoke asked) refl
       where
         by_test : (b : Bool) → is_served old its invoke asked ≡ b → After now_are
@@ -292,13 +300,21 @@ module _ (count : ℕ) (s : State) (sound : IsSoundState count s) (key : Key) (e
         by_test false served =
             subst After (sym (ap (λ (v : Verdict). (tables_heard old its v).semaphores) is ∙ ap (λ (b : Bool). (if b then (effect old its invoke asked).tables else old).semaphores) served)) (as_was at)
     heard (Tells effects) is meant = subst After (sym (ap (λ (v : Verdict). (tables_heard old its v).semaphores) is)) (as_was at)
-    heard Concludes is meant = subst After (sym (ap (λ (v : Verdict). (tables_heard old its v).semaphores) is)) (closing Concludes is meant (inl is))
+    heard (Replies number came) is meant =
+        subst After (sym (ap (λ (v : Verdict). (tables_heard old its v).semaphores) is)) (by_served (is_served_in old its number (reply_in number came)))
+      where
+        by_served : (b : Bool) → After (if b then (effect_of old its number (reply_in number came)).tables else old).semaphores
+        by_served true = as_was at
+        by_served false = as_was at
+    heard (Exhausts invoke) is meant =
+        subst After (sym (ap (λ (v : Verdict). (tables_heard old its v).semaphores) is)) (closing meant (subst EndsIt (sym is) tt))
+    heard Concludes is meant = subst After (sym (ap (λ (v : Verdict). (tables_heard old its v).semaphores) is)) (closing meant (subst EndsIt (sym is) tt))
     heard (Cancels invoke) is meant = subst After (sym (ap (λ (v : Verdict). (tables_heard old its v).semaphores) is)) (by_waiting (waiting_of invoke its.waiting))
       where
         by_waiting : (o : Option Waiting) → After (tables_cancelled o old).semaphores
         by_waiting None = as_was at
         by_waiting (Some w) = as_was (cancelled-stays w.key w.entry s.semaphores key e sound.semaphores at holds)
-    heard Aborts is meant = subst After (sym (ap (λ (v : Verdict). (tables_heard old its v).semaphores) is)) (closing Aborts is meant (inr is))
+    heard Aborts is meant = subst After (sym (ap (λ (v : Verdict). (tables_heard old its v).semaphores) is)) (closing meant (subst EndsIt (sym is) tt))
 
   -- ---- a client is lost
 
@@ -452,7 +468,7 @@ module _ (s : State) (key : Key) (e : SemEntry) (holds : is_queued e ≡ false) 
 standing : (count : ℕ) (s : State) (event : CellEvent) (key : Key) (e : SemEntry) → IsSoundState count s → entry_in key e.number s.semaphores ≡ Some e → is_queued e ≡ false
     → Standing s event key e (step s event).semaphores
 standing count s (Heard client octets) key e sound at holds =
-    heard count s sound key e at holds client octets (verdict (row_at cell client s.clients) octets) refl (verdict-meant (row_at cell client s.clients) octets)
+    heard count s sound key e at holds client octets (comes_to count s sound key e at holds client octets) refl (meant_so count s sound key e at holds client octets)
 standing count s (Lost client) key e sound at holds = loses count s sound key e at holds client
 standing count s (Tick ms) key e sound at holds = passes s key e holds ms sound.semaphores at
 standing count s (Ends name) key e sound at holds = as_was at

@@ -23,6 +23,7 @@ use Rattle.association.specs.declared.negotiation.Association.TheVariants.{Idle,
 use Rattle.association.specs.declared.negotiation.Negotiated.{Negotiated}
 use Rattle.association.specs.declared.waiting.Waiting.{Waiting}
 use Rattle.association.specs.Admission.{admission}
+use Rattle.association.specs.Asked.{asked_of}
 use Rattle.association.specs.Client.{ClientRow}
 use Rattle.association.specs.Waiting.{is_waiting}
 use Rattle.cell_config.specs.declared.config.Config.{Config}
@@ -37,9 +38,9 @@ use Rattle.mms_time.specs.declared.taking.TakeDone.TheVariants.{Answered, Waits}
 use Rattle.sem_ticks.specs.Granted.{relinquish_granted}
 use Rattle.sem_ticks.specs.declared.granted.Granted.{Granted}
 use Rattle.parted_state.specs.Served.{row_at}
-use Rattle.cell_client.specs.Association.{Verdict, Tells, Takes, Concludes, Cancels, Aborts, admitted, cancelled, concluded, idle_verdict, open_verdict, requested, verdict, verdict_by}
-use Rattle.cell_services.specs.Services.{effect, relinquish_outcome, take_outcome}
-use Rattle.cell_services.specs.Serving.{is_served, tables_cancelled, tables_heard, tables_lost, waiting_of}
+use Rattle.cell_client.specs.Association.{Verdict, Tells, Takes, Replies, Exhausts, Concludes, Cancels, Aborts, admitted, cancelled, idle_verdict, open_verdict, requested, verdict, verdict_by}
+use Rattle.cell_services.specs.Services.{effect, effect_of, relinquish_outcome, reply_in, take_outcome}
+use Rattle.cell_services.specs.Serving.{is_served, is_served_in, resolved, tables_cancelled, tables_heard, tables_lost, waiting_of}
 use Rattle.cell_services.specs.Tables.{Tables, moment_after, moment_of}
 use Rattle.mms_step.specs.Partition.{cell}
 use Rattle.mms_step.specs.State.{State, start}
@@ -47,6 +48,7 @@ use Rattle.mms_step.specs.Step.{replay, step}
 use Rattle.mms_step.proofs.PartsAfter.{now_lost, step_still}
 use Rattle.cell_laws.proofs.Asked32.{AsksFew, FewAsked, HeardFew, RequestFew, heard-few}
 use Rattle.cell_laws.proofs.Near.{IsBy, RowsNear, all_near, entry_near, near_cancelled, near_defined, near_deleted, near_lost, near_relinquished, near_taken, near_ticked, rows-later}
+use Rattle.cell_laws.proofs.Verdicts.{by-conclusion, by-error, by-rejected, by-response, by-tables}
 
 -- ---- what a client's octets come to
 
@@ -63,10 +65,6 @@ requested-few : (row : ClientRow) (too_deep : Bool) (invoke : ℕ) (asked : Requ
 requested-few row true invoke asked few = tt
 requested-few row false invoke asked few = admitted-few (admission invoke row) invoke asked few
 
-concluded-few : (waiting : List Waiting) → TakesFew (concluded waiting)
-concluded-few [] = tt
-concluded-few (first ∷ rest) = tt
-
 cancelled-few : (waits : Bool) (invoke : ℕ) → TakesFew (cancelled waits invoke)
 cancelled-few true invoke = tt
 cancelled-few false invoke = tt
@@ -77,9 +75,12 @@ idle-few heard = tt
 
 open-few : (values : Negotiated) (row : ClientRow) (heard : Result Pdu Refusal) → HeardFew heard → TakesFew (open_verdict values row heard)
 open-few values row (Err refusal) few = tt
-open-few values row (Ok pdu.ConcludeRequest) few = concluded-few row.waiting
+open-few values row (Ok pdu.ConcludeRequest) few = by-conclusion TakesFew tt tt row.waiting row.asked
 open-few values row (Ok (pdu.CancelRequest invoke)) few = cancelled-few (is_waiting invoke row.waiting) invoke
 open-few values row (Ok (pdu.ConfirmedRequest invoke asked)) few = requested-few row (nat_lt values.nesting (depth_of (pdu.ConfirmedRequest invoke asked))) invoke asked few
+open-few values row (Ok (pdu.HeardResponse number told)) few = by-response TakesFew (λ n came. tt) (λ n. tt) tt tt number told (asked_of number row.asked)
+open-few values row (Ok (pdu.HeardError number)) few = by-error TakesFew (λ n came. tt) (λ n. tt) tt tt number (asked_of number row.asked)
+open-few values row (Ok (pdu.HeardReject number)) few = by-rejected TakesFew (λ n came. tt) (λ n. tt) tt tt number row.asked
 open-few values row (Ok heard) few = tt
 
 by-few : (row : ClientRow) (a : Association) (heard : Result Pdu Refusal) → HeardFew heard → TakesFew (verdict_by a row heard)
@@ -88,6 +89,9 @@ by-few row (Open values) heard few = open-few values row heard few
 
 verdict-few : (row : ClientRow) (octets : List ℕ) → TakesFew (verdict row octets)
 verdict-few row octets = by-few row row.association (pdu_heard row.constants.edition octets) (heard-few row.constants.edition octets)
+
+resolved-few : (t : Tables) (row : ClientRow) (v : Verdict) → TakesFew v → TakesFew (resolved t row v)
+resolved-few t row = by-tables TakesFew t row (λ invoke asked few. tt) (λ number came few. tt) (λ few. tt)
 
 -- ---- each event
 
@@ -121,6 +125,12 @@ module _ (t : Tables) (all : RowsNear (moment_of t) t.semaphores) where
       by_test true = effect-near row invoke asked few.few
       by_test false = all
   heard-near row (Tells effects) few = all
+  heard-near row (Replies number came) few = by_test (is_served_in t row number (reply_in number came))
+    where
+      by_test : (b : Bool) → Then (if b then (effect_of t row number (reply_in number came)).tables else t).semaphores
+      by_test true = all
+      by_test false = all
+  heard-near row (Exhausts invoke) few = near_lost (moment_of t) (moment_of t) le row.client t.semaphores all
   heard-near row Concludes few = near_lost (moment_of t) (moment_of t) le row.client t.semaphores all
   heard-near row (Cancels invoke) few = by_waiting (waiting_of invoke row.waiting)
     where
@@ -140,7 +150,8 @@ AreNear s = RowsNear (record { 0 = s.now }) s.semaphores
 near-after : (s : State) (event : CellEvent) → AreNear s → AreNear (step s event)
 near-after s (Heard client octets) all =
     subst (λ (now : ℕ). RowsNear (record { 0 = now }) (step s (Heard client octets)).semaphores) (sym (step_still s client octets))
-    (heard-near (cell.tables_of s) all (row_at cell client s.clients) (verdict (row_at cell client s.clients) octets) (verdict-few (row_at cell client s.clients) octets))
+    (let row = row_at cell client s.clients in
+    heard-near (cell.tables_of s) all row (resolved (cell.tables_of s) row (verdict row octets)) (resolved-few (cell.tables_of s) row (verdict row octets) (verdict-few row octets)))
 near-after s (Lost client) all =
     subst (λ (now : ℕ). RowsNear (record { 0 = now }) (step s (Lost client)).semaphores)
     (sym (now_lost (row_at cell client s.clients).association (row_at cell client s.clients).client (cell.tables_of s)))

@@ -26,10 +26,10 @@ use Rattle.mms_time.specs.declared.row.SemaphoreRow.{SemaphoreRow}
 use Rattle.sem_ticks.specs.Granted.{granted}
 use Rattle.sem_ticks.specs.Ticks.{Ticking, next_met}
 use Rattle.parted_state.specs.Served.{row_at}
-use Rattle.cell_client.specs.Association.{Takes, Concludes, Aborts, verdict}
-use Rattle.cell_services.specs.Serving.{is_served}
+use Rattle.cell_client.specs.Association.{Takes, verdict}
+use Rattle.cell_services.specs.Serving.{is_served, resolved}
 use Rattle.cell_services.specs.Tables.{moment_after}
-use Rattle.mms_step.specs.Answered.{grant_answer}
+use Rattle.mms_step.specs.Answered.{EndsIt, grant_answer}
 use Rattle.mms_step.specs.Partition.{cell}
 use Rattle.mms_step.specs.State.{State}
 use Rattle.mms_step.specs.Step.{outbox_of}
@@ -162,10 +162,10 @@ pub record TimesOut (s : State) (ms : ℕ) (point : Ticking) (due : NamedDeadlin
   pub its : entry_in due.key due.entry point.rows ≡ Some entry
   pub holds : is_queued entry ≡ false
 
--- The association of a client ends by an event: the client concludes, proposes another or is lost.
+-- The association of a client ends by an event: the client concludes, proposes another, has no number left for what would be asked of it, or is lost.
 abbrev pub Leaves : ℕ → State → CellEvent → Type 0
 Leaves leaver s (Heard client octets) =
-    (client ≡ leaver) × ((verdict (row_at cell client s.clients) octets ≡ Concludes) ⊎ (verdict (row_at cell client s.clients) octets ≡ Aborts))
+    (client ≡ leaver) × EndsIt (resolved (cell.tables_of s) (row_at cell client s.clients) (verdict (row_at cell client s.clients) octets))
 Leaves leaver s (Lost client) = (client ≡ leaver) × (values : Negotiated) × ((row_at cell client s.clients).association ≡ Open values)
 Leaves leaver s (Tick ms) = ⊥
 Leaves leaver s (Ends name) = ⊥

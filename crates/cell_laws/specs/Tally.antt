@@ -10,9 +10,10 @@ use Rattle.mms_pdu.specs.Answering.{IsAnswer, HasUnsigned32}
 use Rattle.mms_pdu.specs.Pdus.{pdu_octets}
 use Rattle.cell_config.specs.declared.config.Config.{Config}
 use Rattle.association.specs.Waiting.{is_waiting}
-use Rattle.parted_state.specs.Served.{done_of, row_at}
-use Rattle.cell_client.specs.Association.{Verdict, Tells, Takes, Concludes, Cancels, Aborts, verdict}
-use Rattle.cell_client.specs.Effects.{Effect, Sends, Opens, Closes, Waits, Answers, Drains}
+use Rattle.association.specs.Client.{ClientRow}
+use Rattle.parted_state.specs.Served.{done_of, reached, row_at}
+use Rattle.cell_client.specs.Association.{Verdict, Tells, Takes, Replies, Exhausts, Concludes, Cancels, Aborts, verdict}
+use Rattle.cell_client.specs.Effects.{Effect, Sends, Opens, Closes, Waits, Answers, Asks, Settles, Drains, asking_octets}
 use Rattle.cell_services.specs.Serving.{services}
 use Rattle.mms_step.specs.Partition.{cell}
 use Rattle.mms_step.specs.State.{State, start}
@@ -32,19 +33,21 @@ HaveAnswers invoke (Octets octets ∷ outputs) n =
     (IsAnswer invoke octets × (others : ℕ) × (n ≡ others + 1) × HaveAnswers invoke outputs others) ⊎ ((IsAnswer invoke octets → ⊥) × HaveAnswers invoke outputs n)
 HaveAnswers invoke (Abort ∷ outputs) n = HaveAnswers invoke outputs n
 
--- what an effect sends
-abbrev pub sent_by : Effect → List What
-sent_by (Sends output) = output ∷ []
-sent_by (Opens values) = []
-sent_by Closes = []
-sent_by (Waits request) = []
-sent_by (Answers invoke) = []
-sent_by Drains = []
+-- what an effect sends to a client of that row: what is asked of it has the row's next number
+abbrev pub sent_by : ClientRow → Effect → List What
+sent_by row (Sends output) = output ∷ []
+sent_by row (Opens values) = []
+sent_by row Closes = []
+sent_by row (Waits request) = []
+sent_by row (Answers invoke) = []
+sent_by row (Asks kind domain) = Octets (asking_octets row.next_invoke kind domain) ∷ []
+sent_by row (Settles number) = []
+sent_by row Drains = []
 
--- what is sent to a client by what is told
-abbrev pub sent_to : ℕ → List (ℕ × Effect) → List What
-sent_to client [] = []
-sent_to client (t ∷ told) = (if client == t.0 then sent_by t.1 else []) ++ sent_to client told
+-- what is sent to a client by what is told to the clients of these rows
+abbrev pub sent_to : ℕ → List ClientRow → List (ℕ × Effect) → List What
+sent_to client rows [] = []
+sent_to client rows (t ∷ told) = (if client == t.0 then sent_by (row_at cell client rows) t.1 else []) ++ sent_to client (reached cell t.0 t.1 rows) told
 
 abbrev pub is_opening : Effect → Bool
 is_opening (Sends output) = false
@@ -52,6 +55,8 @@ is_opening (Opens values) = true
 is_opening Closes = false
 is_opening (Waits request) = false
 is_opening (Answers invoke) = false
+is_opening (Asks kind domain) = false
+is_opening (Settles number) = false
 is_opening Drains = false
 
 -- the association of a client opens
@@ -62,6 +67,8 @@ opens client told = list_any (λ t. client == t.0 && is_opening t.1) told
 abbrev pub taken_by : Verdict → List ℕ
 taken_by (Takes invoke asked) = invoke ∷ []
 taken_by (Tells effects) = []
+taken_by (Replies number came) = []
+taken_by (Exhausts invoke) = invoke ∷ []
 taken_by Concludes = []
 taken_by (Cancels invoke) = []
 taken_by Aborts = []
@@ -86,7 +93,7 @@ abbrev pub account_after : ℕ → Account → CellEvent → Account
 account_after client a event = record {
   state = step a.state event;
   taken = (if opens client (told_in a.state event) then [] else a.taken) ++ taken_from client a.state event;
-  sent = (if opens client (told_in a.state event) then [] else a.sent) ++ sent_to client (told_in a.state event);
+  sent = (if opens client (told_in a.state event) then [] else a.sent) ++ sent_to client a.state.clients (told_in a.state event);
 }
 
 abbrev pub account : Config → List CellEvent → ℕ → Account

@@ -56,7 +56,7 @@ pub fn each_request_is_answered_once()
 pub fn what_is_sent_is_in_the_outbox()
     ensures sent { (s : State) (event : CellEvent) (client : ℕ)
         → 1 ≤ client → client ≤ length s.clients → drains client event ≡ false
-        → outbox_of (step s event) client ≡ outbox_of s client ++ sent_to client (told_in s event) }
+        → outbox_of (step s event) client ≡ outbox_of s client ++ sent_to client s.clients (told_in s event) }
     ensures taken { (s : State) (client : ℕ) → 1 ≤ client → outbox_of (step s (Drain client)) client ≡ [] }
     ensures history { (config : Config) (history : List CellEvent) (client : ℕ)
         → 1 ≤ client → client ≤ length (replay config history).clients
