@@ -32,7 +32,7 @@ pub(crate) struct Row {
 }
 
 /// The room of a sink of which nothing is said.
-const ROOM: usize = 1_048_576;
+const ROOM: usize = 16_777_216;
 
 impl Row {
     /// A row on a line of a file, without words, which ends with status 0.
