@@ -71,21 +71,22 @@ impl SemaphoreRow {
         }
     }
 
-    /// A client is lost. What is left where there is no memory isn't said.
-    fn lose(&mut self, alloc: Global, client: u32, now: Moment) -> Result<(), Memory>
+    /// A client is lost, of this semaphore alone (ISO 9506-1, TakeControl, relinquishIfConnectionLost): its queued
+    /// entries go; then each of its owner entries, in order of number, becomes hung where its token is kept, and else
+    /// goes, and its token is granted to the entry that is served next, or is free. Who is granted a token is told in
+    /// that order. The one refusal is want of memory, only where the client owns a token; then all is as before.
+    pub fn lose(&mut self, alloc: Global, client: u32, now: Moment) -> Result<Vec<Grant>, Memory>
         requires { IsDated now }
+        ensures grants { IfOk result (λ grants.
+            grants.items ≡ grants_of client now (Some self.old)) }
         ensures lost { OnOk result (self.new ≡ changed_row (without_client client now) self.old) }
+        ensures kept { OnErr result (self.new ≡ self.old) }
         ensures wants { OnErr result (list_any (owned_by client) (entries_of self.old) ≡ true) }
     {
         match &mut self.semaphore {
-            Semaphore::Token(tokens) => {
-                tokens.lose(alloc, client, now)?;
-            }
-            Semaphore::Pool(pool) => {
-                pool.lose(alloc, client, now)?;
-            }
+            Semaphore::Token(tokens) => tokens.lose(alloc, client, now),
+            Semaphore::Pool(pool) => pool.lose(alloc, client, now),
         }
-        Ok(())
     }
 }
 
@@ -205,7 +206,7 @@ impl SemaphoreRow {
         requires unowned { list_any (owned_by client) (entries_of self.old) ≡ false }
         ensures { self.new ≡ changed_row (without_client client now) self.old }
     {
-        let Ok(()) = self.lose(alloc, client, now) else {
+        let Ok(_grants) = self.lose(alloc, client, now) else {
             unreachable!()
         };
     }

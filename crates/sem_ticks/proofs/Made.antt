@@ -53,7 +53,7 @@ pairs_more ds new ps i d p is at key place before =
 -- ---- names in order
 
 -- of two that differ one comes first
-in_order : (a b : Key) → is_lt (key_order b a) ≡ false → key_eq a b ≡ false → key_order a b ≡ Less
+pub in_order : (a b : Key) → is_lt (key_order b a) ≡ false → key_eq a b ≡ false → key_order a b ≡ Less
 in_order a b not_after differ = by_order (key_order a b) refl
   where
     by_order : (o : Ordering) → key_order a b ≡ o → o ≡ Less
@@ -80,7 +80,7 @@ ascending (p ∷ ps) sorted distinct i j k before low =
 
 -- ---- those that are due
 
-key_of_place : (rows : Rows) (p : ℕ) (row : Key × SemaphoreRow) → slice_get rows p ≡ Some row → slice_get (keys_of rows) p ≡ Some row.0
+pub key_of_place : (rows : Rows) (p : ℕ) (row : Key × SemaphoreRow) → slice_get rows p ≡ Some row → slice_get (keys_of rows) p ≡ Some row.0
 key_of_place [] zero row e = absurd (cc e)
 key_of_place [] (suc p) row e = absurd (cc e)
 key_of_place (r ∷ rows) zero row e = let same : r ≡ row = cc e in ap (λ (x : Key × SemaphoreRow). Some x.0) same

@@ -1,5 +1,5 @@
 -- A deadline is met on a draft as on all semaphores.
-use Rattle.std.proofs.Common.{◌≡◌, ◌∙◌, ap, refl, sym, subst, Bool, true, false, not, List, [], ◌∷◌, ◌++◌, append-nil, append_assoc, map, set, slice_get, Option, Some, IsSome, option_and_then, option_map}
+use Rattle.std.proofs.Common.{◌≡◌, ◌∙◌, ap, refl, sym, subst, Bool, true, false, not, List, [], ◌++◌, append-nil, append_assoc, set, slice_get, Option, Some, IsSome, option_and_then, option_map}
 use Rattle.std.specs.List.{IsDistinct}
 use Rattle.std.specs.Map.{keys_of, lookup, set_value}
 use Rattle.mms_types.specs.Order.{key_eq}
@@ -15,12 +15,7 @@ use Rattle.sem_ticks.specs.Meant.{drafting_of, IsMet}
 use Rattle.sem_ticks.specs.Ticks.{Ticking, abort_told, after_abort, expiry_told, met, met_as}
 use Rattle.sem_ticks.specs.declared.drafts.Draft.{Draft}
 use Rattle.sem_ticks.specs.declared.drafts.Next.{Next}
-use Rattle.sem_ticks.specs.Away.{IsAway}
-use Rattle.sem_ticks.specs.Granted.{lost_granted}
-use Rattle.sem_ticks.specs.declared.granted.Granted.{Granted}
 use Rattle.sem_ticks.specs.declared.ticks.Happening.{Happening}
-use Rattle.sem_ticks.specs.declared.ticks.Happening.TheVariants.{Aborts, Grants}
-use Rattle.sem_ticks.proofs.Gone.{nobody_granted, nothing_lost}
 use Rattle.sem_ticks.proofs.Become.{become_found, become_set, own_name}
 use Rattle.sem_ticks.proofs.Drafting.{set_named}
 use Rattle.sem_ticks.proofs.NextOf.{of_map, place_stands, row_of_name}
@@ -116,18 +111,17 @@ module _ (s t : Ticking) (d : NamedDeadline) (x : Expired) (is : IsMet s d x t) 
       all : s.happened ++ (expiry_told ends d.key x ++ []) ≡ t.happened
       all = ap (λ (l : List Happening). s.happened ++ l) (append-nil (expiry_told ends d.key x)) ∙ told_so
 
-  pub met_away : x.abort ≡ true → IsAway x.client t.rows → (told : List Happening) → told ≡ t.happened ++ Aborts x.client ∷ [] → met s d ≡ Some (record { rows = t.rows; happened = told })
-  met_away aborts away told as_told = by_abort true aborts ∙ ap Some (λ i. record { rows = same i; happened = all i })
+  -- the client is lost
+  pub met_lost : x.abort ≡ true → (rows : Rows) → rows ≡ lost x.client d.at t.rows → (told : List Happening) → told ≡ t.happened ++ abort_told true x.client d.at t.rows
+      → met s d ≡ Some (record { rows = rows; happened = told })
+  met_lost aborts rows as_lost told as_told = by_abort true aborts ∙ ap Some (λ i. record { rows = same i; happened = all i })
     where
-      same : lost x.client d.at ends ≡ t.rows
-      same = ap (lost x.client d.at) (sym is.rows) ∙ nothing_lost x.client d.at t.rows away
+      same : lost x.client d.at ends ≡ rows
+      same = ap (lost x.client d.at) (sym is.rows) ∙ sym as_lost
 
-      nobody : lost_granted x.client d.at ends ≡ []
-      nobody = ap (lost_granted x.client d.at) (sym is.rows) ∙ nobody_granted x.client d.at t.rows away
-
-      all : s.happened ++ (expiry_told ends d.key x ++ (Aborts x.client ∷ map Grants (lost_granted x.client d.at ends))) ≡ told
+      all : s.happened ++ (expiry_told ends d.key x ++ abort_told true x.client d.at ends) ≡ told
       all =
-          ap (λ (l : List Granted). s.happened ++ (expiry_told ends d.key x ++ (Aborts x.client ∷ map Grants l))) nobody
-          ∙ sym (append_assoc s.happened (expiry_told ends d.key x) (Aborts x.client ∷ []))
-          ∙ ap (λ (l : List Happening). l ++ Aborts x.client ∷ []) told_so
+          ap (λ (r : Rows). s.happened ++ (expiry_told ends d.key x ++ abort_told true x.client d.at r)) (sym is.rows)
+          ∙ sym (append_assoc s.happened (expiry_told ends d.key x) (abort_told true x.client d.at t.rows))
+          ∙ ap (λ (l : List Happening). l ++ abort_told true x.client d.at t.rows) told_so
           ∙ sym as_told

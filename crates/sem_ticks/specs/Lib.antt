@@ -1,6 +1,6 @@
-pub mod Away
 pub mod Drafts
 pub mod Granted
+pub mod Losing
 pub mod Meant
 pub mod Renewed
 pub mod Settling

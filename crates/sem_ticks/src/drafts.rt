@@ -148,7 +148,7 @@ fn in_order<'a>(mut due: Vec<(&'a Key, usize)>) -> Vec<(&'a Key, usize)>
 }
 
 /// The semaphore at a place, copied.
-fn draft_of<'a>(
+pub(crate) fn draft_of<'a>(
     alloc: Global,
     semaphores: &Semaphores,
     key: &'a Key,

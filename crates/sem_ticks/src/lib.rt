@@ -2,10 +2,10 @@
 //! own moment, one after the other, also those that arise meanwhile.
 #![tactic(auto)]
 
-mod away;
 mod drafts;
 mod granted;
 mod laws;
+mod losing;
 mod meeting;
 mod renewed;
 mod ticks;

@@ -10,27 +10,14 @@ ghost use Rattle.sem_ticks.specs.Granted.{granted};
 ghost use Rattle.sem_ticks.specs.Meant.{drafting_of, state_of, IsMet};
 ghost use Rattle.sem_ticks.specs.Ticks.{expiry_told, met, ticked};
 
-use crate::away::is_away;
 use crate::drafts::{Draft, Next, drafts_of, next_of, rows_of};
-use crate::granted::Granted;
+use crate::losing::{abort_in, granted_in};
 use crate::renewed::Renewed;
 use crate::ticks::{Happening, Ticked};
 use mms_time::Semaphores;
-use mms_types::{Key, Memory, Moment};
+use mms_types::{Key, Memory, Moment, Scope};
 use std::alloc::Global;
-use token_sem::{Expired, Grant};
-
-/// A grant in a draft, with what is answered.
-fn granted_in(alloc: Global, draft: &Draft<'_>, grant: &Grant) -> Result<Granted, Memory>
-    ensures { (rows : Rows) → lookup (key_eq draft.now.key.now) rows ≡ Some draft.now.row
-        → IfOk result (λ told. told ≡ granted rows (draft.now.key.now, grant.now)) }
-{
-    Ok(Granted {
-        client: grant.client,
-        invoke: grant.invoke,
-        answer: draft.row.grant_answer(alloc, grant)?,
-    })
-}
+use token_sem::Expired;
 
 /// Tells what became of an entry of a draft whose deadline was met.
 fn tell_expiry_in(
@@ -79,12 +66,12 @@ fn meet_draft(
     Ok(expired)
 }
 
-/// Meets the next deadline, which is one of the drafts. False where a client is to be aborted then that has another
-/// entry, or semaphores of its association.
-fn meet_in(
+/// Meets the next deadline, which is one of the drafts. False where a client is to be aborted then that has semaphores
+/// of its association.
+fn meet_in<'a>(
     alloc: Global,
-    semaphores: &Semaphores,
-    drafts: &mut Vec<Draft<'_>>,
+    semaphores: &'a Semaphores,
+    drafts: &mut Vec<Draft<'a>>,
     happened: &mut Vec<Happening>,
     until: Moment,
     next: &Next<'_>,
@@ -101,15 +88,23 @@ fn meet_in(
     if !expired.abort {
         return Ok(true);
     }
-    if !is_away(semaphores, drafts, until, expired.client) {
+    if semaphores.has_any_of(&Scope::Association(expired.client)) {
         return Ok(false);
     }
-    happened.push(Happening::Aborts(expired.client))?;
+    abort_in(
+        alloc,
+        semaphores,
+        drafts,
+        happened,
+        until,
+        expired.client,
+        next.due.at,
+    )?;
     Ok(true)
 }
 
-/// Meets each deadline that is at most that moment on copies of the semaphores that are due. None where a client
-/// is to be aborted that has more in the semaphores.
+/// Meets each deadline that is at most that moment on copies of the semaphores that are due, and of those of which a
+/// client has an entry that is aborted. None where such a client has semaphores of its association.
 pub(crate) fn ticked_in_drafts<'a>(
     alloc: Global,
     semaphores: &'a Semaphores,

@@ -186,9 +186,9 @@ fn ticked_in_copy(alloc: Global, semaphores: &Semaphores, until: Moment) -> Resu
 /// deadline that is at most that moment is met at its own moment, one after the other, also those that arise meanwhile;
 /// of one moment control time-outs come before acceptable delays, then they come by name, then by the entry's number.
 /// The semaphores given stay as they are; what becomes of them can be put into their table. Those alone are copied of
-/// which a deadline is at most that moment, unless a client is aborted that has more in the semaphores. None exactly
-/// where no deadline is at most that moment, so that nothing happens; then no memory is taken. The one refusal is want
-/// of memory.
+/// which a deadline is at most that moment, and those of which a client has an entry that is aborted, unless there are
+/// semaphores of its association. None exactly where no deadline is at most that moment, so that nothing happens; then
+/// no memory is taken. The one refusal is want of memory.
 pub fn tick(alloc: Global, semaphores: &Semaphores, until: Moment) -> Result<Option<Ticked>, Memory>
     requires { IsDated until }
     ensures met { IfOk result (λ met. IfSome met (λ t.
