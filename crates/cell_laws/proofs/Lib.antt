@@ -37,3 +37,17 @@ pub mod GoneFor
 pub mod Worked
 pub mod WorkedLost
 pub mod WorkedTally
+pub mod EachName
+pub mod LiveStays
+pub mod ScopesKept
+pub mod ScopesAlong
+pub mod WorkedScopes
+pub mod LoadRows
+pub mod LoadMeant
+pub mod LoadWalk
+pub mod AskedFew
+pub mod LoadTold
+pub mod LoadsTold
+pub mod LoadsEnded
+pub mod LoadsStay
+pub mod WorkedLoads

@@ -1,4 +1,6 @@
 pub mod Freed
 pub mod Linked
+pub mod Loads
 pub mod Lost
+pub mod Scopes
 pub mod Tally

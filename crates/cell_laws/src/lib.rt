@@ -1,11 +1,18 @@
 //! What holds of the device over all histories: of requests that wait, of answers, of tokens that are lost and freed,
-//! and of deadlines.
+//! of deadlines, of the loads of domains, and of domains as scopes of names.
 #![tactic(auto)]
 
 mod laws;
+mod loads;
+mod scopes;
 
 pub use laws::{
     a_freed_token_is_passed_on, a_token_is_lost_for_a_cause, each_request_is_answered_once,
     each_waiting_request_is_queued, no_deadline_is_far, tokens_of_a_pool_are_passed_on_in_order,
     what_is_sent_is_in_the_outbox,
 };
+pub use loads::{
+    each_domain_is_what_its_client_answered, no_client_is_asked_too_much,
+    nothing_of_an_ended_load_stays,
+};
+pub use scopes::each_scope_is_live;

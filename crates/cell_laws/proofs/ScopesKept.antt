@@ -1,0 +1,396 @@
+-- Each scope that is a domain is live after an event where it was before.
+use Rattle.std.proofs.Common.{◌≡◌, ◌∙◌, ℕ, Bool, true, false, not, List, [], ◌∷◌, length, nat_le, Option, None, Some, is_none, is_some, option_and_then, option_map, if◌then◌else◌, refl, sym, subst}
+use Rattle.std.specs.Prelude.{◌||◌, ◌&&◌}
+use Rattle.std.specs.List.{IsDistinct, list_any}
+use Rattle.std.specs.Map.{keys_of}
+use Rattle.std.proofs.lemmas.Cmp.{nat_list_eq_equiv}
+use Rattle.mms_types.proofs.Conditions.{none_holds}
+use Rattle.mms_types.specs.Datum.{Datum}
+use Rattle.mms_types.specs.Errors.{capability_unavailable, invalid_address, object_exists, object_non_existent, object_undefined, type_inconsistent}
+use Rattle.mms_types.specs.Order.{key_eq, key_of, scope_eq}
+use Rattle.mms_types.specs.declared.asked.Asked.{Asked}
+use Rattle.mms_types.specs.declared.key.Key.{Key}
+use Rattle.mms_types.specs.declared.key.Scope.{Scope}
+use Rattle.mms_types.specs.declared.key.Scope.TheVariants.{Vmd, Domain, Association as OfClient}
+use Rattle.mms_types.specs.declared.moment.Moment.{Moment}
+use Rattle.mms_types.specs.declared.object_name.ObjectName.{ObjectName}
+use Rattle.mms_types.specs.declared.object_name.ObjectName.TheVariants as name
+use Rattle.mms_types.specs.declared.pdu.Answer.{Answer}
+use Rattle.mms_types.specs.declared.pdu.Request.{Request}
+use Rattle.mms_types.specs.declared.pdu.Request.TheVariants as request
+use Rattle.mms_types.specs.declared.semaphore.DefineSemaphore.{DefineSemaphore}
+use Rattle.mms_types.specs.declared.semaphore.TakeControl.{TakeControl}
+use Rattle.mms_types.specs.declared.service_error.ServiceError.{ServiceError}
+use Rattle.mms_types.specs.declared.variable.DefineNamedVariable.{DefineNamedVariable}
+use Rattle.mms_types.specs.declared.variable.DefineNamedVariableList.{DefineNamedVariableList}
+use Rattle.mms_types.specs.declared.variable.Spec.{Spec}
+use Rattle.association.specs.Client.{ClientRow}
+use Rattle.association.specs.declared.negotiation.Association.{Association}
+use Rattle.association.specs.declared.negotiation.Association.TheVariants.{Idle, Open}
+use Rattle.association.specs.declared.waiting.Waiting.{Waiting}
+use Rattle.token_sem.specs.declared.entry.Expired.{Expired}
+use Rattle.object_names.specs.Deletion.{selects}
+use Rattle.object_names.specs.NewName as new
+use Rattle.object_names.specs.Scopes.{has_any_of}
+use Rattle.variables.specs.Access.{change_named, flagged, with_value, writes, written}
+use Rattle.variables.specs.Definitions as variables
+use Rattle.variables.specs.Rows.{are_there, cell_at, number_named, variable_named}
+use Rattle.variables.specs.Rows as cells
+use Rattle.variables.specs.declared.rows.Cell.{Cell}
+use Rattle.variables.specs.declared.rows.Variable.{Variable}
+use Rattle.variable_lists.specs.Lists as lists
+use Rattle.variable_services.specs.declared.tables.VariableTables.{VariableTables}
+use Rattle.variable_services.specs.Services.{lost as variables_lost, pairs}
+use Rattle.mms_time.specs.Deadlines.{NamedDeadline, expire_after, expired, next_due, without_due}
+use Rattle.mms_time.specs.Loss.{all_changed, lost, without_owners, without_waiters}
+use Rattle.mms_time.specs.Semaphores.{Rows, entry_in, entry_waits, semaphore}
+use Rattle.mms_time.specs.Services.{cancel_after, cancelled, define_after, define_cause, delete_after, most_semaphores, new_semaphore, relinquish_after, take_after, take_told, with_take, with_token_back, without_entry}
+use Rattle.mms_time.specs.declared.taking.TakeDone.{TakeDone}
+use Rattle.mms_time.specs.declared.taking.TakeDone.TheVariants.{Answered, Waits}
+use Rattle.sem_ticks.specs.Granted.{relinquish_granted}
+use Rattle.sem_ticks.specs.Ticks.{Ticking, after_abort, entries_left, met, met_as, next_met, ticked_on}
+use Rattle.sem_ticks.specs.declared.granted.Granted.{Granted}
+use Rattle.sem_ticks.proofs.Settling.{settle-keeps}
+use Rattle.domain_load.specs.Domains.{is_there, name_eq, without, without_loads}
+use Rattle.domain_load.specs.Domains as domain
+use Rattle.domain_load.specs.Loading.{initiate_after, reply_after}
+use Rattle.domain_load.specs.Standing.{is_live}
+use Rattle.domain_upload.specs.Uploads.{uploads_of}
+use Rattle.cell_client.specs.Areas.{domain_in, is_of_domain}
+use Rattle.cell_client.specs.Association.{Came, Verdict, Tells, Takes, Replies, Exhausts, Concludes, Cancels, Aborts}
+use Rattle.cell_client.specs.Requests.{is_done, size_of}
+use Rattle.serve_domains.proofs.Answered.{IsOfLoad, IsSaid, loads_it}
+use Rattle.serve_domains.specs.Domains.{replied_to, reply_of}
+use Rattle.serve_domains.specs.Loads.{AreLoads}
+use Rattle.serve_domains.specs.Tables.{DomainTables}
+use Rattle.serve_domains.specs.Tables as domains
+use Rattle.serve_variables.specs.Variables.{specifies_domain, write}
+use Rattle.cell_services.specs.Facts.{is_domain_live, is_scope_used}
+use Rattle.cell_services.specs.Requests.{among, told_in}
+use Rattle.cell_services.specs.Services.{area_of, cause, effect, effect_of, relinquish_outcome, reply_in, take_outcome}
+use Rattle.cell_services.specs.Serving.{aborted, domains_without, is_served_in, meanwhile, passed, tables_cancelled, tables_heard, tables_lost, tables_served, waiting_of, without_client, without_clients}
+use Rattle.cell_services.specs.Tables.{Tables, moment_after, moment_of, own_domains, own_variables}
+use Rattle.cell_laws.specs.Scopes.{IsScopeLive}
+use Rattle.cell_laws.proofs.EachName.{Each, each_added, each_changed, each_left, each_mapped, each_other, each_removed, each_weaker, each_without}
+use Rattle.cell_laws.proofs.LiveStays.{StayLive, begun_stays, deleted_stays, lost_stays, not_scoped, replied_stays}
+
+-- ---- something holds of the name of each variable, of each list and of each semaphore
+
+pub record NamesAre (P : Key → Type 0) (v : VariableTables) (rows : Rows) : Type 0 where
+  pub variables : Each P v.vars.variables
+  pub lists : Each P v.lists
+  pub semaphores : Each P rows
+
+module _ (P Q : Key → Type 0) (v : VariableTables) (rows : Rows) where
+  names_weaker : ((key : Key) → P key → Q key) → NamesAre P v rows → NamesAre Q v rows
+  names_weaker weaker all = record {
+    variables = each_weaker P Q weaker v.vars.variables all.variables;
+    lists = each_weaker P Q weaker v.lists all.lists;
+    semaphores = each_weaker P Q weaker rows all.semaphores;
+  }
+
+  none_of : (a b c : Bool) → (a || b || c) ≡ false → (a ≡ false) × ((b ≡ false) × (c ≡ false))
+  none_of true b c h = absurd (cc h)
+  none_of false true c h = absurd (cc h)
+  none_of false false c h = (refl, (refl, h))
+
+  -- where none is of that scope
+  names_other : (scope : Scope) → ((key : Key) → scope_eq key.scope scope ≡ false → P key → Q key)
+      → (has_any_of scope v.vars.variables || has_any_of scope v.lists || has_any_of scope rows) ≡ false → NamesAre P v rows → NamesAre Q v rows
+  names_other scope other none all =
+      let parts = none_of (has_any_of scope v.vars.variables) (has_any_of scope v.lists) (has_any_of scope rows) none in
+      record {
+        variables = each_other P Q scope other v.vars.variables parts.0 all.variables;
+        lists = each_other P Q scope other v.lists parts.1.0 all.lists;
+        semaphores = each_other P Q scope other rows parts.1.1 all.semaphores;
+      }
+
+-- ---- where its scope is a domain, that is live
+
+abbrev pub HasLive : domain.Rows → Key → Type 0
+HasLive domains key = IsScopeLive domains key.scope
+
+abbrev pub AreLive : Tables → Type 0
+AreLive t = NamesAre (HasLive t.domains.domains) t.variables t.semaphores
+
+live_stays : (before after : domain.Rows) → StayLive before after → (key : Key) → HasLive before key → HasLive after key
+live_stays before after stays key live = by_scope key.scope live
+  where
+    by_scope : (s : Scope) → IsScopeLive before s → IsScopeLive after s
+    by_scope (Domain name) live = stays name live
+    by_scope Vmd live = tt
+    by_scope (OfClient client) live = tt
+
+all_stay : (before after : domain.Rows) (v : VariableTables) (rows : Rows) → StayLive before after → NamesAre (HasLive before) v rows → NamesAre (HasLive after) v rows
+all_stay before after v rows stays all = names_weaker (HasLive before) (HasLive after) v rows (live_stays before after stays) all
+
+-- another domain is deleted
+others_stay : (name : List ℕ) (rows : domain.Rows) → IsDistinct name_eq (keys_of rows) → (key : Key) → scope_eq key.scope (Domain name) ≡ false → HasLive rows key
+    → HasLive (without name rows) key
+others_stay name rows distinct key apart live = by_scope key.scope apart live
+  where
+    by_scope : (s : Scope) → scope_eq s (Domain name) ≡ false → IsScopeLive rows s → IsScopeLive (without name rows) s
+    by_scope (Domain other) apart live = deleted_stays name other rows distinct (nat_list_eq_equiv.symm name other ∙ apart) live
+    by_scope Vmd apart live = tt
+    by_scope (OfClient client) apart live = tt
+
+-- ---- a new name isn't refused
+
+not_false : (b : Bool) → not b ≡ false → b ≡ true
+not_false true h = refl
+not_false false h = absurd (cc h)
+
+or_true : (a b : Bool) → a ≡ true → (a || b) ≡ true
+or_true true b e = refl
+or_true false b e = absurd (cc e)
+
+-- where the domain is asked of, and nothing stands against it, it is live
+new_live : (d : DomainTables) (client : ℕ) (given : ObjectName) (asks : Bool) → (is_of_domain given ≡ true → asks ≡ true)
+    → (new.is_of_domain given && not (if asks then is_domain_live (domain_in given) d else false)) ≡ false → HasLive d.domains (key_of client given)
+new_live d client (name.Domain domain item) asks of against = by_asks asks (of refl) against
+  where
+    by_asks : (b : Bool) → b ≡ true → not (if b then is_domain_live (Some domain) d else false) ≡ false → is_there is_live domain d.domains ≡ true
+    by_asks true e h = not_false (is_there is_live domain d.domains) h
+    by_asks false e h = absurd (cc e)
+new_live d client (name.Vmd item) asks of against = tt
+new_live d client (name.Association item) asks of against = tt
+
+variable_against : (live : Bool) (client : ℕ) (x : DefineNamedVariable) (rows : cells.Rows) → variables.define_cause live client x rows ≡ None
+    → (new.is_of_domain x.name && not live) ≡ false
+variable_against live client x rows none =
+    (none_holds (new.is_of_domain x.name && not live) object_undefined ((is_some (variable_named client x.name rows), object_exists)
+    ∷ (is_none (cell_at x.address rows), invalid_address)
+    ∷ (variables.has_other_type x.of (cell_at x.address rows), type_inconsistent)
+    ∷ (nat_le variables.most_variables (length rows.variables), capability_unavailable) ∷ []) none).0
+
+list_against : (live there : Bool) (client : ℕ) (x : DefineNamedVariableList) (rows : lists.Rows) → lists.define_cause live there client x rows ≡ None
+    → (new.is_of_domain x.name && not live) ≡ false
+list_against live there client x rows none =
+    (none_holds (new.is_of_domain x.name && not live) object_undefined ((is_some (lists.members client x.name rows), object_exists)
+    ∷ (not there, object_non_existent)
+    ∷ (nat_le lists.most_lists (length rows), capability_unavailable) ∷ []) none).0
+
+semaphore_against : (live : Bool) (client : ℕ) (x : DefineSemaphore) (rows : Rows) → define_cause live client x rows ≡ None → (new.is_of_domain x.name && not live) ≡ false
+semaphore_against live client x rows none =
+    (none_holds (new.is_of_domain x.name && not live) object_undefined ((is_some (semaphore client x.name rows), object_exists)
+    ∷ (nat_le most_semaphores (length rows), capability_unavailable) ∷ []) none).0
+
+-- ---- a write changes cells alone
+
+named_stay : (o : Option ℕ) (f : Cell → Cell) (rows : cells.Rows) → (change_named o f rows).variables ≡ rows.variables
+named_stay None f rows = refl
+named_stay (Some number) f rows = refl
+
+written_stay : (client : ℕ) (x : Bool × (Spec × Datum)) (rows : cells.Rows) → (written client x rows).variables ≡ rows.variables
+written_stay client (owns, x) rows = named_stay (number_named client x.0 rows) (with_value owns x.1) rows
+
+writes_stay : (client : ℕ) (xs : List (Bool × (Spec × Datum))) (rows : cells.Rows) → (writes client xs rows).0.variables ≡ rows.variables
+writes_stay client [] rows = refl
+writes_stay client (x ∷ xs) rows = writes_stay client xs (written client x rows) ∙ written_stay client x rows
+
+-- ---- what is done to semaphores
+
+module _ (P : Key → Type 0) where
+  each_cancelled : (key : Key) (number : ℕ) (rows : Rows) → Each P rows → Each P (cancelled key number rows)
+  each_cancelled key number rows all = by_test (entry_waits (entry_in key number rows))
+    where
+      by_test : (b : Bool) → Each P (if b then cancel_after key number rows else rows)
+      by_test true = each_changed P (without_entry number) key rows all
+      by_test false = all
+
+  each_lost : (client : ℕ) (now : Moment) (rows : Rows) → Each P rows → Each P (lost client now rows)
+  each_lost client now rows all =
+      each_without P (OfClient client) (all_changed (without_owners client now) (all_changed (without_waiters client) rows))
+      (each_mapped P (without_owners client now) (all_changed (without_waiters client) rows)
+      (each_mapped P (without_waiters client) rows all))
+
+  each_met : (s t : Ticking) (due : NamedDeadline) → met s due ≡ Some t → Each P s.rows → Each P t.rows
+  each_met s t due same all = by_expired (expired due.key due.entry s.rows) same
+    where
+      aborted_rows : (aborts : Bool) (client : ℕ) (rows : Rows) → Each P rows → Each P (after_abort aborts client due.at rows)
+      aborted_rows true client rows is = each_lost client due.at rows is
+      aborted_rows false client rows is = is
+
+      by_expired : (o : Option Expired) → option_map (met_as s due) o ≡ Some t → Each P t.rows
+      by_expired None h = absurd (cc h)
+      by_expired (Some x) h =
+          let one : met_as s due x ≡ t = cc h in
+          subst (λ (u : Ticking). Each P u.rows) one
+          (aborted_rows x.abort x.client (expire_after due.key due.entry due.at s.rows) (each_changed P (without_due due.entry due.at) due.key s.rows all))
+
+  each_next : (until : Moment) (s t : Ticking) → next_met until s ≡ Some t → Each P s.rows → Each P t.rows
+  each_next until s t same all = by_due (next_due until s.rows) same
+    where
+      by_due : (o : Option NamedDeadline) → option_and_then (met s) o ≡ Some t → Each P t.rows
+      by_due None h = absurd (cc h)
+      by_due (Some due) h = each_met s t due h all
+
+  each_ticked : (until : Moment) (s : Ticking) → Each P s.rows → Each P (ticked_on until s).rows
+  each_ticked until s all = settle-keeps (next_met until) (λ t. Each P t.rows) (each_next until) (entries_left s.rows) s all
+
+-- ---- a request
+
+-- what is done isn't refused
+none_refused : (size invoke : ℕ) (why : Option ServiceError) (told : Option Answer) → is_done size invoke why told ≡ true → why ≡ None
+none_refused size invoke None told done = refl
+none_refused size invoke (Some refusal) told done = absurd (cc done)
+
+module _ (t : Tables) (all : AreLive t) where
+  abbrev Live : Key → Type 0
+  Live key = HasLive t.domains.domains key
+
+  -- variables, lists or semaphores become others
+  with_variables : (rows : List (Key × Variable)) → Each Live rows → AreLive (record t { variables = record t.variables { vars = record t.variables.vars { variables = rows } } })
+  with_variables rows each = record { variables = each; lists = all.lists; semaphores = all.semaphores }
+
+  with_lists : (rows : lists.Rows) → Each Live rows → AreLive (record t { variables = record t.variables { lists = rows } })
+  with_lists rows each = record { variables = all.variables; lists = each; semaphores = all.semaphores }
+
+  with_semaphores : (rows : Rows) → Each Live rows → AreLive (record t { semaphores = rows })
+  with_semaphores rows each = record { variables = all.variables; lists = all.lists; semaphores = each }
+
+  -- domains become others
+  with_domains : (d : DomainTables) → StayLive t.domains.domains d.domains → AreLive (record t { domains = d })
+  with_domains d stay = all_stay t.domains.domains d.domains t.variables t.semaphores stay all
+
+  module _ (row : ClientRow) (invoke : ℕ) where
+    with_take_live : (x : TakeControl) → AreLive (record t { semaphores = take_after row.client invoke (moment_of t) x t.semaphores })
+    with_take_live x =
+        with_semaphores (take_after row.client invoke (moment_of t) x t.semaphores)
+        (each_changed Live (with_take row.client invoke x (moment_of t)) (key_of row.client x.name) t.semaphores all.semaphores)
+
+    taken_live : (x : TakeControl) (o : Option TakeDone) → AreLive (take_outcome t row.client invoke x o).tables
+    taken_live x None = all
+    taken_live x (Some (Answered told)) = with_take_live x
+    taken_live x (Some (Waits entry)) = with_take_live x
+
+    effect_live : (asked : Request) → cause t row asked ≡ None → IsDistinct name_eq (keys_of t.domains.domains) → AreLive (effect t row invoke asked).tables
+    effect_live (request.Write x) none distinct = record {
+      variables = subst (λ (rows : List (Key × Variable)). Each Live rows)
+          (sym (writes_stay row.client (flagged (told_in own_variables t row (write x)).owned (pairs row.client x t.variables)) t.variables.vars)) all.variables;
+      lists = all.lists;
+      semaphores = all.semaphores;
+    }
+    effect_live (request.DefineNamedVariable x) none distinct =
+        let asks : Bool = is_of_domain x.name in
+        let live : Bool = if asks then is_domain_live (domain_in x.name) t.domains else false in
+        with_variables (variables.defined row.client x t.variables.vars).variables
+        (each_added Live t.variables.vars.variables (key_of row.client x.name, record { cell = x.address; configured = false }) all.variables
+        (new_live t.domains row.client x.name asks (λ e. e) (variable_against live row.client x t.variables.vars none)))
+    effect_live (request.DeleteVariableAccess x) none distinct =
+        with_variables (variables.without (selects row.client x) t.variables.vars).variables
+        (each_left Live variables.is_fixed (selects row.client x) t.variables.vars.variables all.variables)
+    effect_live (request.DefineNamedVariableList x) none distinct =
+        let asks : Bool = is_of_domain x.name || list_any specifies_domain x.variables in
+        let live : Bool = if asks then is_domain_live (domain_in x.name) t.domains else false in
+        with_lists (lists.defined row.client x t.variables.lists)
+        (each_added Live t.variables.lists (key_of row.client x.name, record { variables = x.variables }) all.lists
+        (new_live t.domains row.client x.name asks (or_true (is_of_domain x.name) (list_any specifies_domain x.variables))
+        (list_against live (are_there row.client x.variables t.variables.vars) row.client x t.variables.lists none)))
+    effect_live (request.DeleteNamedVariableList x) none distinct =
+        with_lists (lists.without (selects row.client x) t.variables.lists) (each_left Live lists.is_fixed (selects row.client x) t.variables.lists all.lists)
+    effect_live (request.TakeControl x) none distinct = taken_live x (take_told row.client x t.semaphores)
+    effect_live (request.RelinquishControl x) none distinct = by_grant (relinquish_granted row.client x t.semaphores)
+      where
+        by_grant : (o : Option (Option Granted)) → AreLive (relinquish_outcome t row.client x o).tables
+        by_grant None = all
+        by_grant (Some grant) =
+            with_semaphores (relinquish_after row.client (moment_of t) x t.semaphores)
+            (each_changed Live (with_token_back row.client x.token (moment_of t)) (key_of row.client x.name) t.semaphores all.semaphores)
+    effect_live (request.DefineSemaphore x) none distinct =
+        let asks : Bool = is_of_domain x.name in
+        let live : Bool = if asks then is_domain_live (domain_in x.name) t.domains else false in
+        with_semaphores (define_after row.client x t.semaphores)
+        (each_added Live t.semaphores (key_of row.client x.name, record { configured = false; semaphore = new_semaphore x.tokens }) all.semaphores
+        (new_live t.domains row.client x.name asks (λ e. e) (semaphore_against live row.client x t.semaphores none)))
+    effect_live (request.DeleteSemaphore x) none distinct =
+        with_semaphores (delete_after row.client x t.semaphores) (each_removed Live (key_eq (key_of row.client x)) t.semaphores all.semaphores)
+    effect_live (request.InitiateDownloadSequence x) none distinct =
+        with_domains (record t.domains { domains = initiate_after row.client x t.domains.domains }) (begun_stays row.client x t.domains.domains)
+    effect_live (request.DeleteDomain name) none distinct =
+        names_other Live (HasLive (without name t.domains.domains)) t.variables t.semaphores (Domain name) (others_stay name t.domains.domains distinct)
+        (not_scoped name (uploads_of name t.domains.uploads) (is_scope_used name t) t.domains.domains none) all
+    effect_live asked none distinct = all
+
+    served_live : (asked : Request) → IsDistinct name_eq (keys_of t.domains.domains) → AreLive (tables_served t row invoke (area_of asked))
+    served_live asked distinct = by_test (is_served_in t row invoke (area_of asked)) refl
+      where
+        by_test : (b : Bool) → is_served_in t row invoke (area_of asked) ≡ b → AreLive (if b then (effect t row invoke asked).tables else t)
+        by_test true done =
+            effect_live asked (none_refused (size_of row.association) invoke (cause t row asked) (effect t row invoke asked).answer done) distinct
+        by_test false done = all
+
+  -- ---- a client answers to a request of a load
+
+  module _ (row : ClientRow) where
+    replied_live : (number : ℕ) (came : Came) → IsOfLoad row.asked number came → AreLoads row.client row.asked t.domains.domains
+        → IsDistinct name_eq (keys_of t.domains.domains) → AreLive (tables_served t row number (reply_in number came))
+    replied_live number came is loads distinct = by_test (is_served_in t row number (reply_in number came))
+      where
+        after : Option (Asked × List ℕ) → Tables
+        after o = (among own_domains t (replied_to row.client number came o t.domains)).tables
+
+        by_test : (b : Bool) → AreLive (if b then (effect_of t row number (reply_in number came)).tables else t)
+        by_test true =
+            subst (λ (o : Option (Asked × List ℕ)). AreLive (after o)) (sym is.asked)
+            (with_domains (record t.domains { domains = reply_after (reply_of came is.of) t.domains.domains })
+            (replied_stays row.client (reply_of came is.of) t.domains.domains distinct (loads_it t.domains row.client number row.asked came is loads)))
+        by_test false = all
+
+    -- ---- a client is lost
+
+    gone_live : (client : ℕ) → AreLive (without_client client t)
+    gone_live client =
+        let stayed = with_domains (domains.lost client t.domains) (lost_stays client t.domains.domains) in
+        let Then : Key → Type 0 = HasLive (without_loads client t.domains.domains) in
+        record {
+          variables = each_without Then (OfClient client) t.variables.vars.variables stayed.variables;
+          lists = each_without Then (OfClient client) t.variables.lists stayed.lists;
+          semaphores = each_lost Then client (moment_of t) t.semaphores stayed.semaphores;
+        }
+
+    pub lost_live : (a : Association) (client : ℕ) → AreLive (tables_lost a client t)
+    lost_live Idle client = all
+    lost_live (Open values) client = gone_live client
+
+    -- ---- what is heard
+
+    pub heard_live : (v : Verdict) → IsSaid row v → ((number : ℕ) (came : Came) → IsOfLoad row.asked number came → AreLoads row.client row.asked t.domains.domains)
+        → IsDistinct name_eq (keys_of t.domains.domains) → AreLive (tables_heard t row v)
+    heard_live (Takes invoke asked) said loads distinct = served_live row invoke asked distinct
+    heard_live (Tells effects) said loads distinct = all
+    heard_live (Replies number came) said loads distinct = replied_live number came said (loads number came said) distinct
+    heard_live (Exhausts invoke) said loads distinct = gone_live row.client
+    heard_live Concludes said loads distinct = gone_live row.client
+    heard_live (Cancels invoke) said loads distinct = by_waiting (waiting_of invoke row.waiting)
+      where
+        by_waiting : (o : Option Waiting) → AreLive (tables_cancelled o t)
+        by_waiting None = all
+        by_waiting (Some request) = with_semaphores (cancelled request.key request.entry t.semaphores) (each_cancelled Live request.key request.entry t.semaphores all.semaphores)
+    heard_live Aborts said loads distinct = gone_live row.client
+
+  -- ---- time goes by
+
+  module _ (P : Key → Type 0) where
+    variables_left : (clients : List ℕ) (v : VariableTables) → Each P v.vars.variables → Each P (without_clients clients v).vars.variables
+    variables_left [] v each = each
+    variables_left (client ∷ clients) v each = variables_left clients (variables_lost client v) (each_without P (OfClient client) v.vars.variables each)
+
+    lists_left : (clients : List ℕ) (v : VariableTables) → Each P v.lists → Each P (without_clients clients v).lists
+    lists_left [] v each = each
+    lists_left (client ∷ clients) v each = lists_left clients (variables_lost client v) (each_without P (OfClient client) v.lists each)
+
+  domains_stay : (clients : List ℕ) (d : DomainTables) → StayLive d.domains (domains_without clients d).domains
+  domains_stay [] d name live = live
+  domains_stay (client ∷ clients) d name live = domains_stay clients (domains.lost client d) name (lost_stays client d.domains name live)
+
+  pub passed_live : (ms : ℕ) → AreLive (passed ms t (meanwhile ms t)).tables
+  passed_live ms =
+      let clients : List ℕ = aborted (meanwhile ms t).happened in
+      let stayed = with_domains (domains_without clients t.domains) (domains_stay clients t.domains) in
+      let Then : Key → Type 0 = HasLive (domains_without clients t.domains).domains in
+      record {
+        variables = variables_left Then clients t.variables stayed.variables;
+        lists = lists_left Then clients t.variables stayed.lists;
+        semaphores = each_ticked Then (moment_after ms t) (record { rows = t.semaphores; happened = [] }) stayed.semaphores;
+      }
