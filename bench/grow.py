@@ -32,6 +32,8 @@ LIST = b"1 A00E020105A109A003800100A1028000\n"
 DELETE = b"1 A00A020105AA05A103800158\n"
 # A token of the semaphore of these two characters is taken until a millisecond has gone by.
 TAKE_FOR_1 = b"1 A00F020101B30AA0058003%s840101\n"
+# One token is taken, the other until a millisecond has gone by, which then aborts the association.
+ABORTED = b"1 A00C020101B307A0058003533031\n1 A012020101B30DA00580035330308401018501FF\ntick 1\n"
 
 
 def element(tag, *contents):
@@ -121,6 +123,7 @@ def rows():
         ("brief take and its tick", (1, 256), of(semaphores, BRIEF_TAKE + TICK, 2)),
         ("all taken, a tick, for each", (16, 256), lambda size: (semaphores(size), all_taken(size), size)),
         ("lost, initiate", (16, 256), of(semaphores, LOST + OPEN % 1, 2)),
+        ("two taken, aborted, initiate", (16, 256), of(semaphores, ABORTED + OPEN % 1, 4)),
         ("any token, the last free", (16, 256), lambda size: (pool(size), TAKE_ANY % 1 + give_named(size - 1), 2)),
     ]
 

@@ -1,12 +1,13 @@
 #!/usr/bin/env python3
 """Counts the instructions of loads and uploads of domains, by callgrind, and prints a table.
 
-    bench/loads.py [--program PATH] [--floor PATH]
+    bench/loads.py [--program PATH] [--floor PATH] [--scale N]
 
 Each row is what `replay` takes of a recording beyond what it takes of the same recording without the lines that are
 counted, for each octet of the domain or for each event. --floor names a program of plain Rust that reads the same
 recording and writes its lines back, `bench/floor.rs` compiled with -O, and is counted in the same way; without it rustc
-compiles that. Needs valgrind. Nothing here is a test.
+compiles that. Needs valgrind. With --scale it loads that many domains of 1 MiB instead, each in a phase, and prints the
+peak of the program's memory, and what is left of it for each octet when 8 MB are taken off. Nothing here is a test.
 """
 
 import argparse
@@ -21,6 +22,7 @@ from run import HERE
 OPEN = "{} A826800300FDE881010A82010A830105A416800101810305F100820C03EE1C00000408000079EF18"
 OPEN_512 = "{} A8258002020081010A82010A830105A416800101810305F100820C03EE1C00000408000079EF18"
 NAME = "4431"
+MIB = 1 << 20
 HEAD = ["mms-recording 1", "config", "clients = 2", "end", OPEN.format(1)]
 
 
@@ -40,10 +42,11 @@ def answered(invoke, service):
     return element("A1", element("02", number(invoke)), service)
 
 
-def load(total, size):
-    """The lines by which the first client loads a domain of so many octets in segments of that size."""
-    lines = [f"1 {asked(1, element('BA', element('80', NAME), element('A1'), element('82', '01')))}"]
-    left, invoke = total, 1
+def load(total, size, name=NAME, invoke=1):
+    """The lines by which the first client loads a domain of so many octets in segments of that size; the number of the
+    first request of the server is given."""
+    lines = [f"1 {asked(1, element('BA', element('80', name), element('A1'), element('82', '01')))}"]
+    left = total
     while left:
         octets = min(size, left)
         left -= octets
@@ -55,8 +58,8 @@ def load(total, size):
 
 
 def phased(lines):
-    """The lines, in phases of 16,384 at most."""
-    return [line for at in range(0, len(lines), 16384) for line in [*lines[at:at + 16384], "phase"]]
+    """The lines, in phases of 8,192 at most."""
+    return [line for at in range(0, len(lines), 8192) for line in [*lines[at:at + 8192], "phase"]]
 
 
 def pieces(client, total, size):
@@ -68,14 +71,13 @@ def pieces(client, total, size):
 
 def rows():
     """Of each row its name, the lines before, those that are counted, and by how many of what."""
-    mib = 1 << 20
     small = 1 << 16
     return [
-        ("a load in segments of 64,000, an octet", HEAD, load(mib, 64000), mib),
+        ("a load in segments of 64,000, an octet", HEAD, load(MIB, 64000), MIB),
         ("a load in segments of 16, a segment", HEAD, load(small, 16), small // 16),
-        ("an upload in pieces of 4,096, an octet", HEAD + load(mib, 64000), pieces(1, mib, 4096), mib),
-        ("an upload in pieces of 448, an octet", HEAD + [OPEN_512.format(2)] + load(mib, 64000),
-         pieces(2, mib, 448), mib),
+        ("an upload in pieces of 4,096, an octet", HEAD + load(MIB, 64000), pieces(1, MIB, 4096), MIB),
+        ("an upload in pieces of 448, an octet", HEAD + [OPEN_512.format(2)] + load(MIB, 64000),
+         pieces(2, MIB, 448), MIB),
         ("an upload in pieces of 4,096, in 16 segments, an octet", HEAD + load(small, 4096),
          pieces(1, small, 4096), small),
         ("the same, in 65,536 segments, an octet", HEAD + phased(load(small, 1)), pieces(1, small, 4096), small),
@@ -94,11 +96,31 @@ def counted(words, lines):
     return int(re.search(r"Collected : (\d+)", ended.stderr).group(1))
 
 
+def peak(program, count):
+    """The peak of a program's memory, in octets, that loads so many domains of 1 MiB, each in a phase of its own."""
+    running = subprocess.Popen([program, "replay"], stdin=subprocess.PIPE, stdout=subprocess.DEVNULL, text=True)
+    running.stdin.write("\n".join(HEAD) + "\n")
+    segments = -(-MIB // 64000)
+    for domain in range(count):
+        lines = load(MIB, 64000, f"D{domain:03}".encode().hex().upper(), 1 + domain * (segments + 1))
+        running.stdin.write("\n".join(["phase", *lines]) + "\n")
+    running.stdin.close()
+    _, status, used = os.wait4(running.pid, 0)
+    if status:
+        raise SystemExit(f"the program ended with {os.waitstatus_to_exitcode(status)}")
+    return used.ru_maxrss * 1024
+
+
 def main():
     parser = argparse.ArgumentParser()
     parser.add_argument("--program", default=os.path.join(HERE, "..", "crates", "mmscell", "out", "mmscell"))
     parser.add_argument("--floor")
+    parser.add_argument("--scale", type=int)
     options = parser.parse_args()
+    if options.scale:
+        most = peak(options.program, options.scale)
+        print(f"{options.scale} domains: {most / 1e6:.1f} MB, {(most - 8e6) / (options.scale * MIB):.3f} for each octet")
+        return
     with tempfile.TemporaryDirectory() as folder:
         floor = options.floor or os.path.join(folder, "floor")
         if not options.floor:
