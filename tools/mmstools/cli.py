@@ -1,0 +1,214 @@
+"""The commands: capture, explain, chart, compare."""
+import argparse
+import os
+import sys
+
+from . import capture as capturing
+from . import chart as drawing
+from . import compare as comparing
+from . import explain as explaining
+from . import texts
+from .history import history, served
+
+
+def main(words=None) -> int:
+    """Runs one command. The status is its own, or 2 with a sentence where it can't be done."""
+    ap = argparse.ArgumentParser(
+        prog="mms", description="Tools beside mmscell: captures to recordings, reports in words and as pictures."
+    )
+    sub = ap.add_subparsers(dest="command", required=True, metavar="COMMAND")
+    for command in (_capture_words, _explain_words, _chart_words, _compare_words):
+        command(sub)
+    a = ap.parse_args(words)
+    try:
+        return a.run(a)
+    except (texts.BadText, capturing.Unread) as bad:
+        print(f"mms {a.command}: {bad}", file=sys.stderr)
+    except OSError as bad:
+        if isinstance(bad, BrokenPipeError):
+            sys.stderr.close()
+            return 2
+        print(f"mms {a.command}: {bad.filename or 'output'}: {bad.strerror}", file=sys.stderr)
+    return 2
+
+
+def _command(sub, name: str, run, text: str, more: str):
+    """A command's parser, with one line of help and with what `--help` says of it alone."""
+    raw = argparse.RawDescriptionHelpFormatter
+    parser = sub.add_parser(name, help=text, description=more, formatter_class=raw)
+    parser.set_defaults(run=run)
+    return parser.add_argument
+
+
+def _capture_words(sub) -> None:
+    """The words of `mms capture`."""
+    more = capturing.__doc__ + (
+        "\nStatus 0: nothing is lacking. 1: the capture lacks something, which is told. 2: nothing comes of it, or it"
+        "\nends in the middle of a frame; what stands before that is written.\n"
+    )
+    add = _command(sub, "capture", _capture, "a packet capture to a recording", more)
+    add("file", help="pcap or pcapng, also compressed, as tshark reads it")
+    add("-o", "--output", help="the recording; standard output where it is left out")
+    add("--seen", metavar="FILE", help="also write what the captured server answered, as a report")
+    add("--server", metavar="ADDRESS[:PORT]", help="which server, where the capture has several")
+    add("--port", type=int, help="the TCP port of MMS, where it is not 102")
+    add("--tick", type=int, default=1, metavar="MS", help="the least time that becomes a tick (1); 0 for no ticks")
+    quiet = "seconds of silence, with nothing unanswered, after which a phase ends (1)"
+    add("--quiet", type=float, default=1.0, metavar="S", help=quiet)
+    add("--each", action="store_true", help="a phase for each event")
+    given = "lines of the configuration, such as cells and pools, in place of what the answers tell"
+    add("--config", metavar="FILE", help=given)
+    learned = "do not write cells, names and texts of the answers into the configuration"
+    add("--no-learn", action="store_true", help=learned)
+
+
+def _explain_words(sub) -> None:
+    """The words of `mms explain`."""
+    text = "a recording, a report or one PDU in words, octet by octet"
+    add = _command(sub, "explain", explaining.command, text, explaining.__doc__)
+    add("file", help="a recording or a report, - for standard input; or a PDU in hexadecimal digits")
+
+
+def _chart_words(sub) -> None:
+    """The words of `mms chart`."""
+    add = _command(sub, "chart", _chart, "a report or a recording as a picture", drawing.__doc__)
+    add("file", help="a report; or a recording, which is served first, so that each answer stands at its event")
+    formats = ".svg, .png (with rsvg-convert) or .md (Mermaid); standard output, SVG, where it is left out"
+    add("-o", "--output", help=formats)
+    seen = "a report of what a captured server answered; where it differs, it is shown too"
+    add("--seen", metavar="FILE", help=seen)
+    program = "what serves a recording; MMSCELL's or the program that the gate left, where it is left out"
+    add("--program", metavar="PATH", help=program)
+    add("--places", metavar="A-B", help="the events from place A to place B alone")
+    add("--clients", metavar="N,..", help="these clients alone, and the cell")
+    add("--title", help="the heading; the name of the file where it is left out")
+
+
+def _compare_words(sub) -> None:
+    """The words of `mms compare`."""
+    more = comparing.__doc__ + "\nStatus 0: the same octets. 1: some answers differ. 2: they can't be compared.\n"
+    add = _command(sub, "compare", _compare, "two reports of one recording, answer by answer", more)
+    add("first", help="such as what `capture --seen` wrote")
+    add("second", help="the report of mmscell")
+    kinds = ", ".join(k for k in comparing.KINDS if k != "same")
+    add("--ignore", default="", metavar="KIND,..", help=f"kinds of differences that do not count: {kinds} (none)")
+
+
+def _read(path: str) -> str:
+    """A text, each octet as one letter, so that none is refused."""
+    if path == "-":
+        return sys.stdin.buffer.read().decode("latin-1")
+    with open(path, "rb") as f:
+        return f.read().decode("latin-1")
+
+
+def _write(path, text: str) -> None:
+    """Writes a text to a file or to standard output."""
+    if path in (None, "-"):
+        sys.stdout.write(text)
+        sys.stdout.flush()
+    else:
+        with open(path, "w", encoding="utf-8", newline="\n") as f:
+            f.write(text)
+
+
+def _config(path: str):
+    """The lines of a configuration, which is UTF-8, or None without a file."""
+    if not path:
+        return None
+    try:
+        with open(path, encoding="utf-8") as f:
+            return f.read().rstrip("\n").split("\n")
+    except UnicodeDecodeError:
+        raise texts.BadText(f"{path} isn't UTF-8") from None
+
+
+def _report(path: str) -> texts.Report:
+    """The report of a file; what is wrong with it is said with its name."""
+    try:
+        return texts.read_report(_read(path))
+    except texts.BadText as bad:
+        raise texts.BadText(f"{path}, {bad}") from None
+
+
+def _capture(a) -> int:
+    """`mms capture`."""
+    if not os.path.exists(a.file):
+        raise capturing.Unread(f"{a.file}: no such file")
+    config = _config(a.config)
+    options = capturing.Options(_server(a.server), a.port, a.tick, a.quiet, a.each, not a.no_learn, config)
+    got = capturing.capture(a.file, options)
+    _write(a.output, texts.write_recording(got.recording))
+    if a.seen:
+        _write(a.seen, texts.write_report(got.seen))
+    said = got.warnings[:20]
+    if len(got.warnings) > 20:
+        said.append(f"{len(got.warnings) - 20} more of these")
+    pdus = sum(e.kind == "heard" for p in got.recording.phases for e in p)
+    answers = sum(len(o) for p in got.seen.phases for o in p.outputs.values())
+    said += [*got.remarks, f"{pdus} PDUs of {len(got.clients)} clients, {answers} answers"]
+    for line in said + [got.broken] * bool(got.broken):
+        print(f"mms capture: {line}", file=sys.stderr)
+    return 2 if got.broken else 1 if got.warnings else 0
+
+
+def _server(words):
+    """Address and port of `--server`, of which either may be left out."""
+    if not words:
+        return None
+    host, port = words, ""
+    if words.count(":") == 1 or "]" in words:
+        host, _, port = words.rpartition(":")
+        if "]" in port:
+            host, port = words, ""
+    return host.strip("[]") or None, int(port) if port.isdigit() else None
+
+
+def _chart(a) -> int:
+    """`mms chart`."""
+    text, names, note = _read(a.file), {}, ""
+    if texts.kind_of(text) == "recording":
+        recording = texts.read_recording(text)
+        names = _names(recording)
+        rows = served(recording, drawing.program(a.program))
+    else:
+        report = texts.read_report(text)
+        if any(len(p.served) > 1 for p in report.phases):
+            note = "the events of late answers worked out from the report alone"
+        rows = history(report)
+    seen = comparing.by_place(comparing.compare(_report(a.seen), None, rows)) if a.seen else {}
+    rows = drawing.chosen(rows, a.places or "", a.clients or "")
+    if a.output and a.output.endswith(".md"):
+        _write(a.output, f"```mermaid\n{drawing.mermaid(rows)}```\n")
+        return 0
+    svg = drawing.chart(rows, a.title or os.path.basename(a.file), note, names, seen)
+    if a.output and a.output.endswith(".png"):
+        drawing.write_png(svg, a.output)
+    else:
+        _write(a.output, svg)
+    return 0
+
+
+def _names(recording) -> dict:
+    """Who the clients are, by the comments that `capture` writes."""
+    out = {}
+    for notes in recording.notes.values():
+        for n in notes:
+            words = n.replace(":", " ", 1).split()
+            if len(words) > 2 and words[0] == "client" and words[1].isdigit():
+                out.setdefault(int(words[1]), words[2])
+    return out
+
+
+def _compare(a) -> int:
+    """`mms compare`."""
+    ignored = frozenset(a.ignore.split(",")) - {""}
+    unknown = ignored - set(comparing.KINDS)
+    if unknown:
+        raise texts.BadText(f"there is no kind of difference `{sorted(unknown)[0]}`")
+    found = comparing.compare(_report(a.first), _report(a.second))
+    names = [os.path.basename(f) for f in (a.first, a.second)]
+    if names[0] == names[1]:
+        names = [a.first, a.second]
+    _write(None, comparing.words(found, tuple(names), ignored))
+    return 1 if any(d.kind != "same" and d.kind not in ignored for d in found) else 0

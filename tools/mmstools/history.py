@@ -1,0 +1,665 @@
+"""A report as one history: which event made each output, and which request each output answers.
+
+A report tells the outputs of a phase client by client, not event by event. Most find their event by kind and invokeID.
+An answer that came later, of a TakeControl that waited, belongs to the event that freed the token or ended the wait:
+which one that was is worked out from the answers themselves. Reports with a phase for each event leave no doubt.
+"""
+import subprocess
+from collections import Counter, deque
+from dataclasses import dataclass, field
+from typing import Dict, List, Optional, Set, Tuple
+
+from . import grammar
+from .texts import BadText, Event, Recording, Report, read_report, write_recording
+from .words import Said, say
+
+
+@dataclass(eq=False)
+class Output:
+    """A PDU for a client, or an abort."""
+
+    client: int
+    octets: Optional[bytes]
+    said: Said
+    asked: Optional["Row"] = None  # the request that it answers
+    sure: bool = True  # False where its event is a guess
+    tracked: bool = False  # whether its event follows of what is known of its semaphore
+
+
+@dataclass(eq=False)
+class Row:
+    """An event with what came of it."""
+
+    place: int
+    phase: int
+    event: Event
+    said: Optional[Said]
+    now: int  # milliseconds since the start, behind the event
+    outputs: List[Output] = field(default_factory=list)
+    answer: Optional[Output] = None  # to its own request, wherever that came
+    answered: Optional["Row"] = None  # the event in which that came
+
+
+@dataclass(eq=False)
+class _Wait:
+    """A TakeControl that may wait."""
+
+    row: Row
+    semaphore: str
+    token: str
+    until: Optional[int]
+    control: int
+    stays: bool
+    priority: int
+
+
+@dataclass(eq=False)
+class _Owner:
+    """A client that has a token."""
+
+    client: int
+    token: str
+    until: Optional[int]
+    stays: bool
+    hung: bool = False
+
+
+ANSWERS = {
+    "initiate-Request": ("initiate-Response", "initiate-Error"),
+    "conclude-Request": ("conclude-Response", "conclude-Error"),
+    "confirmed-Request": ("confirmed-Response", "confirmed-Error", "reject"),
+    "cancel-Request": ("cancel-Response", "cancel-Error", "reject"),
+}
+ASKING = (b"\xa0", b"\x85", b"\xa8", b"\x8b")  # the first octets of what a client sends to be answered
+
+
+def history(report: Report) -> List[Row]:
+    """The rows of a report in order of place, each output in the row of its event."""
+    return _History(report).rows
+
+
+def served(recording: Recording, device: List[str]) -> List[Row]:
+    """The rows of a recording as the device serves it, with a phase for each event, so that nothing is guessed."""
+    flat = [(p, e) for p, events in enumerate(recording.phases, 1) for e in events]
+    if not flat:
+        return []
+    each = Recording(recording.edition, recording.config, [[e] for _, e in flat])
+    try:
+        run = subprocess.run(device + ["replay"], input=write_recording(each).encode(), stdout=subprocess.PIPE)
+    except OSError as e:
+        raise BadText("%s: %s" % (device[0], e.strerror)) from None
+    if not run.stdout.startswith((b"phase ", b"bad ", b"too much ")):
+        raise BadText("%s ends with status %d, and gives no report" % (" ".join(device), run.returncode))
+    report = read_report(run.stdout.decode("latin-1"))
+    if report.end or len(report.phases) != len(flat):
+        raise BadText(
+            "the device ends with status %d: %s" % (run.returncode, report.end or "its report is not whole")
+        )
+    rows = history(report)
+    for i, (row, (phase, _)) in enumerate(zip(rows, flat)):
+        row.phase, row.place = phase, 1 + i + recording.clients() * (phase - 1)
+    return rows
+
+
+class _History:
+    """Follows a report event by event, with what its answers tell of associations, semaphores and loads."""
+
+    def __init__(self, report: Report):
+        self.rows: List[Row] = []
+        self.now = 0
+        self.open: Dict[int, bool] = {}
+        self.pending: Dict[int, Dict[int, Row]] = {}  # by client and invokeID
+        self.waits: Dict[int, Dict[int, _Wait]] = {}
+        self.owners: Dict[str, List[_Owner]] = {}
+        self.tokens: Dict[str, int] = {}
+        self.loose: Set[str] = set()  # semaphores of which it isn't known who has which token
+        self.asked: Dict[int, set] = {}  # invokeIDs of the server's requests, by client
+        known = _Known()
+        for phase in report.phases:
+            self.queue = {c: deque(Output(c, o, say(o)) for o in os) for c, os in phase.outputs.items()}
+            first = len(self.rows)
+            for place, event in phase.served:
+                if event.kind == "tick":
+                    self.now += event.ms
+                row = Row(place, phase.number, event, say(event.octets) if event.kind == "heard" else None, self.now)
+                self.rows.append(row)
+                self.serve(row)
+            self.left_over(self.rows[first:])
+            known.take(self.rows[first:])
+            _place(self.rows[first:], known)
+
+    # ---- one event
+    def serve(self, row: Row) -> None:
+        """Gives an event what it sent, as far as that shows event by event."""
+        c = row.event.client
+        if row.event.kind == "heard":
+            self.heard(row, c)
+        elif row.event.kind == "lost":
+            self.lose(row, c)
+        elif row.event.kind == "tick":
+            self.tick(row)
+        self.notices(row)
+
+    def heard(self, row: Row, c: int) -> None:
+        """What a client sent, and its answer where that comes at once."""
+        asks, head = row.said, self.head(c)
+        if asks.pdu == "confirmed-Request" and asks.invoke is not None:
+            if self.open.get(c) and asks.invoke not in self.pending.setdefault(c, {}):
+                self.pending[c][asks.invoke] = row
+                if asks.service == "takeControl":
+                    wait = self.waits.setdefault(c, {})[asks.invoke] = self.wait(row)
+                    if wait.token or wait.semaphore not in self.tokens:
+                        self.loose.add(wait.semaphore)
+        if head is None or not self.own(row, head) and not self.skip_to(row, c):
+            return
+        head = self.head(c)
+        self.put(row, c, row)
+        if head.octets is None:
+            self.lose(row, c)
+            return
+        if asks.pdu == "cancel-Request":
+            other = self.head(c)
+            if (
+                head.said.pdu == "cancel-Response"
+                and other is not None
+                and other.said.pdu == "confirmed-Error"
+                and other.said.invoke == asks.invoke
+            ):
+                self.settle(row, c)
+        elif head.said.pdu == "conclude-Response":
+            self.lose(row, c)
+        elif (
+            asks.service == "initiateDownloadSequence"
+            and head.said.pdu == "confirmed-Response"
+            and self.asks(self.head(c))
+        ):
+            self.put(row, c, None)
+
+    def own(self, row: Row, head: Output) -> bool:
+        """Whether the head of the client's outputs is the answer to this very event."""
+        asks, says, c = row.said, head.said, head.client
+        if head.octets is None:
+            return not self.open.get(c) or asks.pdu == "initiate-Request"
+        if says.pdu == "reject" and says.invoke is None:
+            return not self.in_order(asks, c)
+        if asks.pdu in ("confirmed-Response", "confirmed-Error", "reject"):
+            return self.asks(head) and asks.invoke in self.asked.get(c, ())
+        if not asks.pdu:
+            return says.pdu == "reject" and says.invoke == asks.invoke
+        if asks.pdu not in ANSWERS or says.pdu not in ANSWERS[asks.pdu]:
+            return False
+        if asks.pdu not in ("confirmed-Request", "cancel-Request"):
+            return True
+        if says.invoke != asks.invoke or says.service not in ("", asks.service):
+            return False
+        if asks.service == "takeControl" and says.pdu != "reject":
+            return self.at_once(self.wait(row), says)
+        return True
+
+    def in_order(self, asks: Said, c: int) -> bool:
+        """Whether a client may send that, so that it is answered with something better than a reject of a PDU."""
+        if asks.pdu in ("confirmed-Response", "confirmed-Error"):
+            return asks.invoke in self.asked.get(c, ())
+        if asks.pdu in ("confirmed-Request", "cancel-Request"):
+            whole = asks.tone == "ask" and asks.invoke is not None and 0 <= asks.invoke < 1 << 32
+            return whole and (asks.pdu != "confirmed-Request" or asks.service != "no service") and _spelled(asks)
+        return asks.pdu in (
+            "reject",
+            "unconfirmed",
+            "cancel-Response",
+            "cancel-Error",
+            "conclude-Request",
+            "initiate-Request",
+        )
+
+    @staticmethod
+    def asks(head: Optional[Output]) -> bool:
+        """Whether that is a request of the server."""
+        return head is not None and head.said.pdu == "confirmed-Request"
+
+    def skip_to(self, row: Row, c: int) -> bool:
+        """Where the answer to this event is behind others that found no event, these stand at the event before."""
+        asks, q = row.said, self.queue[c]
+        at = next(
+            (
+                i
+                for i, o in enumerate(q)
+                if o.said.invoke is not None and o.said.pdu in ANSWERS.get(asks.pdu, ()) and self.own(row, o)
+            ),
+            None,
+        )
+        if at is None:
+            return False
+        earlier = self.rows[-2] if len(self.rows) > 1 and self.rows[-2].phase == row.phase else row
+        for _ in range(at):
+            head = self.head(c)
+            asked = (
+                self.pending.get(c, {}).get(head.said.invoke)
+                if head.said.pdu in ANSWERS["confirmed-Request"]
+                else None
+            )
+            self.put(earlier, c, asked).sure = False
+        return True
+
+    # ---- semaphores
+    def wait(self, row: Row) -> _Wait:
+        """What a TakeControl says of its wait and of its control."""
+        n = row.said.node
+        token, delay, control = (n.find(k) for k in ("namedToken", "acceptableDelay", "controlTimeOut"))
+        stays = n.find("relinquishIfConnectionLost")
+        number = grammar.integer(delay.element.contents) if delay is not None else None
+        return _Wait(
+            row,
+            _semaphore(n, row.event.client),
+            token.value if token is not None else "",
+            None if number is None else self.now + number,
+            (grammar.integer(control.element.contents) or 0) if control is not None else 0,
+            stays is not None and stays.value == "FALSE",
+            _number(n.find("priority"), 64),
+        )
+
+    def at_once(self, wait: _Wait, says: Said) -> bool:
+        """Whether that answer comes in the event of the request, by what is known of the owners."""
+        if says.pdu == "confirmed-Error":
+            late = (
+                says.detail.startswith("service-preempt: timeout")
+                and wait.until != self.now
+                or says.detail.startswith("service-preempt: cancel")
+            )
+            return not late
+        owners = self.owners.get(wait.semaphore, [])
+        if _preempted(wait.row.said.node, owners) is not None:
+            return True
+        if wait.token or says.detail.startswith("granted token"):
+            token = wait.token or says.detail.split()[-1]
+            return all(o.token != token for o in owners)
+        return len(owners) < self.tokens.get(wait.semaphore, len(owners) + 1)
+
+    def granted(self, wait: _Wait, says: Said, at: int) -> None:
+        """A client has a token from that moment on."""
+        token = wait.token or (says.detail.split()[-1] if says.detail.startswith("granted token") else "")
+        self.owners.setdefault(wait.semaphore, []).append(
+            _Owner(wait.row.event.client, token, at + wait.control if wait.control else None, wait.stays)
+        )
+
+    def freed(self, row: Row, semaphore: str, token: str, at: int) -> bool:
+        """Gives a freed token to the waiter of least priority and number. Whether its answer comes next.
+
+        Where it isn't, the semaphore is followed no more, and any waiter whose answer comes next has the token."""
+        waits = [
+            w
+            for waits in self.waits.values()
+            for w in waits.values()
+            if w.semaphore == semaphore and (not w.token or w.token == token)
+        ]
+        for w in sorted(waits, key=lambda w: (w.priority, w.row.place)):
+            c, head = w.row.event.client, self.head(w.row.event.client)
+            if head is not None and head.said.pdu == "confirmed-Response" and head.said.invoke == w.row.said.invoke:
+                self.settle(row, c, at)
+                return True
+            self.loose.add(semaphore)
+        return False
+
+    def tick(self, row: Row) -> None:
+        """Meets the deadlines that answers tell of, in order of their moments."""
+        for _ in range(10000):
+            due = [
+                (o.until, 0, s, o)
+                for s, os in self.owners.items()
+                for o in os
+                if o.until is not None and o.until <= self.now
+            ]
+            due += [
+                (w.until, 1, w.semaphore, w)
+                for ws in self.waits.values()
+                for w in ws.values()
+                if w.until is not None and w.until <= self.now
+            ]
+            if not due:
+                return
+            at, kind, semaphore, what = min(due, key=lambda d: d[:3])
+            if kind == 0:
+                self.owners[semaphore].remove(what)
+                head = self.head(what.client)
+                self.freed(row, semaphore, what.token, at)
+                if not what.hung and head is not None and head.octets is None and self.open.get(what.client):
+                    self.put(row, what.client, None).tracked = semaphore not in self.loose
+                    self.lose(row, what.client, at)
+            else:
+                what.until = None
+                c = what.row.event.client
+                head = self.head(c)
+                if (
+                    head is not None
+                    and head.said.invoke == what.row.said.invoke
+                    and head.said.pdu == "confirmed-Error"
+                ):
+                    self.settle(row, c)
+
+    def lose(self, row: Row, c: int, at: Optional[int] = None) -> None:
+        """The association of a client is over: its requests wait no more, and its tokens are freed or hung."""
+        self.open[c] = False
+        self.pending[c], self.waits[c], self.asked[c] = {}, {}, set()
+        for semaphore in sorted(self.owners):
+            for o in [o for o in self.owners[semaphore] if o.client == c and not o.hung]:
+                if o.stays:
+                    o.hung = True
+                else:
+                    self.owners[semaphore].remove(o)
+                    self.freed(row, semaphore, o.token, self.now if at is None else at)
+
+    # ---- outputs
+    def head(self, c: int) -> Optional[Output]:
+        """The client's next output."""
+        q = self.queue.get(c)
+        return q[0] if q else None
+
+    def put(self, row: Row, c: int, asked: Optional[Row]) -> Output:
+        """The client's next output is this row's."""
+        out = self.queue[c].popleft()
+        row.outputs.append(out)
+        out.asked = asked
+        if out.said.pdu == "confirmed-Request":
+            self.asked.setdefault(c, set()).add(out.said.invoke)
+        if (
+            row.event.client == c
+            and row.said is not None
+            and row.said.pdu in ("confirmed-Response", "confirmed-Error")
+        ):
+            self.asked.get(c, set()).discard(row.said.invoke)
+        if asked is not None:
+            wait = self.waits.get(c, {}).get(out.said.invoke)
+            out.tracked = wait is not None and wait.row is asked and wait.semaphore not in self.loose
+            asked.answer, asked.answered = out, row
+            self.account(asked, out, row)
+        return out
+
+    def settle(self, row: Row, c: int, at: Optional[int] = None) -> None:
+        """The client's next output is this row's, and answers an earlier request."""
+        head = self.head(c)
+        asked = self.pending.get(c, {}).get(head.said.invoke)
+        wait = self.waits.get(c, {}).get(head.said.invoke)
+        followed = wait is not None and wait.semaphore not in self.loose
+        if wait is not None and at is not None and head.said.pdu == "confirmed-Response":
+            self.granted(wait, head.said, at)
+            del self.waits[c][head.said.invoke]
+        self.put(row, c, asked).tracked = followed
+
+    def account(self, asked: Row, out: Output, row: Row) -> None:
+        """What the answer to a request tells of associations, semaphores and what is pending."""
+        c, n = out.client, asked.said.node
+        if out.said.pdu == "initiate-Response":
+            self.open[c] = True
+        if self.pending.get(c, {}).get(out.said.invoke) is asked:
+            del self.pending[c][out.said.invoke]
+        wait = self.waits.get(c, {}).get(out.said.invoke)
+        if wait is not None and wait.row is asked:
+            del self.waits[c][out.said.invoke]
+            if out.said.pdu == "confirmed-Response":
+                hung = _preempted(n, self.owners.get(wait.semaphore, []))
+                if hung is not None:
+                    self.owners[wait.semaphore].remove(hung)
+                self.granted(wait, out.said, self.now)
+        if out.said.pdu != "confirmed-Response":
+            return
+        if asked.said.service == "defineSemaphore" and n.find("numberOfTokens") is not None:
+            self.tokens[_semaphore(n, c)] = grammar.integer(n.find("numberOfTokens").element.contents) or 0
+        elif asked.said.service == "relinquishControl":
+            token = n.find("namedToken")
+            mine = [
+                o
+                for o in self.owners.get(_semaphore(n, c), [])
+                if o.client == c and not o.hung and (token is None or o.token == token.value)
+            ]
+            if mine:
+                self.owners[_semaphore(n, c)].remove(mine[0])
+            self.freed(row, _semaphore(n, c), token.value if token is not None else "", self.now)
+
+    def notices(self, row: Row) -> None:
+        """Event notifications come of ticks, and of what changes an event condition."""
+        if (
+            row.event.kind == "tick"
+            or row.said is not None
+            and row.said.service in ("triggerEvent", "alterEventConditionMonitoring", "deleteEventCondition")
+        ):
+            for c in sorted(self.queue):
+                while self.head(c) is not None and self.head(c).said.pdu == "unconfirmed":
+                    self.put(row, c, None)
+
+    def left_over(self, rows: List[Row]) -> None:
+        """What found no event stands at the phase's last one, marked as a guess."""
+        for c in sorted(self.queue):
+            while self.queue[c] and rows:
+                head = self.queue[c][0]
+                asked = (
+                    self.pending.get(c, {}).get(head.said.invoke)
+                    if head.said.pdu.startswith("confirmed-") or head.said.pdu == "reject"
+                    else None
+                )
+                if head.said.pdu == "initiate-Response":
+                    self.open[c] = True
+                own = [r for r in rows if r.event.client == c and r.answer is None]
+                out = self.put(asked if asked in rows else (own or rows)[-1], c, asked)
+                out.sure = len(rows) == 1
+
+
+# ---------------------------------------------------------------- which event an output may have come of
+
+
+def _place(rows: List[Row], known: "_Known") -> None:
+    """Marks what outputs of a phase may have come of more than one of its events, and moves what stands where it can't.
+
+    An event answers its own request first, then come grants and ends of waits. What an event may send says `_may`; an
+    output is sure where all ways to cut the client's outputs into those of the events give it to the same event."""
+    by_client: Dict[int, List[Tuple[Row, Output]]] = {}
+    for r in rows:
+        for o in r.outputs:
+            by_client.setdefault(o.client, []).append((r, o))
+    for client, placed in by_client.items():
+        found, least = _candidates(rows, client, [o for _, o in placed], known), 0
+        for (row, out), places in zip(placed, found):
+            out.sure = len(places) == 1 or out.tracked and row in [rows[i] for i in places]
+            own = next((i for i in places if rows[i] is row and i >= least), None)
+            least = next((i for i in places if i >= least), least) if own is None else own
+            _move(out, row, rows[least])
+
+
+def _move(out: Output, row: Row, to: Row) -> None:
+    """An output stands at that event, behind the client's outputs that do already."""
+    row.outputs.remove(out)
+    to.outputs.append(out)
+    to.outputs.sort(key=lambda o: o.client != to.event.client)
+    if out.asked is not None and out.asked.answer is out:
+        out.asked.answered = to
+
+
+def _candidates(rows: List[Row], client: int, outs: List[Output], known: "_Known") -> List[List[int]]:
+    """For each output of a client the events of the phase that may have sent it, by their index."""
+    ways = [_ways(row, client, outs, known) for row in rows]
+    ahead = [{0}]  # after so many events: how many outputs may have been sent
+    for way in ways:
+        ahead.append({end for start in ahead[-1] for end in way(start)})
+    back = [{len(outs)}]  # from the end on: from how many outputs on all may be sent
+    for way, starts in zip(reversed(ways), reversed(ahead[:-1])):
+        back.append({start for start in starts if back[-1] & set(way(start))})
+    back.reverse()
+    found: List[List[int]] = [[] for _ in outs]
+    for i, way in enumerate(ways):
+        sent = set()
+        for start in ahead[i] & back[i]:
+            for end in set(way(start)) & back[i + 1]:
+                sent.update(range(start, end))
+        for j in sent:
+            found[j].append(i)
+    return found
+
+
+def _ways(row: Row, client: int, outs: List[Output], known: "_Known"):
+    """From how many outputs on to how many the event may lead the client."""
+
+    def way(start: int) -> List[int]:
+        """From so many on."""
+        firsts = [start]
+        if row.event.client == client and row.event.kind == "heard":
+            most = min(start + 2, len(outs))
+            firsts = [end for end in range(start, most + 1) if _direct(row, outs[start:end], known)]
+        ends = set(firsts)
+        for first in firsts:
+            end = first
+            while end < len(outs) and _late(row, client, outs[end], known):
+                end += 1
+                ends.add(end)
+        return sorted(ends)
+
+    return way
+
+
+def _direct(row: Row, outs: List[Output], known: "_Known") -> bool:
+    """Whether these outputs may be all that answers the event's own octets, at once."""
+    asks, first = row.said, row.event.octets[:1]
+    if not outs:
+        waits = asks.service == "takeControl"
+        return waits if first in ASKING else not known.loads_on(row)
+    if not _answers(row, outs[0], known):
+        return False
+    if asks.service == "initiateDownloadSequence" and outs[0].said.pdu == "confirmed-Response":
+        return len(outs) == 2 and outs[1].said.pdu == "confirmed-Request"
+    if len(outs) == 1:
+        return True
+    return asks.pdu == "cancel-Request" and outs[0].said.pdu == "cancel-Response" and outs[1].said.invoke == asks.invoke
+
+
+def _answers(row: Row, out: Output, known: "_Known") -> bool:
+    """Whether an output may be the answer to what a client sent, by what kind it is and by its invokeID."""
+    asks, says = row.said, out.said
+    if out.octets is None or says.pdu == "reject" and says.invoke is None:
+        return True
+    if says.pdu == "confirmed-Request":
+        return row.event.octets[:1] not in ASKING and known.domain(out.client, asks.invoke) == _domain(says)
+    if says.pdu == "reject":
+        return asks.invoke == says.invoke
+    if says.pdu == "initiate-Error":
+        return asks.pdu in ("", "initiate-Request")
+    if says.pdu not in ANSWERS.get(asks.pdu, ()):
+        return False
+    return asks.pdu in ("initiate-Request", "conclude-Request") or (
+        asks.invoke == says.invoke and says.service in ("", asks.service)
+    )
+
+
+def _late(row: Row, client: int, out: Output, known: "_Known") -> bool:
+    """Whether an event may send what another one asked for: the end of a wait, or of control."""
+    kind, says = row.event.kind, out.said
+    if out.octets is None:
+        return kind == "tick"
+    if says.pdu == "unconfirmed":
+        return True
+    if says.pdu == "confirmed-Error":
+        return kind == "tick" and says.detail.startswith("service-preempt: timeout")
+    if says.pdu != "confirmed-Response" or says.service != "takeControl":
+        return False
+    return out.asked is None or known.used[client, says.invoke] > 1 or _frees(row, client, out, known)
+
+
+def _frees(row: Row, client: int, out: Output, known: "_Known") -> bool:
+    """Whether an event may free the token that a grant is of."""
+    wanted, c, said = _semaphore(out.asked.said.node, client), row.event.client, row.said
+    if row.event.kind == "tick":
+        return wanted in known.timed or known.aborts
+    if row.event.kind == "heard" and said.service == "relinquishControl":
+        one = known.used[c, said.invoke] == 1  # else it isn't known which answer is this request's
+        refused = one and row.answer is not None and row.answer.said.pdu != "confirmed-Response"
+        tokens = {_token(out.asked.said, out.said), _token(said, None)} - {""}
+        return not refused and wanted == _semaphore(said.node, c) and len(tokens) < 2
+    ends = row.event.kind == "lost" or row.event.octets[:1] in (b"\x8b", b"\xa8")
+    return ends and c != client and c in known.takers.get(wanted, ())
+
+
+def _token(asks: Said, says: Optional[Said]) -> str:
+    """The token that a request names, or that it was granted; empty where neither says one."""
+    token = asks.node.find("namedToken")
+    if token is not None:
+        return token.value
+    return says.detail.split()[-1] if says is not None and says.detail.startswith("granted token") else ""
+
+
+def _domain(said: Said) -> str:
+    """The domain whose load a request of the server is of."""
+    service = said.node.parts[-1]
+    return next((n.value for n in service.walk() if n.kind == "Id"), "")
+
+
+class _Known:
+    """What the report tells of semaphores and loads up to the end of a phase."""
+
+    def __init__(self):
+        self.used: Counter = Counter()  # how often a client used an invokeID in the phase
+        self.takers: Dict[str, Set[int]] = {}  # by semaphore: the clients that asked for a token of it
+        self.timed: Set[str] = set()  # semaphores of which somebody asked for control with an end
+        self.aborts = False  # whether the device aborted a client in the phase
+        self.loads: Dict[int, Dict[Optional[int], Said]] = {}  # the server's requests, by client and invokeID
+
+    def take(self, rows: List[Row]) -> None:
+        """The rows of one more phase."""
+        self.used = Counter((r.event.client, r.said.invoke) for r in rows if r.said is not None)
+        self.aborts = any(o.octets is None for r in rows for o in r.outputs)
+        for r in rows:
+            if r.said is not None and r.said.service == "takeControl":
+                semaphore = _semaphore(r.said.node, r.event.client)
+                self.takers.setdefault(semaphore, set()).add(r.event.client)
+                if r.said.node.find("controlTimeOut") is not None:
+                    self.timed.add(semaphore)
+            for o in r.outputs:
+                if o.said.pdu == "confirmed-Request":
+                    self.loads.setdefault(o.client, {})[o.said.invoke] = o.said
+
+    def domain(self, client: int, invoke: Optional[int]) -> str:
+        """The domain that the server's request of that invokeID is of."""
+        said = self.loads.get(client, {}).get(invoke)
+        return _domain(said) if said is not None else ""
+
+    def loads_on(self, row: Row) -> bool:
+        """Whether a client's PDU is a segment of a load, behind which the server asks for more or for the end."""
+        said = self.loads.get(row.event.client, {}).get(row.said.invoke)
+        return row.said.pdu == "confirmed-Response" and said is not None and said.service == "downloadSegment"
+
+def _preempted(n, owners) -> Optional[_Owner]:
+    """The hung entry of the client that a TakeControl names."""
+    client = n.find("applicationToPreempt")
+    number = (
+        next((grammar.integer(x.element.contents) for x in client.walk() if x.kind == "INTEGER"), None)
+        if client is not None
+        else None
+    )
+    return next((o for o in owners if o.hung and o.client == number), None)
+
+
+def _spelled(asks: Said) -> bool:
+    """Whether the parts of a request that come before its service are spelled as they have to be."""
+    parts = asks.node.parts if asks.node is not None else []
+    if asks.pdu == "cancel-Request":
+        return not asks.node.element.constructed and len(asks.node.element.contents) <= 8
+    return (
+        2 <= len(parts) <= 3
+        and parts[0].element.tag == (0, 2)
+        and not parts[0].element.constructed
+        and len(parts[0].element.contents) <= 8
+        and parts[-1].element.cls == 2
+    )
+
+
+def _number(n, default: int) -> int:
+    """The number of an element that may be left out."""
+    found = grammar.integer(n.element.contents) if n is not None else default
+    return default if found is None else found
+
+
+def _semaphore(n, client: int) -> str:
+    """The semaphore that a request names; names of an association are the client's own."""
+    name = n.find("semaphoreName")
+    for kind in ("vmd-specific", "domain-specific", "aa-specific"):
+        found = name.find(kind) if name is not None else None
+        if found is not None:
+            own = "@%d" % client if kind == "aa-specific" else ""
+            return own + kind[0] + "/".join(x.value for x in found.walk() if x.value)
+    return ""

@@ -1,0 +1,177 @@
+"""Refusals: which rule a recording breaks, held against all rows of the gate, and how it is explained."""
+
+import os
+import random
+import re
+import subprocess
+import unittest
+
+import common  # noqa: F401  (finds the tools)
+from mmstools import refusals
+from row_files import HERE, rows
+from test_explain import HEAD, Files
+
+PROFILE = os.path.join(HERE, "..", "..", "docs", "PROFILE.md")
+OWN = os.path.join(HERE, "..", "..", "crates", "mmscell", "out", "mmscell")
+PROGRAM = os.environ.get("MMSCELL") or OWN
+CELLS = '''[[cell]]
+number = 0
+type = "850120"
+value = "850100"
+[[variable]]
+name = "Speed"
+cell = 0
+[[pool]]
+name = "P"
+tokens = ["A", "B"]
+'''
+
+
+def with_config(text: str, events: str = "") -> str:
+    return f"mms-recording 1\nconfig\n{text}end\n{events}"
+
+
+class Told(unittest.TestCase):
+    def test_rows(self):
+        """Each recording of the rows is refused as its report says, or not at all."""
+        count = 0
+        for row in rows():
+            if row.words == "replay" and row.status in (0, 2, 6, 7):
+                found = refusals.first_refusal(row.recording)
+                told = row.report.rstrip("\n").split("\n")[-1] if row.status else None
+                self.assertEqual((found and found.told(), found.status if found else 0), (told, row.status), row.place)
+                count += 1
+        self.assertGreater(count, 390)
+
+    def test_carriage_returns(self):
+        """They don't count in the configuration's 1,048,576 octets, nor in a line's 196,608."""
+        line = "#" * 196608 + "\r\n"
+        for rest, told in ((65530, None), (65531, "bad 8 config")):
+            found = refusals.first_refusal(with_config(line * 5 + "#" * rest + "\r\n"))
+            self.assertEqual(found and found.told(), told)
+
+    def test_every_word_of_profile(self):
+        """The words and the rules are those of docs/PROFILE.md."""
+        with open(PROFILE, encoding="utf-8") as f:
+            text = f.read()
+        words, rules = ((text.partition(head)[2].partition("\n\n")[0]) for head in ("| word |", "| rule | broken"))
+        words, rules = re.findall(r"(?m)^\| `(\w+)` \| ", words), re.findall(r"(?m)^\| (\d+) \| ", rules)
+        self.assertEqual([*words, "too much"], list(refusals.WORDS))
+        self.assertEqual([int(rule) for rule in rules], list(refusals.RULES))
+
+    def test_read(self):
+        for line in ("bad 1 header", "bad 4 hex", "bad config 6", "bad 3 config", "too much 16388"):
+            self.assertEqual(refusals.read_told(line).told(), line)
+        for line in ("bad 4 word", "bad config 10", "bad 0 hex", "too much", "bad", "bad x hex"):
+            self.assertIsNone(refusals.read_told(line), line)
+
+    @unittest.skipUnless(os.access(PROGRAM, os.X_OK), "the program is missing")
+    def test_program(self):
+        """Recordings with a sign that is changed, dropped or put in are refused as the program refuses them."""
+        rng = random.Random(7)
+        config = "clients = 2\nday = 65535\nms = 86399990\n" + CELLS
+        whole = with_config(config, "1 8B00\ntick 3\nlost 2\n# a\nphase\n1 A0\n")
+        for _ in range(400):
+            at = rng.randrange(len(whole))
+            signs = rng.choice(["", rng.choice('0159AFx \n\t#"=[]'), whole[at] * 2])
+            text = whole[:at] + signs + whole[at + 1 :]
+            got = subprocess.run([PROGRAM, "replay"], input=text.encode("latin-1"), stdout=subprocess.PIPE)
+            last = got.stdout.decode("latin-1").rstrip("\n").split("\n")[-1]
+            found = refusals.first_refusal(text)
+            self.assertEqual(found and found.told(), last if got.returncode else None, text)
+
+
+class Explained(Files):
+    def test_lines(self):
+        """The word's rule, what to look at, and the line itself, behind the events before it; status 2."""
+        for events, word, line in [
+            ("1 8B00\n1 8B0\n", "hex", "`1 8B0`"),
+            ("1 8B00\nlots 1\n", "event", "`lots 1`"),
+            ("1 8B00\n5 8B\n", "client", "`5 8B`"),
+            ("1 8B00\n1 8B # end\n", "hex", "`1 8B # end`"),
+        ]:
+            status, out, err = self.explained(HEAD + events)
+            meaning = refusals.WORDS[word]
+            self.assertEqual(status, 2)
+            self.assertIn("client 1 sends: conclude-Request", out)
+            self.assertIn(f"`bad 5 {word}`", out)
+            self.assertIn(meaning.where, out)
+            self.assertIn("Look at: " + meaning.look, out)
+            self.assertIn("Line 5: " + line, out)
+            self.assertIn(f"`bad 5 {word}`", err)
+
+    def test_head(self):
+        for text, told, line in [
+            ("mms-recording 2\nconfig\nend\n", "bad 1 header", "`mms-recording 2`"),
+            ("\xef\xbb\xbfmms-recording 1\nconfig\nend\n", "bad 1 header", r"`\xEF\xBB\xBFmms-recording 1`"),
+            ("mms-recording 1\nConfig\nend\n", "bad 2 config", "`Config`"),
+        ]:
+            status, out, _ = self.explained(text)
+            self.assertEqual((status, f"`{told}`" in out, line in out), (2, True, True), text)
+        self.assertIn("no line 3", self.explained("mms-recording 1\nconfig\n")[1])
+
+    def test_clock_and_too_much(self):
+        _, out, _ = self.explained(with_config("day = 65535\nms = 86399999\n", "tick 1\n"))
+        self.assertIn("`bad 6 clock`", out)
+        _, out, _ = self.explained(HEAD + "tick 1\n" * 16385)
+        self.assertIn("`too much 16388`", out)
+
+    def test_configuration(self):
+        """The rule, the row and the key, and what is wrong there."""
+        for old, new, rule, here in [
+            ('"850120"', '"850121"', 6, "row 1 of [[cell]], key `type`: `850121` is not one whole element"),
+            ('"850100"', '"8501"', 6, "row 1 of [[cell]], key `value`: `8501` is not one whole element"),
+            ('"850100"', '"830100"', 6, "row 1 of [[cell]], key `value`: `830100` is not Data of the type `850120`"),
+            ("cell = 0", "cell = 9", 7, "row 1 of [[variable]], key `cell`: there is no cell 9"),
+            ('["A", "B"]', '["A", "A"]', 8, "row 1 of [[pool]], key `tokens`: A stands twice"),
+            ('"Speed"', '"2x"', 4, "row 1 of [[variable]], key `name`: '2x' is no Identifier"),
+            ("number = 0", "number = 4096", 5, "row 1 of [[cell]], key `number`: 4096 is not from 0 to 4095"),
+            ("number = 0", "num = 0", 1, "row 1 of [[cell]], key `num`: no key of a row of [[cell]]"),
+            ("[[cell]]", "clients = 65\n[[cell]]", 2, "key `clients`: 65 is not from 1 to 64"),
+            ("[[cell]]", 'vendor = ""\n[[cell]]', 3, "key `vendor`: '' is not 1 to 32 octets"),
+            ("[[cell]]", "[[cell", 0, "no TOML document"),
+        ]:
+            status, out, err = self.explained(with_config(CELLS.replace(old, new, 1)))
+            self.assertEqual(status, 2, new)
+            self.assertIn(f"`bad config {rule}`", out)
+            self.assertIn(f"Here: {here}", out)
+            self.assertIn(refusals.RULES[rule].look, out)
+            self.assertIn(here, err)
+
+    def test_the_key_s_line(self):
+        """The line of the recording with the key, or where TOML ends to be TOML."""
+        for old, new, line in [
+            ('"850100"', '"830100"', 'Line 6: `value = "830100"`'),
+            ("cell = 0", "cell = 9", "Line 9: `cell = 9`"),
+            ('["A", "B"]', '["A", "A"]', 'Line 12: `tokens = ["A", "A"]`'),
+            ('value = "850100"', "value = 850100x", "Line 6: `value = 850100x`"),
+        ]:
+            self.assertIn(line, self.explained(with_config(CELLS.replace(old, new, 1)))[1])
+        inline = 'clients = 2\ncell = [{ number = 0, type = "8300", value = "8300" }]\n'
+        self.assertNotIn("\nLine ", self.explained(with_config(inline))[1])
+        self.assertNotIn("\nLine ", self.explained(with_config('[[cell]]\nnumber = 0\n[[cell]]\ntype = ""\n'))[1])
+
+    def test_counts(self):
+        rows_ = "".join(f'[[variable]]\nname = "v{i}"\ncell = 0\n' for i in range(4097))
+        _, out, _ = self.explained(with_config('[[cell]]\nnumber = 0\ntype = "8300"\nvalue = "830100"\n' + rows_))
+        self.assertIn("Here: there are 4097 rows of [[variable]], more than 4096", out)
+
+    def test_report_beside_its_recording(self):
+        """A report's last line is explained, with the line of the recording where that is refused so."""
+        report = "phase 1\n1 1 8B00\nclient 1\n> abort\nbad 6 hex\n"
+        status, out, err = self.explained(report, "a.report")
+        self.assertEqual((status, err), (0, ""))
+        self.assertIn(refusals.WORDS["hex"].look, out)
+        self.assertNotIn("Line 6:", out)
+        self.explained(HEAD + "1 8B00\nphase\n1 8B0\n", "a.mms")
+        self.assertIn("Line 6: `1 8B0`", self.explained(report, "a.report")[1])
+        self.explained(HEAD + "1 8B00\nphase\n1 8B00\n", "a.mms")
+        self.assertIn("is not refused so", self.explained(report, "a.report")[1])
+
+    def test_no_word(self):
+        status, out, err = self.explained("phase 1\nbad 4 word\n", "a.report")
+        self.assertEqual((status, "no word that a report ends with" in err), (2, True))
+
+
+if __name__ == "__main__":
+    unittest.main()
