@@ -2,11 +2,15 @@
 use Rattle.mms_types.specs.declared.pdu.Request.{Request}
 use Rattle.mms_types.specs.declared.pdu.Request.TheVariants as request
 use Rattle.mms_types.specs.declared.area.AreaRequest.{AreaRequest}
-use Rattle.mms_types.specs.declared.area.AreaRequest.TheVariants.{Device, Variables, Semaphores, Domains}
+use Rattle.mms_types.specs.declared.area.AreaRequest.TheVariants.{Device, Variables, Semaphores, Domains, Invocations, Programs}
 use Rattle.mms_types.specs.declared.area.DeviceRequest.{DeviceRequest}
 use Rattle.mms_types.specs.declared.area.DeviceRequest.TheVariants as device
 use Rattle.mms_types.specs.declared.area.DomainRequest.{DomainRequest}
 use Rattle.mms_types.specs.declared.area.DomainRequest.TheVariants as domains
+use Rattle.mms_types.specs.declared.area.InvocationRequest.{InvocationRequest}
+use Rattle.mms_types.specs.declared.area.InvocationRequest.TheVariants as invocations
+use Rattle.mms_types.specs.declared.area.ProgramRequest.{ProgramRequest}
+use Rattle.mms_types.specs.declared.area.ProgramRequest.TheVariants as programs
 use Rattle.mms_types.specs.declared.area.SemaphoreRequest.{SemaphoreRequest}
 use Rattle.mms_types.specs.declared.area.SemaphoreRequest.TheVariants as semaphores
 use Rattle.mms_types.specs.declared.area.VariableRequest.{VariableRequest}
@@ -44,8 +48,22 @@ domain_request (domains.TerminateUploadSequence number) = request.TerminateUploa
 domain_request (domains.DeleteDomain x) = request.DeleteDomain x.now
 domain_request (domains.GetDomainAttributes x) = request.GetDomainAttributes x.now
 
+abbrev pub invocation_request : InvocationRequest → Request
+invocation_request (invocations.CreateProgramInvocation x) = request.CreateProgramInvocation x.now
+invocation_request (invocations.DeleteProgramInvocation x) = request.DeleteProgramInvocation x.now
+
+abbrev pub program_request : ProgramRequest → Request
+program_request (programs.Start x) = request.Start x.now
+program_request (programs.Stop x) = request.Stop x.now
+program_request (programs.Resume x) = request.Resume x.now
+program_request (programs.Reset x) = request.Reset x.now
+program_request (programs.Kill x) = request.Kill x.now
+program_request (programs.GetProgramInvocationAttributes x) = request.GetProgramInvocationAttributes x.now
+
 abbrev pub request_of : AreaRequest → Request
 request_of (Device asked) = device_request asked
 request_of (Variables asked) = variable_request asked
 request_of (Semaphores asked) = semaphore_request asked
 request_of (Domains asked) = domain_request asked
+request_of (Invocations asked) = invocation_request asked
+request_of (Programs asked) = program_request asked

@@ -12,6 +12,7 @@ pub mod Semaphores
 pub mod DomainStates
 pub mod Errors
 pub mod InvocationStates
+pub mod ConditionStates
 pub mod FirstCause
 pub mod Serves
 pub mod Wanting

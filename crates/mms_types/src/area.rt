@@ -4,10 +4,10 @@ ghost use Rattle.std.specs.Prelude.{◌≡◌};
 ghost use Rattle.mms_types.specs.Areas.{request_of};
 
 use crate::{
-    DefineNamedVariable, DefineNamedVariableList, DefineSemaphore, DeleteNames, GetNameList,
-    Identifier, InitiateDownloadSequence, ObjectName, Read, RelinquishControl,
-    ReportPoolSemaphoreStatus, ReportSemaphoreEntryStatus, Request, Spec, Status, TakeControl,
-    Write,
+    CreateProgramInvocation, DefineNamedVariable, DefineNamedVariableList, DefineSemaphore,
+    DeleteNames, GetNameList, Identifier, InitiateDownloadSequence, ObjectName, Read,
+    RelinquishControl, ReportPoolSemaphoreStatus, ReportSemaphoreEntryStatus, Request, RunProgram,
+    Spec, Status, TakeControl, Write,
 };
 
 /// What is asked of the device itself (ISO 9506-1, VMD support).
@@ -54,6 +54,25 @@ pub enum DomainRequest<'a> {
     GetDomainAttributes(&'a Identifier),
 }
 
+/// What makes and deletes program invocations, by which domains are put to use and given free (ISO 9506-1, program
+/// invocation management).
+#[derive(Clone, Copy)]
+pub enum InvocationRequest<'a> {
+    CreateProgramInvocation(&'a CreateProgramInvocation),
+    DeleteProgramInvocation(&'a Identifier),
+}
+
+/// What is asked of program invocations that are there (ISO 9506-1, program invocation management).
+#[derive(Clone, Copy)]
+pub enum ProgramRequest<'a> {
+    Start(&'a RunProgram),
+    Stop(&'a Identifier),
+    Resume(&'a RunProgram),
+    Reset(&'a Identifier),
+    Kill(&'a Identifier),
+    GetProgramInvocationAttributes(&'a Identifier),
+}
+
 /// A request, by the area of the device that serves it.
 #[derive(Clone, Copy)]
 pub enum AreaRequest<'a> {
@@ -61,6 +80,8 @@ pub enum AreaRequest<'a> {
     Variables(VariableRequest<'a>),
     Semaphores(SemaphoreRequest<'a>),
     Domains(DomainRequest<'a>),
+    Invocations(InvocationRequest<'a>),
+    Programs(ProgramRequest<'a>),
 }
 
 impl Request {
@@ -128,6 +149,20 @@ impl Request {
             Request::DeleteDomain(name) => AreaRequest::Domains(DomainRequest::DeleteDomain(name)),
             Request::GetDomainAttributes(name) => {
                 AreaRequest::Domains(DomainRequest::GetDomainAttributes(name))
+            }
+            Request::CreateProgramInvocation(asked) => {
+                AreaRequest::Invocations(InvocationRequest::CreateProgramInvocation(asked))
+            }
+            Request::DeleteProgramInvocation(name) => {
+                AreaRequest::Invocations(InvocationRequest::DeleteProgramInvocation(name))
+            }
+            Request::Start(asked) => AreaRequest::Programs(ProgramRequest::Start(asked)),
+            Request::Stop(name) => AreaRequest::Programs(ProgramRequest::Stop(name)),
+            Request::Resume(asked) => AreaRequest::Programs(ProgramRequest::Resume(asked)),
+            Request::Reset(name) => AreaRequest::Programs(ProgramRequest::Reset(name)),
+            Request::Kill(name) => AreaRequest::Programs(ProgramRequest::Kill(name)),
+            Request::GetProgramInvocationAttributes(name) => {
+                AreaRequest::Programs(ProgramRequest::GetProgramInvocationAttributes(name))
             }
         }
     }

@@ -119,7 +119,7 @@ pub struct InitiateAnswer {
     pub detail: InitiateDetail,
 }
 
-fn is_option_set(octets: &[u8], bit: u8) -> bool
+pub(crate) fn is_option_set(octets: &[u8], bit: u8) -> bool
     requires { bit / 8 < length octets.now }
     ensures { IsTrue result ↔ IsOptionSet octets.now bit }
 {

@@ -1,11 +1,12 @@
 use crate::{
-    Boxed, CancelError, ConfirmedError, DefineNamedVariable, DefineNamedVariableList,
-    DefineSemaphore, DeleteNames, Deleted, DomainAttributes, EntryStatuses, GetNameList,
-    GetNameListAnswer, Identifier, IdentifyAnswer, Initiate, InitiateAnswer,
-    InitiateDownloadSequence, InitiateUploadSequenceAnswer, ListAttributes, ObjectName, PoolStatus,
-    Read, ReadAnswer, RelinquishControl, ReportPoolSemaphoreStatus, ReportSemaphoreEntryStatus,
-    Segment, SemaphoreStatus, ServiceError, Spec, Status, StatusAnswer, TakeControl,
-    TakeControlAnswer, TerminateDownloadSequence, VariableAttributes, Write, WriteAnswer,
+    Boxed, CancelError, ConfirmedError, CreateProgramInvocation, DefineNamedVariable,
+    DefineNamedVariableList, DefineSemaphore, DeleteNames, Deleted, DomainAttributes,
+    EntryStatuses, GetNameList, GetNameListAnswer, Identifier, IdentifyAnswer, Initiate,
+    InitiateAnswer, InitiateDownloadSequence, InitiateUploadSequenceAnswer, InvocationAttributes,
+    ListAttributes, ObjectName, PoolStatus, Read, ReadAnswer, RelinquishControl,
+    ReportPoolSemaphoreStatus, ReportSemaphoreEntryStatus, RunProgram, Segment, SemaphoreStatus,
+    ServiceError, Spec, Status, StatusAnswer, TakeControl, TakeControlAnswer,
+    TerminateDownloadSequence, VariableAttributes, Write, WriteAnswer,
 };
 
 /// What a client asks of the server (ISO 9506-2, ConfirmedServiceRequest): a variant for each service that clients ask,
@@ -59,6 +60,22 @@ pub enum Request {
     DeleteDomain(Identifier),
     /// What the domain of this name is.
     GetDomainAttributes(Identifier),
+    /// A program invocation is to be made.
+    CreateProgramInvocation(CreateProgramInvocation),
+    /// The deletion of the program invocation of this name.
+    DeleteProgramInvocation(Identifier),
+    /// A program invocation is to run.
+    Start(RunProgram),
+    /// The program invocation of this name is to stop.
+    Stop(Identifier),
+    /// A program invocation is to go on.
+    Resume(RunProgram),
+    /// The program invocation of this name is to be over, after a stop.
+    Reset(Identifier),
+    /// The program invocation of this name is to be over, and not to run any more.
+    Kill(Identifier),
+    /// What the program invocation of this name is.
+    GetProgramInvocationAttributes(Identifier),
 }
 
 /// What the server answers to a request (ISO 9506-2, ConfirmedServiceResponse): a variant for each service that clients
@@ -112,6 +129,22 @@ pub enum Answer {
     DeleteDomain,
     /// What the domain is.
     GetDomainAttributes(DomainAttributes),
+    /// The program invocation was made.
+    CreateProgramInvocation,
+    /// The program invocation was deleted.
+    DeleteProgramInvocation,
+    /// It runs.
+    Start,
+    /// It has stopped.
+    Stop,
+    /// It goes on.
+    Resume,
+    /// It is over.
+    Reset,
+    /// It is over, and can't run any more.
+    Kill,
+    /// What the program invocation is.
+    GetProgramInvocationAttributes(InvocationAttributes),
 }
 
 /// What the server asks of a client (ISO 9506-2, ConfirmedServiceRequest): a variant for each service that the server
@@ -229,6 +262,14 @@ impl Drop for Request {
             Request::TerminateUploadSequence(_) => {}
             Request::DeleteDomain(_x) => {}
             Request::GetDomainAttributes(_x) => {}
+            Request::CreateProgramInvocation(_x) => {}
+            Request::DeleteProgramInvocation(_x) => {}
+            Request::Start(_x) => {}
+            Request::Stop(_x) => {}
+            Request::Resume(_x) => {}
+            Request::Reset(_x) => {}
+            Request::Kill(_x) => {}
+            Request::GetProgramInvocationAttributes(_x) => {}
         }
     }
 }
@@ -260,6 +301,14 @@ impl Drop for Answer {
             Answer::TerminateUploadSequence => {}
             Answer::DeleteDomain => {}
             Answer::GetDomainAttributes(_x) => {}
+            Answer::CreateProgramInvocation => {}
+            Answer::DeleteProgramInvocation => {}
+            Answer::Start => {}
+            Answer::Stop => {}
+            Answer::Resume => {}
+            Answer::Reset => {}
+            Answer::Kill => {}
+            Answer::GetProgramInvocationAttributes(_x) => {}
         }
     }
 }
