@@ -24,7 +24,7 @@ use Rattle.pdu_areas.proofs.Whose.{none_within, no_form, form_there, value_there
 use Rattle.pdu_assoc.specs.Services.{device_area}
 use Rattle.pdu_vars.specs.Services.{variable_area}
 use Rattle.pdu_sems.specs.Services.{semaphore_area}
-use Rattle.pdu_programs.specs.Services.{domain_area}
+use Rattle.pdu_programs.specs.Services.{domain_area, program_area}
 use Rattle.mms_pdu.specs.declared.refusal.Refusal.{Refusal}
 use Rattle.mms_pdu.specs.declared.refusal.Refusal.TheVariants as refusal
 use Rattle.mms_pdu.specs.Services.{requests, answers, request_shares, one_asks, one_answers}
@@ -90,13 +90,16 @@ module _ (lengths : Lengths) (edition : Edition) (invoke : ℕ) (p : Part) (shar
   unread_request unread.Malformed own e = refused_by fault.malformed own e
   unread_request unread.TooDeep own e = refused_by fault.too_deep own e
 
--- ---- the areas, by their numbers: 0 to 3, 4 to 18, 19 to 25 and 26 to 37
+-- ---- the areas, by their numbers: 0 to 3, 4 to 18, 19 to 25, 26 to 37 and 38 to 45
 
 abbrev after_device : List (Share Request)
-after_device = variable_area.requests ∷ semaphore_area.requests ∷ domain_area.requests ∷ []
+after_device = variable_area.requests ∷ semaphore_area.requests ∷ domain_area.requests ∷ program_area.requests ∷ []
 
 abbrev after_variables : List (Share Request)
-after_variables = semaphore_area.requests ∷ domain_area.requests ∷ []
+after_variables = semaphore_area.requests ∷ domain_area.requests ∷ program_area.requests ∷ []
+
+abbrev after_semaphores : List (Share Request)
+after_semaphores = domain_area.requests ∷ program_area.requests ∷ []
 
 abbrev before_semaphores : List (Share Request)
 before_semaphores = device_area.requests ∷ variable_area.requests ∷ []
@@ -104,34 +107,44 @@ before_semaphores = device_area.requests ∷ variable_area.requests ∷ []
 abbrev before_domains : List (Share Request)
 before_domains = device_area.requests ∷ variable_area.requests ∷ semaphore_area.requests ∷ []
 
+abbrev before_programs : List (Share Request)
+before_programs = device_area.requests ∷ variable_area.requests ∷ semaphore_area.requests ∷ domain_area.requests ∷ []
+
 module _ (n : ℕ) (edition : Edition) where
   pub device_form : n ≤ 3 → form_at n (requests.alternatives edition) ≡ form_at n (forms_of device_area.requests.arms edition)
   unfolding requests
   device_form few =
-      form_there [] device_area.requests after_device n edition refl (none_within 4 37 (joined after_device) n refl (λ low high. omega (arith, few, low)))
+      form_there [] device_area.requests after_device n edition refl (none_within 4 45 (joined after_device) n refl (λ low high. omega (arith, few, low)))
 
   pub variable_form : 4 ≤ n → n ≤ 18 → form_at n (requests.alternatives edition) ≡ form_at n (forms_of variable_area.requests.arms edition)
   unfolding requests
   variable_form most few =
       form_there (device_area.requests ∷ []) variable_area.requests after_variables n edition
       (none_within 0 3 (joined (device_area.requests ∷ [])) n refl (λ low high. omega (arith, most, high)))
-      (none_within 19 37 (joined after_variables) n refl (λ low high. omega (arith, few, low)))
+      (none_within 19 45 (joined after_variables) n refl (λ low high. omega (arith, few, low)))
 
   pub semaphore_form : 19 ≤ n → n ≤ 25 → form_at n (requests.alternatives edition) ≡ form_at n (forms_of semaphore_area.requests.arms edition)
   unfolding requests
   semaphore_form most few =
-      form_there before_semaphores semaphore_area.requests (domain_area.requests ∷ []) n edition
+      form_there before_semaphores semaphore_area.requests after_semaphores n edition
       (none_within 0 18 (joined before_semaphores) n refl (λ low high. omega (arith, most, high)))
-      (none_within 26 37 (joined (domain_area.requests ∷ [])) n refl (λ low high. omega (arith, few, low)))
+      (none_within 26 45 (joined after_semaphores) n refl (λ low high. omega (arith, few, low)))
 
-  pub domain_form : 26 ≤ n → form_at n (requests.alternatives edition) ≡ form_at n (forms_of domain_area.requests.arms edition)
+  pub domain_form : 26 ≤ n → n ≤ 37 → form_at n (requests.alternatives edition) ≡ form_at n (forms_of domain_area.requests.arms edition)
   unfolding requests
-  domain_form most =
-      form_there before_domains domain_area.requests [] n edition (none_within 0 25 (joined before_domains) n refl (λ low high. omega (arith, most, high))) refl
+  domain_form most few =
+      form_there before_domains domain_area.requests (program_area.requests ∷ []) n edition
+      (none_within 0 25 (joined before_domains) n refl (λ low high. omega (arith, most, high)))
+      (none_within 38 45 (joined (program_area.requests ∷ [])) n refl (λ low high. omega (arith, few, low)))
 
-  pub no_request_form : 37 < n → form_at n (requests.alternatives edition) ≡ None
+  pub program_form : 38 ≤ n → form_at n (requests.alternatives edition) ≡ form_at n (forms_of program_area.requests.arms edition)
   unfolding requests
-  no_request_form many = no_form (joined request_shares) n edition (none_within 0 37 (joined request_shares) n refl (λ low high. omega (arith, many, high)))
+  program_form most =
+      form_there before_programs program_area.requests [] n edition (none_within 0 37 (joined before_programs) n refl (λ low high. omega (arith, most, high))) refl
+
+  pub no_request_form : 45 < n → form_at n (requests.alternatives edition) ≡ None
+  unfolding requests
+  no_request_form many = no_form (joined request_shares) n edition (none_within 0 45 (joined request_shares) n refl (λ low high. omega (arith, many, high)))
 
 -- ---- what an area's requests say
 
@@ -145,21 +158,27 @@ variable_said = λ r v. value_there (device_area.requests ∷ []) variable_area.
 
 pub semaphore_said : IsSaid semaphore_area.requests requests
 unfolding requests
-semaphore_said = λ r v. value_there before_semaphores semaphore_area.requests (domain_area.requests ∷ []) r v (one_asks r)
+semaphore_said = λ r v. value_there before_semaphores semaphore_area.requests after_semaphores r v (one_asks r)
 
 pub domain_said : IsSaid domain_area.requests requests
 unfolding requests
-domain_said = λ r v. value_there before_domains domain_area.requests [] r v (one_asks r)
+domain_said = λ r v. value_there before_domains domain_area.requests (program_area.requests ∷ []) r v (one_asks r)
+
+pub program_said : IsSaid program_area.requests requests
+unfolding requests
+program_said = λ r v. value_there before_programs program_area.requests [] r v (one_asks r)
 
 -- ---- how they are spelled: the areas are asked in turn
 
--- where none of the first three has it, the last does
-last_has : (a b c d : Option Value) → counted a (counted b (counted c (counted d 0))) ≡ 1 → is_some a ≡ false → is_some b ≡ false → is_some c ≡ false → is_some d ≡ true
-last_has None None None None one e f g = absurd (omega (arith, one))
-last_has None None None (Some v) one e f g = refl
-last_has None None (Some v) d one e f g = absurd cc
-last_has None (Some v) c d one e f g = absurd cc
-last_has (Some v) b c d one e f g = absurd cc
+-- where none of the first four has it, the last does
+last_has : (a b c d o : Option Value) → counted a (counted b (counted c (counted d (counted o 0)))) ≡ 1 → is_some a ≡ false → is_some b ≡ false → is_some c ≡ false → is_some d ≡ false
+    → is_some o ≡ true
+last_has None None None None None one e f g h = absurd (omega (arith, one))
+last_has None None None None (Some v) one e f g h = refl
+last_has None None None (Some v) o one e f g h = absurd cc
+last_has None None (Some v) d o one e f g h = absurd cc
+last_has None (Some v) c d o one e f g h = absurd cc
+last_has (Some v) b c d o one e f g h = absurd cc
 
 -- nothing is appended of an area that doesn't have it
 nothing_put : (others : Alternatives) (o : Option Value) (before after : List ℕ) → after ≡ before ++ octets_if others o → is_some o ≡ false → after ≡ before
@@ -183,14 +202,18 @@ module _ (r : Request) where
 
   pub semaphore_spelled : is_some (semaphore_area.requests.value r) ≡ true → IsSpelled (octets_if (forms_of semaphore_area.requests.arms widest) (semaphore_area.requests.value r))
   unfolding requests
-  semaphore_spelled e = octets_own before_semaphores semaphore_area.requests (domain_area.requests ∷ []) r widest refl (one_asks r) e
+  semaphore_spelled e = octets_own before_semaphores semaphore_area.requests after_semaphores r widest refl (one_asks r) e
 
-  pub domain_spelled : is_some (device_area.requests.value r) ≡ false → is_some (variable_area.requests.value r) ≡ false → is_some (semaphore_area.requests.value r) ≡ false
-      → IsSpelled (octets_if (forms_of domain_area.requests.arms widest) (domain_area.requests.value r))
+  pub domain_spelled : is_some (domain_area.requests.value r) ≡ true → IsSpelled (octets_if (forms_of domain_area.requests.arms widest) (domain_area.requests.value r))
   unfolding requests
-  domain_spelled e f g =
-      octets_own before_domains domain_area.requests [] r widest refl (one_asks r)
-      (last_has (device_area.requests.value r) (variable_area.requests.value r) (semaphore_area.requests.value r) (domain_area.requests.value r) (one_asks r) e f g)
+  domain_spelled e = octets_own before_domains domain_area.requests (program_area.requests ∷ []) r widest refl (one_asks r) e
+
+  pub program_spelled : is_some (device_area.requests.value r) ≡ false → is_some (variable_area.requests.value r) ≡ false → is_some (semaphore_area.requests.value r) ≡ false
+      → is_some (domain_area.requests.value r) ≡ false → IsSpelled (octets_if (forms_of program_area.requests.arms widest) (program_area.requests.value r))
+  unfolding requests
+  program_spelled e f g h =
+      octets_own before_programs program_area.requests [] r widest refl (one_asks r)
+      (last_has (device_area.requests.value r) (variable_area.requests.value r) (semaphore_area.requests.value r) (domain_area.requests.value r) (program_area.requests.value r) (one_asks r) e f g h)
 
 module _ (r : Request) (old one : List ℕ) (first : one ≡ old ++ octets_if (forms_of device_area.requests.arms widest) (device_area.requests.value r)) where
   abbrev RequestPut : List ℕ → Type 0
@@ -213,22 +236,35 @@ module _ (r : Request) (old one : List ℕ) (first : one ≡ old ++ octets_if (f
       pub third_put : is_some (semaphore_area.requests.value r) ≡ true → RequestPut three
       third_put e = put_next old two three (octets_if (forms_of semaphore_area.requests.arms widest) (semaphore_area.requests.value r)) (alternative_octets (requests.alternatives widest) (requests.value r)) third still_none (semaphore_spelled r e)
 
-      pub fourth_put : (four : List ℕ) → is_some (semaphore_area.requests.value r) ≡ false → four ≡ three ++ octets_if (forms_of domain_area.requests.arms widest) (domain_area.requests.value r) → RequestPut four
-      fourth_put four e fourth =
-          put_next old three four (octets_if (forms_of domain_area.requests.arms widest) (domain_area.requests.value r)) (alternative_octets (requests.alternatives widest) (requests.value r)) fourth
-          (nothing_put (forms_of semaphore_area.requests.arms widest) (semaphore_area.requests.value r) two three third e ∙ still_none) (domain_spelled r none no e)
+      module _ (four : List ℕ) (fourth : four ≡ three ++ octets_if (forms_of domain_area.requests.arms widest) (domain_area.requests.value r)) (not : is_some (semaphore_area.requests.value r) ≡ false) where
+        none_still : three ≡ old
+        none_still = nothing_put (forms_of semaphore_area.requests.arms widest) (semaphore_area.requests.value r) two three third not ∙ still_none
+
+        pub fourth_put : is_some (domain_area.requests.value r) ≡ true → RequestPut four
+        fourth_put e = put_next old three four (octets_if (forms_of domain_area.requests.arms widest) (domain_area.requests.value r)) (alternative_octets (requests.alternatives widest) (requests.value r)) fourth none_still (domain_spelled r e)
+
+        pub fifth_put : (five : List ℕ) → is_some (domain_area.requests.value r) ≡ false → five ≡ four ++ octets_if (forms_of program_area.requests.arms widest) (program_area.requests.value r) → RequestPut five
+        fifth_put five e fifth =
+            put_next old four five (octets_if (forms_of program_area.requests.arms widest) (program_area.requests.value r)) (alternative_octets (requests.alternatives widest) (requests.value r)) fifth
+            (nothing_put (forms_of domain_area.requests.arms widest) (domain_area.requests.value r) three four fourth e ∙ none_still) (program_spelled r none no not e)
 
 abbrev after_device_answers : List (Share Answer)
-after_device_answers = variable_area.answers ∷ semaphore_area.answers ∷ domain_area.answers ∷ []
+after_device_answers = variable_area.answers ∷ semaphore_area.answers ∷ domain_area.answers ∷ program_area.answers ∷ []
 
 abbrev after_variable_answers : List (Share Answer)
-after_variable_answers = semaphore_area.answers ∷ domain_area.answers ∷ []
+after_variable_answers = semaphore_area.answers ∷ domain_area.answers ∷ program_area.answers ∷ []
+
+abbrev after_semaphore_answers : List (Share Answer)
+after_semaphore_answers = domain_area.answers ∷ program_area.answers ∷ []
 
 abbrev before_semaphore_answers : List (Share Answer)
 before_semaphore_answers = device_area.answers ∷ variable_area.answers ∷ []
 
 abbrev before_domain_answers : List (Share Answer)
 before_domain_answers = device_area.answers ∷ variable_area.answers ∷ semaphore_area.answers ∷ []
+
+abbrev before_program_answers : List (Share Answer)
+before_program_answers = device_area.answers ∷ variable_area.answers ∷ semaphore_area.answers ∷ domain_area.answers ∷ []
 
 module _ (a : Answer) where
   abbrev pub IsAnswered : List ℕ → Type 0
@@ -244,14 +280,18 @@ module _ (a : Answer) where
 
   pub semaphore_answered : is_some (semaphore_area.answers.value a) ≡ true → IsAnswered (octets_if (forms_of semaphore_area.answers.arms widest) (semaphore_area.answers.value a))
   unfolding answers
-  semaphore_answered e = octets_own before_semaphore_answers semaphore_area.answers (domain_area.answers ∷ []) a widest refl (one_answers a) e
+  semaphore_answered e = octets_own before_semaphore_answers semaphore_area.answers after_semaphore_answers a widest refl (one_answers a) e
 
-  pub domain_answered : is_some (device_area.answers.value a) ≡ false → is_some (variable_area.answers.value a) ≡ false → is_some (semaphore_area.answers.value a) ≡ false
-      → IsAnswered (octets_if (forms_of domain_area.answers.arms widest) (domain_area.answers.value a))
+  pub domain_answered : is_some (domain_area.answers.value a) ≡ true → IsAnswered (octets_if (forms_of domain_area.answers.arms widest) (domain_area.answers.value a))
   unfolding answers
-  domain_answered e f g =
-      octets_own before_domain_answers domain_area.answers [] a widest refl (one_answers a)
-      (last_has (device_area.answers.value a) (variable_area.answers.value a) (semaphore_area.answers.value a) (domain_area.answers.value a) (one_answers a) e f g)
+  domain_answered e = octets_own before_domain_answers domain_area.answers (program_area.answers ∷ []) a widest refl (one_answers a) e
+
+  pub program_answered : is_some (device_area.answers.value a) ≡ false → is_some (variable_area.answers.value a) ≡ false → is_some (semaphore_area.answers.value a) ≡ false
+      → is_some (domain_area.answers.value a) ≡ false → IsAnswered (octets_if (forms_of program_area.answers.arms widest) (program_area.answers.value a))
+  unfolding answers
+  program_answered e f g h =
+      octets_own before_program_answers program_area.answers [] a widest refl (one_answers a)
+      (last_has (device_area.answers.value a) (variable_area.answers.value a) (semaphore_area.answers.value a) (domain_area.answers.value a) (program_area.answers.value a) (one_answers a) e f g h)
 
 module _ (a : Answer) (old one : List ℕ) (first : one ≡ old ++ octets_if (forms_of device_area.answers.arms widest) (device_area.answers.value a)) where
   abbrev AnswerPut : List ℕ → Type 0
@@ -274,7 +314,14 @@ module _ (a : Answer) (old one : List ℕ) (first : one ≡ old ++ octets_if (fo
       pub third_put_answer : is_some (semaphore_area.answers.value a) ≡ true → AnswerPut three
       third_put_answer e = put_next old two three (octets_if (forms_of semaphore_area.answers.arms widest) (semaphore_area.answers.value a)) (alternative_octets (answers.alternatives widest) (answers.value a)) third still_no_answer (semaphore_answered a e)
 
-      pub fourth_put_answer : (four : List ℕ) → is_some (semaphore_area.answers.value a) ≡ false → four ≡ three ++ octets_if (forms_of domain_area.answers.arms widest) (domain_area.answers.value a) → AnswerPut four
-      fourth_put_answer four e fourth =
-          put_next old three four (octets_if (forms_of domain_area.answers.arms widest) (domain_area.answers.value a)) (alternative_octets (answers.alternatives widest) (answers.value a)) fourth
-          (nothing_put (forms_of semaphore_area.answers.arms widest) (semaphore_area.answers.value a) two three third e ∙ still_no_answer) (domain_answered a none no e)
+      module _ (four : List ℕ) (fourth : four ≡ three ++ octets_if (forms_of domain_area.answers.arms widest) (domain_area.answers.value a)) (not : is_some (semaphore_area.answers.value a) ≡ false) where
+        no_answer_still : three ≡ old
+        no_answer_still = nothing_put (forms_of semaphore_area.answers.arms widest) (semaphore_area.answers.value a) two three third not ∙ still_no_answer
+
+        pub fourth_put_answer : is_some (domain_area.answers.value a) ≡ true → AnswerPut four
+        fourth_put_answer e = put_next old three four (octets_if (forms_of domain_area.answers.arms widest) (domain_area.answers.value a)) (alternative_octets (answers.alternatives widest) (answers.value a)) fourth no_answer_still (domain_answered a e)
+
+        pub fifth_put_answer : (five : List ℕ) → is_some (domain_area.answers.value a) ≡ false → five ≡ four ++ octets_if (forms_of program_area.answers.arms widest) (program_area.answers.value a) → AnswerPut five
+        fifth_put_answer five e fifth =
+            put_next old four five (octets_if (forms_of program_area.answers.arms widest) (program_area.answers.value a)) (alternative_octets (answers.alternatives widest) (answers.value a)) fifth
+            (nothing_put (forms_of domain_area.answers.arms widest) (domain_area.answers.value a) three four fourth e ∙ no_answer_still) (program_answered a none no not e)

@@ -57,11 +57,11 @@ sent = refl
 -- ---- who asks which services
 
 -- 27 and 28 are the server's: an initiate-Response names them, no client may ask them, and a client may answer them alone
-numbers_are : service_numbers ≡ 0 ∷ 1 ∷ 2 ∷ 4 ∷ 5 ∷ 6 ∷ 7 ∷ 10 ∷ 11 ∷ 12 ∷ 13 ∷ 19 ∷ 20 ∷ 21 ∷ 22 ∷ 23 ∷ 24 ∷ 25 ∷ 26 ∷ 27 ∷ 28 ∷ 29 ∷ 30 ∷ 31 ∷ 36 ∷ 37 ∷ []
+numbers_are : service_numbers ≡ 0 ∷ 1 ∷ 2 ∷ 4 ∷ 5 ∷ 6 ∷ 7 ∷ 10 ∷ 11 ∷ 12 ∷ 13 ∷ 19 ∷ 20 ∷ 21 ∷ 22 ∷ 23 ∷ 24 ∷ 25 ∷ 26 ∷ 27 ∷ 28 ∷ 29 ∷ 30 ∷ 31 ∷ 36 ∷ 37 ∷ 38 ∷ 39 ∷ 40 ∷ 41 ∷ 42 ∷ 43 ∷ 44 ∷ 45 ∷ []
 numbers_are = refl
 
 clients_may_ask : Answers (has_number (requests.alternatives One)) (
-    (0, true) ∷ (25, true) ∷ (26, true) ∷ (27, false) ∷ (28, false) ∷ (29, true) ∷ (31, true) ∷ (32, false) ∷ (36, true) ∷ (37, true) ∷ (38, false) ∷ [])
+    (0, true) ∷ (25, true) ∷ (26, true) ∷ (27, false) ∷ (28, false) ∷ (29, true) ∷ (31, true) ∷ (32, false) ∷ (36, true) ∷ (37, true) ∷ (38, true) ∷ (45, true) ∷ (46, false) ∷ [])
 unfolding requests
 clients_may_ask = refl
 

@@ -13,7 +13,7 @@ use mms_types::{Answer, ClientAnswer, Edition};
 use pdu_areas::Area;
 use pdu_assoc::DeviceServices;
 use pdu_names::{OneOf, Own, cursor};
-use pdu_programs::{ClientAnswers, DomainServices};
+use pdu_programs::{ClientAnswers, DomainServices, ProgramServices};
 use pdu_sems::SemaphoreServices;
 use pdu_vars::VariableServices;
 use std::alloc::Global;
@@ -27,10 +27,11 @@ pub(crate) fn put_result(out: &mut Writer, answer: &Answer) -> Result<(), Full>
     if DeviceServices::put_answer(out, answer)?
         || VariableServices::put_answer(out, answer)?
         || SemaphoreServices::put_answer(out, answer)?
+        || DomainServices::put_answer(out, answer)?
     {
         return Ok(());
     }
-    DomainServices::put_answer(out, answer)?;
+    ProgramServices::put_answer(out, answer)?;
     Ok(())
 }
 

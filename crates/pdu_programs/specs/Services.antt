@@ -1,4 +1,4 @@
--- Services for domains (ISO 9506-2, domain management).
+-- Services for domains and for program invocations (ISO 9506-2, domain management and program invocation management).
 use Rattle.std.specs.Prelude.{◌≡◌, true, List, [], ◌∷◌, Option, Some, None}
 use Rattle.std.proofs.Common.{refl, ap}
 use Rattle.ber_forms.specs.Value.{Value, chosen}
@@ -21,6 +21,7 @@ use Rattle.pdu_areas.specs.Areas.{Area, asks_of, answers_of, server_asks_of, cli
 use Rattle.pdu_programs.specs.Download.{initiate_download, loaded_segment, terminate_download}
 use Rattle.pdu_programs.specs.Upload.{upload_begun, sent_segment}
 use Rattle.pdu_programs.specs.Attributes.{domain_attributes}
+use Rattle.pdu_programs.specs.Invocations.{create_program, invocation_attributes, named_program, run_program}
 
 -- in the order of their numbers; the server asks for a segment and for the end of a load
 abbrev pub domain_services : List Service
@@ -92,6 +93,77 @@ domain_area = record {
   services = domain_services;
   requests = record { arms = asks_of domain_services; value = domain_asked; again = asked_again; sound = asks_sound };
   answers = record { arms = answers_of domain_services; value = domain_answered; again = answered_again; sound = answers_sound };
+}
+
+-- ---- services for program invocations, in the order of their numbers
+
+abbrev pub program_services : List Service
+program_services =
+    service 38 create_program request.CreateProgramInvocation null (λ _. answer.CreateProgramInvocation) ∷
+    service 39 identifier request.DeleteProgramInvocation null (λ _. answer.DeleteProgramInvocation) ∷
+    service 40 run_program request.Start null (λ _. answer.Start) ∷
+    service 41 named_program request.Stop null (λ _. answer.Stop) ∷
+    service 42 run_program request.Resume null (λ _. answer.Resume) ∷
+    service 43 named_program request.Reset null (λ _. answer.Reset) ∷
+    service 44 named_program request.Kill null (λ _. answer.Kill) ∷
+    service 45 identifier request.GetProgramInvocationAttributes invocation_attributes answer.GetProgramInvocationAttributes ∷
+    []
+
+abbrev program_asked : Request → Option Value
+program_asked (request.CreateProgramInvocation x) = Some (chosen 38 (create_program.value x))
+program_asked (request.DeleteProgramInvocation x) = Some (chosen 39 (identifier.value x))
+program_asked (request.Start x) = Some (chosen 40 (run_program.value x))
+program_asked (request.Stop x) = Some (chosen 41 (named_program.value x))
+program_asked (request.Resume x) = Some (chosen 42 (run_program.value x))
+program_asked (request.Reset x) = Some (chosen 43 (named_program.value x))
+program_asked (request.Kill x) = Some (chosen 44 (named_program.value x))
+program_asked (request.GetProgramInvocationAttributes x) = Some (chosen 45 (identifier.value x))
+program_asked other = None
+
+pub programs_asked_again : (r : Request) → IsMade (asks_of program_services) (program_asked r) r
+programs_asked_again (request.CreateProgramInvocation x) = ap (λ y. asked (request.CreateProgramInvocation y)) (create_program.again x)
+programs_asked_again (request.DeleteProgramInvocation x) = ap (λ y. asked (request.DeleteProgramInvocation y)) (identifier.again x)
+programs_asked_again (request.Start x) = ap (λ y. asked (request.Start y)) (run_program.again x)
+programs_asked_again (request.Stop x) = ap (λ y. asked (request.Stop y)) (named_program.again x)
+programs_asked_again (request.Resume x) = ap (λ y. asked (request.Resume y)) (run_program.again x)
+programs_asked_again (request.Reset x) = ap (λ y. asked (request.Reset y)) (named_program.again x)
+programs_asked_again (request.Kill x) = ap (λ y. asked (request.Kill y)) (named_program.again x)
+programs_asked_again (request.GetProgramInvocationAttributes x) = ap (λ y. asked (request.GetProgramInvocationAttributes y)) (identifier.again x)
+programs_asked_again other = tt
+
+pub program_asks_sound : (e : Edition) → sound_alternatives (forms_of (asks_of program_services) e) ≡ true
+program_asks_sound e = refl
+
+abbrev program_answered : Answer → Option Value
+program_answered answer.CreateProgramInvocation = Some (chosen 38 (null.value tt))
+program_answered answer.DeleteProgramInvocation = Some (chosen 39 (null.value tt))
+program_answered answer.Start = Some (chosen 40 (null.value tt))
+program_answered answer.Stop = Some (chosen 41 (null.value tt))
+program_answered answer.Resume = Some (chosen 42 (null.value tt))
+program_answered answer.Reset = Some (chosen 43 (null.value tt))
+program_answered answer.Kill = Some (chosen 44 (null.value tt))
+program_answered (answer.GetProgramInvocationAttributes x) = Some (chosen 45 (invocation_attributes.value x))
+program_answered other = None
+
+pub programs_answered_again : (a : Answer) → IsMade (answers_of program_services) (program_answered a) a
+programs_answered_again answer.CreateProgramInvocation = refl
+programs_answered_again answer.DeleteProgramInvocation = refl
+programs_answered_again answer.Start = refl
+programs_answered_again answer.Stop = refl
+programs_answered_again answer.Resume = refl
+programs_answered_again answer.Reset = refl
+programs_answered_again answer.Kill = refl
+programs_answered_again (answer.GetProgramInvocationAttributes x) = ap (λ y. answered (answer.GetProgramInvocationAttributes y)) (invocation_attributes.again x)
+programs_answered_again other = tt
+
+pub program_answers_sound : (e : Edition) → sound_alternatives (forms_of (answers_of program_services) e) ≡ true
+program_answers_sound e = refl
+
+abbrev pub program_area : Area
+program_area = record {
+  services = program_services;
+  requests = record { arms = asks_of program_services; value = program_asked; again = programs_asked_again; sound = program_asks_sound };
+  answers = record { arms = answers_of program_services; value = program_answered; again = programs_answered_again; sound = program_answers_sound };
 }
 
 -- ---- what the server asks, with what is said back of a value of another form

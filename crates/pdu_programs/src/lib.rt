@@ -23,7 +23,7 @@ pub use invocations::{
     GetProgramInvocationAttributesRequest, GetProgramInvocationAttributesResponse, KillRequest,
     ResetRequest, ResumeRequest, SomeDomains, StartRequest, StopRequest,
 };
-pub use services::{ClientAnswers, DomainServices, ServerRequests};
+pub use services::{ClientAnswers, DomainServices, ProgramServices, ServerRequests};
 pub use texts::{Capability, InText};
 pub use upload::{
     InitiateUploadSequenceRequest, InitiateUploadSequenceResponse, TerminateUploadSequenceRequest,

@@ -1,13 +1,19 @@
-//! Services for domains by their numbers: those that clients ask, and those that the server asks.
+//! Services for domains and for program invocations by their numbers: those that clients ask, and those that the server
+//! asks.
 
 ghost use Rattle.std.specs.Prelude.{false};
-ghost use Rattle.pdu_programs.specs.Services.{domain_area, server_requests, server_requests_sound, client_answers, client_answers_sound};
+ghost use Rattle.pdu_programs.specs.Services.{domain_area, program_area, server_requests, server_requests_sound, client_answers, client_answers_sound};
 
 use crate::attributes::{
     DeleteDomainRequest, GetDomainAttributesRequest, GetDomainAttributesResponse,
 };
 use crate::download::{
     DownloadSegmentResponse, InitiateDownloadSequenceRequest, TerminateDownloadSequenceRequest,
+};
+use crate::invocations::{
+    CreateProgramInvocationRequest, DeleteProgramInvocationRequest,
+    GetProgramInvocationAttributesRequest, GetProgramInvocationAttributesResponse, KillRequest,
+    ResetRequest, ResumeRequest, StartRequest, StopRequest,
 };
 use crate::upload::{
     InitiateUploadSequenceRequest, InitiateUploadSequenceResponse, TerminateUploadSequenceRequest,
@@ -89,6 +95,76 @@ impl Area for DomainServices {
             Answer::GetDomainAttributes(x) => own(GetDomainAttributesResponse::put_part(
                 out, 37, x,
             )),
+            _ => Ok(false),
+        }
+    }
+}
+
+/// The services for program invocations: each by its number, with its argument and its result.
+pub struct ProgramServices;
+
+impl Area for ProgramServices {
+    ghost area = { program_area };
+
+    #[inline]
+    fn read_request(
+        alloc: Global,
+        service: Element<'_>,
+        edition: Edition,
+    ) -> Result<Option<Request>, Unread> {
+        match service.tag.number {
+            38 => Ok(Some(Request::CreateProgramInvocation(read_as::<
+                CreateProgramInvocationRequest,
+            >(alloc, service, edition)?))),
+            39 => Ok(Some(Request::DeleteProgramInvocation(read_as::<
+                DeleteProgramInvocationRequest,
+            >(alloc, service, edition)?))),
+            40 => Ok(Some(Request::Start(read_as::<StartRequest>(alloc, service, edition)?))),
+            41 => Ok(Some(Request::Stop(read_as::<StopRequest>(alloc, service, edition)?))),
+            42 => Ok(Some(Request::Resume(read_as::<ResumeRequest>(alloc, service, edition)?))),
+            43 => Ok(Some(Request::Reset(read_as::<ResetRequest>(alloc, service, edition)?))),
+            44 => Ok(Some(Request::Kill(read_as::<KillRequest>(alloc, service, edition)?))),
+            45 => Ok(Some(Request::GetProgramInvocationAttributes(read_as::<
+                GetProgramInvocationAttributesRequest,
+            >(alloc, service, edition)?))),
+            _ => Ok(None),
+        }
+    }
+
+    #[inline]
+    fn put_request(out: &mut Writer, request: &Request) -> Result<bool, Full> {
+        match request {
+            Request::CreateProgramInvocation(x) => own(CreateProgramInvocationRequest::put_part(
+                out, 38, x,
+            )),
+            Request::DeleteProgramInvocation(x) => own(DeleteProgramInvocationRequest::put_part(
+                out, 39, x,
+            )),
+            Request::Start(x) => own(StartRequest::put_part(out, 40, x)),
+            Request::Stop(x) => own(StopRequest::put_part(out, 41, x)),
+            Request::Resume(x) => own(ResumeRequest::put_part(out, 42, x)),
+            Request::Reset(x) => own(ResetRequest::put_part(out, 43, x)),
+            Request::Kill(x) => own(KillRequest::put_part(out, 44, x)),
+            Request::GetProgramInvocationAttributes(x) => {
+                own(GetProgramInvocationAttributesRequest::put_part(out, 45, x))
+            }
+            _ => Ok(false),
+        }
+    }
+
+    #[inline]
+    fn put_answer(out: &mut Writer, answer: &Answer) -> Result<bool, Full> {
+        match answer {
+            Answer::CreateProgramInvocation => own(Null::put_part(out, 38, &())),
+            Answer::DeleteProgramInvocation => own(Null::put_part(out, 39, &())),
+            Answer::Start => own(Null::put_part(out, 40, &())),
+            Answer::Stop => own(Null::put_part(out, 41, &())),
+            Answer::Resume => own(Null::put_part(out, 42, &())),
+            Answer::Reset => own(Null::put_part(out, 43, &())),
+            Answer::Kill => own(Null::put_part(out, 44, &())),
+            Answer::GetProgramInvocationAttributes(x) => {
+                own(GetProgramInvocationAttributesResponse::put_part(out, 45, x))
+            }
             _ => Ok(false),
         }
     }
