@@ -3,4 +3,5 @@ pub mod DomainLaws
 pub mod LoadLaws
 pub mod NumberLaws
 pub mod ServedLaws
+pub mod UserLaws
 mod Worked

@@ -2,7 +2,7 @@
 use Rattle.std.proofs.Common.{◌≡◌, ◌≢◌, ◌∙◌, ℕ, suc, ◌+◌, Bool, true, false, cond, not, List, [], ◌∷◌, ◌++◌, Option, None, Some, is_some, length, refl, ap, sym, subst, arith}
 use Rattle.std.specs.Prelude.{All, ◌==◌, ◌&&◌, ◌||◌, count_by, if◌then◌else◌}
 use Rattle.std.specs.List.{IsDistinct}
-use Rattle.std.specs.Map.{keys_of}
+use Rattle.std.specs.Map.{keys_of, set_value}
 use Rattle.std.specs.Option.{option_map, option_map_or}
 use Rattle.std.proofs.lemmas.Bool.Decides.{Decides-eqb, nat_tests}
 use Rattle.std.proofs.lemmas.Cmp.{nat_list_eq_equiv}
@@ -21,8 +21,9 @@ use Rattle.association.proofs.Rows.{unsettled_none}
 use Rattle.domain_load.specs.Domains.{Rows, is_there, name_eq, named, without, without_loads}
 use Rattle.domain_load.specs.Loading.{answers_load, asked_next, begun, changed, domain_of, goes_on, initiate_after, initiate_cause, loaded, reply_after, with_segment, would_pass}
 use Rattle.domain_load.specs.Standing.{is_loaded_by, is_loading}
+use Rattle.domain_load.specs.Used.{after_unused, after_used, had_by, left_by}
 use Rattle.domain_load.specs.declared.domain.Domain.{Domain}
-use Rattle.domain_load.proofs.Outcomes.{begin_others, begins, gone, gone_others, is_changed, loads, lost_none, reply_others, there}
+use Rattle.domain_load.proofs.Outcomes.{begin_others, begins, found_changed, gone, gone_others, is_changed, loads, lost_none, reply_others, there}
 use Rattle.domain_load.proofs.Unopposed.{nothing_against}
 use Rattle.serve_domains.specs.Loads.{AreLoads, asked_after, asks_load, is_of_load_kind}
 
@@ -345,3 +346,35 @@ lost_elsewhere client k rows domains other distinct = still_loaded k rows domain
     by_name name =
         ap (of_found (is_loaded_by k)) (lookup-filter-values nat_list_eq_equiv (λ d. not (is_loaded_by client d)) name domains distinct)
         ∙ by_found (named name domains)
+
+-- ---- program invocations come to domains, and leave them
+
+-- who loads a domain stays, where the domain that changes has its loader still
+module _ (p : Domain → Bool) (f : Domain → Domain) (same : (d : Domain) → p (f d) ≡ p d) where
+  there_same : (name : List ℕ) (domains : Rows) (n : List ℕ) → is_there p n (changed name f domains) ≡ is_there p n domains
+  there_same name domains n = by_found (named name domains) refl
+    where
+      by_found : (o : Option Domain) → named name domains ≡ o → is_there p n (changed name f domains) ≡ is_there p n domains
+      by_found None e = ap (λ (o : Option Domain). is_there p n (option_map_or (λ d. set_value (name_eq name) domains (f d)) o domains)) e
+      by_found (Some d) e = ap (of_found p) (found_changed name n f domains d e) ∙ by_name (name_eq name n) refl
+        where
+          by_name : (b : Bool) → name_eq name n ≡ b → of_found p (cond b (Some (f d)) (named n domains)) ≡ is_there p n domains
+          by_name true is = same d ∙ sym (ap (of_found p) (ap (λ (m : List ℕ). named m domains) (sym (names_same name n is)) ∙ e))
+          by_name false is = refl
+
+module _ (p : Domain → Bool) (by : List ℕ) (come : (d : Domain) → p (had_by by d) ≡ p d) (gone : (d : Domain) → p (left_by by d) ≡ p d) where
+  there_used : (names : List (List ℕ)) (domains : Rows) (n : List ℕ) → is_there p n (after_used names by domains) ≡ is_there p n domains
+  there_used [] domains n = refl
+  there_used (name ∷ names) domains n = there_used names (changed name (had_by by) domains) n ∙ there_same p (had_by by) come name domains n
+
+  there_unused : (names : List (List ℕ)) (domains : Rows) (n : List ℕ) → is_there p n (after_unused names by domains) ≡ is_there p n domains
+  there_unused [] domains n = refl
+  there_unused (name ∷ names) domains n = there_unused names (changed name (left_by by) domains) n ∙ there_same p (left_by by) gone name domains n
+
+pub used_loads : (client : ℕ) (by : List ℕ) (names : List (List ℕ)) (rows : List Unanswered) (domains : Rows) → AreLoads client rows domains
+    → AreLoads client rows (after_used names by domains)
+used_loads client by names rows domains = still_loaded client rows domains (after_used names by domains) (there_used (is_loaded_by client) by (λ d. refl) (λ d. refl) names domains)
+
+pub unused_loads : (client : ℕ) (by : List ℕ) (names : List (List ℕ)) (rows : List Unanswered) (domains : Rows) → AreLoads client rows domains
+    → AreLoads client rows (after_unused names by domains)
+unused_loads client by names rows domains = still_loaded client rows domains (after_unused names by domains) (there_unused (is_loaded_by client) by (λ d. refl) (λ d. refl) names domains)

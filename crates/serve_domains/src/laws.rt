@@ -12,6 +12,7 @@ ghost use Rattle.association.specs.declared.unanswered.Unanswered.{Unanswered};
 ghost use Rattle.domain_load.specs.Domains.{Rows, is_there, name_eq, without, without_loads};
 ghost use Rattle.domain_load.specs.Loading.{answers_load, asked_next, domain_of, initiate_after, initiate_cause, reply_after};
 ghost use Rattle.domain_load.specs.Standing.{is_loaded_by, is_loading};
+ghost use Rattle.domain_load.specs.Used.{after_unused, after_used};
 ghost use Rattle.serve_domains.specs.Loads.{AreLoads, asked_after, is_of_load_kind};
 
 /// What a client is asked, and which domains it loads, agree at any time: at the start; where it begins a load; and
@@ -35,7 +36,8 @@ pub fn what_is_asked_is_loaded()
         → is_of_load_kind of.0 ≡ true → is_there (is_loaded_by client) of.1 domains ≡ true }
 {}
 
-/// So it stays whatever others do, and whatever is deleted; and a client that is lost loads nothing.
+/// So it stays whatever others do, whatever is deleted, and which program invocations come to domains or leave them; and
+/// a client that is lost loads nothing.
 pub fn what_is_asked_stays_loaded()
     ensures begins { (client : ℕ) (left : Bool) (request : InitiateDownloadSequence)
         (domains : Rows) → initiate_cause left request domains ≡ None → (other : ℕ)
@@ -53,4 +55,10 @@ pub fn what_is_asked_stays_loaded()
     ensures others { (client other : ℕ) (rows : List Unanswered) (domains : Rows)
         → client ≢ other → IsDistinct name_eq (keys_of domains) → AreLoads other rows domains
         → AreLoads other rows (without_loads client domains) }
+    ensures used { (client : ℕ) (by : List ℕ) (names : List (List ℕ)) (rows : List Unanswered)
+        (domains : Rows) → AreLoads client rows domains
+        → AreLoads client rows (after_used names by domains) }
+    ensures unused { (client : ℕ) (by : List ℕ) (names : List (List ℕ)) (rows : List Unanswered)
+        (domains : Rows) → AreLoads client rows domains
+        → AreLoads client rows (after_unused names by domains) }
 {}

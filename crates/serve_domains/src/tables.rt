@@ -4,13 +4,14 @@ ghost use Rattle.std.specs.Prelude.{◌≡◌, Bool, IfOk, None, OnErr, OnOk, le
 ghost use Rattle.std.specs.Option.{option_copied};
 ghost use Rattle.domain_load.specs.Domains.{delete_cause, names_after, without};
 ghost use Rattle.domain_load.specs.Loading.{answers_load, initiate_after, initiate_cause, is_of_load, reply_after};
+ghost use Rattle.domain_load.specs.Used.{AreFreeFor, after_unused, after_used};
 ghost use Rattle.domain_upload.specs.Uploads.{AreOf, after_initiate, after_segment, after_terminate, has_upload, uploads_of};
 ghost use Rattle.domain_upload.specs.Uploads as upload;
 ghost use Rattle.serve_domains.specs.Tables.{is_scope_live, lost, no_domains};
 
 use domain_load::Domains;
 use domain_upload::Uploads;
-use mms_types::{Identifier, InitiateDownloadSequence, Memory, Reply, Scope};
+use mms_types::{Identifier, Identifiers, InitiateDownloadSequence, Memory, Reply, Scope};
 use object_names::Names;
 use std::alloc::Global;
 use std::marker::Model;
@@ -103,6 +104,31 @@ impl DomainTables {
     {
         self.domains.lose(client);
         self.uploads.lose(client);
+    }
+
+    /// A program invocation has come to have these domains, which are free for it. Without memory all is as before.
+    pub fn used(
+        &mut self,
+        alloc: Global,
+        domains: &Identifiers,
+        by: &Identifier,
+    ) -> Result<(), Memory>
+        requires { AreFreeFor by.now domains.now self.old.domains }
+        ensures used { OnOk result (self.new ≡ record self.old {
+          domains = after_used domains.now by.now self.old.domains;
+        }) }
+        ensures kept { OnErr result (self.new ≡ self.old) }
+    {
+        self.domains.used(alloc, domains, by)
+    }
+
+    /// A program invocation has left these domains. It takes no memory.
+    pub fn unused(&mut self, domains: &Identifiers, by: &Identifier)
+        ensures { self.new ≡ record self.old {
+          domains = after_unused domains.now by.now self.old.domains;
+        } }
+    {
+        self.domains.unused(domains, by);
     }
 
     /// A load begins, against which nothing stands. Without memory all is as before.

@@ -1,4 +1,4 @@
-use Rattle.serve_domains.proofs.LoadLaws.{begins_elsewhere, deleted, lost, lost_elsewhere, replied_elsewhere}
+use Rattle.serve_domains.proofs.LoadLaws.{begins_elsewhere, deleted, lost, lost_elsewhere, replied_elsewhere, unused_loads, used_loads}
 use Rattle.serve_domains.proofs.laws.what_is_asked_stays_loaded.Goals as goal
 
 pub returns-clause-begins : goal.returns-clause-begins
@@ -15,3 +15,9 @@ returns-clause-lost c = lost
 
 pub returns-clause-others : goal.returns-clause-others
 returns-clause-others c = lost_elsewhere
+
+pub returns-clause-used : goal.returns-clause-used
+returns-clause-used c = used_loads
+
+pub returns-clause-unused : goal.returns-clause-unused
+returns-clause-unused c = unused_loads

@@ -1,0 +1,5 @@
+mod Apart
+pub mod LoadedLaws
+pub mod MadeLaws
+pub mod ServedLaws
+pub mod UsedLaws
