@@ -3,12 +3,14 @@ use Rattle.std.specs.Prelude.{◌≡◌, ◌≢◌, ◌==◌, ◌||◌, ℕ, Boo
 use Rattle.std.specs.List.{list_any}
 use Rattle.std.proofs.Common.{ap, ap₂, sym, ◌∙◌, arith}
 use Rattle.std.proofs.lemmas.Bool.Decides.{nat_tests}
-use Rattle.mms_types.specs.Areas.{device_request, domain_request, semaphore_request, variable_request}
+use Rattle.mms_types.specs.Areas.{device_request, domain_request, invocation_request, program_request, semaphore_request, variable_request}
 use Rattle.mms_types.specs.declared.asked.Asked.{Asked}
 use Rattle.mms_types.specs.declared.area.DomainRequest.{DomainRequest}
 use Rattle.mms_types.specs.declared.area.DomainRequest.TheVariants as domain
 use Rattle.mms_types.specs.declared.area.DeviceRequest.{DeviceRequest}
 use Rattle.mms_types.specs.declared.area.SemaphoreRequest.{SemaphoreRequest}
+use Rattle.mms_types.specs.declared.area.InvocationRequest.{InvocationRequest}
+use Rattle.mms_types.specs.declared.area.ProgramRequest.{ProgramRequest}
 use Rattle.mms_types.specs.declared.area.VariableRequest.{VariableRequest}
 use Rattle.mms_types.specs.declared.moment.Moment.{Moment}
 use Rattle.mms_types.specs.declared.pdu.Request.{Request}
@@ -34,18 +36,20 @@ use Rattle.domain_upload.specs.Uploads.{has_upload}
 use Rattle.serve_domains.specs.Domains as domains
 use Rattle.serve_domains.specs.Tables.{DomainTables}
 use Rattle.cell_services.specs.Others.{AlsoTells, client_of, grant_clients}
-use Rattle.cell_services.specs.AreaLaws.{device_alone, in_device, in_domains, in_semaphores, in_variables, variables_alone}
+use Rattle.cell_services.specs.AreaLaws.{device_alone, in_device, in_domains, in_invocations, in_programs, in_semaphores, in_variables, variables_alone}
 use Rattle.cell_services.specs.Device as device
 use Rattle.cell_services.specs.Requests.{told_in}
-use Rattle.cell_services.specs.Services.{InArea, OfDevice, OfDomains, OfSemaphores, OfVariables, area_of, reply_in, cause_of, effect_of, grants_told, lacks_number}
+use Rattle.cell_services.specs.Services.{InArea, OfDevice, OfDomains, OfInvocations, OfPrograms, OfSemaphores, OfVariables, area_of, reply_in, cause_of, effect_of, grants_told, lacks_number}
 use Rattle.cell_client.specs.Areas.{also_in, lacks_number_in}
 use Rattle.cell_client.specs.Facts.{Facts, no_facts}
 use Rattle.cell_client.specs.Requests.{is_done, size_of}
 use Rattle.cell_services.specs.Serving.{all_told, also_lost, also_served, also_told, is_served_in, loss_also, resolved}
-use Rattle.cell_services.specs.Tables.{Tables, own_domains, own_semaphores, own_variables}
+use Rattle.cell_services.specs.Tables.{Tables, own_domains, own_invocations, own_programs, own_semaphores, own_variables}
 use Rattle.parted_state.specs.Area.{no_table}
 use Rattle.serve_semaphores.specs.Semaphores as semaphores
 use Rattle.serve_semaphores.specs.Tokens.{is_the_one}
+use Rattle.serve_programs.specs.AnswerLaws.{makes_alone, programs_alone}
+use Rattle.serve_programs.specs.Programs as programs
 use Rattle.serve_variables.specs.Variables as variables
 
 -- ---- grants, and what happens
@@ -173,6 +177,26 @@ module _ (t : Tables) (row : ClientRow) (invoke : ℕ) (asked : Request) where
       ∙ ap (λ (l : List (ℕ × Effect)). if is_done (size_of row.association) invoke (cause_of t row (OfVariables (variables.request_in x)))
       (effect_of t row invoke (OfVariables (variables.request_in x))).answer then l else [])
       (variables_alone x (told_in own_variables t row (variables.request_in x)) t.variables row invoke)
+      ∙ chosen_none _)
+      ∙ ap (list_any (λ (c : ℕ). c == k)) (sym none)
+
+  pub invocations_tell : (x : InvocationRequest) (clients : List ℕ) → invocation_request x ≡ asked → clients ≡ [] → AlsoTells t row (Takes invoke asked) clients
+  invocations_tell x clients is none k other =
+      ap (λ (l : List (ℕ × Effect)). is_told l k)
+      (also_as (OfInvocations (programs.invocation_in x)) (ap area_of (sym is) ∙ in_invocations x)
+      ∙ ap (λ (l : List (ℕ × Effect)). if is_done (size_of row.association) invoke (cause_of t row (OfInvocations (programs.invocation_in x)))
+      (effect_of t row invoke (OfInvocations (programs.invocation_in x))).answer then l else [])
+      (makes_alone (told_in own_invocations t row (programs.invocation_in x)) row invoke (t.domains, t.programs) x)
+      ∙ chosen_none _)
+      ∙ ap (list_any (λ (c : ℕ). c == k)) (sym none)
+
+  pub programs_tell : (x : ProgramRequest) (clients : List ℕ) → program_request x ≡ asked → clients ≡ [] → AlsoTells t row (Takes invoke asked) clients
+  programs_tell x clients is none k other =
+      ap (λ (l : List (ℕ × Effect)). is_told l k)
+      (also_as (OfPrograms (programs.program_in x)) (ap area_of (sym is) ∙ in_programs x)
+      ∙ ap (λ (l : List (ℕ × Effect)). if is_done (size_of row.association) invoke (cause_of t row (OfPrograms (programs.program_in x)))
+      (effect_of t row invoke (OfPrograms (programs.program_in x))).answer then l else [])
+      (programs_alone (told_in own_programs t row (programs.program_in x)) row invoke t.programs x)
       ∙ chosen_none _)
       ∙ ap (list_any (λ (c : ℕ). c == k)) (sym none)
 

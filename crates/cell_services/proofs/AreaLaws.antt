@@ -2,8 +2,10 @@
 use Rattle.std.specs.Prelude.{◌≡◌, ℕ, Bool, true, false, ◌||◌, Option, None, Some, is_some, List, ◌++◌, [], Result, Ok, Err, IfNone, IfOk, IfSome, OnOk, if◌then◌else◌, refl}
 use Rattle.std.proofs.Common.{ap, ap₂, sym, ◌∙◌, subst}
 use Rattle.std.specs.List.{list_any}
-use Rattle.mms_types.specs.Areas.{domain_request, semaphore_request, variable_request}
+use Rattle.mms_types.specs.Areas.{domain_request, invocation_request, program_request, semaphore_request, variable_request}
 use Rattle.mms_types.specs.declared.area.DomainRequest.{DomainRequest}
+use Rattle.mms_types.specs.declared.area.InvocationRequest.{InvocationRequest}
+use Rattle.mms_types.specs.declared.area.ProgramRequest.{ProgramRequest}
 use Rattle.mms_types.specs.declared.area.SemaphoreRequest.{SemaphoreRequest}
 use Rattle.mms_types.specs.declared.area.SemaphoreRequest.TheVariants as semaphores
 use Rattle.mms_types.specs.declared.area.VariableRequest.{VariableRequest}
@@ -36,6 +38,8 @@ use Rattle.mms_types.specs.declared.memory.Memory.{Memory}
 use Rattle.mms_types.specs.declared.service_error.ServiceError.{ServiceError}
 use Rattle.serve_domains.specs.Domains as domain
 use Rattle.serve_domains.specs.Tables.{DomainTables}
+use Rattle.program_inv.specs.Programs.{Rows as Programs}
+use Rattle.serve_programs.specs.Programs as program
 use Rattle.serve_semaphores.specs.Tokens.{rows_cancelled, told_after, waiting_of}
 use Rattle.serve_variables.specs.Variables as variable
 use Rattle.serve_variables.specs.Variables.{accesses_domain, guards_asked, lists_domain, specifies_domain}
@@ -43,13 +47,13 @@ use Rattle.serve_semaphores.specs.Semaphores as semaphore
 use Rattle.cell_services.specs.Acts.{all_done, IsDoneIn}
 use Rattle.cell_services.specs.Device.{domain_of, get_name_list, is_domain, listed, scope_cause, scope_of}
 use Rattle.cell_services.specs.Facts.{is_domain_live, names_in}
-use Rattle.cell_services.specs.AreaLaws.{in_domains, in_semaphores, in_variables}
+use Rattle.cell_services.specs.AreaLaws.{in_domains, in_invocations, in_programs, in_semaphores, in_variables}
 use Rattle.cell_services.proofs.PlanLaws.{append_none}
 use Rattle.cell_services.proofs.TimeLaws.{moment_given}
 use Rattle.cell_services.specs.Requests.{told_in}
-use Rattle.cell_services.specs.Services.{InArea, OfDomains, OfSemaphores, OfVariables, area_of, lacks_number}
+use Rattle.cell_services.specs.Services.{InArea, OfDomains, OfInvocations, OfPrograms, OfSemaphores, OfVariables, area_of, lacks_number}
 use Rattle.cell_services.specs.Serving.{also_served, comes_of, hears, served_told, tables_cancelled, tables_served}
-use Rattle.cell_services.specs.Tables.{Tables, moment_of, own_domains, own_semaphores, own_variables}
+use Rattle.cell_services.specs.Tables.{Tables, moment_of, own_domains, own_invocations, own_programs, own_semaphores, own_variables}
 use Rattle.cell_client.specs.Requests.{is_done, request_told, size_of}
 
 -- what a request of an area does among all tables
@@ -277,6 +281,36 @@ module _ (t : Tables) (row : ClientRow) where
         done = ap (λ (b : Bool). comes_of t row row.client (if b then Aborts else Replies number came))
             (ap (λ (d : DomainTables). lacks_number_in (domain.replied number came) no_facts row number d) stood ∙ numbered no_facts number)
             ∙ in_place own_domains (λ u. refl) (domain.replied number came) t row number now new is;
+      }
+
+-- ---- program invocations
+
+module _ (t : Tables) (row : ClientRow) (invoke : ℕ) (new : RoomyRow) where
+  pub programs_made : (x : InvocationRequest) (was now : DomainTables) (before after : Programs)
+      → ((facts : Facts) → IsServedIn (program.invocation_in x) facts invoke row (was, before) (now, after) new)
+      → t.domains ≡ was → t.programs ≡ before → IsDoneIn own_invocations t row (now, after) new (Takes invoke (invocation_request x))
+  programs_made x was now before after served stood beside =
+      let is : IsServedIn (program.invocation_in x) (told_in own_invocations t row (program.invocation_in x)) invoke row (t.domains, t.programs) (now, after) new =
+      subst (λ (u : DomainTables × Programs). IsServedIn (program.invocation_in x) (told_in own_invocations t row (program.invocation_in x)) invoke row u (now, after) new)
+      (ap₂ (λ (d : DomainTables) (p : Programs). (d, p)) (sym stood) (sym beside)) (served (told_in own_invocations t row (program.invocation_in x))) in
+      record {
+        effects = is.effects;
+        is = is.is;
+        done = heard_as t row invoke (invocation_request x) (OfInvocations (program.invocation_in x)) (in_invocations x) refl
+            ∙ in_place own_invocations (λ u. refl) (program.invocation_in x) t row invoke (now, after) new is;
+      }
+
+  pub programs_served : (x : ProgramRequest) (was now : Programs) → ((facts : Facts) → IsServedIn (program.program_in x) facts invoke row was now new)
+      → t.programs ≡ was → IsDoneIn own_programs t row now new (Takes invoke (program_request x))
+  programs_served x was now served stood =
+      let is : IsServedIn (program.program_in x) (told_in own_programs t row (program.program_in x)) invoke row t.programs now new =
+      subst (λ (u : Programs). IsServedIn (program.program_in x) (told_in own_programs t row (program.program_in x)) invoke row u now new) (sym stood)
+      (served (told_in own_programs t row (program.program_in x))) in
+      record {
+        effects = is.effects;
+        is = is.is;
+        done = heard_as t row invoke (program_request x) (OfPrograms (program.program_in x)) (in_programs x) refl
+            ∙ in_place own_programs (λ u. refl) (program.program_in x) t row invoke now new is;
       }
 
 -- ---- names are listed

@@ -1,11 +1,15 @@
 -- A request is in the area that looks at it, which tells what it asks besides.
 use Rattle.std.specs.Prelude.{◌≡◌, ℕ, Bool, true, false, [], ◌++◌, is_some, refl}
 use Rattle.std.specs.List.{flat_map, list_any}
-use Rattle.mms_types.specs.Areas.{device_request, domain_request, semaphore_request, variable_request}
+use Rattle.mms_types.specs.Areas.{device_request, domain_request, invocation_request, program_request, semaphore_request, variable_request}
 use Rattle.mms_types.specs.declared.area.DeviceRequest.{DeviceRequest}
 use Rattle.mms_types.specs.declared.area.DeviceRequest.TheVariants as device
 use Rattle.mms_types.specs.declared.area.DomainRequest.{DomainRequest}
 use Rattle.mms_types.specs.declared.area.DomainRequest.TheVariants as domains
+use Rattle.mms_types.specs.declared.area.InvocationRequest.{InvocationRequest}
+use Rattle.mms_types.specs.declared.area.InvocationRequest.TheVariants as invocations
+use Rattle.mms_types.specs.declared.area.ProgramRequest.{ProgramRequest}
+use Rattle.mms_types.specs.declared.area.ProgramRequest.TheVariants as programs
 use Rattle.mms_types.specs.declared.area.SemaphoreRequest.{SemaphoreRequest}
 use Rattle.mms_types.specs.declared.area.SemaphoreRequest.TheVariants as semaphores
 use Rattle.mms_types.specs.declared.area.VariableRequest.{VariableRequest}
@@ -18,10 +22,12 @@ use Rattle.serve_variables.specs.Variables as variable
 use Rattle.serve_variables.specs.Variables.{guards_asked}
 use Rattle.serve_domains.specs.Domains as domain
 use Rattle.serve_domains.specs.Tables.{DomainTables}
+use Rattle.program_inv.specs.Programs.{Rows as Programs}
+use Rattle.serve_programs.specs.Programs as program
 use Rattle.serve_semaphores.specs.Semaphores as semaphore
 use Rattle.cell_services.specs.Device as of_device
 use Rattle.cell_services.specs.Facts.{guard_tables, tables_for}
-use Rattle.cell_services.specs.Services.{OfDevice, OfDomains, OfSemaphores, OfVariables, area_of}
+use Rattle.cell_services.specs.Services.{OfDevice, OfDomains, OfInvocations, OfPrograms, OfSemaphores, OfVariables, area_of}
 
 pub in_device : (x : DeviceRequest) → area_of (device_request x) ≡ OfDevice (of_device.request_in x)
 in_device (device.Status x) = refl
@@ -55,6 +61,18 @@ in_domains (domains.TerminateUploadSequence x) = refl
 in_domains (domains.DeleteDomain x) = refl
 in_domains (domains.GetDomainAttributes x) = refl
 
+pub in_invocations : (x : InvocationRequest) → area_of (invocation_request x) ≡ OfInvocations (program.invocation_in x)
+in_invocations (invocations.CreateProgramInvocation x) = refl
+in_invocations (invocations.DeleteProgramInvocation x) = refl
+
+pub in_programs : (x : ProgramRequest) → area_of (program_request x) ≡ OfPrograms (program.program_in x)
+in_programs (programs.Start x) = refl
+in_programs (programs.Stop x) = refl
+in_programs (programs.Resume x) = refl
+in_programs (programs.Reset x) = refl
+in_programs (programs.Kill x) = refl
+in_programs (programs.GetProgramInvocationAttributes x) = refl
+
 -- ---- what their own tables show to be asked besides
 
 none_behind : (b : Bool) → guard_tables b ++ [] ≡ guard_tables b
@@ -75,6 +93,14 @@ more_semaphores other rows row = refl
 pub more_domains : (x : DomainRequest) (t : DomainTables) (row : ClientRow) → flat_map tables_for ((domain.request_in x).more t row) ≡ []
 more_domains (domains.DeleteDomain x) t row = refl
 more_domains other t row = refl
+
+pub more_invocations : (x : InvocationRequest) (t : DomainTables × Programs) (row : ClientRow) → flat_map tables_for ((program.invocation_in x).more t row) ≡ []
+more_invocations (invocations.CreateProgramInvocation x) t row = refl
+more_invocations (invocations.DeleteProgramInvocation x) t row = refl
+
+pub more_programs : (x : ProgramRequest) (t : Programs) (row : ClientRow) → flat_map tables_for ((program.program_in x).more t row) ≡ []
+more_programs (programs.Start x) t row = refl
+more_programs other t row = refl
 
 pub more_device : (x : DeviceRequest) (row : ClientRow) → flat_map tables_for ((of_device.request_in x).more tt row) ≡ []
 more_device device.Identify row = refl

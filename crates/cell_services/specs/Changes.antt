@@ -9,7 +9,7 @@ use Rattle.cell_services.specs.Serving.{domains_without, without_client, without
 abbrev pub changed : Change → Tables → Tables
 changed Nothing t = t
 changed (Passes ms) t = record t { now = t.now + ms }
-changed (Ticks ms renewal clients) t = record { now = t.now + ms; variables = without_clients clients.items t.variables; domains = domains_without clients.items t.domains; semaphores = renewed renewal t.semaphores }
+changed (Ticks ms renewal clients) t = record { now = t.now + ms; variables = without_clients clients.items t.variables; domains = domains_without clients.items t.domains; programs = t.programs; semaphores = renewed renewal t.semaphores }
 changed (Loses client) t = without_client client t
 
 -- what may want memory: a client that is lost

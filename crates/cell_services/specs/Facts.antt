@@ -9,6 +9,7 @@ use Rattle.object_names.specs.Listing.{names_after}
 use Rattle.object_names.specs.Scopes.{has_any_of}
 use Rattle.domain_load.specs.Domains as loaded
 use Rattle.domain_load.specs.Standing.{is_live}
+use Rattle.program_inv.specs.Programs as programs
 use Rattle.serve_domains.specs.Tables.{DomainTables}
 use Rattle.variables.specs.Access.{flags_of}
 use Rattle.mms_time.specs.Guards.{owns_guard}
@@ -59,12 +60,18 @@ abbrev pub domains_listed : DomainTables → Scope → Option (List ℕ) → Lis
 domains_listed domains scope.Vmd after = loaded.names_after after domains.domains
 domains_listed domains s after = []
 
+-- and those of program invocations
+abbrev pub programs_listed : programs.Rows → Scope → Option (List ℕ) → List (List ℕ)
+programs_listed rows scope.Vmd after = programs.names_after after rows
+programs_listed rows s after = []
+
 -- the names of a class and a scope that come after that one, in order of octets; other classes have no names yet
 abbrev pub names_in : Tables → Scope → ObjectClass → Option (List ℕ) → List (List ℕ)
 names_in t s class.NamedVariable after = names_after s after t.variables.vars.variables
 names_in t s class.NamedVariableList after = names_after s after t.variables.lists
 names_in t s class.Semaphore after = names_after s after t.semaphores
 names_in t s class.Domain after = domains_listed t.domains s after
+names_in t s class.ProgramInvocation after = programs_listed t.programs s after
 names_in t s c after = []
 
 -- a domain is live, where one has to be: it is READY or IN-USE

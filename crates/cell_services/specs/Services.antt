@@ -1,4 +1,5 @@
--- The confirmed services: why a request is refused, what it does otherwise, and which tables it uses (ISO 9506-1, VMD support, variable access, domain management and semaphore management).
+-- The confirmed services: why a request is refused, what it does otherwise, and which tables it uses (ISO 9506-1, VMD support, variable access, domain management, program
+-- invocation management and semaphore management).
 use Rattle.std.specs.Prelude.{ℕ, Bool, false, List, Option}
 use Rattle.mms_types.specs.declared.pdu.Request.{Request}
 use Rattle.mms_types.specs.declared.pdu.Request.TheVariants as request
@@ -11,11 +12,13 @@ use Rattle.sem_ticks.specs.declared.granted.Granted.{Granted}
 use Rattle.variable_services.specs.declared.tables.VariableTables.{VariableTables}
 use Rattle.association.specs.Client.{ClientRow}
 use Rattle.parted_state.specs.Area.{no_table}
+use Rattle.program_inv.specs.Programs.{Rows as Programs}
 use Rattle.serve_domains.specs.Tables.{DomainTables}
-use Rattle.cell_services.specs.Tables.{Tables, moment_of, own_variables, own_domains, own_semaphores}
+use Rattle.cell_services.specs.Tables.{Tables, moment_of, own_variables, own_domains, own_invocations, own_programs, own_semaphores}
 use Rattle.cell_services.specs.Device as device
 use Rattle.serve_variables.specs.Variables as variables
 use Rattle.serve_domains.specs.Domains as domains
+use Rattle.serve_programs.specs.Programs as programs
 use Rattle.serve_semaphores.specs.Semaphores as semaphores
 use Rattle.cell_client.specs.Areas.{lacks_number_in}
 use Rattle.cell_client.specs.Facts.{no_facts}
@@ -32,11 +35,14 @@ Outcome = OutcomeIn Tables
 
 -- ---- each service, in its area
 
--- a request to the device, which has no table of its own; to its variables; to its domains; or to its semaphores
+-- a request to the device, which has no table of its own; to its variables; to its domains; by which program invocations are made of these and deleted; to program
+-- invocations; or to its semaphores
 pub data InArea : Type 0 where
   OfDevice : RequestIn (Unit {0}) → InArea
   OfVariables : RequestIn VariableTables → InArea
   OfDomains : RequestIn DomainTables → InArea
+  OfInvocations : RequestIn (DomainTables × Programs) → InArea
+  OfPrograms : RequestIn Programs → InArea
   OfSemaphores : RequestIn Rows → InArea
 
 abbrev pub area_of : Request → InArea
@@ -64,6 +70,14 @@ area_of (request.UploadSegment x) = OfDomains (domains.upload_segment x)
 area_of (request.TerminateUploadSequence x) = OfDomains (domains.terminate_upload x)
 area_of (request.DeleteDomain x) = OfDomains (domains.delete x)
 area_of (request.GetDomainAttributes x) = OfDomains (domains.attributes x)
+area_of (request.CreateProgramInvocation x) = OfInvocations (programs.create x)
+area_of (request.DeleteProgramInvocation x) = OfInvocations (programs.delete x)
+area_of (request.Start x) = OfPrograms (programs.start x)
+area_of (request.Stop x) = OfPrograms (programs.stop x)
+area_of (request.Resume x) = OfPrograms (programs.resume x)
+area_of (request.Reset x) = OfPrograms (programs.reset x)
+area_of (request.Kill x) = OfPrograms (programs.kill x)
+area_of (request.GetProgramInvocationAttributes x) = OfPrograms (programs.attributes x)
 
 -- and what a client answers to the server's request of that number
 abbrev pub reply_in : ℕ → Came → InArea
@@ -75,24 +89,32 @@ abbrev pub cause_of : Tables → ClientRow → InArea → Option ServiceError
 cause_of t row (OfDevice r) = cause_in no_table t row r
 cause_of t row (OfVariables r) = cause_in own_variables t row r
 cause_of t row (OfDomains r) = cause_in own_domains t row r
+cause_of t row (OfInvocations r) = cause_in own_invocations t row r
+cause_of t row (OfPrograms r) = cause_in own_programs t row r
 cause_of t row (OfSemaphores r) = cause_in own_semaphores t row r
 
 abbrev pub effect_of : Tables → ClientRow → ℕ → InArea → Outcome
 effect_of t row invoke (OfDevice r) = effect_in no_table t row invoke r
 effect_of t row invoke (OfVariables r) = effect_in own_variables t row invoke r
 effect_of t row invoke (OfDomains r) = effect_in own_domains t row invoke r
+effect_of t row invoke (OfInvocations r) = effect_in own_invocations t row invoke r
+effect_of t row invoke (OfPrograms r) = effect_in own_programs t row invoke r
 effect_of t row invoke (OfSemaphores r) = effect_in own_semaphores t row invoke r
 
 abbrev pub asks_of : InArea → List ℕ
 asks_of (OfDevice r) = asks_in no_table r
 asks_of (OfVariables r) = asks_in own_variables r
 asks_of (OfDomains r) = asks_in own_domains r
+asks_of (OfInvocations r) = asks_in own_invocations r
+asks_of (OfPrograms r) = asks_in own_programs r
 asks_of (OfSemaphores r) = asks_in own_semaphores r
 
 abbrev pub more_of : Tables → ClientRow → InArea → List ℕ
 more_of t row (OfDevice r) = more_in no_table t row r
 more_of t row (OfVariables r) = more_in own_variables t row r
 more_of t row (OfDomains r) = more_in own_domains t row r
+more_of t row (OfInvocations r) = more_in own_invocations t row r
+more_of t row (OfPrograms r) = more_in own_programs t row r
 more_of t row (OfSemaphores r) = more_in own_semaphores t row r
 
 -- Requests to domains alone ask clients anything, and none that does is told anything by other tables: it would ask, and no number is left for that.
@@ -100,6 +122,8 @@ abbrev pub lacks_number : Tables → ClientRow → ℕ → InArea → Bool
 lacks_number t row invoke (OfDomains r) = lacks_number_in r no_facts row invoke t.domains
 lacks_number t row invoke (OfDevice r) = false
 lacks_number t row invoke (OfVariables r) = false
+lacks_number t row invoke (OfInvocations r) = false
+lacks_number t row invoke (OfPrograms r) = false
 lacks_number t row invoke (OfSemaphores r) = false
 
 -- the first condition for which a request is refused

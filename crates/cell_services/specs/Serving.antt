@@ -21,6 +21,7 @@ use Rattle.sem_ticks.specs.declared.ticks.Happening.TheVariants as happens
 use Rattle.variable_services.specs.declared.tables.VariableTables.{VariableTables}
 use Rattle.variable_services.specs.Services.{lost}
 use Rattle.domain_upload.specs.Uploads.{has_upload}
+use Rattle.program_inv.specs.Programs.{after_ends}
 use Rattle.serve_domains.specs.Tables.{DomainTables}
 use Rattle.serve_domains.specs.Tables as domains
 use Rattle.parted_state.specs.Served.{Done, Services}
@@ -200,6 +201,7 @@ passed ms t s = record {
     now = t.now + ms;
     variables = without_clients (aborted s.happened) t.variables;
     domains = domains_without (aborted s.happened) t.domains;
+    programs = t.programs;
     semaphores = s.rows;
   };
   told = all_told s.happened;
@@ -235,13 +237,12 @@ asks (Tick ms) = (λ t row. time_asks ms t) ∷ []
 asks (Ends name) = []
 asks (Drain client) = []
 
--- Octets are heard from a client, its association is lost, time goes by, a program invocation ends (there is none yet), or what is to be sent to a client is
--- taken away.
+-- Octets are heard from a client, its association is lost, time goes by, a program invocation ends by itself, or what is to be sent to a client is taken away.
 abbrev pub serves : Tables → ClientRow → CellEvent → Done Tables Effect
 serves t row (Heard client octets) = hears t row client (verdict row octets)
 serves t row (Lost client) = loses t row client
 serves t row (Tick ms) = passes ms t
-serves t row (Ends name) = record { tables = t; told = [] }
+serves t row (Ends name) = record { tables = record t { programs = after_ends name t.programs }; told = [] }
 serves t row (Drain client) = record { tables = t; told = tell client (Drains ∷ []) }
 
 abbrev pub services : Services Tables ClientRow Effect CellEvent

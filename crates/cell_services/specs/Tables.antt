@@ -2,7 +2,8 @@
 use Rattle.std.specs.Prelude.{ℕ, ◌+◌, List, [], ◌∷◌}
 use Rattle.mms_types.specs.declared.moment.Moment.{Moment}
 use Rattle.mms_time.specs.Semaphores.{Rows}
-use Rattle.parted_state.specs.Area.{Own}
+use Rattle.parted_state.specs.Area.{Own, both}
+use Rattle.program_inv.specs.Programs.{Rows as Programs}
 use Rattle.serve_domains.specs.Tables.{DomainTables}
 use Rattle.variable_services.specs.declared.tables.VariableTables.{VariableTables}
 
@@ -14,6 +15,8 @@ pub record Tables : Type 0 where
   pub variables : VariableTables
   -- domains and the uploads of them
   pub domains : DomainTables
+  -- program invocations
+  pub programs : Programs
   -- semaphores
   pub semaphores : Rows
 
@@ -55,7 +58,7 @@ semaphores_table = 6
 abbrev pub loss_tables : List ℕ
 loss_tables = clock_table ∷ variables_table ∷ domains_table ∷ conditions_table ∷ journals_table ∷ semaphores_table ∷ []
 
--- ---- the tables of areas: the clock, variables and their lists, domains and uploads, semaphores
+-- ---- the tables of areas: the clock, variables and their lists, domains and uploads, program invocations, semaphores
 
 abbrev pub own_clock : Own Tables ℕ
 own_clock = record { numbers = clock_table ∷ []; of = λ t. t.now; put = λ new t. record t { now = new } }
@@ -65,6 +68,13 @@ own_variables = record { numbers = variables_table ∷ []; of = λ t. t.variable
 
 abbrev pub own_domains : Own Tables DomainTables
 own_domains = record { numbers = domains_table ∷ []; of = λ t. t.domains; put = λ new t. record t { domains = new } }
+
+abbrev pub own_programs : Own Tables Programs
+own_programs = record { numbers = programs_table ∷ []; of = λ t. t.programs; put = λ new t. record t { programs = new } }
+
+-- what makes and deletes program invocations has the domains too
+abbrev pub own_invocations : Own Tables (DomainTables × Programs)
+own_invocations = both own_domains own_programs
 
 abbrev pub own_semaphores : Own Tables Rows
 own_semaphores = record { numbers = semaphores_table ∷ []; of = λ t. t.semaphores; put = λ new t. record t { semaphores = new } }

@@ -2,12 +2,13 @@
 
 ghost use Rattle.std.specs.Prelude.{◌≡◌, ℕ, false, true, IfNone, IfOk, IfSome, OnErr, OnOk, OnSome};
 ghost use Rattle.association.specs.Asked.{is_open};
-ghost use Rattle.mms_types.specs.Areas.{domain_request, semaphore_request, variable_request};
+ghost use Rattle.mms_types.specs.Areas.{domain_request, invocation_request, program_request, semaphore_request, variable_request};
 ghost use Rattle.mms_types.specs.Moments.{IsDated};
 ghost use Rattle.mms_time.specs.Guards.{owns_guard};
 ghost use Rattle.serve_semaphores.specs.Tokens.{told_after};
 ghost use Rattle.serve_domains.specs.Domains as of_domains;
 ghost use Rattle.serve_domains.specs.Domains.{AnswersLoad};
+ghost use Rattle.serve_programs.specs.Users.{AreUsed};
 ghost use Rattle.serve_semaphores.specs.Semaphores as of_semaphores;
 ghost use Rattle.serve_variables.specs.Variables as of_variables;
 ghost use Rattle.cell_client.specs.Areas.{lacks_number_in};
@@ -19,13 +20,15 @@ ghost use Rattle.cell_services.specs.Acts.{all_done, IsDoneIn};
 ghost use Rattle.cell_services.specs.Serving.{hears};
 ghost use Rattle.cell_services.specs.Facts.{is_domain_live, is_scope_used};
 ghost use Rattle.cell_services.specs.Requests.{told_in};
-ghost use Rattle.cell_services.specs.Tables.{Tables as Rows, own_domains, own_semaphores, own_variables};
+ghost use Rattle.cell_services.specs.Tables.{Tables as Rows, own_domains, own_invocations, own_programs, own_semaphores, own_variables};
 
 use cell_client::{Came, Client, Told};
 use mms_time::{Semaphores, owns_guard};
 use mms_types::{
-    DomainRequest, Identifier, Memory, Moment, Scope, SemaphoreRequest, VariableRequest,
+    DomainRequest, Identifier, InvocationRequest, Memory, Moment, ProgramRequest, Scope,
+    SemaphoreRequest, VariableRequest,
 };
+use program_inv::Programs;
 use serve_domains::DomainTables;
 use std::alloc::Global;
 use variable_services::VariableTables;
@@ -167,6 +170,47 @@ pub fn serve_reply(
     ensures same { OnErr result (domains.new ≡ domains.old) }
 {
     serve_domains::reply(alloc, own, domains, number, answer)
+}
+
+/// Serves a request that makes or deletes a program invocation, on the tables that hold domains and program invocations
+/// and the part of its client. Without memory all is as before.
+pub fn make_programs(
+    alloc: Global,
+    own: &mut Client,
+    domains: &mut DomainTables,
+    programs: &mut Programs,
+    invoke: u32,
+    asked: InvocationRequest<'_>,
+) -> Result<(), Memory>
+    requires settled { own.old ≡ settled own.old.row }
+    requires used { AreUsed domains.old.domains programs.old }
+    ensures served { OnOk result ((t : Rows) → t.domains ≡ domains.old → t.programs ≡ programs.old
+        → IsDoneIn own_invocations t own.old.row (domains.new, programs.new)
+        own.new (Takes invoke (invocation_request asked.entry))) }
+    ensures kept { OnErr result (own.new ≡ own.old) }
+    ensures same { OnErr result (domains.new ≡ domains.old) }
+    ensures unmade { OnErr result (programs.new ≡ programs.old) }
+{
+    serve_programs::make(alloc, own, domains, programs, invoke, asked)
+}
+
+/// Serves a request for program invocations on the table that holds them and the part of its client. Without memory all
+/// is as before.
+pub fn serve_programs(
+    alloc: Global,
+    own: &mut Client,
+    programs: &mut Programs,
+    invoke: u32,
+    asked: ProgramRequest<'_>,
+) -> Result<(), Memory>
+    requires settled { own.old ≡ settled own.old.row }
+    ensures served { OnOk result ((t : Rows) → t.programs ≡ programs.old
+        → IsDoneIn own_programs t own.old.row programs.new
+        own.new (Takes invoke (program_request asked.entry))) }
+    ensures kept { OnErr result (own.new ≡ own.old) }
+    ensures same { OnErr result (programs.new ≡ programs.old) }
+{
+    serve_programs::serve(alloc, own, programs, invoke, asked)
 }
 
 /// Cancels the request of that invokeID, which waits, on the semaphores and the part of its client (ISO 9506-1, Cancel).

@@ -9,7 +9,7 @@ ghost use Rattle.cell_client.specs.Association.{Takes};
 ghost use Rattle.cell_client.specs.Requests.{plain_answer};
 ghost use Rattle.cell_services.specs.Acts.{IsDoneIn};
 ghost use Rattle.cell_services.specs.Device.{domain_of, listed, scope_cause, scope_of};
-ghost use Rattle.cell_services.specs.Facts.{domains_listed, is_domain_live, names_in};
+ghost use Rattle.cell_services.specs.Facts.{domains_listed, is_domain_live, names_in, programs_listed};
 ghost use Rattle.cell_services.specs.Tables.{Tables as Rows};
 
 use cell_client::Client;
@@ -19,6 +19,7 @@ use mms_types::{
     ObjectClass, ObjectScope, Refuse, Scope, ServiceError,
 };
 use object_names::Names;
+use program_inv::Programs;
 use serve_domains::DomainTables;
 use std::alloc::Global;
 use variable_services::VariableTables;
@@ -69,17 +70,37 @@ fn domains_listed(
     }
 }
 
+/// The names of program invocations, which have no scope but that of the device.
+fn programs_listed(
+    alloc: Global,
+    programs: &Programs,
+    scope: &Scope,
+    after: Option<&Identifier>,
+) -> Result<Names, Memory>
+    ensures { IfOk result (λ names. record { names = names.list; more = names.more }
+        ≡ listed (programs_listed programs.now scope.now (option_copied after.entry))) }
+{
+    match scope {
+        Scope::Vmd => programs.names_after(alloc, after, MOST_NAMES),
+        Scope::Domain(_) | Scope::Association(_) => Ok(Names {
+            list: Identifiers::new(alloc),
+            more: false,
+        }),
+    }
+}
+
 /// The names of a class and a scope that come after that one, with those tables.
 fn names_in(
     alloc: Global,
     variables: &VariableTables,
     domains: &DomainTables,
+    programs: &Programs,
     semaphores: &Semaphores,
     scope: &Scope,
     asked: &GetNameList,
 ) -> Result<GetNameListAnswer, Memory>
     ensures { IfOk result (λ told. (t : Rows) → t.variables ≡ variables.now
-        → t.domains ≡ domains.now → t.semaphores ≡ semaphores.now
+        → t.domains ≡ domains.now → t.programs ≡ programs.now → t.semaphores ≡ semaphores.now
         → told ≡ listed (names_in t scope.now asked.now.class asked.now.after)) }
 {
     let after = asked.after.as_ref();
@@ -92,6 +113,7 @@ fn names_in(
         }
         ObjectClass::Semaphore => semaphores.names_after(alloc, scope, after, MOST_NAMES)?,
         ObjectClass::Domain => domains_listed(alloc, domains, scope, after)?,
+        ObjectClass::ProgramInvocation => programs_listed(alloc, programs, scope, after)?,
         _ => Names {
             list: Identifiers::new(alloc),
             more: false,
@@ -109,17 +131,20 @@ fn name_list(
     client: u32,
     variables: &VariableTables,
     domains: &DomainTables,
+    programs: &Programs,
     semaphores: &Semaphores,
     asked: &GetNameList,
 ) -> Result<Answer, Refuse>
     ensures { (t : Rows) → t.variables ≡ variables.now → t.domains ≡ domains.now
-        → t.semaphores ≡ semaphores.now → Serves result
+        → t.programs ≡ programs.now → t.semaphores ≡ semaphores.now → Serves result
         (scope_cause (is_domain_live (domain_of asked.now.scope) t.domains) asked.now.scope)
         (Some (Answer.GetNameList (listed
         (names_in t (scope_of client asked.now.scope) asked.now.class asked.now.after)))) }
 {
     let scope = scope_of(alloc, client, domains, &asked.scope)?;
-    let listed = names_in(alloc, variables, domains, semaphores, &scope, asked)?;
+    let listed = names_in(
+        alloc, variables, domains, programs, semaphores, &scope, asked,
+    )?;
     Ok(Answer::GetNameList(listed))
 }
 
@@ -129,20 +154,23 @@ pub fn serve_device(
     own: &mut Client,
     variables: &VariableTables,
     domains: &DomainTables,
+    programs: &Programs,
     semaphores: &Semaphores,
     invoke: u32,
     asked: DeviceRequest<'_>,
 ) -> Result<(), Memory>
     requires tables { plain_answer own.old.row (device_request asked) ≡ None }
     ensures served { OnOk result ((t : Rows) → t.variables ≡ variables.now
-        → t.domains ≡ domains.now → t.semaphores ≡ semaphores.now
+        → t.domains ≡ domains.now → t.programs ≡ programs.now → t.semaphores ≡ semaphores.now
         → IsDoneIn no_table t own.old.row tt own.new (Takes invoke (device_request asked.entry))) }
     ensures kept { OnErr result (own.new ≡ own.old) }
 {
     match asked {
         DeviceRequest::GetNameList(asked) => {
             let client = own.part().client();
-            let said = name_list(alloc, client, variables, domains, semaphores, asked);
+            let said = name_list(
+                alloc, client, variables, domains, programs, semaphores, asked,
+            );
             let _answered = own.settle(alloc, invoke, &said)?;
             Ok(())
         }

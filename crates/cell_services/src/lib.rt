@@ -12,8 +12,8 @@ mod planning;
 mod tables;
 
 pub use areas::{
-    cancel_on_semaphores, is_scope_used, serve_domains, serve_reply, serve_semaphores,
-    serve_variables,
+    cancel_on_semaphores, is_scope_used, make_programs, serve_domains, serve_programs, serve_reply,
+    serve_semaphores, serve_variables,
 };
 pub use clock::Clock;
 pub use device::serve_device;

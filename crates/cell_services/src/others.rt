@@ -78,7 +78,10 @@ fn request_told(
                 Ok(Vec::new(alloc))
             }
         }
-        AreaRequest::Device(_) | AreaRequest::Variables(_) => Ok(Vec::new(alloc)),
+        AreaRequest::Device(_)
+        | AreaRequest::Variables(_)
+        | AreaRequest::Invocations(_)
+        | AreaRequest::Programs(_) => Ok(Vec::new(alloc)),
     }
 }
 

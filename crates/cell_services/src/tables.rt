@@ -10,6 +10,7 @@ ghost use Rattle.cell_services.specs.Tables.{moment_of};
 use crate::Clock;
 use mms_time::{Semaphores, lose};
 use mms_types::{Memory, Moment};
+use program_inv::Programs;
 use sem_ticks::Renewed;
 use serve_domains::DomainTables;
 use std::alloc::Global;
@@ -25,6 +26,8 @@ pub struct Tables {
     pub variables: VariableTables,
     /// Domains and the uploads of them.
     pub domains: DomainTables,
+    /// Program invocations.
+    pub programs: Programs,
     /// Semaphores.
     pub semaphores: Semaphores,
 }
@@ -43,6 +46,7 @@ impl Model for Tables {
       now = tables.clock;
       variables = tables.variables;
       domains = tables.domains;
+      programs = tables.programs;
       semaphores = tables.semaphores;
     } };
 }
@@ -90,6 +94,7 @@ impl Tables {
             clock: Clock::new(Moment(0)),
             variables: VariableTables::empty(alloc),
             domains: DomainTables::empty(alloc),
+            programs: Programs::new(alloc),
             semaphores: Semaphores::new(alloc),
         }
     }
