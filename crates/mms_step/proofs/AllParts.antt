@@ -21,7 +21,7 @@ use Rattle.mms_step.specs.State.{State}
 use Rattle.cell_services.specs.Tables.{Tables}
 use Rattle.cell_client.specs.Association.{Verdict, Takes, verdict, Replies}
 use Rattle.cell_services.specs.Facts.{Question, Now, Live, Owned, Names, class_tables, guard_tables, tables_for, Scoped}
-use Rattle.cell_services.specs.Services.{InArea, OfDevice, OfVariables, OfSemaphores, area_of, asks_of, more_of, OfDomains, reply_in}
+use Rattle.cell_services.specs.Services.{InArea, OfDevice, OfVariables, OfSemaphores, area_of, asks_of, more_of, OfDomains, OfInvocations, OfPrograms, reply_in}
 use Rattle.cell_services.specs.Serving.{heard_asks, heard_more, loss_asks, services, abort_asks, aborted, meanwhile, time_asks, words, more_of_verdict, resolved}
 use Rattle.mms_step.specs.Step.{step}
 use Rattle.mms_step.specs.Partition.{cell, parts_of, state_in}
@@ -83,12 +83,16 @@ area_below : (a : InArea) → are_tables (asks_of a) ≡ true
 area_below (OfDevice r) = questions_below r.words
 area_below (OfVariables r) = questions_below r.words
 area_below (OfDomains r) = questions_below r.words
+area_below (OfInvocations r) = questions_below r.words
+area_below (OfPrograms r) = questions_below r.words
 area_below (OfSemaphores r) = questions_below r.words
 
 area_more_below : (t : Tables) (row : ClientRow) (a : InArea) → are_tables (more_of t row a) ≡ true
 area_more_below t row (OfDevice r) = questions_below (r.more tt row)
 area_more_below t row (OfVariables r) = questions_below (r.more t.variables row)
 area_more_below t row (OfDomains r) = questions_below (r.more t.domains row)
+area_more_below t row (OfInvocations r) = questions_below (r.more (t.domains, t.programs) row)
+area_more_below t row (OfPrograms r) = questions_below (r.more t.programs row)
 area_more_below t row (OfSemaphores r) = questions_below (r.more t.semaphores row)
 
 asks_below : (v : Verdict) → are_tables (heard_asks v) ≡ true

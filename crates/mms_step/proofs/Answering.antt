@@ -2,6 +2,10 @@
 use Rattle.std.specs.Prelude.{◌≡◌, ℕ, Bool, true, false, Option, None, Some, [], ◌∷◌, if◌then◌else◌, refl}
 use Rattle.std.proofs.Common.{sym, subst, inl, inr}
 use Rattle.std.specs.Borrow.{Bor}
+use Rattle.mms_types.specs.declared.area.InvocationRequest.{InvocationRequest}
+use Rattle.mms_types.specs.declared.area.InvocationRequest.TheVariants as invocations
+use Rattle.mms_types.specs.declared.area.ProgramRequest.{ProgramRequest}
+use Rattle.mms_types.specs.declared.area.ProgramRequest.TheVariants as programs
 use Rattle.mms_types.specs.declared.area.SemaphoreRequest.{SemaphoreRequest}
 use Rattle.mms_types.specs.declared.area.SemaphoreRequest.TheVariants as semaphores
 use Rattle.mms_types.specs.declared.area.VariableRequest.{VariableRequest}
@@ -21,12 +25,14 @@ use Rattle.serve_variables.specs.AnswerLaws as variable_laws
 use Rattle.serve_variables.specs.Variables as of_variables
 use Rattle.serve_domains.specs.AnswerLaws as domain_laws
 use Rattle.serve_domains.specs.Domains as of_domains
+use Rattle.serve_programs.specs.AnswerLaws as program_laws
+use Rattle.serve_programs.specs.Programs as of_programs
 use Rattle.mms_types.specs.declared.area.DomainRequest.{DomainRequest}
 use Rattle.mms_types.specs.declared.area.DomainRequest.TheVariants as domains
 use Rattle.cell_services.specs.Requests.{told_in}
 use Rattle.cell_services.specs.Services.{cause, effect}
 use Rattle.cell_services.specs.Serving.{also_told, own_told}
-use Rattle.cell_services.specs.Tables.{Tables, own_semaphores, own_variables, own_domains}
+use Rattle.cell_services.specs.Tables.{Tables, own_semaphores, own_variables, own_domains, own_invocations, own_programs}
 use Rattle.mms_step.specs.Answered.{AnswersOrWaits, waits_told}
 
 -- as an area looks at it
@@ -48,6 +54,14 @@ module _ (t : Tables) (row : ClientRow) (invoke : ℕ) (uploads : AreOf t.domain
   of_the_domains : (x : DomainRequest) → (of_domains.request_in x).cause (told_in own_domains t row (of_domains.request_in x)) t.domains row ≡ None
       → AnswersOrWaitsIn row.client invoke ((of_domains.request_in x).effect (told_in own_domains t row (of_domains.request_in x)) t.domains row invoke)
   of_the_domains x = domain_laws.answers_or_waits (told_in own_domains t row (of_domains.request_in x)) t.domains row invoke uploads x
+
+  of_the_invocations : (x : InvocationRequest) → AnswersOrWaitsIn row.client invoke
+      ((of_programs.invocation_in x).effect (told_in own_invocations t row (of_programs.invocation_in x)) (t.domains, t.programs) row invoke)
+  of_the_invocations x = program_laws.makes_answer (told_in own_invocations t row (of_programs.invocation_in x)) row invoke (t.domains, t.programs) x
+
+  of_the_programs : (x : ProgramRequest) → (of_programs.program_in x).cause (told_in own_programs t row (of_programs.program_in x)) t.programs row ≡ None
+      → AnswersOrWaitsIn row.client invoke ((of_programs.program_in x).effect (told_in own_programs t row (of_programs.program_in x)) t.programs row invoke)
+  of_the_programs x = program_laws.answers_or_waits (told_in own_programs t row (of_programs.program_in x)) row invoke t.programs x
 
   pub settled : (asked : Request) → cause t row asked ≡ None → AnswersOrWaitsIn row.client invoke (effect t row invoke asked)
   settled (request.GetNameList x) none = inl (_, refl, refl)
@@ -74,6 +88,14 @@ module _ (t : Tables) (row : ClientRow) (invoke : ℕ) (uploads : AreOf t.domain
   settled (request.TerminateUploadSequence number) none = of_the_domains (domains.TerminateUploadSequence number) none
   settled (request.DeleteDomain x) none = of_the_domains (domains.DeleteDomain (seen x)) none
   settled (request.GetDomainAttributes x) none = of_the_domains (domains.GetDomainAttributes (seen x)) none
+  settled (request.CreateProgramInvocation x) none = of_the_invocations (invocations.CreateProgramInvocation (seen x))
+  settled (request.DeleteProgramInvocation x) none = of_the_invocations (invocations.DeleteProgramInvocation (seen x))
+  settled (request.Start x) none = of_the_programs (programs.Start (seen x)) none
+  settled (request.Stop x) none = of_the_programs (programs.Stop (seen x)) none
+  settled (request.Resume x) none = of_the_programs (programs.Resume (seen x)) none
+  settled (request.Reset x) none = of_the_programs (programs.Reset (seen x)) none
+  settled (request.Kill x) none = of_the_programs (programs.Kill (seen x)) none
+  settled (request.GetProgramInvocationAttributes x) none = of_the_programs (programs.GetProgramInvocationAttributes (seen x)) none
 
   -- ---- what is told of it
 

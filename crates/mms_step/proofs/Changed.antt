@@ -5,13 +5,14 @@ use Rattle.association.specs.Client.{ClientRow, Client as RoomyRow}
 use Rattle.part_table.specs.Held.{held_at}
 use Rattle.part_table.specs.HeldLaws.{held_within}
 use Rattle.mms_step.specs.declared.part.Part.{Part}
-use Rattle.mms_step.specs.declared.part.Part.TheVariants.{Clock, Client, Domains, Semaphores, Variables}
+use Rattle.mms_step.specs.declared.part.Part.TheVariants.{Clock, Client, Domains, Programs, Semaphores, Variables}
 use Rattle.variable_services.specs.declared.tables.VariableTables.{VariableTables}
 use Rattle.parted_state.specs.Served.{change}
 use Rattle.cell_client.specs.Effects.{settled}
+use Rattle.program_inv.specs.Programs.{Rows as Invocations}
 use Rattle.serve_domains.specs.Tables.{DomainTables}
 use Rattle.mms_time.specs.Semaphores.{Rows}
-use Rattle.mms_step.specs.Partition.{clock_or, domains_or, semaphores_or, variables_or, on_client, on_clock, on_domains, on_semaphores, on_variables}
+use Rattle.mms_step.specs.Partition.{clock_or, domains_or, programs_or, semaphores_or, variables_or, on_client, on_clock, on_domains, on_programs, on_semaphores, on_variables}
 
 pub changed_part : {P : Type 0} (f : P → P) (hand : List (Option P)) (i : ℕ) (x : P) → held_at hand i ≡ Some x
     → set (set hand i None) i (Some (f x)) ≡ change (option_map f) hand i
@@ -136,6 +137,22 @@ no_domains_held f part other = refl
 pub no_domains_shown : (now : DomainTables) (part : Part) → ((was : DomainTables) → part ≡ Domains was → ⊥) → domains_or now (Some part) ≡ now
 no_domains_shown now (Domains was) other = absurd (other was refl)
 no_domains_shown now part other = refl
+
+-- of which that has the program invocations
+pub programs_arm : (now : Invocations) (hand taken new : List (Option Part)) (place : ℕ) (part value : Part) (was after : Invocations)
+    → Some part ≡ held_at hand place → taken ≡ set hand place None → value ≡ part → value ≡ Programs was → after ≡ now
+    → new ≡ set taken place (Some (Programs after)) → new ≡ change (option_map (on_programs (λ n. now))) hand place
+programs_arm now hand taken new place part value was after held out same is done back =
+    part_changed (on_programs (λ n. now)) hand taken new place part (Programs after) held out (ap Programs done ∙ ap (on_programs (λ n. now)) (sym is ∙ same)) back
+
+-- a part that has none stays as it is
+pub no_programs_held : (f : Invocations → Invocations) (part : Part) → ((now : Invocations) → part ≡ Programs now → ⊥) → on_programs f part ≡ part
+no_programs_held f (Programs now) other = absurd (other now refl)
+no_programs_held f part other = refl
+
+pub no_programs_shown : (now : Invocations) (part : Part) → ((was : Invocations) → part ≡ Programs was → ⊥) → programs_or now (Some part) ≡ now
+no_programs_shown now (Programs was) other = absurd (other was refl)
+no_programs_shown now part other = refl
 
 -- of which that has the semaphores
 pub semaphores_arm : (now : Rows) (hand taken new : List (Option Part)) (place : ℕ) (part value : Part) (was after : Rows)

@@ -1,5 +1,5 @@
 -- No two domains have one name, whatever is done to them.
-use Rattle.std.proofs.Common.{◌≡◌, ◌∙◌, ℕ, Bool, true, false, cond, List, [], ◌∷◌, Option, None, Some, is_some, refl, ap, sym, subst}
+use Rattle.std.proofs.Common.{◌≡◌, ◌∙◌, ℕ, Bool, true, false, cond, List, [], ◌∷◌, Option, None, Some, is_some, ap, sym, subst}
 use Rattle.std.specs.Prelude.{if◌then◌else◌, length, not}
 use Rattle.std.specs.List.{AllByRecursion, IsDistinct, list_any}
 use Rattle.std.specs.Map.{keys_of, remove_entry, set_value}
@@ -15,6 +15,7 @@ use Rattle.mms_types.specs.declared.domain.InitiateDownloadSequence.{InitiateDow
 use Rattle.domain_load.specs.Domains.{Rows, is_there, name_eq, named, without, without_loads}
 use Rattle.domain_load.specs.Loading.{begun, changed, initiate_after, initiate_cause, loaded, reply_after, with_segment, would_pass}
 use Rattle.domain_load.specs.Standing.{is_loaded_by}
+use Rattle.domain_load.specs.Used.{after_unused, after_used, had_by, left_by}
 use Rattle.domain_load.specs.declared.domain.Domain.{Domain}
 use Rattle.domain_load.proofs.Unopposed.{nothing_against}
 
@@ -74,3 +75,12 @@ replied_names (reply.Segment name octets more) domains names = by_passes (is_the
     by_passes false = changed_names name (with_segment octets) domains names
 replied_names (reply.Ended name) domains names = changed_names name loaded domains names
 replied_names (reply.Failed name kind) domains names = deleted_names name domains names
+
+-- program invocations come to domains, and leave them
+pub used_names : (names : List (List ℕ)) (by : List ℕ) (domains : Rows) → HaveNames domains → HaveNames (after_used names by domains)
+used_names [] by domains distinct = distinct
+used_names (name ∷ names) by domains distinct = used_names names by (changed name (had_by by) domains) (changed_names name (had_by by) domains distinct)
+
+pub unused_names : (names : List (List ℕ)) (by : List ℕ) (domains : Rows) → HaveNames domains → HaveNames (after_unused names by domains)
+unused_names [] by domains distinct = distinct
+unused_names (name ∷ names) by domains distinct = unused_names names by (changed name (left_by by) domains) (changed_names name (left_by by) domains distinct)

@@ -16,7 +16,7 @@ use Rattle.parted_state.specs.LiftedLaws.{change_holds_the_same}
 use Rattle.parted_state.specs.Served.{change}
 use Rattle.parted_state.specs.Served as parted
 use Rattle.mms_step.specs.declared.part.Part.{Part}
-use Rattle.mms_step.specs.declared.part.Part.TheVariants.{Client}
+use Rattle.mms_step.specs.declared.part.Part.TheVariants.{Client, Programs}
 use Rattle.mms_step.specs.State.{State, IsSound}
 use Rattle.cell_client.specs.Association.{verdict}
 use Rattle.cell_client.specs.declared.acts.Act.TheVariants as act
@@ -25,14 +25,18 @@ use Rattle.mms_step.specs.Tasks.{row_held, task_done, HoldsClient}
 use Rattle.mms_step.specs.AfterLaws.{is_device, each_served}
 use Rattle.parted_state.specs.Lifted.{row_shown, tables_shown, put_in_place}
 use Rattle.parted_state.specs.LiftedLaws as lifted
+use Rattle.program_inv.specs.Programs.{after_ends}
 use Rattle.cell_services.specs.Serving.{hears, serves, services}
+use Rattle.cell_services.specs.Tables.{Tables}
+use Rattle.mms_step.specs.Lifting.{with_programs}
 use Rattle.mms_step.specs.Step.{step}
-use Rattle.mms_step.specs.Partition.{cell, parts_of, state_in, client_place, clients_among, client_part, on_client, row_in, IsClient}
+use Rattle.mms_step.specs.Partition.{cell, parts_of, state_in, client_place, clients_among, client_part, on_client, programs_in, row_in, IsClient, IsPrograms}
 use Rattle.mms_step.specs.Needs.{need, is_held, footprint, shown}
 use Rattle.mms_step.specs.After.{after}
 use Rattle.mms_step.specs.AfterLaws.{after_holds_the_same}
-use Rattle.mms_step.proofs.Holding.{client_at, clients_counted, held_client, after_of_hand, change_is_held}
+use Rattle.mms_step.proofs.Holding.{client_at, clients_counted, held_client, held_part, after_of_hand, change_is_held}
 use Rattle.mms_step.proofs.Needed.{drain_needs_none}
+use Rattle.mms_step.proofs.ServeLaws.{programs_put, shown_own}
 use Rattle.mms_step.proofs.PartsAfter.{with_client, client_changed, step_drained}
 
 -- parts of a sound state
@@ -179,8 +183,18 @@ pub ticked_becomes : (hand new : List (Option Part)) (ms : ℕ) → OfState hand
     → new ≡ put_in_place cell (task_done (tables_shown cell hand) hand (task.Time ms)) hand → Becomes hand new (Tick ms)
 ticked_becomes hand new ms of enough put = served_becomes hand new (Tick ms) of (omega arith) enough put
 
-pub ended_becomes : (hand : List (Option Part)) (name : List ℕ) → OfState hand → need (Ends name) hand ≡ [] → Becomes hand hand (Ends name)
-ended_becomes hand name of enough = become hand hand (Ends name) (of.0, of.2) enough refl (λ s is. is)
+-- the part of the program invocations, where one ends
+pub programs_are_held : (hand : List (Option Part)) (name : List ℕ) → OfState hand → need (Ends name) hand ≡ [] → IsPrograms (held_at hand 3)
+programs_are_held hand name (s, sound, of) enough =
+    let there = held_part hand (parts_of s) 3 (Programs s.programs) of (first_held hand 3 [] (words_held hand (Ends name) enough)) refl in
+    there ∙ sym (ap (λ (o : Option Part). Some (Programs (programs_in o))) there)
+
+pub ended_becomes : (hand new : List (Option Part)) (name : List ℕ) → OfState hand → need (Ends name) hand ≡ []
+    → new ≡ with_programs (after_ends name (programs_in (held_at hand 3))) hand → Becomes hand new (Ends name)
+ended_becomes hand new name (s, sound, of) enough put =
+    served_becomes hand new (Ends name) (s, sound, of) (omega arith) enough
+    (put ∙ programs_put s hand of (after_ends name (programs_in (held_at hand 3)))
+    ∙ ap (λ (t : Tables). put_in_place cell (record { tables = record (tables_shown cell hand) { programs = after_ends name t.programs }; told = [] }) hand) (shown_own hand))
 
 -- of another event that is the same
 pub becomes_as : (hand new : List (Option Part)) (event told : CellEvent) → event ≡ told → Becomes hand new told → Becomes hand new event

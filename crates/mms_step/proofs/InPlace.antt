@@ -16,19 +16,20 @@ use Rattle.cell_client.specs.Effects.{Effect, felt_all, settled, tell}
 use Rattle.cell_client.specs.declared.told.Told.{Told}
 use Rattle.cell_services.specs.Acts.{all_done, IsDoneIn}
 use Rattle.cell_services.specs.Serving.{hears}
-use Rattle.cell_services.specs.Tables.{Tables, own_domains, own_semaphores, own_variables}
+use Rattle.cell_services.specs.Tables.{Tables, own_domains, own_programs, own_semaphores, own_variables}
 use Rattle.mms_step.specs.declared.part.Part.{Part}
-use Rattle.mms_step.specs.declared.part.Part.TheVariants.{Client, Domains, Semaphores, Variables}
+use Rattle.mms_step.specs.declared.part.Part.TheVariants.{Client, Domains, Programs, Semaphores, Variables}
+use Rattle.program_inv.specs.Programs.{Rows as Invocations}
 use Rattle.serve_domains.specs.Tables.{DomainTables}
 use Rattle.mms_step.specs.State.{State}
 use Rattle.mms_step.specs.Lifting.{varied, with_semaphores}
 use Rattle.mms_step.specs.Needs.{is_held}
-use Rattle.mms_step.specs.Partition.{cell, parts_of, client_in, client_part, client_place, clients_among, clock_in, domains_in, on_client, on_domains, on_semaphores, on_variables, row_in, semaphores_in, semaphores_place, variables_in, IsClient, IsDomains, IsSemaphores, IsVariables}
+use Rattle.mms_step.specs.Partition.{cell, parts_of, client_in, client_part, client_place, clients_among, clock_in, domains_in, on_client, on_domains, on_programs, on_semaphores, on_variables, programs_in, row_in, semaphores_in, semaphores_place, variables_in, IsClient, IsDomains, IsPrograms, IsSemaphores, IsVariables}
 use Rattle.mms_step.specs.Rooms.{no_room, with_room}
-use Rattle.mms_step.specs.Tasks.{row_held, AreDone, IsRoomless}
+use Rattle.mms_step.specs.Tasks.{row_held, AreDone, AreMade, IsRoomless}
 use Rattle.mms_step.proofs.Changed.{client_arm}
 use Rattle.mms_step.proofs.Holding.{client_at, clients_counted, held_part}
-use Rattle.mms_step.proofs.ServeLaws.{behind_clients, both_changed, change_as, done_in_place, first_of, held_after_set, part_settled, put_tables, shown_own, told_row_at, three_same, domains_done_in_place, varied_same}
+use Rattle.mms_step.proofs.ServeLaws.{behind_clients, both_changed, change_as, done_in_place, first_of, held_after_set, part_settled, put_tables, shown_own, told_row_at, four_same, domains_done_in_place, invocations_done_in_place, programs_done_in_place, three_changed, varied_same}
 
 -- ---- a held part of a state has no room
 
@@ -47,6 +48,23 @@ module _ (t after : Tables) (client : ℕ) (v : Verdict) (row its : ClientRow) (
     where
       at : ℕ → Done Tables Effect
       at k = record { tables = after; told = tell k effects }
+
+-- the part of the program invocations is as it was while that of a client is taken out
+pub programs_out : (hand out : List (Option Part)) (client : ℕ) (table : Part) → out ≡ set hand (client_place client) None → Some table ≡ held_at out 3 → Some table ≡ held_at hand 3
+programs_out hand out client table taken third =
+    third ∙ ap (λ (l : List (Option Part)). held_at l 3) taken ∙ held_after_set hand (client_place client) 3 None (λ same. omega (arith, same))
+
+-- and while that of the domains is, too
+pub programs_left : (hand out less : List (Option Part)) (client : ℕ) → out ≡ set hand (client_place client) None → less ≡ set out 2 None → held_at less 3 ≡ held_at hand 3
+programs_left hand out less client taken left =
+    ap (λ (l : List (Option Part)). held_at l 3) left
+    ∙ held_after_set out 2 3 None (λ same. omega (arith, same))
+    ∙ ap (λ (l : List (Option Part)). held_at l 3) taken
+    ∙ held_after_set hand (client_place client) 3 None (λ same. omega (arith, same))
+
+pub programs_out_too : (hand out less : List (Option Part)) (client : ℕ) (more : Part) → out ≡ set hand (client_place client) None → less ≡ set out 2 None
+    → Some more ≡ held_at less 3 → Some more ≡ held_at hand 3
+programs_out_too hand out less client more taken left third = third ∙ programs_left hand out less client taken left
 
 -- the part of the domains is as it was while that of a client is taken out
 pub domains_out : (hand out : List (Option Part)) (client : ℕ) (table : Part) → out ≡ set hand (client_place client) None → Some table ≡ held_at out 2 → Some table ≡ held_at hand 2
@@ -79,7 +97,7 @@ module _ (s : State) (hand : List (Option Part)) (of : IsHandOf hand (parts_of s
       lowered =
           put_tables s hand of (record (tables_shown cell hand) { semaphores = rows })
           ∙ ap (λ (t : Tables). with_semaphores rows (first_of t hand)) (sym (shown_own hand))
-          ∙ ap (with_semaphores rows) (three_same hand)
+          ∙ ap (with_semaphores rows) (four_same hand)
 
   -- ---- once both parts are put back, all is in place that the request does
 
@@ -146,6 +164,62 @@ module _ (s : State) (hand : List (Option Part)) (of : IsHandOf hand (parts_of s
         shown =
             ap (λ (t : Tables). t.domains) (sym (shown_own hand))
             ∙ ap domains_in (sym (ap (λ (l : List (Option Part)). held_at l 2) taken ∙ held_after_set hand (client_place client) 2 None (λ same. omega (arith, same))))
+
+    pub programs_served : Some table ≡ held_at out 3 → IsPrograms (held_at hand 3) → gone ≡ set out 3 None
+        → ((t : Tables) → t.programs ≡ programs_in (Some table) → IsShown t → AreDone own_programs Programs t v part after now)
+        → IsShown (tables_shown cell hand)
+        → there ≡ set gone 3 (Some now) → new ≡ set there (client_place client) (Some after)
+        → new ≡ put_in_place cell (hears (tables_shown cell hand) (row_held hand client) client v) hand
+    programs_served second there_is left served is_shown put back =
+        let before = ap (λ (l : List (Option Part)). held_at l 3) taken ∙ held_after_set hand (client_place client) 3 None (λ same. omega (arith, same)) in
+        let is_table : IsPrograms (Some table) = subst IsPrograms (sym (second ∙ before)) there_is in
+        let is = served (tables_shown cell hand) (shown ∙ ap programs_in (sym second)) is_shown in
+        let table_is : table ≡ Programs (programs_in (Some table)) = cc is_table in
+        both_changed (felt_all is.done.effects) (on_programs (λ was. is.become)) hand out gone there new (client_place client) 3 part table is.before is.after (λ same. omega (arith, same))
+        own taken second left is.is_own is.done.is
+        (put ∙ ap (λ (p : Part). set gone 3 (Some p)) (is.is_now ∙ ap (on_programs (λ was. is.become)) (sym table_is)))
+        (back ∙ ap (λ (p : Part). set there (client_place client) (Some p)) is.is_after)
+        ∙ programs_done_in_place s hand of client is.done.effects is.become some few held
+        ∙ ap (λ (d : Done Tables Effect). put_in_place cell d hand)
+        (sym (heard_so (tables_shown cell hand) (record (tables_shown cell hand) { programs = is.become }) client v (row_held hand client) is.before.row (own_row is.before is.is_own) number
+        is.done.effects is.done.done))
+      where
+        shown : (tables_shown cell hand).programs ≡ programs_in (held_at out 3)
+        shown =
+            ap (λ (t : Tables). t.programs) (sym (shown_own hand))
+            ∙ ap programs_in (sym (ap (λ (l : List (Option Part)). held_at l 3) taken ∙ held_after_set hand (client_place client) 3 None (λ same. omega (arith, same))))
+
+    -- what makes or deletes a program invocation: the part of the domains is taken out before that of the program invocations, and put back after it
+    pub invocations_served : (less without put : List (Option Part)) (more changed : Part) → Some table ≡ held_at out 2 → IsDomains (held_at hand 2) → less ≡ set out 2 None
+        → Some more ≡ held_at less 3 → IsPrograms (held_at hand 3) → without ≡ set less 3 None
+        → ((t : Tables) → t.domains ≡ domains_in (Some table) → t.programs ≡ programs_in (Some more) → AreMade t v part after now changed)
+        → put ≡ set without 3 (Some changed) → there ≡ set put 2 (Some now) → new ≡ set there (client_place client) (Some after)
+        → new ≡ put_in_place cell (hears (tables_shown cell hand) (row_held hand client) client v) hand
+    invocations_served less without put more changed second there_is left third here_is gone_too served put_first put_next back =
+        let is = served (tables_shown cell hand) domains_shown programs_shown in
+        let table_is : table ≡ Domains (domains_in (Some table)) = cc (second_hand ∙ there_is ∙ ap (λ (o : Option Part). Some (Domains (domains_in o))) (sym second_hand)) in
+        let more_is : more ≡ Programs (programs_in (Some more)) = cc (third_hand ∙ here_is ∙ ap (λ (o : Option Part). Some (Programs (programs_in o))) (sym third_hand)) in
+        three_changed (felt_all is.done.effects) (on_domains (λ was. is.become.0)) (on_programs (λ was. is.become.1)) hand out less without put there new (client_place client) part table more
+        is.before is.after (λ same. omega (arith, same)) (λ same. omega (arith, same)) own taken second left third gone_too is.is_own is.done.is
+        (put_first ∙ ap (λ (p : Part). set without 3 (Some p)) (is.is_programs ∙ ap (on_programs (λ was. is.become.1)) (sym more_is)))
+        (put_next ∙ ap (λ (p : Part). set put 2 (Some p)) (is.is_domains ∙ ap (on_domains (λ was. is.become.0)) (sym table_is)))
+        (back ∙ ap (λ (p : Part). set there (client_place client) (Some p)) is.is_after)
+        ∙ invocations_done_in_place s hand of client is.done.effects is.become.0 is.become.1 some few held
+        ∙ ap (λ (d : Done Tables Effect). put_in_place cell d hand)
+        (sym (heard_so (tables_shown cell hand) (record (tables_shown cell hand) { domains = is.become.0; programs = is.become.1 }) client v (row_held hand client) is.before.row
+        (own_row is.before is.is_own) number is.done.effects is.done.done))
+      where
+        second_hand : Some table ≡ held_at hand 2
+        second_hand = second ∙ ap (λ (l : List (Option Part)). held_at l 2) taken ∙ held_after_set hand (client_place client) 2 None (λ same. omega (arith, same))
+
+        third_hand : Some more ≡ held_at hand 3
+        third_hand = programs_out_too hand out less client more taken left third
+
+        domains_shown : (tables_shown cell hand).domains ≡ domains_in (Some table)
+        domains_shown = ap (λ (t : Tables). t.domains) (sym (shown_own hand)) ∙ ap domains_in (sym second_hand)
+
+        programs_shown : (tables_shown cell hand).programs ≡ programs_in (Some more)
+        programs_shown = ap (λ (t : Tables). t.programs) (sym (shown_own hand)) ∙ ap programs_in (sym third_hand)
 
     pub semaphores_served : (n : ℕ) → n ≡ clients_among (length hand) → Some table ≡ held_at out (semaphores_place n) → IsSemaphores (held_at hand (semaphores_place n)) → gone ≡ set out (semaphores_place n) None
         → (moment : ℕ) → moment ≡ clock_in (held_at hand 0)
@@ -237,6 +311,12 @@ module _ (s : State) (hand : List (Option Part)) (of : IsHandOf hand (parts_of s
   domains_beside client out d taken is =
       ap (λ (t : Tables). t.domains) (sym (shown_own hand))
       ∙ ap domains_in (sym (ap (λ (l : List (Option Part)). held_at l 2) taken ∙ held_after_set hand (client_place client) 2 None (λ same. omega (arith, same))))
+      ∙ sym is
+
+  pub programs_beside : (client : ℕ) (out : List (Option Part)) (p : Invocations) → out ≡ set hand (client_place client) None → p ≡ programs_in (held_at out 3) → (tables_shown cell hand).programs ≡ p
+  programs_beside client out p taken is =
+      ap (λ (t : Tables). t.programs) (sym (shown_own hand))
+      ∙ ap programs_in (sym (ap (λ (l : List (Option Part)). held_at l 3) taken ∙ held_after_set hand (client_place client) 3 None (λ same. omega (arith, same))))
       ∙ sym is
 
   pub semaphores_beside : (client n : ℕ) (out : List (Option Part)) (rows : Rows) → n ≡ clients_among (length hand) → client ≤ n → out ≡ set hand (client_place client) None

@@ -8,6 +8,7 @@ use Rattle.mms_types.specs.Errors.{object_constraint_conflict, object_non_existe
 use Rattle.mms_types.specs.declared.asked.Asked.{Asked}
 use Rattle.mms_types.specs.declared.asked.Asked.TheVariants as asks
 use Rattle.mms_types.specs.declared.domain.InitiateDownloadSequence.{InitiateDownloadSequence}
+use Rattle.mms_types.specs.declared.invocation.CreateProgramInvocation.{CreateProgramInvocation}
 use Rattle.mms_types.specs.declared.service_error.ServiceError.{ServiceError}
 use Rattle.association.specs.Admission.{admission, waiting_if}
 use Rattle.association.specs.Asked.{AreApart, unsettled}
@@ -18,6 +19,10 @@ use Rattle.association.specs.declared.waiting.Waiting.{Waiting}
 use Rattle.domain_load.specs.Domains.{Rows, delete_cause, is_held, is_there, without, without_loads}
 use Rattle.domain_load.specs.Loading.{answers_load, asked_next, initiate_after, initiate_cause, reply_after}
 use Rattle.domain_load.specs.Standing.{is_loading}
+use Rattle.domain_load.specs.Used.{after_unused, after_used}
+use Rattle.program_inv.specs.Programs as program
+use Rattle.program_inv.specs.Programs.{Rows as ProgramRows, after_create, after_delete, create_cause}
+use Rattle.program_inv.specs.declared.invocation.Invocation.{Invocation}
 use Rattle.domain_upload.proofs.Kept.{lose_keeps}
 use Rattle.domain_upload.proofs.Others.{begin_keeps, delete_keeps, loss_keeps, reply_keeps}
 use Rattle.domain_upload.specs.Uploads.{AreOf, uploads_of}
@@ -26,12 +31,18 @@ use Rattle.parted_state.specs.Served.{change, delivered, reached}
 use Rattle.cell_client.specs.Association.{Came}
 use Rattle.cell_client.specs.Effects.{Effect, Sends, Opens, Closes, Waits, Answers, Drains, Asks, Settles, felt, felt_all, tell}
 use Rattle.serve_domains.proofs.Answered.{IsOfLoad, domain_answered, loads_it}
-use Rattle.serve_domains.proofs.LoadLaws.{begins_asked, begins_elsewhere, deleted, lost, lost_elsewhere, replied_asked, replied_elsewhere}
+use Rattle.serve_domains.proofs.LoadLaws.{begins_asked, begins_elsewhere, deleted, lost, lost_elsewhere, replied_asked, replied_elsewhere, unused_loads, used_loads}
+use Rattle.serve_domains.proofs.UserLaws.{unused_keeps, used_keeps}
 use Rattle.serve_domains.specs.Domains.{asks_next, reply_of, reply_told}
 use Rattle.serve_domains.specs.Loads.{AreLoads, asked_after}
 use Rattle.serve_domains.specs.Tables.{DomainTables}
 use Rattle.serve_domains.specs.Tables as domains
-use Rattle.mms_step.proofs.DomainNames.{HaveNames, begun_names, deleted_names, lost_names, replied_names}
+use Rattle.serve_programs.proofs.LoadedLaws.{begins_keeps, lost_keeps, without_keeps}
+use Rattle.serve_programs.proofs.LoadedLaws.{reply_keeps as reply_keeps_used}
+use Rattle.serve_programs.proofs.UsedLaws.{create_keeps}
+use Rattle.serve_programs.proofs.UsedLaws.{delete_keeps as delete_keeps_used}
+use Rattle.serve_programs.specs.Users.{AreUsed}
+use Rattle.mms_step.proofs.DomainNames.{HaveNames, begun_names, deleted_names, lost_names, replied_names, unused_names, used_names}
 use Rattle.mms_step.proofs.PartsAfter.{told_one}
 use Rattle.mms_step.specs.Partition.{cell}
 
@@ -41,10 +52,23 @@ use Rattle.mms_step.specs.Partition.{cell}
 abbrev pub AreAllLoads : List ClientRow → Rows → Type 0
 AreAllLoads rows domains = (i : ℕ) (row : ClientRow) → slice_get rows i ≡ Some row → AreLoads (suc i) row.asked domains
 
-pub record AreRight (t : DomainTables) (rows : List ClientRow) : Type 0 where
+-- beside the program invocations
+pub record AreSane (t : DomainTables) (rows : List ClientRow) : Type 0 where
   pub names : HaveNames t.domains
   pub loads : AreAllLoads rows t.domains
   pub uploads : AreOf t.uploads t.domains
+
+pub record AreRight (t : DomainTables) (programs : ProgramRows) (rows : List ClientRow) : Type 0 where
+  pub names : HaveNames t.domains
+  pub loads : AreAllLoads rows t.domains
+  pub uploads : AreOf t.uploads t.domains
+  pub used : AreUsed t.domains programs
+
+sane_in : {programs : ProgramRows} → (t : DomainTables) (rows : List ClientRow) → AreRight t programs rows → AreSane t rows
+sane_in t rows right = record { names = right.names; loads = right.loads; uploads = right.uploads }
+
+with_used : {programs : ProgramRows} → (t : DomainTables) (rows : List ClientRow) → AreSane t rows → AreUsed t.domains programs → AreRight t programs rows
+with_used t rows sane used = record { names = sane.names; loads = sane.loads; uploads = sane.uploads; used = used }
 
 -- ---- one client is told something
 
@@ -123,60 +147,48 @@ quiet_loads [] rows domains quiet loads = loads
 quiet_loads (t ∷ told) rows domains quiet loads =
     quiet_loads told (reached cell t.0 t.1 rows) domains quiet.1 (reached_quiet t.0 t.1 rows domains quiet.0 loads)
 
-pub quiet_right : (t : DomainTables) (told : List (ℕ × Effect)) (rows : List ClientRow) → AreQuiet told → AreRight t rows → AreRight t (delivered cell told rows)
-quiet_right t told rows quiet right = record { names = right.names; loads = quiet_loads told rows t.domains quiet right.loads; uploads = right.uploads }
+pub quiet_sane : (t : DomainTables) (told : List (ℕ × Effect)) (rows : List ClientRow) → AreQuiet told → AreSane t rows → AreSane t (delivered cell told rows)
+quiet_sane t told rows quiet sane = record { names = sane.names; loads = quiet_loads told rows t.domains quiet sane.loads; uploads = sane.uploads }
+
+pub quiet_right : {programs : ProgramRows} → (t : DomainTables) (told : List (ℕ × Effect)) (rows : List ClientRow) → AreQuiet told → AreRight t programs rows → AreRight t programs (delivered cell told rows)
+quiet_right t told rows quiet right = with_used t (delivered cell told rows) (quiet_sane t told rows quiet (sane_in t rows right)) right.used
 
 -- ---- what is done to domains
 
-module _ (t : DomainTables) (rows : List ClientRow) (right : AreRight t rows) where
+module _ (t : DomainTables) (rows : List ClientRow) (sane : AreSane t rows) where
   lost_uploads : (client : ℕ) → AreOf (domains.lost client t).uploads (domains.lost client t).domains
-  lost_uploads client = loss_keeps client t.domains (domains.lost client t).uploads (lose_keeps client t.domains t.uploads right.uploads)
+  lost_uploads client = loss_keeps client t.domains (domains.lost client t).uploads (lose_keeps client t.domains t.uploads sane.uploads)
 
   -- a client is lost, and its association is closed
-  pub closed_right : (effects : List Effect) (k : ℕ) → ((row : ClientRow) → (felt_all effects row).asked ≡ [])
-      → AreRight (domains.lost (suc k) t) (delivered cell (tell (suc k) effects) rows)
-  closed_right effects k none = record {
-    names = lost_names (suc k) t.domains right.names;
-    loads = told_loads t.domains (without_loads (suc k) t.domains) effects rows k right.loads
-        (λ other asked apart is. lost_elsewhere (suc k) other asked t.domains apart right.names is)
-        (λ row there. subst (λ (asked : List Unanswered). AreLoads (suc k) asked (without_loads (suc k) t.domains)) (sym (none row)) (lost (suc k) t.domains right.names));
+  pub closed_sane : (effects : List Effect) (k : ℕ) → ((row : ClientRow) → (felt_all effects row).asked ≡ [])
+      → AreSane (domains.lost (suc k) t) (delivered cell (tell (suc k) effects) rows)
+  closed_sane effects k none = record {
+    names = lost_names (suc k) t.domains sane.names;
+    loads = told_loads t.domains (without_loads (suc k) t.domains) effects rows k sane.loads
+        (λ other asked apart is. lost_elsewhere (suc k) other asked t.domains apart sane.names is)
+        (λ row there. subst (λ (asked : List Unanswered). AreLoads (suc k) asked (without_loads (suc k) t.domains)) (sym (none row)) (lost (suc k) t.domains sane.names));
     uploads = lost_uploads (suc k);
   }
 
   -- there is no client 0
-  pub nobody_lost : AreRight (domains.lost 0 t) rows
-  nobody_lost =
+  pub nobody_sane : AreSane (domains.lost 0 t) rows
+  nobody_sane =
       record {
-        names = lost_names 0 t.domains right.names;
+        names = lost_names 0 t.domains sane.names;
         loads = λ i row there. let apart : 0 ≢ suc i = λ e. absurd (omega (arith, e)) in
-            lost_elsewhere 0 (suc i) row.asked t.domains apart right.names (right.loads i row there);
+            lost_elsewhere 0 (suc i) row.asked t.domains apart sane.names (sane.loads i row there);
         uploads = lost_uploads 0;
       }
 
   -- a load begins
-  pub begun_right : (k : ℕ) (left : Bool) (x : InitiateDownloadSequence) → initiate_cause left x t.domains ≡ None
-      → AreRight (record t { domains = initiate_after (suc k) x t.domains }) (delivered cell ((suc k, Asks asks.Segment x.domain) ∷ []) rows)
-  begun_right k left x none = record {
-    names = begun_names (suc k) left x t.domains none right.names;
-    loads = changed_loads t.domains (initiate_after (suc k) x t.domains) (felt (Asks asks.Segment x.domain)) rows k right.loads
+  pub begun_sane : (k : ℕ) (left : Bool) (x : InitiateDownloadSequence) → initiate_cause left x t.domains ≡ None
+      → AreSane (record t { domains = initiate_after (suc k) x t.domains }) (delivered cell ((suc k, Asks asks.Segment x.domain) ∷ []) rows)
+  begun_sane k left x none = record {
+    names = begun_names (suc k) left x t.domains none sane.names;
+    loads = changed_loads t.domains (initiate_after (suc k) x t.domains) (felt (Asks asks.Segment x.domain)) rows k sane.loads
         (λ other asked apart is. begins_elsewhere (suc k) left x t.domains none other asked apart is)
-        (λ row there. begins_asked (suc k) left x t.domains none row.next_invoke row.asked (right.loads k row there));
-    uploads = begin_keeps (suc k) x t.domains t.uploads right.uploads;
-  }
-
-  -- a domain is deleted that isn't LOADING
-  not_loading : (name : List ℕ) (scoped : Bool) → delete_cause name (uploads_of name t.uploads) scoped t.domains ≡ None → is_there is_loading name t.domains ≡ false
-  not_loading name scoped none =
-      let last : List (Bool × ServiceError) = (is_there (is_held (uploads_of name t.uploads) scoped) name t.domains, object_constraint_conflict) ∷ [] in
-      let first = none_holds _ object_non_existent ((is_there is_loading name t.domains, object_state_conflict) ∷ last) none in
-      (none_holds (is_there is_loading name t.domains) object_state_conflict last first.1).0
-
-  pub deleted_right : (name : List ℕ) (scoped : Bool) → delete_cause name (uploads_of name t.uploads) scoped t.domains ≡ None
-      → AreRight (record t { domains = without name t.domains }) rows
-  deleted_right name scoped none = record {
-    names = deleted_names name t.domains right.names;
-    loads = λ i row there. deleted (suc i) row.asked t.domains name right.names (not_loading name scoped none) (right.loads i row there);
-    uploads = delete_keeps name scoped t.domains t.uploads none right.uploads;
+        (λ row there. begins_asked (suc k) left x t.domains none row.next_invoke row.asked (sane.loads k row there));
+    uploads = begin_keeps (suc k) x t.domains t.uploads sane.uploads;
   }
 
   -- ---- a client answers
@@ -197,26 +209,93 @@ module _ (t : DomainTables) (rows : List ClientRow) (right : AreRight t rows) wh
     abbrev next_asked : Option Asked
     next_asked = asked_next (reply_of came is.of) t.domains
 
-    it_loads : answers_load (suc k) (reply_of came is.of) t.domains ≡ true
-    it_loads = loads_it t (suc k) number row.asked came is (right.loads k row there)
+    pub it_loads : answers_load (suc k) (reply_of came is.of) t.domains ≡ true
+    it_loads = loads_it t (suc k) number row.asked came is (sane.loads k row there)
 
     its_loads : AreLoads (suc k) (felt_all (reply_told number next_asked is.of.1) row).asked replied_domains
     its_loads =
         let name = domain_answered came is.of in
-        let law = replied_asked (suc k) (reply_of came is.of) t.domains right.names it_loads number row.next_invoke row.asked is.of apart is.asked is.kind (sym name) (right.loads k row there) in
+        let law = replied_asked (suc k) (reply_of came is.of) t.domains sane.names it_loads number row.next_invoke row.asked is.of apart is.asked is.kind (sym name) (sane.loads k row there) in
         subst (λ (asked : List Unanswered). AreLoads (suc k) asked replied_domains)
         (ap (λ (d : List ℕ). asked_after (unsettled number row.asked) row.next_invoke next_asked d) name ∙ sym (asked_felt row number next_asked is.of.1)) law
 
     replied_loads : AreAllLoads (delivered cell (tell (suc k) (reply_told number next_asked is.of.1)) rows) replied_domains
     replied_loads =
-        told_loads t.domains replied_domains (reply_told number next_asked is.of.1) rows k right.loads
-        (λ other asked ne was. replied_elsewhere (suc k) (reply_of came is.of) t.domains right.names it_loads other asked ne was)
+        told_loads t.domains replied_domains (reply_told number next_asked is.of.1) rows k sane.loads
+        (λ other asked ne was. replied_elsewhere (suc k) (reply_of came is.of) t.domains sane.names it_loads other asked ne was)
         (λ r at. let same : row ≡ r = cc (there, at) in
         subst (λ (x : ClientRow). AreLoads (suc k) (felt_all (reply_told number next_asked is.of.1) x).asked replied_domains) same its_loads)
 
-    pub replied_right : AreRight (record t { domains = replied_domains }) (delivered cell ((suc k, Settles number) ∷ asks_next (suc k) next_asked is.of.1) rows)
-    replied_right = record {
-      names = replied_names (reply_of came is.of) t.domains right.names;
+    pub replied_sane : AreSane (record t { domains = replied_domains }) (delivered cell ((suc k, Settles number) ∷ asks_next (suc k) next_asked is.of.1) rows)
+    replied_sane = record {
+      names = replied_names (reply_of came is.of) t.domains sane.names;
       loads = subst (λ (told : List (ℕ × Effect)). AreAllLoads (delivered cell told rows) replied_domains) (sym (as_told (suc k) number next_asked is.of.1)) replied_loads;
-      uploads = reply_keeps (suc k) (reply_of came is.of) t.domains t.uploads it_loads right.uploads;
+      uploads = reply_keeps (suc k) (reply_of came is.of) t.domains t.uploads it_loads sane.uploads;
     }
+
+-- and the program invocations keep their domains
+module _ {programs : ProgramRows} (t : DomainTables) (rows : List ClientRow) (right : AreRight t programs rows) where
+  pub closed_right : (effects : List Effect) (k : ℕ) → ((row : ClientRow) → (felt_all effects row).asked ≡ [])
+      → AreRight (domains.lost (suc k) t) programs (delivered cell (tell (suc k) effects) rows)
+  closed_right effects k none =
+      with_used (domains.lost (suc k) t) (delivered cell (tell (suc k) effects) rows) (closed_sane t rows (sane_in t rows right) effects k none)
+      (lost_keeps t.domains programs right.used right.names (suc k))
+
+  pub nobody_lost : AreRight (domains.lost 0 t) programs rows
+  nobody_lost = with_used (domains.lost 0 t) rows (nobody_sane t rows (sane_in t rows right)) (lost_keeps t.domains programs right.used right.names 0)
+
+  pub begun_right : (k : ℕ) (left : Bool) (x : InitiateDownloadSequence) → initiate_cause left x t.domains ≡ None
+      → AreRight (record t { domains = initiate_after (suc k) x t.domains }) programs (delivered cell ((suc k, Asks asks.Segment x.domain) ∷ []) rows)
+  begun_right k left x none =
+      with_used (record t { domains = initiate_after (suc k) x t.domains }) (delivered cell ((suc k, Asks asks.Segment x.domain) ∷ []) rows)
+      (begun_sane t rows (sane_in t rows right) k left x none) (begins_keeps t.domains programs right.used (suc k) left x none)
+
+  -- a domain is deleted that isn't LOADING
+  not_loading : (name : List ℕ) (scoped : Bool) → delete_cause name (uploads_of name t.uploads) scoped t.domains ≡ None → is_there is_loading name t.domains ≡ false
+  not_loading name scoped none =
+      let last : List (Bool × ServiceError) = (is_there (is_held (uploads_of name t.uploads) scoped) name t.domains, object_constraint_conflict) ∷ [] in
+      let first = none_holds _ object_non_existent ((is_there is_loading name t.domains, object_state_conflict) ∷ last) none in
+      (none_holds (is_there is_loading name t.domains) object_state_conflict last first.1).0
+
+  pub deleted_right : (name : List ℕ) (scoped : Bool) → delete_cause name (uploads_of name t.uploads) scoped t.domains ≡ None
+      → AreRight (record t { domains = without name t.domains }) programs rows
+  deleted_right name scoped none = record {
+    names = deleted_names name t.domains right.names;
+    loads = λ i row there. deleted (suc i) row.asked t.domains name right.names (not_loading name scoped none) (right.loads i row there);
+    uploads = delete_keeps name scoped t.domains t.uploads none right.uploads;
+    used = without_keeps t.domains programs right.used right.names name (uploads_of name t.uploads) scoped none;
+  }
+
+  -- a program invocation is made, and has its domains
+  pub used_right : (x : CreateProgramInvocation) → create_cause x t.domains programs ≡ None
+      → AreRight (record t { domains = after_used x.domains x.name t.domains }) (after_create x programs) rows
+  used_right x none = record {
+    names = used_names x.domains x.name t.domains right.names;
+    loads = λ i row there. used_loads (suc i) x.name x.domains row.asked t.domains (right.loads i row there);
+    uploads = used_keeps x.domains x.name t.domains t.uploads right.uploads;
+    used = create_keeps t.domains programs right.used x none;
+  }
+
+  -- one is deleted, and leaves them
+  pub unused_right : (name : List ℕ) (p : Invocation) → program.named name programs ≡ Some p
+      → AreRight (record t { domains = after_unused p.domains name t.domains }) (after_delete name programs) rows
+  unused_right name p found = record {
+    names = unused_names p.domains name t.domains right.names;
+    loads = λ i row there. unused_loads (suc i) name p.domains row.asked t.domains (right.loads i row there);
+    uploads = unused_keeps p.domains name t.domains t.uploads right.uploads;
+    used = delete_keeps_used t.domains programs right.used name p found;
+  }
+
+  -- invocations change, and name the same domains
+  pub run_right : (after : ProgramRows) → AreUsed t.domains after → AreRight t after rows
+  run_right after used = record { names = right.names; loads = right.loads; uploads = right.uploads; used = used }
+
+  module _ (k : ℕ) (row : ClientRow) (there : slice_get rows k ≡ Some row) (apart : AreApart row.asked) (number : ℕ) (came : Came) (is : IsOfLoad row.asked number came) where
+    abbrev after_reply : DomainTables
+    after_reply = record t { domains = reply_after (reply_of came is.of) t.domains }
+
+    pub replied_right : AreRight after_reply programs (delivered cell ((suc k, Settles number) ∷ asks_next (suc k) (asked_next (reply_of came is.of) t.domains) is.of.1) rows)
+    replied_right =
+        with_used after_reply (delivered cell ((suc k, Settles number) ∷ asks_next (suc k) (asked_next (reply_of came is.of) t.domains) is.of.1) rows)
+        (replied_sane t rows (sane_in t rows right) k row there apart number came is)
+        (reply_keeps_used t.domains programs right.used right.names (suc k) (reply_of came is.of) (it_loads t rows (sane_in t rows right) k row there apart number came is))

@@ -14,10 +14,10 @@ use Rattle.cell_services.proofs.TimeLaws.{nothing_due}
 use Rattle.mms_step.specs.declared.part.Part.{Part}
 use Rattle.mms_step.specs.declared.part.Part.TheVariants.{Clock}
 use Rattle.mms_step.specs.State.{State}
-use Rattle.mms_step.specs.Lifting.{clocked, domained, tabled, varied, with_semaphores}
-use Rattle.mms_step.specs.Partition.{cell, clients_among, clock_in, domains_in, on_clock, parts_of, semaphores_in, semaphores_place, variables_in}
+use Rattle.mms_step.specs.Lifting.{clocked, domained, tabled, varied, with_programs, with_semaphores}
+use Rattle.mms_step.specs.Partition.{cell, clients_among, clock_in, domains_in, on_clock, parts_of, programs_in, semaphores_in, semaphores_place, variables_in}
 use Rattle.mms_step.proofs.Changed.{changed_part}
-use Rattle.mms_step.proofs.ServeLaws.{behind_clients, domained_same, put_tables, same_place, semaphores_same, shown_own, varied_same}
+use Rattle.mms_step.proofs.ServeLaws.{behind_clients, domained_same, programs_same, put_tables, same_place, semaphores_same, shown_own, varied_same}
 
 module _ (hand : List (Option Part)) (m : ℕ) where
   later : List (Option Part)
@@ -29,13 +29,17 @@ module _ (hand : List (Option Part)) (m : ℕ) where
   as_many : behind_clients (clocked m hand) ≡ behind_clients hand
   as_many = same_place (clocked m hand) hand (length-change (option_map (on_clock (λ was. m))) hand 0)
 
-  clock_alone : with_semaphores (semaphores_in (held_at hand (behind_clients hand))) (domained (domains_in (held_at hand 2)) (varied (variables_in (held_at hand 1)) (clocked m hand)))
-      ≡ clocked m hand
+  abbrev others : List (Option Part) → List (Option Part)
+  others l = with_semaphores (semaphores_in (held_at hand (behind_clients hand))) (with_programs (programs_in (held_at hand 3)) l)
+
+  clock_alone : others (domained (domains_in (held_at hand 2)) (varied (variables_in (held_at hand 1)) (clocked m hand))) ≡ clocked m hand
   clock_alone =
-      ap (λ (l : List (Option Part)). with_semaphores (semaphores_in (held_at hand (behind_clients hand))) (domained (domains_in (held_at hand 2)) l))
+      ap (λ (l : List (Option Part)). others (domained (domains_in (held_at hand 2)) l))
       (ap (λ (o : Option Part). varied (variables_in o) (clocked m hand)) (sym (beside_clock 1 (λ same. omega (arith, same)))) ∙ varied_same (clocked m hand))
-      ∙ ap (with_semaphores (semaphores_in (held_at hand (behind_clients hand))))
+      ∙ ap others
       (ap (λ (o : Option Part). domained (domains_in o) (clocked m hand)) (sym (beside_clock 2 (λ same. omega (arith, same)))) ∙ domained_same (clocked m hand))
+      ∙ ap (with_semaphores (semaphores_in (held_at hand (behind_clients hand))))
+      (ap (λ (o : Option Part). with_programs (programs_in o) (clocked m hand)) (sym (beside_clock 3 (λ same. omega (arith, same)))) ∙ programs_same (clocked m hand))
       ∙ ap (λ (o : Option Part). with_semaphores (semaphores_in o) (clocked m hand))
       (sym (ap (held_at (clocked m hand)) as_many ∙ beside_clock (behind_clients hand) (λ same. omega (arith, same))))
       ∙ semaphores_same (clocked m hand)

@@ -1,8 +1,11 @@
 -- What a client's octets come to is ready to be done where nothing is needed that isn't held.
-use Rattle.std.specs.Prelude.{◌≡◌, ℕ, ◌+◌, ◌-◌, ◌≤◌, Bool, true, false, ◌&&◌, Option, Some, None, List, [], ◌∷◌, ◌++◌, is_some, length, slice_get, IfSome, if◌then◌else◌, refl}
+use Rattle.std.specs.Prelude.{◌≡◌, ℕ, ◌+◌, ◌-◌, ◌≤◌, Bool, true, false, ◌&&◌, Option, Some, None, List, [], ◌∷◌, ◌++◌, is_some, length, map, slice_get, IfSome, if◌then◌else◌, refl}
 use Rattle.std.proofs.Common.{ap, sym, ◌∙◌, subst, arith}
-use Rattle.mms_types.specs.Areas.{domain_request, semaphore_request, variable_request}
+use Rattle.std.specs.List.{flat_map}
+use Rattle.mms_types.specs.Areas.{domain_request, invocation_request, program_request, semaphore_request, variable_request}
 use Rattle.mms_types.specs.declared.area.DomainRequest.{DomainRequest}
+use Rattle.mms_types.specs.declared.area.InvocationRequest.{InvocationRequest}
+use Rattle.mms_types.specs.declared.area.ProgramRequest.{ProgramRequest}
 use Rattle.mms_types.specs.declared.area.SemaphoreRequest.{SemaphoreRequest}
 use Rattle.mms_types.specs.declared.area.VariableRequest.{VariableRequest}
 use Rattle.mms_types.specs.declared.event.CellEvent.TheVariants.{Heard}
@@ -14,6 +17,7 @@ use Rattle.parted_state.specs.Cut.{are_held, missing}
 use Rattle.parted_state.specs.CutLaws as laws
 use Rattle.parted_state.specs.DeviceLaws.{table_at}
 use Rattle.parted_state.specs.Lifted.{tables_shown}
+use Rattle.parted_state.specs.Served.{table_place}
 use Rattle.cell_client.specs.Association.{Verdict, Came, Cancels, Replies, Takes, verdict}
 use Rattle.cell_client.specs.declared.verdict.Came.{Came as Borrowed}
 use Rattle.cell_client.specs.declared.acts.Act.{Act}
@@ -22,19 +26,22 @@ use Rattle.cell_client.specs.Meant.{act_verdict, came, uses_no_table}
 use Rattle.std.specs.Borrow.{Bor}
 use Rattle.cell_client.specs.Requests.{plain_answer}
 use Rattle.serve_domains.specs.Domains as domain
+use Rattle.serve_programs.specs.Programs as program
+use Rattle.serve_programs.specs.Users.{AreUsed}
 use Rattle.serve_semaphores.specs.Semaphores as semaphore
 use Rattle.serve_variables.specs.Variables as variable
-use Rattle.cell_services.specs.AreaLaws.{in_domains, in_semaphores, in_variables}
-use Rattle.cell_services.specs.Services.{InArea, OfDomains, OfSemaphores, OfVariables, area_of, asks_of}
+use Rattle.cell_services.specs.AreaLaws.{in_domains, in_invocations, in_programs, in_semaphores, in_variables}
+use Rattle.cell_services.specs.Services.{InArea, OfDomains, OfInvocations, OfPrograms, OfSemaphores, OfVariables, area_of, asks_of}
 use Rattle.cell_services.specs.Serving.{heard_more}
+use Rattle.cell_services.specs.Facts.{tables_for}
 use Rattle.mms_step.specs.declared.part.Part.{Part}
-use Rattle.mms_step.specs.declared.part.Part.TheVariants.{Domains, Semaphores, Variables}
+use Rattle.mms_step.specs.declared.part.Part.TheVariants.{Domains, Programs, Semaphores, Variables}
 use Rattle.mms_step.specs.AfterLaws.{is_device}
 use Rattle.mms_step.specs.Needs.{also_parts, footprint, is_held, need, placed, two_stages, verdict_need}
-use Rattle.mms_step.specs.Partition.{cell, parts_of, client_part, client_place, clients_among, domains_in, row_in, semaphores_in, semaphores_place, variables_in, IsClient, IsDomains, IsSemaphores, IsVariables}
+use Rattle.mms_step.specs.Partition.{cell, parts_of, client_part, client_place, clients_among, domains_in, programs_in, row_in, semaphores_in, semaphores_place, variables_in, IsClient, IsDomains, IsPrograms, IsSemaphores, IsVariables}
 use Rattle.mms_step.specs.State.{State}
 use Rattle.serve_domains.specs.Loads.{AreLoads}
-use Rattle.mms_step.specs.Tasks.{row_held, IsReady}
+use Rattle.mms_step.specs.Tasks.{row_held, AreUsedIn, IsReady}
 use Rattle.mms_step.proofs.Enough.{words_held, OfState}
 use Rattle.mms_step.proofs.Holding.{client_at, clients_counted, held_part}
 use Rattle.mms_step.proofs.Needed.{many, need_heard}
@@ -93,6 +100,30 @@ module _ (s : State) (hand : List (Option Part)) (of : IsHandOf hand (parts_of s
       let area : area_of asked ≡ OfDomains (domain.request_in x) = ap area_of (sym is) ∙ in_domains x in
       let there = held_part hand (parts_of s) 2 (Domains s.domains) of (first_there hand 2 _ _ (in_area hand n (area_of asked) (OfDomains (domain.request_in x)) area _ ready.needed)) refl in
       there ∙ sym (ap (λ (o : Option Part). Some (Domains (domains_in o))) there)
+
+  pub programs_there : (n client invoke : ℕ) (x : ProgramRequest) (asked : Request) → program_request x ≡ asked → IsReady n client (Takes invoke asked) hand → IsPrograms (held_at hand 3)
+  programs_there n client invoke x asked is ready =
+      let area : area_of asked ≡ OfPrograms (program.program_in x) = ap area_of (sym is) ∙ in_programs x in
+      let there = held_part hand (parts_of s) 3 (Programs s.programs) of (first_there hand 3 _ _ (in_area hand n (area_of asked) (OfPrograms (program.program_in x)) area _ ready.needed)) refl in
+      there ∙ sym (ap (λ (o : Option Part). Some (Programs (programs_in o))) there)
+
+  pub invocations_there : (n client invoke : ℕ) (x : InvocationRequest) (asked : Request) → invocation_request x ≡ asked → IsReady n client (Takes invoke asked) hand
+      → IsDomains (held_at hand 2) × IsPrograms (held_at hand 3)
+  invocations_there n client invoke x asked is ready =
+      let area : area_of asked ≡ OfInvocations (program.invocation_in x) = ap area_of (sym is) ∙ in_invocations x in
+      let needed = in_area hand n (area_of asked) (OfInvocations (program.invocation_in x)) area _ ready.needed in
+      let second = held_part hand (parts_of s) 2 (Domains s.domains) of (first_there hand 2 (3 ∷ words) more needed) refl in
+      let third = held_part hand (parts_of s) 3 (Programs s.programs) of (second_there hand 2 3 words more needed) refl in
+      (second ∙ sym (ap (λ (o : Option Part). Some (Domains (domains_in o))) second), third ∙ sym (ap (λ (o : Option Part). Some (Programs (programs_in o))) third))
+    where
+      words : List ℕ
+      words = map (table_place cell n) (flat_map tables_for (program.invocation_in x).words)
+
+      told : List ℕ
+      told = placed n (heard_more (tables_shown cell hand) (row_held hand client) (Takes invoke asked))
+
+      more : List ℕ
+      more = told ++ (if are_held {P = Part} hand told then also_parts n hand (row_held hand client) (Takes invoke asked) else [])
 
   -- by which a client answers the server
   pub domains_to_reply : (n client number : ℕ) (came : Came) → IsReady n client (Replies number came) hand → IsDomains (held_at hand 2)
@@ -164,6 +195,14 @@ loads_held hand client (s, sound, of) among held table =
     subst (λ (k : ℕ). AreLoads k (row_held hand client).asked (domains_in (held_at hand 2)).domains) own
     (subst (λ (o : Option Part). AreLoads (client - 1 + 1) (row_in o).asked (domains_in (held_at hand 2)).domains) (sym there)
     (subst (λ (o : Option Part). AreLoads (client - 1 + 1) its.0.asked (domains_in o).domains) (sym shown) (sound.1.loads (client - 1) its.0 its.2)))
+
+-- the domains have the names of the invocations that name them
+pub used_held : (hand : List (Option Part)) → OfState hand → AreUsedIn hand
+used_held hand (s, sound, of) table more =
+    let second : held_at hand 2 ≡ Some (Domains s.domains) = held_part hand (parts_of s) 2 (Domains s.domains) of (ap (λ (o : Option Part). is_some o) table) refl in
+    let third : held_at hand 3 ≡ Some (Programs s.programs) = held_part hand (parts_of s) 3 (Programs s.programs) of (ap (λ (o : Option Part). is_some o) more) refl in
+    subst (λ (o : Option Part). AreUsed (domains_in o).domains (programs_in (held_at hand 3))) (sym second)
+    (subst (λ (o : Option Part). AreUsed s.domains.domains (programs_in o)) (sym third) sound.1.used)
 
 pub ready_to_hear : (hand : List (Option Part)) (client : ℕ) (octets : List ℕ) → OfState hand → (1 ≤ client) × (client ≤ clients_among (length hand)) → IsClient (held_at hand (client_place client))
     → need (Heard client octets) hand ≡ [] → IsReady (clients_among (length hand)) client (verdict (row_held hand client) octets) hand

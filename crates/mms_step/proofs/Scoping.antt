@@ -1,5 +1,5 @@
 -- What requests for domains ask: whether an object has one for its scope, and whether a number is left for what would be asked of their client.
-use Rattle.std.specs.Prelude.{◌≡◌, ℕ, Bool, true, false, Option, None, Some, is_some, List, [], ◌∷◌, ◌++◌, if◌then◌else◌, refl}
+use Rattle.std.specs.Prelude.{◌≡◌, ℕ, Bool, true, Option, None, Some, is_some, List, [], ◌∷◌, ◌++◌, if◌then◌else◌, refl}
 use Rattle.std.specs.List.{flat_map}
 use Rattle.std.specs.Option.{option_copied, option_map_or}
 use Rattle.std.proofs.Common.{Bor, ap, ap₂, sym, ◌∙◌}
@@ -13,7 +13,7 @@ use Rattle.mms_types.specs.declared.area.VariableRequest.TheVariants as variable
 use Rattle.association.specs.Client.{ClientRow}
 use Rattle.parted_state.specs.Area.{facts_told}
 use Rattle.cell_client.specs.Areas.{lacks_number_in}
-use Rattle.cell_client.specs.Association.{Came, Verdict, Aborts, Exhausts, Replies, Takes}
+use Rattle.cell_client.specs.Association.{Came, Aborts, Exhausts, Replies, Takes}
 use Rattle.cell_client.specs.Facts.{Question, Live, Scoped, no_facts}
 use Rattle.serve_domains.specs.Domains.{replied, request_in}
 use Rattle.serve_domains.specs.Tables.{DomainTables}
@@ -22,7 +22,7 @@ use Rattle.serve_semaphores.specs.Semaphores.{at_its_moment}
 use Rattle.serve_variables.specs.Variables as of_variables
 use Rattle.cell_services.specs.Facts.{is_scope_used, scope_tables, tables_for, tells}
 use Rattle.cell_services.specs.Requests.{told_in}
-use Rattle.cell_services.specs.Services.{InArea, OfDomains, OfSemaphores, OfVariables, area_of, asks_of, lacks_number}
+use Rattle.cell_services.specs.Services.{OfDomains, OfSemaphores, OfVariables, area_of, asks_of, lacks_number}
 use Rattle.cell_services.specs.Serving.{comes_of, hears}
 use Rattle.cell_services.specs.Tables.{Tables, own_domains, own_semaphores, own_variables}
 

@@ -11,7 +11,6 @@ use Rattle.mms_types.proofs.identifier.Identifier.TheSendSync as identifier
 use Rattle.mms_types.proofs.listed.Listed.TheSendSync as listed
 use Rattle.mms_types.specs.contracts.variable.Spec as Spec
 use Rattle.mms_types.proofs.variable.Spec.TheSendSync as spec
-use Rattle.object_names.specs.contracts.table.Named as Named
 use Rattle.object_names.proofs.table.Named.TheSendSync as named
 use Rattle.mms_time.specs.contracts.row.SemaphoreRow as SemaphoreRow
 use Rattle.mms_time.proofs.row.SemaphoreRow.TheSendSync as semaphore
@@ -32,9 +31,10 @@ use Rattle.domain_load.specs.contracts.domain.Domain as Domain
 use Rattle.domain_load.specs.contracts.domains.Domains as Domains
 use Rattle.domain_load.specs.contracts.domains.Domains.TheInside as domains
 use Rattle.domain_load.specs.contracts.segments.Segments as Segments
-use Rattle.domain_load.specs.contracts.segments.Segments.TheInside as segments
 use Rattle.domain_upload.specs.contracts.uploads.Uploads as Uploads
-use Rattle.domain_upload.specs.contracts.uploads.Uploads.TheInside as uploads
+use Rattle.program_inv.specs.contracts.invocation.Invocation as Invocation
+use Rattle.program_inv.specs.contracts.programs.Programs as Programs
+use Rattle.program_inv.specs.contracts.programs.Programs.TheInside as programs
 use Rattle.serve_domains.specs.contracts.tables.DomainTables as DomainTables
 use Rattle.serve_domains.specs.contracts.tables.DomainTables.TheInside as tables
 use Rattle.mms_step.specs.contracts.part.Part as Part
@@ -87,5 +87,14 @@ tables_inside = declared_send tables.the_type (domains_send, (uploads_send, tt))
 pub tables_send : IsSend DomainTables.the_row
 tables_send = let a = tables_inside in search sendable
 
+pub invocation_send : IsSend Invocation.the_row
+invocation_send = declared_send Invocation.the_type (search (crosses, sendable, identifier.the_send) depth 20, (search (crosses, sendable) depth 20, (search (crosses, sendable) depth 20, (search (crosses, sendable, octets.the_send) depth 20, tt))))
+
+pub programs_inside : IsSend programs.the_row
+programs_inside = declared_send programs.the_type (let a = invocation_send in search (crosses, sendable, identifier.the_send) depth 20, tt)
+
+pub programs_send : IsSend Programs.the_row
+programs_send = let a = programs_inside in search sendable
+
 pub part_send : IsSend Part.the_row
-part_send = variants_send Part.enum ((clock.the_send, tt), ((variables_send, tt), ((tables_send, tt), (tt, (tt, (tt, ((client.the_send, tt), ((semaphores_send, tt), tt))))))))
+part_send = variants_send Part.enum ((clock.the_send, tt), ((variables_send, tt), ((tables_send, tt), ((programs_send, tt), (tt, (tt, ((client.the_send, tt), ((semaphores_send, tt), tt))))))))

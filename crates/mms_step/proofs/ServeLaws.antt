@@ -29,6 +29,7 @@ use Rattle.mms_step.specs.declared.serving.Task.{Task}
 use Rattle.mms_step.specs.declared.serving.Task.TheVariants as task
 use Rattle.cell_client.specs.declared.told.Told.{Told}
 use Rattle.mms_step.specs.State.{State}
+use Rattle.program_inv.specs.Programs.{Rows as Invocations}
 use Rattle.serve_domains.specs.Tables.{DomainTables}
 use Rattle.cell_services.specs.Tables.{Tables}
 use Rattle.mms_step.specs.Needs.{is_held}
@@ -40,9 +41,9 @@ use Rattle.cell_client.specs.declared.acts.Act.{Act}
 use Rattle.cell_services.specs.Acts.{act_done}
 use Rattle.cell_client.specs.Meant.{verdict_read}
 use Rattle.mms_step.specs.Tasks.{row_held, task_done, HoldsOwn, IsHeardInPlace, IsTimely}
-use Rattle.mms_step.specs.Lifting.{clocked, domained, varied, tabled, with_semaphores}
+use Rattle.mms_step.specs.Lifting.{clocked, domained, varied, tabled, with_programs, with_semaphores}
 use Rattle.variable_services.specs.declared.tables.VariableTables.{VariableTables}
-use Rattle.mms_step.specs.Partition.{cell, parts_of, client_part, client_place, clients_among, client_in, clock_in, clock_or, domains_in, domains_or, semaphores_in, semaphores_or, semaphores_place, variables_in, variables_or, on_client, on_clock, on_domains, on_semaphores, on_variables, row_in, IsClient}
+use Rattle.mms_step.specs.Partition.{cell, parts_of, client_part, client_place, clients_among, client_in, clock_in, clock_or, domains_in, domains_or, programs_in, programs_or, semaphores_in, semaphores_or, semaphores_place, variables_in, variables_or, on_client, on_clock, on_domains, on_programs, on_semaphores, on_variables, row_in, IsClient}
 use Rattle.cell_client.specs.Telling.{effects_told}
 use Rattle.mms_step.specs.declared.telling.Room.{Room}
 use Rattle.mms_step.specs.Rooms.{no_room, room_to, with_room, room_or_same, room_before, with_rooms, without_rooms, IsSettled, MayBeClient, AreClients}
@@ -63,7 +64,7 @@ pub part_settled : (s : State) (i : ℕ) (part : Part) → slice_get (parts_of s
 part_settled s zero part there = let same : Clock s.now ≡ part = cc there in subst (λ (p : Part). with_room no_room p ≡ p) same refl
 part_settled s (suc zero) part there = let same : Variables s.variables ≡ part = cc there in subst (λ (p : Part). with_room no_room p ≡ p) same refl
 part_settled s (suc (suc zero)) part there = let same : Domains s.domains ≡ part = cc there in subst (λ (p : Part). with_room no_room p ≡ p) same refl
-part_settled s (suc (suc (suc zero))) part there = let same : Programs ≡ part = cc there in subst (λ (p : Part). with_room no_room p ≡ p) same refl
+part_settled s (suc (suc (suc zero))) part there = let same : Programs s.programs ≡ part = cc there in subst (λ (p : Part). with_room no_room p ≡ p) same refl
 part_settled s (suc (suc (suc (suc zero)))) part there = let same : Conditions ≡ part = cc there in subst (λ (p : Part). with_room no_room p ≡ p) same refl
 part_settled s (suc (suc (suc (suc (suc zero))))) part there = let same : Journals ≡ part = cc there in subst (λ (p : Part). with_room no_room p ≡ p) same refl
 part_settled s (suc (suc (suc (suc (suc (suc i)))))) part there = in_parts s.semaphores s.clients i part there
@@ -141,6 +142,17 @@ domained_rooms domains last room hand =
     here None = refl
     here (Some part) = refl
 
+programs_rooms : (programs : Invocations) (last : ℕ) (room : ℕ → Room) (hand : List (Option Part))
+    → with_programs programs (with_rooms last room hand) ≡ with_rooms last room (with_programs programs hand)
+programs_rooms programs last room hand =
+    change_placed (at_place last room) (at_place last room) (option_map (on_programs (λ was. programs))) (option_map (on_programs (λ was. programs))) hand 3
+    (λ j other held there. refl) (λ held there. here held)
+  where
+    here : (held : Option Part)
+        → option_map (on_programs (λ was. programs)) (at_place last room 3 held) ≡ at_place last room 3 (option_map (on_programs (λ was. programs)) held)
+    here None = refl
+    here (Some part) = refl
+
 -- the place of the semaphores is told by the number of parts
 abbrev pub behind_clients : List (Option Part) → ℕ
 behind_clients hand = semaphores_place (clients_among (length hand))
@@ -165,22 +177,24 @@ semaphores_rooms semaphores last room hand =
     here (Some r) (Some (Clock x)) = refl
     here (Some r) (Some (Variables x)) = refl
     here (Some r) (Some (Domains x)) = refl
-    here (Some r) (Some Programs) = refl
+    here (Some r) (Some (Programs x)) = refl
     here (Some r) (Some Conditions) = refl
     here (Some r) (Some Journals) = refl
 
--- the clock, the variables and the domains alone
-abbrev pub first_three : ℕ → VariableTables → DomainTables → List (Option Part) → List (Option Part)
-first_three now variables domains hand = domained domains (varied variables (clocked now hand))
+-- all but the semaphores
+abbrev pub first_four : ℕ → VariableTables → DomainTables → Invocations → List (Option Part) → List (Option Part)
+first_four now variables domains programs hand = with_programs programs (domained domains (varied variables (clocked now hand)))
 
 abbrev pub first_of : Tables → List (Option Part) → List (Option Part)
-first_of t hand = first_three t.now t.variables t.domains hand
+first_of t hand = first_four t.now t.variables t.domains t.programs hand
 
 pub tabled_rooms : (t : Tables) (last : ℕ) (room : ℕ → Room) (hand : List (Option Part)) → tabled t (with_rooms last room hand) ≡ with_rooms last room (tabled t hand)
 tabled_rooms t last room hand =
     ap (with_semaphores t.semaphores)
+    (ap (with_programs t.programs)
     (ap (domained t.domains) (ap (varied t.variables) (clocked_rooms t.now last room hand) ∙ varied_rooms t.variables last room (clocked t.now hand))
     ∙ domained_rooms t.domains last room (varied t.variables (clocked t.now hand)))
+    ∙ programs_rooms t.programs last room (domained t.domains (varied t.variables (clocked t.now hand))))
     ∙ semaphores_rooms t.semaphores last room (first_of t hand)
 
 clocked_twice : (now was : ℕ) (hand : List (Option Part)) → clocked now (clocked was hand) ≡ clocked now hand
@@ -204,6 +218,16 @@ domained_twice now was (first ∷ second ∷ None ∷ hand) = refl
 domained_twice now was (first ∷ second ∷ Some (Domains d) ∷ hand) = refl
 domained_twice now was (first ∷ second ∷ Some other ∷ hand) = refl
 
+programs_twice : (now was : Invocations) (hand : List (Option Part)) → with_programs now (with_programs was hand) ≡ with_programs now hand
+programs_twice now was hand =
+    change_twice (option_map (on_programs (λ x. now))) (option_map (on_programs (λ x. was))) hand 3
+    ∙ change_as (λ held. option_map (on_programs (λ x. now)) (option_map (on_programs (λ x. was)) held)) (option_map (on_programs (λ x. now))) hand 3 (here (held_at hand 3))
+  where
+    here : (held : Option Part) → option_map (on_programs (λ x. now)) (option_map (on_programs (λ x. was)) held) ≡ option_map (on_programs (λ x. now)) held
+    here None = refl
+    here (Some (Programs x)) = refl
+    here (Some other) = refl
+
 semaphores_twice : (now was : Rows) (hand : List (Option Part)) → with_semaphores now (with_semaphores was hand) ≡ with_semaphores now hand
 semaphores_twice now was hand =
     ap (change (option_map (on_semaphores (λ x. now))) (with_semaphores was hand))
@@ -219,81 +243,99 @@ semaphores_twice now was hand =
     here (Some (Clock x)) = refl
     here (Some (Variables x)) = refl
     here (Some (Domains x)) = refl
-    here (Some Programs) = refl
+    here (Some (Programs x)) = refl
     here (Some Conditions) = refl
     here (Some Journals) = refl
 
-as_long : (now : ℕ) (variables : VariableTables) (domains : DomainTables) (hand : List (Option Part)) → length (first_three now variables domains hand) ≡ length hand
-as_long now variables domains hand =
-    length-change (option_map (on_domains (λ was. domains))) (varied variables (clocked now hand)) 2
+as_long : (now : ℕ) (variables : VariableTables) (domains : DomainTables) (programs : Invocations) (hand : List (Option Part))
+    → length (first_four now variables domains programs hand) ≡ length hand
+as_long now variables domains programs hand =
+    length-change (option_map (on_programs (λ was. programs))) (domained domains (varied variables (clocked now hand))) 3
+    ∙ length-change (option_map (on_domains (λ was. domains))) (varied variables (clocked now hand)) 2
     ∙ length-change (option_map (on_variables (λ was. variables))) (clocked now hand) 1
     ∙ length-change (option_map (on_clock (λ was. now))) hand 0
 
 -- what stands at another place
-beside_three : (t : Tables) (hand : List (Option Part)) (place : ℕ) → place ≢ 0 → place ≢ 1 → place ≢ 2 → held_at (first_of t hand) place ≡ held_at hand place
-beside_three t hand place first second third =
-    held_else (option_map (on_domains (λ was. t.domains))) (varied t.variables (clocked t.now hand)) 2 place third
+beside_four : (t : Tables) (hand : List (Option Part)) (place : ℕ) → place ≢ 0 → place ≢ 1 → place ≢ 2 → place ≢ 3 → held_at (first_of t hand) place ≡ held_at hand place
+beside_four t hand place first second third fourth =
+    held_else (option_map (on_programs (λ was. t.programs))) (domained t.domains (varied t.variables (clocked t.now hand))) 3 place fourth
+    ∙ held_else (option_map (on_domains (λ was. t.domains))) (varied t.variables (clocked t.now hand)) 2 place third
     ∙ held_else (option_map (on_variables (λ was. t.variables))) (clocked t.now hand) 1 place second
     ∙ held_else (option_map (on_clock (λ was. t.now))) hand 0 place first
 
--- as many parts while the first three tables are exchanged
-pub still_many : (n now : ℕ) (variables : VariableTables) (domains : DomainTables) (hand first second third : List (Option Part)) → n ≡ clients_among (length hand)
-    → first ≡ clocked now hand → second ≡ varied variables first → third ≡ domained domains second → n ≡ clients_among (length third)
-still_many n now variables domains hand first second third many one two three =
+-- as many parts while the first four tables are exchanged
+pub still_many : (n now : ℕ) (variables : VariableTables) (domains : DomainTables) (programs : Invocations) (hand first second third fourth : List (Option Part))
+    → n ≡ clients_among (length hand) → first ≡ clocked now hand → second ≡ varied variables first → third ≡ domained domains second → fourth ≡ with_programs programs third
+    → n ≡ clients_among (length fourth)
+still_many n now variables domains programs hand first second third fourth many one two three four =
     many
-    ∙ ap clients_among (sym (as_long now variables domains hand))
-    ∙ ap (λ (h : List (Option Part)). clients_among (length h)) (sym (three ∙ ap (domained domains) (two ∙ ap (varied variables) one)))
+    ∙ ap clients_among (sym (as_long now variables domains programs hand))
+    ∙ ap (λ (h : List (Option Part)). clients_among (length h)) (sym (four ∙ ap (with_programs programs) (three ∙ ap (domained domains) (two ∙ ap (varied variables) one))))
 
-abbrev pub four : ℕ → VariableTables → DomainTables → Rows → Tables
-four now variables domains semaphores = record { now = now; variables = variables; domains = domains; semaphores = semaphores }
+abbrev pub five : ℕ → VariableTables → DomainTables → Invocations → Rows → Tables
+five now variables domains programs semaphores = record { now = now; variables = variables; domains = domains; programs = programs; semaphores = semaphores }
 
--- all four are exchanged
-pub exchanged : (now : ℕ) (variables : VariableTables) (domains : DomainTables) (semaphores : Rows) (t : Tables) (hand first second third fourth : List (Option Part))
-    → four now variables domains semaphores ≡ t → first ≡ clocked now hand → second ≡ varied variables first → third ≡ domained domains second
-    → fourth ≡ with_semaphores semaphores third → fourth ≡ tabled t hand
-exchanged now variables domains semaphores t hand first second third fourth is one two three last =
-    last ∙ ap (with_semaphores semaphores) (three ∙ ap (domained domains) (two ∙ ap (varied variables) one)) ∙ ap (λ (u : Tables). tabled u hand) is
+-- all five are exchanged
+pub exchanged : (now : ℕ) (variables : VariableTables) (domains : DomainTables) (programs : Invocations) (semaphores : Rows) (t : Tables)
+    (hand first second third fourth fifth : List (Option Part))
+    → five now variables domains programs semaphores ≡ t → first ≡ clocked now hand → second ≡ varied variables first → third ≡ domained domains second
+    → fourth ≡ with_programs programs third → fifth ≡ with_semaphores semaphores fourth → fifth ≡ tabled t hand
+exchanged now variables domains programs semaphores t hand first second third fourth fifth is one two three four last =
+    last
+    ∙ ap (with_semaphores semaphores) (four ∙ ap (with_programs programs) (three ∙ ap (domained domains) (two ∙ ap (varied variables) one)))
+    ∙ ap (λ (u : Tables). tabled u hand) is
 
 -- what is lifted is what was there
 abbrev pub lifted_of : ℕ → List (Option Part) → Tables
 lifted_of n hand =
-    four (clock_in (held_at hand 0)) (variables_in (held_at hand 1)) (domains_in (held_at hand 2)) (semaphores_in (held_at hand (semaphores_place n)))
+    five (clock_in (held_at hand 0)) (variables_in (held_at hand 1)) (domains_in (held_at hand 2)) (programs_in (held_at hand 3)) (semaphores_in (held_at hand (semaphores_place n)))
 
-pub lifted_tables : (was : Tables) (n : ℕ) (hand first second third : List (Option Part)) (now : ℕ) (variables : VariableTables) (domains : DomainTables) (semaphores : Rows)
-    → was ≡ no_tables → n ≡ clients_among (length hand)
-    → first ≡ clocked was.now hand → second ≡ varied was.variables first → third ≡ domained was.domains second
+pub lifted_tables : (was : Tables) (n : ℕ) (hand first second third fourth : List (Option Part)) (now : ℕ) (variables : VariableTables) (domains : DomainTables) (programs : Invocations)
+    (semaphores : Rows) → was ≡ no_tables → n ≡ clients_among (length hand)
+    → first ≡ clocked was.now hand → second ≡ varied was.variables first → third ≡ domained was.domains second → fourth ≡ with_programs was.programs third
     → now ≡ clock_or was.now (held_at hand 0) → variables ≡ variables_or was.variables (held_at first 1) → domains ≡ domains_or was.domains (held_at second 2)
-    → semaphores ≡ semaphores_or was.semaphores (held_at third (semaphores_place n))
-    → four now variables domains semaphores ≡ lifted_of n hand
-lifted_tables was n hand first second third now variables domains semaphores empty many one two three moment has has_domains have =
-    ap₂ (λ (m : ℕ) (v : VariableTables). four m v domains semaphores)
+    → programs ≡ programs_or was.programs (held_at third 3) → semaphores ≡ semaphores_or was.semaphores (held_at fourth (semaphores_place n))
+    → five now variables domains programs semaphores ≡ lifted_of n hand
+lifted_tables was n hand first second third fourth now variables domains programs semaphores empty many one two three four moment has has_domains has_programs have =
+    ap₂ (λ (m : ℕ) (v : VariableTables). five m v domains programs semaphores)
     (moment ∙ ap (λ (t : Tables). clock_or t.now (held_at hand 0)) empty)
     (has ∙ ap (λ (t : Tables). variables_or t.variables (held_at first 1)) empty
     ∙ ap variables_in (ap (λ (h : List (Option Part)). held_at h 1) one ∙ held_else (option_map (on_clock (λ x. was.now))) hand 0 1 (λ same. omega (arith, same))))
-    ∙ ap₂ (λ (d : DomainTables) (s : Rows). four (clock_in (held_at hand 0)) (variables_in (held_at hand 1)) d s)
+    ∙ ap₂ (λ (d : DomainTables) (p : Invocations). five (clock_in (held_at hand 0)) (variables_in (held_at hand 1)) d p semaphores)
     (has_domains ∙ ap (λ (t : Tables). domains_or t.domains (held_at second 2)) empty
     ∙ ap domains_in
     (ap (λ (h : List (Option Part)). held_at h 2) (two ∙ ap (varied was.variables) one)
     ∙ held_else (option_map (on_variables (λ x. was.variables))) (clocked was.now hand) 1 2 (λ same. omega (arith, same))
     ∙ held_else (option_map (on_clock (λ x. was.now))) hand 0 2 (λ same. omega (arith, same))))
-    (have ∙ ap (λ (t : Tables). semaphores_or t.semaphores (held_at third (semaphores_place n))) empty
+    (has_programs ∙ ap (λ (t : Tables). programs_or t.programs (held_at third 3)) empty
+    ∙ ap programs_in
+    (ap (λ (h : List (Option Part)). held_at h 3) (three ∙ ap (domained was.domains) (two ∙ ap (varied was.variables) one))
+    ∙ held_else (option_map (on_domains (λ x. was.domains))) (varied was.variables (clocked was.now hand)) 2 3 (λ same. omega (arith, same))
+    ∙ held_else (option_map (on_variables (λ x. was.variables))) (clocked was.now hand) 1 3 (λ same. omega (arith, same))
+    ∙ held_else (option_map (on_clock (λ x. was.now))) hand 0 3 (λ same. omega (arith, same))))
+    ∙ ap (five (clock_in (held_at hand 0)) (variables_in (held_at hand 1)) (domains_in (held_at hand 2)) (programs_in (held_at hand 3)))
+    (have ∙ ap (λ (t : Tables). semaphores_or t.semaphores (held_at fourth (semaphores_place n))) empty
     ∙ ap semaphores_in
-    (ap (λ (h : List (Option Part)). held_at h (semaphores_place n)) (three ∙ ap (domained was.domains) (two ∙ ap (varied was.variables) one))
-    ∙ beside_three was hand (semaphores_place n) (λ same. omega (arith, same)) (λ same. omega (arith, same)) (λ same. omega (arith, same))))
+    (ap (λ (h : List (Option Part)). held_at h (semaphores_place n))
+    (four ∙ ap (with_programs was.programs) (three ∙ ap (domained was.domains) (two ∙ ap (varied was.variables) one)))
+    ∙ beside_four was hand (semaphores_place n) (λ same. omega (arith, same)) (λ same. omega (arith, same)) (λ same. omega (arith, same)) (λ same. omega (arith, same))))
 
 -- the semaphores stand beside the others
-beside_all : (now : ℕ) (variables : VariableTables) (domains : DomainTables) (semaphores : Rows) (hand : List (Option Part))
-    → first_three now variables domains (with_semaphores semaphores hand) ≡ with_semaphores semaphores (first_three now variables domains hand)
-beside_all now variables domains semaphores hand =
-    ap (λ (h : List (Option Part)). domained domains (varied variables h))
+beside_all : (now : ℕ) (variables : VariableTables) (domains : DomainTables) (programs : Invocations) (semaphores : Rows) (hand : List (Option Part))
+    → first_four now variables domains programs (with_semaphores semaphores hand) ≡ with_semaphores semaphores (first_four now variables domains programs hand)
+beside_all now variables domains programs semaphores hand =
+    ap (λ (h : List (Option Part)). with_programs programs (domained domains (varied variables h)))
     (change_other (option_map (on_clock (λ was. now))) (option_map (on_semaphores (λ was. semaphores))) hand (behind_clients hand) 0 (λ same. omega (arith, same)))
-    ∙ ap (domained domains)
+    ∙ ap (λ (h : List (Option Part)). with_programs programs (domained domains h))
     (change_other (option_map (on_variables (λ was. variables))) (option_map (on_semaphores (λ was. semaphores))) (clocked now hand) (behind_clients hand) 1
     (λ same. omega (arith, same)))
-    ∙ change_other (option_map (on_domains (λ was. domains))) (option_map (on_semaphores (λ was. semaphores))) (varied variables (clocked now hand)) (behind_clients hand) 2
-    (λ same. omega (arith, same))
-    ∙ ap (change (option_map (on_semaphores (λ was. semaphores))) (first_three now variables domains hand))
-    (same_place hand (first_three now variables domains hand) (sym (as_long now variables domains hand)))
+    ∙ ap (with_programs programs)
+    (change_other (option_map (on_domains (λ was. domains))) (option_map (on_semaphores (λ was. semaphores))) (varied variables (clocked now hand)) (behind_clients hand) 2
+    (λ same. omega (arith, same)))
+    ∙ change_other (option_map (on_programs (λ was. programs))) (option_map (on_semaphores (λ was. semaphores))) (domained domains (varied variables (clocked now hand)))
+    (behind_clients hand) 3 (λ same. omega (arith, same))
+    ∙ ap (change (option_map (on_semaphores (λ was. semaphores))) (first_four now variables domains programs hand))
+    (same_place hand (first_four now variables domains programs hand) (sym (as_long now variables domains programs hand)))
 
 -- one beside the other
 apart : (now : ℕ) (variables : VariableTables) (hand : List (Option Part)) → clocked now (varied variables hand) ≡ varied variables (clocked now hand)
@@ -309,6 +351,16 @@ vary_apart variables domains [] = refl
 vary_apart variables domains (first ∷ []) = refl
 vary_apart variables domains (first ∷ second ∷ hand) = refl
 
+-- the program invocations stand beside the first three
+programs_apart : (now : ℕ) (variables : VariableTables) (domains : DomainTables) (programs : Invocations) (hand : List (Option Part))
+    → domained domains (varied variables (clocked now (with_programs programs hand))) ≡ with_programs programs (domained domains (varied variables (clocked now hand)))
+programs_apart now variables domains programs hand =
+    ap (λ (h : List (Option Part)). domained domains (varied variables h))
+    (change_other (option_map (on_clock (λ was. now))) (option_map (on_programs (λ was. programs))) hand 3 0 (λ same. omega (arith, same)))
+    ∙ ap (domained domains)
+    (change_other (option_map (on_variables (λ was. variables))) (option_map (on_programs (λ was. programs))) (clocked now hand) 3 1 (λ same. omega (arith, same)))
+    ∙ change_other (option_map (on_domains (λ was. domains))) (option_map (on_programs (λ was. programs))) (varied variables (clocked now hand)) 3 2 (λ same. omega (arith, same))
+
 two_twice : (now was : ℕ) (variables before : VariableTables) (hand : List (Option Part))
     → varied variables (clocked now (varied before (clocked was hand))) ≡ varied variables (clocked now hand)
 two_twice now was variables before hand =
@@ -316,7 +368,8 @@ two_twice now was variables before hand =
     ∙ varied_twice variables before (clocked now (clocked was hand))
     ∙ ap (varied variables) (clocked_twice now was hand)
 
-three_twice : (t u : Tables) (hand : List (Option Part)) → first_of t (first_of u hand) ≡ first_of t hand
+three_twice : (t u : Tables) (hand : List (Option Part))
+    → domained t.domains (varied t.variables (clocked t.now (domained u.domains (varied u.variables (clocked u.now hand))))) ≡ domained t.domains (varied t.variables (clocked t.now hand))
 three_twice t u hand =
     ap (domained t.domains)
     (ap (varied t.variables) (clock_apart t.now u.domains (varied u.variables (clocked u.now hand)))
@@ -324,11 +377,17 @@ three_twice t u hand =
     ∙ domained_twice t.domains u.domains (varied t.variables (clocked t.now (varied u.variables (clocked u.now hand))))
     ∙ ap (domained t.domains) (two_twice t.now u.now t.variables u.variables hand)
 
+four_twice : (t u : Tables) (hand : List (Option Part)) → first_of t (first_of u hand) ≡ first_of t hand
+four_twice t u hand =
+    ap (with_programs t.programs) (programs_apart t.now t.variables t.domains u.programs (domained u.domains (varied u.variables (clocked u.now hand))))
+    ∙ programs_twice t.programs u.programs (domained t.domains (varied t.variables (clocked t.now (domained u.domains (varied u.variables (clocked u.now hand))))))
+    ∙ ap (with_programs t.programs) (three_twice t u hand)
+
 pub tabled_twice : (t u : Tables) (hand : List (Option Part)) → tabled t (tabled u hand) ≡ tabled t hand
 tabled_twice t u hand =
-    ap (with_semaphores t.semaphores) (beside_all t.now t.variables t.domains u.semaphores (first_of u hand))
+    ap (with_semaphores t.semaphores) (beside_all t.now t.variables t.domains t.programs u.semaphores (first_of u hand))
     ∙ semaphores_twice t.semaphores u.semaphores (first_of t (first_of u hand))
-    ∙ ap (with_semaphores t.semaphores) (three_twice t u hand)
+    ∙ ap (with_semaphores t.semaphores) (four_twice t u hand)
 
 clocked_same : (hand : List (Option Part)) → clocked (clock_in (held_at hand 0)) hand ≡ hand
 clocked_same [] = refl
@@ -351,6 +410,15 @@ domained_same (first ∷ second ∷ None ∷ hand) = refl
 domained_same (first ∷ second ∷ Some (Domains d) ∷ hand) = refl
 domained_same (first ∷ second ∷ Some other ∷ hand) = refl
 
+pub programs_same : (hand : List (Option Part)) → with_programs (programs_in (held_at hand 3)) hand ≡ hand
+programs_same hand =
+    change_as (option_map (on_programs (λ was. programs_in (held_at hand 3)))) (λ held. held) hand 3 (here (held_at hand 3)) ∙ change_same hand 3
+  where
+    here : (held : Option Part) → option_map (on_programs (λ was. programs_in held)) held ≡ held
+    here None = refl
+    here (Some (Programs x)) = refl
+    here (Some other) = refl
+
 pub semaphores_same : (hand : List (Option Part)) → with_semaphores (semaphores_in (held_at hand (behind_clients hand))) hand ≡ hand
 semaphores_same hand =
     change_as (option_map (on_semaphores (λ was. semaphores_in (held_at hand (behind_clients hand))))) (λ held. held) hand (behind_clients hand) (here (held_at hand (behind_clients hand)))
@@ -363,7 +431,7 @@ semaphores_same hand =
     here (Some (Clock x)) = refl
     here (Some (Variables x)) = refl
     here (Some (Domains x)) = refl
-    here (Some Programs) = refl
+    here (Some (Programs x)) = refl
     here (Some Conditions) = refl
     here (Some Journals) = refl
 
@@ -373,71 +441,79 @@ own_tables hand = record {
   now = clock_in (held_at hand 0);
   variables = variables_in (held_at hand 1);
   domains = domains_in (held_at hand 2);
+  programs = programs_in (held_at hand 3);
   semaphores = semaphores_in (held_at hand (behind_clients hand));
 }
 
-pub three_same : (hand : List (Option Part)) → first_of (own_tables hand) hand ≡ hand
-three_same hand =
-    ap (λ (h : List (Option Part)). domained (domains_in (held_at hand 2)) (varied (variables_in (held_at hand 1)) h)) (clocked_same hand)
-    ∙ ap (domained (domains_in (held_at hand 2))) (varied_same hand)
-    ∙ domained_same hand
+pub four_same : (hand : List (Option Part)) → first_of (own_tables hand) hand ≡ hand
+four_same hand =
+    ap (λ (h : List (Option Part)). with_programs (programs_in (held_at hand 3)) (domained (domains_in (held_at hand 2)) (varied (variables_in (held_at hand 1)) h))) (clocked_same hand)
+    ∙ ap (λ (h : List (Option Part)). with_programs (programs_in (held_at hand 3)) (domained (domains_in (held_at hand 2)) h)) (varied_same hand)
+    ∙ ap (with_programs (programs_in (held_at hand 3))) (domained_same hand)
+    ∙ programs_same hand
 
 pub tabled_same : (hand : List (Option Part)) → tabled (own_tables hand) hand ≡ hand
-tabled_same hand = ap (with_semaphores (semaphores_in (held_at hand (behind_clients hand)))) (three_same hand) ∙ semaphores_same hand
+tabled_same hand = ap (with_semaphores (semaphores_in (held_at hand (behind_clients hand)))) (four_same hand) ∙ semaphores_same hand
 
-behind_three : (t : Tables) (hand : List (Option Part)) → behind_clients (first_of t hand) ≡ behind_clients hand
-behind_three t hand = same_place (first_of t hand) hand (as_long t.now t.variables t.domains hand)
+behind_four : (t : Tables) (hand : List (Option Part)) → behind_clients (first_of t hand) ≡ behind_clients hand
+behind_four t hand = same_place (first_of t hand) hand (as_long t.now t.variables t.domains t.programs hand)
 
-beside : (t : Tables) (hand : List (Option Part)) (place : ℕ) → place ≢ 0 → place ≢ 1 → place ≢ 2 → place ≢ behind_clients hand → held_at (tabled t hand) place ≡ held_at hand place
-beside t hand place first second third last =
+beside : (t : Tables) (hand : List (Option Part)) (place : ℕ) → place ≢ 0 → place ≢ 1 → place ≢ 2 → place ≢ 3 → place ≢ behind_clients hand
+    → held_at (tabled t hand) place ≡ held_at hand place
+beside t hand place first second third fourth last =
     held_else (option_map (on_semaphores (λ was. t.semaphores))) (first_of t hand) (behind_clients (first_of t hand)) place
-    (λ same. last (same ∙ behind_three t hand))
-    ∙ beside_three t hand place first second third
+    (λ same. last (same ∙ behind_four t hand))
+    ∙ beside_four t hand place first second third fourth
 
 pub beside_tables : (t : Tables) (hand : List (Option Part)) (client : ℕ) → client ≤ clients_among (length hand)
     → held_at (tabled t hand) (client_place client) ≡ held_at hand (client_place client)
 beside_tables t hand client few =
-    beside t hand (client_place client) (λ same. omega (arith, same)) (λ same. omega (arith, same)) (λ same. omega (arith, same)) (λ same. omega (arith, same, few))
+    beside t hand (client_place client) (λ same. omega (arith, same)) (λ same. omega (arith, same)) (λ same. omega (arith, same)) (λ same. omega (arith, same))
+    (λ same. omega (arith, same, few))
 
 -- a client's part that is held stays, wherever it stands
 pub beside_client : (t : Tables) (hand : List (Option Part)) (client : ℕ) → IsClient (held_at hand (client_place client))
     → held_at (tabled t hand) (client_place client) ≡ held_at hand (client_place client)
 beside_client t hand client held = by_place (ℕ_discrete (client_place client) (behind_clients (first_of t hand)))
   where
-    three : held_at (first_of t hand) (client_place client) ≡ held_at hand (client_place client)
-    three = beside_three t hand (client_place client) (λ same. omega (arith, same)) (λ same. omega (arith, same)) (λ same. omega (arith, same))
+    four : held_at (first_of t hand) (client_place client) ≡ held_at hand (client_place client)
+    four = beside_four t hand (client_place client) (λ same. omega (arith, same)) (λ same. omega (arith, same)) (λ same. omega (arith, same)) (λ same. omega (arith, same))
 
     by_place : Dec (client_place client ≡ behind_clients (first_of t hand)) → held_at (tabled t hand) (client_place client) ≡ held_at hand (client_place client)
     by_place (yes same) =
         ap (λ (i : ℕ). held_at (change (option_map (on_semaphores (λ was. t.semaphores))) (first_of t hand) i) (client_place client)) (sym same)
         ∙ held_changed (option_map (on_semaphores (λ was. t.semaphores))) (first_of t hand) (client_place client)
-        (Client (client_in (held_at hand (client_place client)))) (three ∙ held)
+        (Client (client_in (held_at hand (client_place client)))) (four ∙ held)
         ∙ sym held
     by_place (no other) =
         held_else (option_map (on_semaphores (λ was. t.semaphores))) (first_of t hand) (behind_clients (first_of t hand)) (client_place client) other
-        ∙ three
+        ∙ four
 
 pub shown_own : (hand : List (Option Part)) → own_tables hand ≡ tables_shown cell hand
 shown_own hand =
-    ap₂ (λ (o p : Option (Option Part)). of (unwrap_or o None) (unwrap_or p None) (held_at hand 2) (held_at hand (behind_clients hand)))
+    ap₂ (λ (o p : Option (Option Part)). of (unwrap_or o None) (unwrap_or p None) (held_at hand 2) (held_at hand 3) (held_at hand (behind_clients hand)))
     (sym (around_at cell is_device (clients_among (length hand)) hand 0)) (sym (around_at cell is_device (clients_among (length hand)) hand 1))
-    ∙ ap₂ (λ (q r : Option (Option Part)). of (held_at (around 6 (clients_among (length hand)) hand) 0) (held_at (around 6 (clients_among (length hand)) hand) 1) (unwrap_or q None)
-    (unwrap_or r None))
-    (sym (around_at cell is_device (clients_among (length hand)) hand 2)) (sym (around_at cell is_device (clients_among (length hand)) hand 6))
+    ∙ ap₂ (λ (q r : Option (Option Part)). of (held_at shown 0) (held_at shown 1) (unwrap_or q None) (unwrap_or r None) (held_at hand (behind_clients hand)))
+    (sym (around_at cell is_device (clients_among (length hand)) hand 2)) (sym (around_at cell is_device (clients_among (length hand)) hand 3))
+    ∙ ap (λ (q : Option (Option Part)). of (held_at shown 0) (held_at shown 1) (held_at shown 2) (held_at shown 3) (unwrap_or q None))
+    (sym (around_at cell is_device (clients_among (length hand)) hand 6))
   where
-    of : Option Part → Option Part → Option Part → Option Part → Tables
-    of o p q r = record { now = clock_in o; variables = variables_in p; domains = domains_in q; semaphores = semaphores_in r }
+    shown : List (Option Part)
+    shown = around 6 (clients_among (length hand)) hand
+
+    of : Option Part → Option Part → Option Part → Option Part → Option Part → Tables
+    of o p q r b = record { now = clock_in o; variables = variables_in p; domains = domains_in q; programs = programs_in r; semaphores = semaphores_in b }
 
 -- ---- tables are put back
 
--- those behind the clock, the variables and the domains, in which there is nothing yet
+-- those behind the first four, in which there is nothing yet
 abbrev behind : List Part
-behind = Programs ∷ Conditions ∷ Journals ∷ []
+behind = Conditions ∷ Journals ∷ []
 
-no_first_place : (n l place : ℕ) → place < 3 → table_place cell n (3 + l) ≢ place
-no_first_place n l place small same = by_test (nat_lt (3 + l) 6) same
+no_first_place : (n l place : ℕ) → place < 4 → table_place cell n (4 + l) ≢ place
+no_first_place n l place small same = by_test (nat_lt (4 + l) 6) same
   where
-    by_test : (b : Bool) → (if b then 3 + l else 3 + l + n) ≡ place → ⊥
+    by_test : (b : Bool) → (if b then 4 + l else 4 + l + n) ≡ place → ⊥
     by_test true s = omega (arith, s, small)
     by_test false s = omega (arith, s, small)
 
@@ -456,48 +532,61 @@ module _ (s : State) (hand : List (Option Part)) (of : IsHandOf hand (parts_of s
       by_value None e = refl
       by_value (Some held) e = ap Some (sym is ∙ ap f (is_part place part held there e))
 
-  -- the clock, the variables, the domains and the semaphores are put back: there is nothing yet in the others
+  -- all tables are put back: there is nothing yet in the other parts
   pub put_tables : (t : Tables) → with_tables cell (clients_among (length hand)) t hand ≡ tabled t hand
   put_tables t =
-      ap (λ (h : List (Option Part)). put_from cell (clients_among (length hand)) 3 (behind ++ Semaphores t.semaphores ∷ [])
-      (change (option_map (λ held. Domains t.domains)) (change (option_map (λ held. Variables t.variables)) h 1) 2))
+      ap (λ (h : List (Option Part)). put_rest (put_programs (put_domains (change (option_map (λ held. Variables t.variables)) h 1))))
       (put_changed (on_clock (λ was. t.now)) (Clock t.now) (Clock s.now) hand 0 refl refl refl)
-      ∙ ap (λ (h : List (Option Part)). put_from cell (clients_among (length hand)) 3 (behind ++ Semaphores t.semaphores ∷ []) (change (option_map (λ held. Domains t.domains)) h 2))
+      ∙ ap (λ (h : List (Option Part)). put_rest (put_programs (put_domains h)))
       (put_changed (on_variables (λ was. t.variables)) (Variables t.variables) (Variables s.variables) (clocked t.now hand) 1
       (held_else (option_map (on_clock (λ was. t.now))) hand 0 1 (λ same. omega (arith, same))) refl refl)
-      ∙ ap (put_from cell (clients_among (length hand)) 3 (behind ++ Semaphores t.semaphores ∷ []))
+      ∙ ap (λ (h : List (Option Part)). put_rest (put_programs h))
       (put_changed (on_domains (λ was. t.domains)) (Domains t.domains) (Domains s.domains) (varied t.variables (clocked t.now hand)) 2
       (held_else (option_map (on_variables (λ was. t.variables))) (clocked t.now hand) 1 2 (λ same. omega (arith, same))
       ∙ held_else (option_map (on_clock (λ was. t.now))) hand 0 2 (λ same. omega (arith, same))) refl refl)
+      ∙ ap put_rest
+      (put_changed (on_programs (λ was. t.programs)) (Programs t.programs) (Programs s.programs) (domained t.domains (varied t.variables (clocked t.now hand))) 3
+      (held_else (option_map (on_domains (λ was. t.domains))) (varied t.variables (clocked t.now hand)) 2 3 (λ same. omega (arith, same))
+      ∙ held_else (option_map (on_variables (λ was. t.variables))) (clocked t.now hand) 1 3 (λ same. omega (arith, same))
+      ∙ held_else (option_map (on_clock (λ was. t.now))) hand 0 3 (λ same. omega (arith, same))) refl refl)
       ∙ ap (λ (h : List (Option Part)). change (option_map (λ held. Semaphores t.semaphores)) h (behind_clients hand))
-      (put_as_held cell is_device (clients_among (length hand)) behind 3 (first_of t hand) same)
+      (put_as_held cell is_device (clients_among (length hand)) behind 4 (first_of t hand) same)
       ∙ put_changed (on_semaphores (λ was. t.semaphores)) (Semaphores t.semaphores) (Semaphores s.semaphores) (first_of t hand) (behind_clients hand)
-      (beside_three t hand (behind_clients hand) (λ same. omega (arith, same)) (λ same. omega (arith, same)) (λ same. omega (arith, same)))
+      (beside_four t hand (behind_clients hand) (λ same. omega (arith, same)) (λ same. omega (arith, same)) (λ same. omega (arith, same)) (λ same. omega (arith, same)))
       (ap (λ (m : ℕ). slice_get (parts_of s) (semaphores_place m)) counted ∙ table_at cell is_device s 6) refl
-      ∙ ap (change (option_map (on_semaphores (λ was. t.semaphores))) (first_of t hand)) (sym (behind_three t hand))
+      ∙ ap (change (option_map (on_semaphores (λ was. t.semaphores))) (first_of t hand)) (sym (behind_four t hand))
     where
+      put_rest : List (Option Part) → List (Option Part)
+      put_rest h = put_from cell (clients_among (length hand)) 4 (behind ++ Semaphores t.semaphores ∷ []) h
+
+      put_domains : List (Option Part) → List (Option Part)
+      put_domains h = change (option_map (λ held. Domains t.domains)) h 2
+
+      put_programs : List (Option Part) → List (Option Part)
+      put_programs h = change (option_map (λ held. Programs t.programs)) h 3
+
       counted : clients_among (length hand) ≡ length s.clients
       counted = clients_counted s hand of
 
-      same : (l : ℕ) (x y : Part) → slice_get behind l ≡ Some x → held_at (first_of t hand) (table_place cell (clients_among (length hand)) (3 + l)) ≡ Some y → x ≡ y
+      same : (l : ℕ) (x y : Part) → slice_get behind l ≡ Some x → held_at (first_of t hand) (table_place cell (clients_among (length hand)) (4 + l)) ≡ Some y → x ≡ y
       same l x y there held =
-          let next : 3 + l ≡ suc (suc (suc l)) = omega arith in
-          let was : held_at hand (table_place cell (clients_among (length hand)) (3 + l)) ≡ Some y =
-          sym (beside_three t hand (table_place cell (clients_among (length hand)) (3 + l)) (no_first_place (clients_among (length hand)) l 0 (omega arith))
-          (no_first_place (clients_among (length hand)) l 1 (omega arith)) (no_first_place (clients_among (length hand)) l 2 (omega arith))) ∙ held in
+          let next : 4 + l ≡ suc (suc (suc (suc l))) = omega arith in
+          let was : held_at hand (table_place cell (clients_among (length hand)) (4 + l)) ≡ Some y =
+          sym (beside_four t hand (table_place cell (clients_among (length hand)) (4 + l)) (no_first_place (clients_among (length hand)) l 0 (omega arith))
+          (no_first_place (clients_among (length hand)) l 1 (omega arith)) (no_first_place (clients_among (length hand)) l 2 (omega arith))
+          (no_first_place (clients_among (length hand)) l 3 (omega arith))) ∙ held in
           let both : Some x ≡ Some y =
           sym (there_too l x there)
           ∙ ap (λ (k : ℕ). slice_get (cell.table_parts (cell.tables_of s)) k) (sym next)
-          ∙ sym (table_at cell is_device s (3 + l))
-          ∙ ap (λ (m : ℕ). slice_get (parts_of s) (table_place cell m (3 + l))) (sym counted)
-          ∙ held_of_list hand (parts_of s) (table_place cell (clients_among (length hand)) (3 + l)) y of was in
+          ∙ sym (table_at cell is_device s (4 + l))
+          ∙ ap (λ (m : ℕ). slice_get (parts_of s) (table_place cell m (4 + l))) (sym counted)
+          ∙ held_of_list hand (parts_of s) (table_place cell (clients_among (length hand)) (4 + l)) y of was in
           cc both
         where
-          there_too : (l : ℕ) (x : Part) → slice_get behind l ≡ Some x → slice_get (cell.table_parts (cell.tables_of s)) (suc (suc (suc l))) ≡ Some x
+          there_too : (l : ℕ) (x : Part) → slice_get behind l ≡ Some x → slice_get (cell.table_parts (cell.tables_of s)) (suc (suc (suc (suc l)))) ≡ Some x
           there_too zero x e = e
           there_too (suc zero) x e = e
-          there_too (suc (suc zero)) x e = e
-          there_too (suc (suc (suc l))) x e = absurd (cc e)
+          there_too (suc (suc l)) x e = absurd (cc e)
 
 -- ---- rooms are made on held parts whose tables are lifted, and clients are told once they are put back
 
@@ -536,7 +625,7 @@ module _ (s : State) (hand : List (Option Part)) (of : IsHandOf hand (parts_of s
 length-tabled : (t : Tables) (hand : List (Option Part)) → length (tabled t hand) ≡ length hand
 length-tabled t hand =
     length-change (option_map (on_semaphores (λ was. t.semaphores))) (first_of t hand) (behind_clients (first_of t hand))
-    ∙ as_long t.now t.variables t.domains hand
+    ∙ as_long t.now t.variables t.domains t.programs hand
 
 -- as many parts while the tables are lifted, and where rooms are made
 pub many_lifted : (n : ℕ) (u : Tables) (hand lifted : List (Option Part)) → n ≡ clients_among (length hand) → lifted ≡ tabled u hand → n ≡ clients_among (length lifted)
@@ -654,6 +743,24 @@ both_changed f g hand out gone there new place other part table own after apart 
     ∙ changed_part (on_client f) (change (option_map g) hand other) place (Client own)
     (held_else (option_map g) hand other place apart ∙ sym held ∙ ap Some is)
 
+-- so are a client's and two more: of these that which was taken out last is put back first
+pub three_changed : (f : ClientRow → ClientRow) (g h : Part → Part) (hand out less gone put there new : List (Option Part)) (place : ℕ) (part table more : Part) (own after : RoomyRow)
+    → place ≢ 2 → place ≢ 3 → Some part ≡ held_at hand place → out ≡ set hand place None → Some table ≡ held_at out 2 → less ≡ set out 2 None → Some more ≡ held_at less 3
+    → gone ≡ set less 3 None → part ≡ Client own → after ≡ settled (f own.row) → put ≡ set gone 3 (Some (h more)) → there ≡ set put 2 (Some (g table))
+    → new ≡ set there place (Some (Client after)) → new ≡ change (option_map (on_client f)) (change (option_map h) (change (option_map g) hand 2) 3) place
+three_changed f g h hand out less gone put there new place part table more own after apart beside held taken second left third gone_too is done put_first put_next back =
+    both_changed f g (change (option_map h) hand 3) (change (option_map h) out 3) put there new place 2 part table own after apart
+    (held ∙ sym (held_else (option_map h) hand 3 place beside))
+    (ap (λ (l : List (Option Part)). change (option_map h) l 3) taken ∙ change_set (option_map h) hand place 3 None beside)
+    (second ∙ sym (held_else (option_map h) out 3 2 (λ same. omega (arith, same))))
+    (put_first ∙ ap (λ (l : List (Option Part)). set l 3 (Some (h more))) gone_too
+    ∙ changed_part h less 3 more (sym third)
+    ∙ ap (λ (l : List (Option Part)). change (option_map h) l 3) left
+    ∙ change_set (option_map h) out 2 3 None (λ same. omega (arith, same)))
+    is done put_next back
+    ∙ ap (λ (l : List (Option Part)). change (option_map (on_client f)) l place)
+    (change_other (option_map g) (option_map h) hand 3 2 (λ same. omega (arith, same)))
+
 module _ (s : State) (hand : List (Option Part)) (of : IsHandOf hand (parts_of s)) where
   pub done_in_place : (client : ℕ) (effects : List Effect) (variables : VariableTables) → 1 ≤ client → client ≤ clients_among (length hand) → IsClient (held_at hand (client_place client))
       → change (option_map (on_client (felt_all effects))) (varied variables hand) (client_place client)
@@ -674,11 +781,16 @@ module _ (s : State) (hand : List (Option Part)) (of : IsHandOf hand (parts_of s
       lowered : with_tables cell (clients_among (length hand)) (record (tables_shown cell hand) { variables = variables }) hand ≡ varied variables hand
       lowered =
           put_tables s hand of (record (tables_shown cell hand) { variables = variables })
-          ∙ ap (λ (t : Tables). with_semaphores t.semaphores (domained t.domains (varied variables (clocked t.now hand)))) (sym (shown_own hand))
-          ∙ ap (λ (h : List (Option Part)). with_semaphores (semaphores_in (held_at hand (behind_clients hand))) (domained (domains_in (held_at hand 2)) (varied variables h)))
+          ∙ ap (λ (t : Tables). with_semaphores t.semaphores (with_programs t.programs (domained t.domains (varied variables (clocked t.now hand))))) (sym (shown_own hand))
+          ∙ ap
+          (λ (h : List (Option Part)). with_semaphores (semaphores_in (held_at hand (behind_clients hand)))
+          (with_programs (programs_in (held_at hand 3)) (domained (domains_in (held_at hand 2)) (varied variables h))))
           (clocked_same hand)
-          ∙ ap (with_semaphores (semaphores_in (held_at hand (behind_clients hand))))
+          ∙ ap (λ (h : List (Option Part)). with_semaphores (semaphores_in (held_at hand (behind_clients hand))) (with_programs (programs_in (held_at hand 3)) h))
           (sym (vary_apart variables (domains_in (held_at hand 2)) hand) ∙ ap (varied variables) (domained_same hand))
+          ∙ ap (with_semaphores (semaphores_in (held_at hand (behind_clients hand))))
+          (sym (change_other (option_map (on_variables (λ was. variables))) (option_map (on_programs (λ was. programs_in (held_at hand 3)))) hand 3 1 (λ same. omega (arith, same)))
+          ∙ ap (varied variables) (programs_same hand))
           ∙ sym (change_other (option_map (on_variables (λ was. variables))) (option_map (on_semaphores (λ was. semaphores_in (held_at hand (behind_clients hand))))) hand (behind_clients hand) 1
           (λ same. omega (arith, same))
           ∙ ap (change (option_map (on_semaphores (λ was. semaphores_in (held_at hand (behind_clients hand))))) (varied variables hand))
@@ -704,20 +816,92 @@ module _ (s : State) (hand : List (Option Part)) (of : IsHandOf hand (parts_of s
       lowered : with_tables cell (clients_among (length hand)) (record (tables_shown cell hand) { domains = domains }) hand ≡ domained domains hand
       lowered =
           put_tables s hand of (record (tables_shown cell hand) { domains = domains })
-          ∙ ap (λ (t : Tables). with_semaphores t.semaphores (domained domains (varied t.variables (clocked t.now hand)))) (sym (shown_own hand))
-          ∙ ap (λ (h : List (Option Part)). with_semaphores (semaphores_in (held_at hand (behind_clients hand))) (domained domains h))
+          ∙ ap (λ (t : Tables). with_semaphores t.semaphores (with_programs t.programs (domained domains (varied t.variables (clocked t.now hand))))) (sym (shown_own hand))
+          ∙ ap (λ (h : List (Option Part)). with_semaphores (semaphores_in (held_at hand (behind_clients hand))) (with_programs (programs_in (held_at hand 3)) (domained domains h)))
           (ap (varied (variables_in (held_at hand 1))) (clocked_same hand) ∙ varied_same hand)
+          ∙ ap (with_semaphores (semaphores_in (held_at hand (behind_clients hand))))
+          (sym (change_other (option_map (on_domains (λ was. domains))) (option_map (on_programs (λ was. programs_in (held_at hand 3)))) hand 3 2 (λ same. omega (arith, same)))
+          ∙ ap (domained domains) (programs_same hand))
           ∙ sym (change_other (option_map (on_domains (λ was. domains))) (option_map (on_semaphores (λ was. semaphores_in (held_at hand (behind_clients hand))))) hand (behind_clients hand) 2
           (λ same. omega (arith, same))
           ∙ ap (change (option_map (on_semaphores (λ was. semaphores_in (held_at hand (behind_clients hand))))) (domained domains hand))
           (same_place hand (domained domains hand) (sym (length-change (option_map (on_domains (λ was. domains))) hand 2))))
           ∙ ap (domained domains) (semaphores_same hand)
 
+  -- so are domains and program invocations
+  invocations_lowered : (domains : DomainTables) (programs : Invocations)
+      → with_tables cell (clients_among (length hand)) (record (tables_shown cell hand) { domains = domains; programs = programs }) hand ≡ with_programs programs (domained domains hand)
+  invocations_lowered domains programs =
+      put_tables s hand of (record (tables_shown cell hand) { domains = domains; programs = programs })
+      ∙ ap (λ (t : Tables). with_semaphores t.semaphores (with_programs programs (domained domains (varied t.variables (clocked t.now hand))))) (sym (shown_own hand))
+      ∙ ap (λ (h : List (Option Part)). with_semaphores own (with_programs programs (domained domains h)))
+      (ap (varied (variables_in (held_at hand 1))) (clocked_same hand) ∙ varied_same hand)
+      ∙ sym (ap (with_programs programs)
+      (change_other (option_map (on_domains (λ was. domains))) (option_map (on_semaphores (λ was. own))) hand (behind_clients hand) 2 (λ same. omega (arith, same)))
+      ∙ change_other (option_map (on_programs (λ was. programs))) (option_map (on_semaphores (λ was. own))) (domained domains hand) (behind_clients hand) 3
+      (λ same. omega (arith, same))
+      ∙ ap (change (option_map (on_semaphores (λ was. own))) two) as_many)
+      ∙ ap (λ (h : List (Option Part)). with_programs programs (domained domains h)) (semaphores_same hand)
+    where
+      own : Rows
+      own = semaphores_in (held_at hand (behind_clients hand))
+
+      two : List (Option Part)
+      two = with_programs programs (domained domains hand)
+
+      as_many : behind_clients hand ≡ behind_clients two
+      as_many =
+          same_place hand two
+          (sym (length-change (option_map (on_programs (λ was. programs))) (domained domains hand) 3 ∙ length-change (option_map (on_domains (λ was. domains))) hand 2))
+
+  pub invocations_done_in_place : (client : ℕ) (effects : List Effect) (domains : DomainTables) (programs : Invocations) → 1 ≤ client → client ≤ clients_among (length hand)
+      → IsClient (held_at hand (client_place client))
+      → change (option_map (on_client (felt_all effects))) (with_programs programs (domained domains hand)) (client_place client)
+      ≡ put_in_place cell (record { tables = record (tables_shown cell hand) { domains = domains; programs = programs }; told = tell client effects }) hand
+  invocations_done_in_place client effects domains programs some few held =
+      let counted = clients_counted s hand of in
+      let found = client_at s client some (omega (arith, few, counted)) in
+      let is_on : is_held hand (client_place client) ≡ true = ap (λ (o : Option Part). is_some o) held in
+      let there : held_at hand (client_place client) ≡ Some (client_part found.0) =
+      held_part hand (parts_of s) (client_place client) (client_part found.0) of is_on found.1 in
+      let row : held_at (with_programs programs (domained domains hand)) (client_place client) ≡ Some (client_part found.0) =
+      held_else (option_map (on_programs (λ was. programs))) (domained domains hand) 3 (client_place client) (λ same. omega (arith, same))
+      ∙ held_else (option_map (on_domains (λ was. domains))) hand 2 (client_place client) (λ same. omega (arith, same)) ∙ there in
+      change_as (option_map (on_client (felt_all effects))) (λ o. Some (client_part (felt_all effects found.0))) (with_programs programs (domained domains hand)) (client_place client)
+      (ap (option_map (on_client (felt_all effects))) row)
+      ∙ sym (told_row_at (clients_among (length hand)) effects client (with_programs programs (domained domains hand)) found.0 some few row)
+      ∙ ap (told_all cell (clients_among (length hand)) (tell client effects)) (sym (invocations_lowered domains programs))
+
+  -- and program invocations alone
+  pub programs_done_in_place : (client : ℕ) (effects : List Effect) (programs : Invocations) → 1 ≤ client → client ≤ clients_among (length hand)
+      → IsClient (held_at hand (client_place client))
+      → change (option_map (on_client (felt_all effects))) (with_programs programs hand) (client_place client)
+      ≡ put_in_place cell (record { tables = record (tables_shown cell hand) { programs = programs }; told = tell client effects }) hand
+  programs_done_in_place client effects programs some few held =
+      ap (λ (h : List (Option Part)). change (option_map (on_client (felt_all effects))) (with_programs programs h) (client_place client)) (sym (domained_same hand))
+      ∙ invocations_done_in_place client effects (domains_in (held_at hand 2)) programs some few held
+      ∙ ap (λ (t : Tables). put_in_place cell (record { tables = record (tables_shown cell hand) { domains = t.domains; programs = programs }; told = tell client effects }) hand)
+      (shown_own hand)
+
+  pub programs_put : (programs : Invocations) → with_programs programs hand ≡ put_in_place cell (record { tables = record (tables_shown cell hand) { programs = programs }; told = [] }) hand
+  programs_put programs =
+      ap (with_programs programs) (sym (domained_same hand))
+      ∙ sym (invocations_lowered (domains_in (held_at hand 2)) programs)
+      ∙ ap (λ (t : Tables). with_tables cell (clients_among (length hand)) (record (tables_shown cell hand) { domains = t.domains; programs = programs }) hand) (shown_own hand)
+
 -- both parts are put back as they were
 pub both_back : (hand out gone there new : List (Option Part)) (place other : ℕ) (part table : Part) → Some part ≡ held_at hand place → out ≡ set hand place None
     → Some table ≡ held_at out other → gone ≡ set out other None → there ≡ set gone other (Some table) → new ≡ set there place (Some part) → new ≡ hand
 both_back hand out gone there new place other part table own taken second left put back =
     as_it_was hand there new place part own (as_it_was out gone there other table second left put ∙ taken) back
+
+-- and so are three
+pub three_back : (hand out less gone put there new : List (Option Part)) (place : ℕ) (part table more : Part) → Some part ≡ held_at hand place → out ≡ set hand place None
+    → Some table ≡ held_at out 2 → less ≡ set out 2 None → Some more ≡ held_at less 3 → gone ≡ set less 3 None → put ≡ set gone 3 (Some more) → there ≡ set put 2 (Some table)
+    → new ≡ set there place (Some part) → new ≡ hand
+three_back hand out less gone put there new place part table more own taken second left third gone_too put_first put_next back =
+    both_back hand out less there new place 2 part table own taken second left
+    (put_next ∙ ap (λ (l : List (Option Part)). set l 2 (Some table)) (as_it_was less gone put 3 more third gone_too put_first)) back
 
 -- ---- a client hears, with its part taken out
 
@@ -805,3 +989,7 @@ on_some_then (Some x) next there = next there
 pub on_err_both : {A E : Type 0} {P Q R : Type 0} (result : Result A E) → (P → Q → R) → OnErr result P → OnErr result Q → OnErr result R
 on_err_both (Ok x) next p q = tt
 on_err_both (Err e) next p q = next p q
+
+pub on_err_three : {A E : Type 0} {P Q R S : Type 0} (result : Result A E) → (P → Q → R → S) → OnErr result P → OnErr result Q → OnErr result R → OnErr result S
+on_err_three (Ok x) next p q r = tt
+on_err_three (Err e) next p q r = next p q r

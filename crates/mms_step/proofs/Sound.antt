@@ -30,7 +30,7 @@ use Rattle.association.specs.Asked.{AreApart, AreBelow, asked_of}
 use Rattle.association.specs.declared.unanswered.Unanswered.{Unanswered}
 use Rattle.domain_load.specs.Loading.{asked_next}
 use Rattle.serve_domains.specs.Domains.{asks_next, replied_to, reply_of}
-use Rattle.mms_step.proofs.Loading.{first_loads, first_names, first_uploads, loads_after, names_after, uploads_after}
+use Rattle.mms_step.proofs.Loading.{first_loads, first_names, first_uploads, first_used, loads_after, names_after, uploads_after, used_after}
 pub use Rattle.mms_step.proofs.Rows.{delivered_both}
 use Rattle.mms_step.proofs.Rows.{nobody_told, row_of_it}
 use Rattle.association.specs.declared.client_part.NotAdmitted.{NotAdmitted}
@@ -526,6 +526,7 @@ step_sound count s event sound =
       names = names_after count s event sound;
       loads = loads_after count s event sound;
       uploads = uploads_after count s event sound;
+      used = used_after count s event sound;
     }
 
 sound_along : (count : ℕ) (s : State) (history : List CellEvent) → IsSound count s → IsSound (count + length history) (fold step s history)
@@ -593,6 +594,7 @@ start_sound config is =
       names = first_names;
       loads = first_loads config;
       uploads = first_uploads;
+      used = first_used;
     }
 
 pub replay_sound : (config : Config) (history : List CellEvent) → IsConfig config → IsSound (length history) (replay config history)

@@ -117,7 +117,7 @@ two_ticks s a b =
     two = (ticked later (ticked first s.semaphores).rows).happened
 
     at : ℕ → VariableTables → DomainTables → Rows → List ClientRow → State
-    at now variables domains semaphores clients = record { now = now; variables = variables; domains = domains; semaphores = semaphores; clients = clients }
+    at now variables domains semaphores clients = record { now = now; variables = variables; domains = domains; programs = s.programs; semaphores = semaphores; clients = clients }
 
     of : ℕ → State
     of m =

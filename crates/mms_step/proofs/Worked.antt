@@ -1,6 +1,6 @@
 -- Worked examples: which parts an event wants, of a device of two clients, in each row of the table of parts in docs/PROFILE.md.
 -- Its parts are 0 the clock, 1 variables, 2 domains, 3 program invocations, 4 event conditions, 5 journals, 6 and 7 the clients, 8 semaphores.
-use Rattle.std.specs.Prelude.{◌≡◌, ℕ, suc, nat_eq, List, [], ◌∷◌, map, filter, codes, Option, Some, None, false, if◌then◌else◌}
+use Rattle.std.specs.Prelude.{◌≡◌, ℕ, suc, nat_eq, List, [], ◌∷◌, map, filter, codes, Option, Some, None, false, true, if◌then◌else◌}
 use Rattle.std.specs.List.{list_any, range_with_len}
 use Rattle.std.proofs.Common.{refl}
 use Rattle.mms_types.specs.declared.event.CellEvent.TheVariants.{Heard, Lost, Tick, Ends, Drain}
@@ -52,6 +52,7 @@ device = record {
   now = 0;
   variables = no_variables;
   domains = no_domains;
+  programs = [];
   semaphores = (
     record { scope = scope.Vmd; item = codes "S" },
     record {
@@ -108,6 +109,10 @@ octets_need : Answers (λ v. among (needed (6 ∷ []) v)) (
     (Takes 1 (request.GetVariableAccessAttributes (spec.Name (name.Domain (codes "D") (codes "V")))), 1 ∷ 2 ∷ []) ∷
     (Takes 1 (request.DeleteSemaphore (name.Vmd (codes "S"))), 0 ∷ 8 ∷ []) ∷
     (Takes 1 (request.DeleteSemaphore (name.Domain (codes "D") (codes "S"))), 0 ∷ 2 ∷ 8 ∷ []) ∷
+    (Takes 1 (request.CreateProgramInvocation (record { name = codes "P"; domains = codes "D" ∷ []; reusable = true })), 2 ∷ 3 ∷ []) ∷
+    (Takes 1 (request.DeleteProgramInvocation (codes "P")), 2 ∷ 3 ∷ []) ∷
+    (Takes 1 (request.Stop (codes "P")), 3 ∷ []) ∷
+    (Takes 1 (request.DeleteDomain (codes "D")), 1 ∷ 2 ∷ 4 ∷ 5 ∷ 8 ∷ []) ∷
     [])
 octets_need = refl
 

@@ -19,28 +19,29 @@ use Rattle.association.specs.declared.waiting.Waiting.{Waiting}
 use Rattle.association.specs.Client.{ClientRow}
 use Rattle.part_table.specs.Held.{held_at, places_held, laid_over, IsHandOf}
 use Rattle.parted_state.specs.Area.{Own, no_table, Area, Plan, area_plan, AllIn, IsTable, IsOwn, AreTold, IsPlan}
-use Rattle.parted_state.specs.AreaLaws.{merged_within, none_own, table_same, table_own, area_law}
+use Rattle.parted_state.specs.AreaLaws.{merged_within, none_own, table_same, table_own, both_own, area_law}
 use Rattle.parted_state.specs.Cut.{is_in, IsFramed}
 use Rattle.parted_state.specs.CutLaws.{in_back, in_front}
 use Rattle.parted_state.specs.Served.{Done, IsDevice, IsServed}
 use Rattle.parted_state.specs.Served as parted
 use Rattle.parted_state.specs.ServedLaws as served
 use Rattle.mms_step.specs.declared.part.Part.{Part}
-use Rattle.mms_step.specs.declared.part.Part.TheVariants.{Clock, Domains, Semaphores, Variables}
+use Rattle.mms_step.specs.declared.part.Part.TheVariants.{Clock, Domains, Programs, Semaphores, Variables}
 use Rattle.mms_step.specs.State.{State}
-use Rattle.cell_services.specs.Tables.{Tables, clock_table, variables_table, domains_table, conditions_table, journals_table, semaphores_table, loss_tables, own_clock, own_variables, own_domains, own_semaphores}
+use Rattle.cell_services.specs.Tables.{Tables, clock_table, variables_table, domains_table, programs_table, semaphores_table, loss_tables, own_clock, own_variables, own_domains, own_invocations, own_programs, own_semaphores}
+use Rattle.program_inv.specs.Programs as program
 use Rattle.domain_upload.specs.Uploads.{has_upload}
 use Rattle.cell_client.specs.Areas.{lacks_number_in}
 use Rattle.cell_client.specs.Facts.{no_facts}
 use Rattle.cell_client.specs.Effects.{Effect, tell}
 use Rattle.cell_client.specs.Association.{Verdict, Tells, Takes, Replies, Exhausts, Concludes, Cancels, Aborts, verdict, cancel_told, keeps_open, loss_told}
-use Rattle.cell_services.specs.Facts.{Question, Now, Live, Owned, Scoped, Names, Facts, domains_listed, guard_tables, is_domain_live, tables_for, noted, tells}
+use Rattle.cell_services.specs.Facts.{Question, Now, Live, Owned, Scoped, Names, Facts, domains_listed, guard_tables, programs_listed, is_domain_live, tables_for, noted, tells}
 use Rattle.serve_domains.specs.Tables.{DomainTables}
 use Rattle.cell_services.specs.Requests.{OutcomeIn, RequestIn, asks_in, more_in, told_in, cause_in, effect_in}
-use Rattle.cell_services.specs.Services.{InArea, OfDevice, OfVariables, OfDomains, OfSemaphores, area_of, reply_in, asks_of, more_of, cause_of, effect_of, lacks_number}
+use Rattle.cell_services.specs.Services.{InArea, OfDevice, OfVariables, OfDomains, OfInvocations, OfPrograms, OfSemaphores, area_of, reply_in, asks_of, more_of, cause_of, effect_of, lacks_number}
 use Rattle.cell_client.specs.Requests.{is_done, request_told, size_of}
 use Rattle.cell_services.specs.Serving.{tables_cancelled, tables_lost, waiting_of, without_clients, also_lost, all_told, comes_of, domains_without, hears, keeps_upload, more_of_verdict, resolved, heard_asks, heard_more, loss_asks, meanwhile, abort_asks, aborted, passes, time_asks, services, words}
-use Rattle.mms_step.specs.Partition.{cell, clock_in, domains_in, semaphores_in, variables_in, parts_of}
+use Rattle.mms_step.specs.Partition.{cell, clock_in, domains_in, programs_in, semaphores_in, variables_in, parts_of}
 use Rattle.mms_step.specs.Step.{step}
 use Rattle.mms_step.specs.Needs.{need, wants}
 use Rattle.mms_step.specs.After.{after, parts_after}
@@ -52,7 +53,7 @@ by_place : (one other : List (Option Part)) (table : ℕ) → held_at one table 
 by_place one other zero same = ap (λ (o : Option Part). Some (Clock (clock_in o))) same
 by_place one other (suc zero) same = ap (λ (o : Option Part). Some (Variables (variables_in o))) same
 by_place one other (suc (suc zero)) same = ap (λ (o : Option Part). Some (Domains (domains_in o))) same
-by_place one other (suc (suc (suc zero))) same = refl
+by_place one other (suc (suc (suc zero))) same = ap (λ (o : Option Part). Some (Programs (programs_in o))) same
 by_place one other (suc (suc (suc (suc zero)))) same = refl
 by_place one other (suc (suc (suc (suc (suc zero))))) same = refl
 by_place one other (suc (suc (suc (suc (suc (suc zero)))))) same = ap (λ (o : Option Part). Some (Semaphores (semaphores_in o))) same
@@ -88,6 +89,9 @@ is_variables = record { number = variables_table; part = Variables; part_in = va
 
 abbrev is_domains : IsTable cell own_domains
 is_domains = record { number = domains_table; part = Domains; part_in = domains_in; one = refl; shown = λ hand. refl; puts = λ new t. refl }
+
+abbrev is_programs : IsTable cell own_programs
+is_programs = record { number = programs_table; part = Programs; part_in = programs_in; one = refl; shown = λ hand. refl; puts = λ new t. refl }
 
 abbrev is_semaphores : IsTable cell own_semaphores
 is_semaphores = record { number = semaphores_table; part = Semaphores; part_in = semaphores_in; one = refl; shown = λ hand. refl; puts = λ new t. refl }
@@ -132,6 +136,9 @@ told_same (Names class.Semaphore) facts us t all =
 told_same (Names class.Domain) facts us t all =
     ap (λ (d : DomainTables). record facts { names = λ s after. domains_listed d s after })
     (table_same cell is_device own_domains is_domains us t (all domains_table refl))
+told_same (Names class.ProgramInvocation) facts us t all =
+    ap (λ (p : program.Rows). record facts { names = λ s after. programs_listed p s after })
+    (table_same cell is_device own_programs is_programs us t (all programs_table refl))
 told_same (Names c) facts us t all = refl
 
 are_told : AreTold cell tells
@@ -193,6 +200,12 @@ variables_own = table_own cell is_device own_variables is_variables
 domains_own : IsOwn cell own_domains
 domains_own = table_own cell is_device own_domains is_domains
 
+programs_own : IsOwn cell own_programs
+programs_own = table_own cell is_device own_programs is_programs
+
+invocations_own : IsOwn cell own_invocations
+invocations_own = both_own cell is_device own_domains own_programs domains_own programs_own
+
 semaphores_own : IsOwn cell own_semaphores
 semaphores_own = table_own cell is_device own_semaphores is_semaphores
 
@@ -202,6 +215,8 @@ more_law : (t : Tables) (row : ClientRow) (a : InArea) → more_of (alone (asks_
 more_law t row (OfDevice r) = (is_plan no_table (none_own cell is_device) (λ u. refl) row 0 0 r).more_same t
 more_law t row (OfVariables r) = (is_plan own_variables variables_own (λ u. refl) row 0 0 r).more_same t
 more_law t row (OfDomains r) = (is_plan own_domains domains_own (λ u. refl) row 0 0 r).more_same t
+more_law t row (OfInvocations r) = (is_plan own_invocations invocations_own (λ u. refl) row 0 0 r).more_same t
+more_law t row (OfPrograms r) = (is_plan own_programs programs_own (λ u. refl) row 0 0 r).more_same t
 more_law t row (OfSemaphores r) = (is_plan own_semaphores semaphores_own (λ u. refl) row 0 0 r).more_same t
 
 abbrev area_uses : Tables → ClientRow → InArea → List ℕ
@@ -215,37 +230,60 @@ takes_law : (t : Tables) (row : ClientRow) (client invoke : ℕ) (a : InArea)
 takes_law t row client invoke (OfDevice r) = taken_within no_table (none_own cell is_device) (λ u. refl) row client invoke r t
 takes_law t row client invoke (OfVariables r) = taken_within own_variables variables_own (λ u. refl) row client invoke r t
 takes_law t row client invoke (OfDomains r) = taken_within own_domains domains_own (λ u. refl) row client invoke r t
+takes_law t row client invoke (OfInvocations r) = taken_within own_invocations invocations_own (λ u. refl) row client invoke r t
+takes_law t row client invoke (OfPrograms r) = taken_within own_programs programs_own (λ u. refl) row client invoke r t
 takes_law t row client invoke (OfSemaphores r) = taken_within own_semaphores semaphores_own (λ u. refl) row client invoke r t
 
 -- ---- what is done with all tables in which a client may have anything
 
--- they are shown as they are
-all_shown : (us : List ℕ) (t : Tables) → AllIn cell loss_tables us → alone us t ≡ t
+-- they are shown as they are; program invocations are no client's
+all_shown : (us : List ℕ) (t : Tables) → AllIn cell loss_tables us → alone us t ≡ record t { programs = (alone us t).programs }
 all_shown us t all =
     ap₂ (λ (n : ℕ) (v : VariableTables). record (alone us t) { now = n; variables = v })
     (table_same cell is_device own_clock is_clock us t (all clock_table refl)) (table_same cell is_device own_variables is_variables us t (all variables_table refl))
-    ∙ ap₂ (λ (d : DomainTables) (rows : Rows). record t { domains = d; semaphores = rows })
+    ∙ ap₂ (λ (d : DomainTables) (rows : Rows). record t { domains = d; programs = (alone us t).programs; semaphores = rows })
     (table_same cell is_device own_domains is_domains us t (all domains_table refl)) (table_same cell is_device own_semaphores is_semaphores us t (all semaphores_table refl))
 
--- and whatever becomes of them is within these
-all_within : (us : List ℕ) (f : Tables → Done Tables Effect) (t : Tables) → AllIn cell loss_tables us → f t ≡ parted.done_within cell us t (f (alone us t))
-all_within us f t all =
-    ap (λ (u : Tables). record { tables = u; told = (f t).told })
-    (merged_within cell is_device us (λ u. (f t).tables) t (record { alone = sym (all_shown us (f t).tables all); others = others }))
-    ∙ ap (λ (u : Tables). parted.done_within cell us t (f u)) (sym (all_shown us t all))
-  where
-    out : (k : ℕ) → is_in loss_tables k ≡ true → is_in us k ≡ false → slice_get (cell.table_parts (f t).tables) k ≡ slice_get (cell.table_parts t) k
-    out k there off = absurd (cc (sym (all k there) ∙ off))
+abbrev with_programs : program.Rows → Done Tables Effect → Done Tables Effect
+with_programs p done = record { tables = record done.tables { programs = p }; told = done.told }
 
-    others : (k : ℕ) → is_in us k ≡ false → slice_get (cell.table_parts (f t).tables) k ≡ slice_get (cell.table_parts t) k
-    others zero off = out zero refl off
-    others (suc zero) off = out 1 refl off
-    others (suc (suc zero)) off = out 2 refl off
-    others (suc (suc (suc zero))) off = refl
-    others (suc (suc (suc (suc zero)))) off = refl
-    others (suc (suc (suc (suc (suc zero))))) off = refl
-    others (suc (suc (suc (suc (suc (suc zero)))))) off = out 6 refl off
-    others (suc (suc (suc (suc (suc (suc (suc k))))))) off = refl
+-- and whatever becomes of them, beside any program invocations, is within these
+module _ (us : List ℕ) (f : Tables → Done Tables Effect) (t : Tables) (all : AllIn cell loss_tables us)
+    (apart : (u : Tables) (p : program.Rows) → f (record u { programs = p }) ≡ with_programs p (f u)) where
+  abbrev seen : program.Rows
+  seen = (alone us t).programs
+
+  keeps : (f t).tables.programs ≡ t.programs
+  keeps = ap (λ (d : Done Tables Effect). d.tables.programs) (apart t t.programs)
+
+  shown_done : f (alone us t) ≡ with_programs seen (f t)
+  shown_done = ap f (all_shown us t all) ∙ apart t seen
+
+  done_shown : alone us (f t).tables ≡ record (f t).tables { programs = seen }
+  done_shown =
+      all_shown us (f t).tables all
+      ∙ ap (λ (p : program.Rows). record (f t).tables { programs = programs_in (if is_in us programs_table then Some (Programs p) else None) }) keeps
+
+  out : (k : ℕ) → is_in loss_tables k ≡ true → is_in us k ≡ false → slice_get (cell.table_parts (f t).tables) k ≡ slice_get (cell.table_parts t) k
+  out k there off = absurd (cc (sym (all k there) ∙ off))
+
+  others : (k : ℕ) → is_in us k ≡ false → slice_get (cell.table_parts (f t).tables) k ≡ slice_get (cell.table_parts t) k
+  others zero off = out zero refl off
+  others (suc zero) off = out 1 refl off
+  others (suc (suc zero)) off = out 2 refl off
+  others (suc (suc (suc zero))) off = ap (λ (p : program.Rows). Some (Programs p)) keeps
+  others (suc (suc (suc (suc zero)))) off = refl
+  others (suc (suc (suc (suc (suc zero))))) off = refl
+  others (suc (suc (suc (suc (suc (suc zero)))))) off = out 6 refl off
+  others (suc (suc (suc (suc (suc (suc (suc k))))))) off = refl
+
+  all_within : f t ≡ parted.done_within cell us t (f (alone us t))
+  all_within =
+      ap (λ (u : Tables). record { tables = u; told = (f t).told })
+      (merged_within cell is_device us (λ u. (f u).tables) t
+      (record { alone = ap (λ (d : Done Tables Effect). d.tables) shown_done ∙ sym done_shown; others = others }))
+      ∙ ap (λ (told : List (ℕ × Effect)). record { tables = parted.merged cell us (f (alone us t)).tables t; told = told })
+      (sym (ap (λ (d : Done Tables Effect). d.told) shown_done))
 
 -- ---- each event
 
@@ -254,6 +292,8 @@ lacks_law : (us : List ℕ) (t : Tables) (row : ClientRow) (invoke : ℕ) (a : I
     → lacks_number (alone us t) row invoke a ≡ lacks_number t row invoke a
 lacks_law us t row invoke (OfDevice r) all = refl
 lacks_law us t row invoke (OfVariables r) all = refl
+lacks_law us t row invoke (OfInvocations r) all = refl
+lacks_law us t row invoke (OfPrograms r) all = refl
 lacks_law us t row invoke (OfSemaphores r) all = refl
 lacks_law us t row invoke (OfDomains r) all =
     ap (λ (d : DomainTables). lacks_number_in r no_facts row invoke d) (table_same cell is_device own_domains is_domains us t (all domains_table refl))
@@ -320,9 +360,10 @@ module _ (t : Tables) (row : ClientRow) (client : ℕ) where
   abbrev ComesWithin : List ℕ → Verdict → Type 0
   ComesWithin us w = comes_of t row client w ≡ parted.done_within cell us t (comes_of (alone us t) row client w)
 
-  lost_within : (asks : List ℕ) (w : Verdict) → ComesWithin (asks ++ (loss_tables ++ [])) w
-  lost_within asks w =
-      all_within (asks ++ (loss_tables ++ [])) (λ u. comes_of u row client w) t (λ k on. in_back asks (loss_tables ++ []) k (in_front loss_tables [] k on))
+  lost_within : (asks : List ℕ) (w : Verdict)
+      → ((u : Tables) (p : program.Rows) → comes_of (record u { programs = p }) row client w ≡ with_programs p (comes_of u row client w)) → ComesWithin (asks ++ (loss_tables ++ [])) w
+  lost_within asks w apart =
+      all_within (asks ++ (loss_tables ++ [])) (λ u. comes_of u row client w) t (λ k on. in_back asks (loss_tables ++ []) k (in_front loss_tables [] k on)) apart
 
   comes_within : (v : Verdict) → ComesWithin (heard_asks v ++ (more_of_verdict t row (resolved t row v) ++ [])) (resolved t row v)
   comes_within (Takes invoke asked) = by_test (lacks_number t row invoke (area_of asked))
@@ -331,7 +372,7 @@ module _ (t : Tables) (row : ClientRow) (client : ℕ) where
       turned b = if b then Exhausts invoke else Takes invoke asked
 
       by_test : (b : Bool) → ComesWithin (asks_of (area_of asked) ++ (more_of_verdict t row (turned b) ++ [])) (turned b)
-      by_test true = lost_within (asks_of (area_of asked)) (Exhausts invoke)
+      by_test true = lost_within (asks_of (area_of asked)) (Exhausts invoke) (λ u p. refl)
       by_test false = takes_law t row client invoke (area_of asked)
   comes_within (Replies number came) = by_test (lacks_number t row number (reply_in number came))
     where
@@ -339,7 +380,7 @@ module _ (t : Tables) (row : ClientRow) (client : ℕ) where
       turned b = if b then Aborts else Replies number came
 
       by_test : (b : Bool) → ComesWithin (asks_of (reply_in number came) ++ (more_of_verdict t row (turned b) ++ [])) (turned b)
-      by_test true = lost_within (asks_of (reply_in number came)) Aborts
+      by_test true = lost_within (asks_of (reply_in number came)) Aborts (λ u p. refl)
       by_test false = takes_law t row client number (reply_in number came)
   comes_within Concludes = by_test (keeps_upload t row)
     where
@@ -348,7 +389,7 @@ module _ (t : Tables) (row : ClientRow) (client : ℕ) where
 
       by_test : (b : Bool) → ComesWithin (heard_asks Concludes ++ (more_of_verdict t row (turned b) ++ [])) (turned b)
       by_test true = served.unchanged cell is_device (heard_asks Concludes) t (tell client keeps_open ++ [])
-      by_test false = lost_within (heard_asks Concludes) Concludes
+      by_test false = lost_within (heard_asks Concludes) Concludes (λ u p. refl)
   comes_within (Cancels invoke) = by_waiting (waiting_of invoke row.waiting)
     where
       us : List ℕ
@@ -361,8 +402,8 @@ module _ (t : Tables) (row : ClientRow) (client : ℕ) where
       by_waiting None = refl
       by_waiting (Some request) = refl
   comes_within (Tells effects) = served.unchanged cell is_device [] t (tell client effects ++ [])
-  comes_within (Exhausts invoke) = lost_within loss_tables (Exhausts invoke)
-  comes_within Aborts = lost_within loss_tables Aborts
+  comes_within (Exhausts invoke) = lost_within loss_tables (Exhausts invoke) (λ u p. refl)
+  comes_within Aborts = lost_within loss_tables Aborts (λ u p. refl)
 
 hears_law : (t : Tables) (row : ClientRow) (client : ℕ) (v : Verdict)
     → hears t row client v ≡ parted.done_within cell (heard_asks v ++ (heard_more t row v ++ [])) t (hears (alone (heard_asks v ++ (heard_more t row v ++ [])) t) row client v)
@@ -395,6 +436,7 @@ time_law ms t = by_clients (aborted (meanwhile ms t).happened) refl
         now = t.now + ms;
         variables = without_clients clients u.variables;
         domains = domains_without clients u.domains;
+        programs = u.programs;
         semaphores = (meanwhile ms t).rows;
       };
       told = all_told (meanwhile ms t).happened;

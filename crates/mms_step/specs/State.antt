@@ -11,8 +11,10 @@ use Rattle.association.specs.declared.waiting.Waiting.{Waiting}
 use Rattle.cell_config.specs.declared.config.Config.{Config}
 use Rattle.domain_load.specs.Domains.{name_eq}
 use Rattle.domain_upload.specs.Uploads.{AreOf}
+use Rattle.program_inv.specs.Programs.{Rows as Programs}
 use Rattle.serve_domains.specs.Loads.{AreLoads}
 use Rattle.serve_domains.specs.Tables.{DomainTables, no_domains}
+use Rattle.serve_programs.specs.Users.{AreUsed}
 use Rattle.variable_services.specs.declared.tables.VariableTables.{VariableTables}
 use Rattle.variable_services.specs.Services.{configured}
 use Rattle.mms_time.specs.Opening as pools
@@ -27,6 +29,8 @@ pub record State : Type 0 where
   pub variables : VariableTables
   -- domains and the uploads of them
   pub domains : DomainTables
+  -- program invocations
+  pub programs : Programs
   -- semaphores
   pub semaphores : Rows
   -- the rows of clients 1 to n, in this order
@@ -40,12 +44,14 @@ device_of config = record { edition = config.edition; vendor = config.vendor; mo
 abbrev pub first_rows : Config → ℕ → List ClientRow
 first_rows config n = map (λ c. new_row c (device_of config)) (clients_to n)
 
--- the start: it is the configured moment, there are the configured cells, variables and pools, no domains, and as many clients as are configured
+-- the start: it is the configured moment, there are the configured cells, variables and pools, no domains, no program invocations, and as
+-- many clients as are configured
 abbrev pub start : Config → State
 start config = record {
   now = config.start.0;
   variables = configured config.cells config.variables;
   domains = no_domains;
+  programs = [];
   semaphores = pools.configured config.pools;
   clients = first_rows config config.clients;
 }
@@ -70,8 +76,8 @@ HaveMadeAtMost count semaphores = All (λ row. made_in row.semaphore ≤ count) 
 
 -- What holds of each state of the device after so many events: it has 1 to 64 clients, in the order of their numbers, and their rows are sound; no token of its
 -- semaphores is owned twice, and no free one is waited for; each semaphore has made no more entries than there were events; each deadline lies ahead; no two domains
--- have one name; of each client the server's unanswered requests of a load are of the domains that it loads, one of each; and the domain of each open upload is there,
--- and isn't LOADING.
+-- have one name; of each client the server's unanswered requests of a load are of the domains that it loads, one of each; the domain of each open upload is there,
+-- and isn't LOADING; and the domains that program invocations name are there for them, and for no others.
 pub record IsSound (count : ℕ) (s : State) : Type 0 where
   pub some : 1 ≤ length s.clients
   pub few : length s.clients ≤ 64
@@ -82,6 +88,7 @@ pub record IsSound (count : ℕ) (s : State) : Type 0 where
   pub names : IsDistinct name_eq (keys_of s.domains.domains)
   pub loads : (i : ℕ) (row : ClientRow) → slice_get s.clients i ≡ Some row → AreLoads (i + 1) row.asked s.domains.domains
   pub uploads : AreOf s.domains.uploads s.domains.domains
+  pub used : AreUsed s.domains.domains s.programs
 
 -- six octets name its moment, which the ticks of all callers together keep and no caller alone can tell
 abbrev pub HasDate : State → Type 0

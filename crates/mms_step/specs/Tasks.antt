@@ -10,13 +10,16 @@ use Rattle.cell_client.specs.Association.{Verdict}
 use Rattle.cell_client.specs.Effects.{Effect, settled, tell}
 use Rattle.cell_services.specs.Meant.{no_tables, row_after}
 use Rattle.cell_services.specs.Serving.{hears, own_told, passes}
-use Rattle.cell_services.specs.Tables.{Tables, last_moment}
+use Rattle.cell_services.specs.Tables.{Tables, last_moment, own_invocations}
+use Rattle.program_inv.specs.Programs.{Rows}
+use Rattle.serve_domains.specs.Tables.{DomainTables}
+use Rattle.serve_programs.specs.Users.{AreUsed}
 use Rattle.mms_step.specs.declared.part.Part.{Part}
-use Rattle.mms_step.specs.declared.part.Part.TheVariants.{Client, Clock}
+use Rattle.mms_step.specs.declared.part.Part.TheVariants.{Client, Clock, Domains, Programs}
 use Rattle.mms_step.specs.declared.serving.Task.{Task}
 use Rattle.mms_step.specs.declared.serving.Task.TheVariants as task
 use Rattle.mms_step.specs.Needs.{verdict_need}
-use Rattle.mms_step.specs.Partition.{client_place, on_client, row_in, IsClient}
+use Rattle.mms_step.specs.Partition.{client_place, domains_in, on_client, programs_in, row_in, IsClient, IsDomains, IsPrograms}
 
 -- ---- tasks
 
@@ -63,6 +66,22 @@ pub record AreDone {A : Type 0} (own : Own Tables A) (wrap : A → Part) (t : Ta
   pub is_after : new ≡ Client after
   pub is_now : now ≡ wrap become
   pub done : IsDoneIn own t before.row become after v
+
+-- The same of one that makes or deletes a program invocation: the parts of its client, of the domains and of the program invocations after it
+pub record AreMade (t : Tables) (v : Verdict) (part new domains programs : Part) : Type 0 where
+  pub before : RoomyRow
+  pub after : RoomyRow
+  pub become : DomainTables × Rows
+  pub is_own : part ≡ Client before
+  pub is_after : new ≡ Client after
+  pub is_domains : domains ≡ Domains become.0
+  pub is_programs : programs ≡ Programs become.1
+  pub done : IsDoneIn own_invocations t before.row become after v
+
+-- where domains and program invocations are held, the domains have the names of the invocations that name them
+abbrev pub AreUsedIn : List (Option Part) → Type 0
+AreUsedIn hand =
+    IsDomains (held_at hand 2) → IsPrograms (held_at hand 3) → AreUsed (domains_in (held_at hand 2)).domains (programs_in (held_at hand 3))
 
 abbrev pub is_clock : Option Part → Bool
 is_clock (Some (Clock clock)) = true

@@ -21,7 +21,7 @@ ghost use Rattle.mms_step.specs.Needs.{need};
 ghost use Rattle.cell_client.specs.Reads.{IsDeep, IsReadOf, IsReadingOf};
 ghost use Rattle.cell_client.specs.Meant.{act_verdict, verdict_read, uses_no_table};
 ghost use Rattle.cell_client.specs.Requests.{plain_answer};
-ghost use Rattle.mms_step.specs.Tasks.{row_held, IsHeardInPlace, IsReady};
+ghost use Rattle.mms_step.specs.Tasks.{row_held, AreUsedIn, IsHeardInPlace, IsReady};
 ghost use Rattle.cell_services.specs.Serving.{hears};
 ghost use Rattle.mms_step.specs.After.{after};
 
@@ -29,6 +29,7 @@ use crate::areas::{cancel, serve_on_device, serve_on_semaphores, serve_on_variab
 use crate::domains::{reply_on_domains, serve_on_domains};
 use crate::needs::client_held;
 use crate::passing::tick;
+use crate::programs::{end_program, make_on_programs, serve_on_programs};
 use crate::serving::{Task, serve};
 use crate::tables::{BEFORE_CLIENTS, clients_of};
 use crate::{Cell, Part};
@@ -109,6 +110,7 @@ fn serve_request(
     requires ready { IsReady clients client (Takes invoke asked.now) held.old }
     requires tables { plain_answer (row_held held.old client) asked.now ≡ None }
     requires open { is_open (row_held held.old client).association ≡ true }
+    requires used { AreUsedIn held.old }
     ensures put { OnOk result (held.new ≡ put_in_place cell
         (hears (tables_shown cell held.old) (row_held held.old client) client
         (Takes invoke asked.now)) held.old) }
@@ -126,6 +128,12 @@ fn serve_request(
         }
         AreaRequest::Domains(asked) => {
             serve_on_domains(alloc, held, clients, client, invoke, asked)
+        }
+        AreaRequest::Invocations(asked) => {
+            make_on_programs(alloc, held, clients, client, invoke, asked)
+        }
+        AreaRequest::Programs(asked) => {
+            serve_on_programs(alloc, held, clients, client, invoke, asked)
         }
     }
 }
@@ -148,6 +156,7 @@ fn hear_read(
         held.old }
     requires loads { IsDomains (held_at held.old 2) → AreLoads client
         (row_held held.old client).asked (domains_in (held_at held.old 2)).domains }
+    requires used { AreUsedIn held.old }
     ensures heard { OnOk result (held.new ≡ put_in_place cell
         (hears (tables_shown cell held.old) (row_held held.old client) client
         (verdict_read (row_held held.old client) read.now)) held.old) }
@@ -185,6 +194,7 @@ fn hear_told(
         (row_held held.old client) told) held.old }
     requires loads { IsDomains (held_at held.old 2) → AreLoads client
         (row_held held.old client).asked (domains_in (held_at held.old 2)).domains }
+    requires used { AreUsedIn held.old }
     ensures heard { (told : Result Pdu Refusal) → Hears (λ r. r.pdu) read.now told
         → OnOk result (held.new ≡ put_in_place cell
         (hears (tables_shown cell held.old) (row_held held.old client) client
@@ -216,6 +226,7 @@ fn hear_octets(
         (row_held held.old client) (pdu_heard edition octets.now)) held.old }
     requires loads { IsDomains (held_at held.old 2) → AreLoads client
         (row_held held.old client).asked (domains_in (held_at held.old 2)).domains }
+    requires used { AreUsedIn held.old }
     ensures heard { OnOk result (held.new ≡ put_in_place cell
         (hears (tables_shown cell held.old) (row_held held.old client) client
         (verdict_by (row_held held.old client).association (row_held held.old client)
@@ -246,6 +257,7 @@ fn hear_from(
         held.old }
     requires loads { IsDomains (held_at held.old 2) → AreLoads client
         (row_held held.old client).asked (domains_in (held_at held.old 2)).domains }
+    requires used { AreUsedIn held.old }
     ensures heard { OnOk result (held.new ≡ put_in_place cell
         (hears (tables_shown cell held.old) (row_held held.old client) client
         (verdict (row_held held.old client) octets.now)) held.old) }
@@ -315,7 +327,10 @@ pub fn apply_read(
             &Task::Client(*client, Act::Loss),
         ),
         CellEvent::Tick { ms } => tick(alloc, held, clients, *ms),
-        CellEvent::Ends { .. } => Ok(()),
+        CellEvent::Ends { name } => {
+            end_program(held, name);
+            Ok(())
+        }
         CellEvent::Drain { client } => {
             let _outputs = drain(*client, held);
             Ok(())

@@ -16,12 +16,13 @@ ghost use Rattle.serve_semaphores.specs.Tokens.{told_after};
 ghost use Rattle.serve_variables.specs.Variables as of_variables;
 ghost use Rattle.cell_services.specs.Facts.{is_domain_live};
 ghost use Rattle.mms_step.specs.State.{State};
-ghost use Rattle.mms_step.specs.Partition.{cell, parts_of, clients_among, clock_in, client_in, client_place, row_in, semaphores_in, semaphores_place, variables_in, domains_in, IsClient, IsSemaphores, IsVariables};
+ghost use Rattle.mms_step.specs.Partition.{cell, parts_of, clients_among, clock_in, client_in, client_place, row_in, semaphores_in, semaphores_place, variables_in, domains_in, programs_in, IsClient, IsSemaphores, IsVariables};
 ghost use Rattle.mms_step.specs.Tasks.{row_held, AreDone, IsRoomless};
 
 use crate::applying::{put_client, take_client};
 use crate::domains::{domains_held, live_held};
 use crate::needs::{now_held, semaphores_held, variables_held};
+use crate::programs::programs_held;
 use crate::tables::{VARIABLES, semaphores as semaphores_part};
 use crate::telling::{make_rooms, tell_all};
 use crate::{Cell, Part};
@@ -29,6 +30,7 @@ use cell_client::Told;
 use mms_time::Semaphores;
 use mms_types::{DeviceRequest, Memory, Moment, SemaphoreRequest, VariableRequest};
 use part_table::Hand;
+use program_inv::Programs;
 use serve_domains::DomainTables;
 use std::alloc::Global;
 use variable_services::VariableTables;
@@ -346,6 +348,7 @@ fn device_in_part(
     part: &mut Part,
     variables: &VariableTables,
     domains: &DomainTables,
+    programs: &Programs,
     semaphores: &Semaphores,
     invoke: u32,
     asked: DeviceRequest<'_>,
@@ -353,20 +356,23 @@ fn device_in_part(
     requires client { IsClient (Some part.old) }
     requires tables { plain_answer (row_in (Some part.old)) (device_request asked) ≡ None }
     ensures served { OnOk result ((t : Tables) → t.variables ≡ variables.now
-        → t.domains ≡ domains.now → t.semaphores ≡ semaphores.now → IsDoneIn no_table t (row_in (Some part.old)) tt
+        → t.domains ≡ domains.now → t.programs ≡ programs.now → t.semaphores ≡ semaphores.now
+        → IsDoneIn no_table t (row_in (Some part.old)) tt
         (client_in (Some part.new)) (Takes invoke (device_request asked.entry))) }
     ensures client { IsClient (Some part.new) }
     ensures kept { OnErr result (part.new ≡ part.old) }
 {
     match part {
         Part::Client(own) => {
-            cell_services::serve_device(alloc, own, variables, domains, semaphores, invoke, asked)
+            cell_services::serve_device(
+                alloc, own, variables, domains, programs, semaphores, invoke, asked,
+            )
         }
         _ => unreachable!(),
     }
 }
 
-/// The same, where the domains and the semaphores are those that are held.
+/// The same, where the domains, the program invocations and the semaphores are those that are held.
 fn device_beside(
     alloc: Global,
     held: &Hand<Cell>,
@@ -380,7 +386,8 @@ fn device_beside(
     requires client { IsClient (Some part.old) }
     requires tables { plain_answer (row_in (Some part.old)) (device_request asked) ≡ None }
     ensures served { OnOk result ((t : Tables) → t.variables ≡ variables.now
-        → t.domains ≡ domains_in (held_at held.now 2) → t.semaphores
+        → t.domains ≡ domains_in (held_at held.now 2)
+        → t.programs ≡ programs_in (held_at held.now 3) → t.semaphores
         ≡ semaphores_in (held_at held.now (semaphores_place clients)) → IsDoneIn no_table t
         (row_in (Some part.old)) tt (client_in (Some part.new))
         (Takes invoke (device_request asked.entry))) }
@@ -391,7 +398,11 @@ fn device_beside(
     let semaphores = semaphores_held(held, clients, &none);
     let no_domains = DomainTables::empty(alloc);
     let domains = domains_held(held, &no_domains);
-    device_in_part(alloc, part, variables, domains, semaphores, invoke, asked)
+    let no_programs = Programs::new(alloc);
+    let programs = programs_held(held, &no_programs);
+    device_in_part(
+        alloc, part, variables, domains, programs, semaphores, invoke, asked,
+    )
 }
 
 /// The same, where the variables are those that are held, too.
@@ -408,6 +419,7 @@ fn device_on(
     requires tables { plain_answer (row_in (Some part.old)) (device_request asked) ≡ None }
     ensures served { OnOk result ((t : Tables) → t.variables ≡ variables_in (held_at held.now 1)
         → t.domains ≡ domains_in (held_at held.now 2)
+        → t.programs ≡ programs_in (held_at held.now 3)
         → t.semaphores ≡ semaphores_in (held_at held.now (semaphores_place clients))
         → IsDoneIn no_table t (row_in (Some part.old)) tt (client_in (Some part.new))
         (Takes invoke (device_request asked.entry))) }

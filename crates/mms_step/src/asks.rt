@@ -123,6 +123,8 @@ pub(crate) fn request_asks(asked: &Request, clients: u32) -> Parts
             semaphore_asks(serve_semaphores::names_domain(asked), clients)
         }
         AreaRequest::Domains(asked) => domain_asks(scope_asked(asked).is_some(), clients),
+        AreaRequest::Invocations(_) => Parts::of(&[DOMAINS, PROGRAMS]),
+        AreaRequest::Programs(_) => Parts::of(&[PROGRAMS]),
     }
 }
 
@@ -160,8 +162,10 @@ pub(crate) fn request_more(
 {
     match asked.area() {
         AreaRequest::Variables(asked) => guards_asked(alloc, held, client, asked, clients),
-        AreaRequest::Device(_) | AreaRequest::Semaphores(_) | AreaRequest::Domains(_) => {
-            Parts::new()
-        }
+        AreaRequest::Device(_)
+        | AreaRequest::Semaphores(_)
+        | AreaRequest::Domains(_)
+        | AreaRequest::Invocations(_)
+        | AreaRequest::Programs(_) => Parts::new(),
     }
 }

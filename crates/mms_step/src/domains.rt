@@ -37,7 +37,7 @@ use std::alloc::Global;
 use variable_services::VariableTables;
 
 /// Takes the part of the domains, which is held, out of its place.
-fn take_domains(held: &mut Hand<Cell>) -> Box<Part>
+pub(crate) fn take_domains(held: &mut Hand<Cell>) -> Box<Part>
     requires held { IsDomains (held_at held.old 2) }
     ensures part { Some result.value ≡ held_at held.old 2 }
     ensures left { held.new ≡ slice_set held.old 2 None }
@@ -50,7 +50,7 @@ fn take_domains(held: &mut Hand<Cell>) -> Box<Part>
 }
 
 /// Puts the part of the domains into its place.
-fn put_domains(held: &mut Hand<Cell>, part: Box<Part>)
+pub(crate) fn put_domains(held: &mut Hand<Cell>, part: Box<Part>)
     requires place { 2 < length held.old }
     ensures { held.new ≡ slice_set held.old 2 (Some part.value) }
 {

@@ -13,6 +13,7 @@ mod needs;
 mod opening;
 mod part;
 mod passing;
+mod programs;
 mod serving;
 mod tables;
 mod telling;

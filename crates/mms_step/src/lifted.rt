@@ -2,15 +2,16 @@
 
 ghost use Rattle.std.specs.Prelude.{◌≡◌, ◌≤◌, length};
 ghost use Rattle.part_table.specs.Held.{held_at};
-ghost use Rattle.mms_step.specs.Lifting.{clocked, domained, tabled, varied, with_semaphores};
+ghost use Rattle.mms_step.specs.Lifting.{clocked, domained, tabled, varied, with_programs, with_semaphores};
 ghost use Rattle.cell_services.specs.Meant.{no_tables};
-ghost use Rattle.mms_step.specs.Partition.{clients_among, clock_in, clock_or, domains_in, domains_or, semaphores_in, semaphores_or, semaphores_place, variables_in, variables_or};
+ghost use Rattle.mms_step.specs.Partition.{clients_among, clock_in, clock_or, domains_in, domains_or, programs_in, programs_or, semaphores_in, semaphores_or, semaphores_place, variables_in, variables_or};
 
 use crate::tables::semaphores as semaphores_part;
 use crate::{Cell, Part};
 use cell_services::{Clock, Tables};
 use mms_time::Semaphores;
 use part_table::Hand;
+use program_inv::Programs;
 use serve_domains::DomainTables;
 use std::alloc::Global;
 use std::mem;
@@ -64,6 +65,22 @@ fn exchange_domains(held: &mut Hand<Cell>, domains: &mut DomainTables)
     held.put(2, part);
 }
 
+/// Exchanges the program invocations with those of the part, where they are held.
+fn exchange_programs(held: &mut Hand<Cell>, programs: &mut Programs)
+    ensures part { held.new ≡ with_programs programs.old held.old }
+    ensures programs { programs.new ≡ programs_or programs.old (held_at held.old 3) }
+{
+    let Some(mut part) = held.take(3) else {
+        return;
+    };
+    if let Part::Programs(own) = &mut *part {
+        mem::swap(own, programs);
+        held.put(3, part);
+        return;
+    }
+    held.put(3, part);
+}
+
 /// Exchanges the semaphores with those of the part, where they are held, with so many clients.
 fn exchange_semaphores(held: &mut Hand<Cell>, clients: u32, semaphores: &mut Semaphores)
     requires many { clients ≡ clients_among (length held.old) }
@@ -92,6 +109,7 @@ pub(crate) fn lift(alloc: Global, held: &mut Hand<Cell>, clients: u32) -> Tables
       now = clock_in (held_at held.old 0);
       variables = variables_in (held_at held.old 1);
       domains = domains_in (held_at held.old 2);
+      programs = programs_in (held_at held.old 3);
       semaphores = semaphores_in (held_at held.old (semaphores_place clients));
     } }
     ensures left { held.new ≡ tabled no_tables held.old }
@@ -100,6 +118,7 @@ pub(crate) fn lift(alloc: Global, held: &mut Hand<Cell>, clients: u32) -> Tables
     exchange_clock(held, &mut tables.clock);
     exchange_variables(held, &mut tables.variables);
     exchange_domains(held, &mut tables.domains);
+    exchange_programs(held, &mut tables.programs);
     exchange_semaphores(held, clients, &mut tables.semaphores);
     tables
 }
@@ -114,5 +133,6 @@ pub(crate) fn lower(held: &mut Hand<Cell>, clients: u32, tables: Tables)
     exchange_clock(held, &mut tables.clock);
     exchange_variables(held, &mut tables.variables);
     exchange_domains(held, &mut tables.domains);
+    exchange_programs(held, &mut tables.programs);
     exchange_semaphores(held, clients, &mut tables.semaphores);
 }

@@ -101,9 +101,11 @@ fn request_lacks(
             let none = DomainTables::empty(alloc);
             lacks_number(alloc, part, domains_held(held, &none), invoke, asked)
         }
-        AreaRequest::Device(_) | AreaRequest::Variables(_) | AreaRequest::Semaphores(_) => {
-            Ok(false)
-        }
+        AreaRequest::Device(_)
+        | AreaRequest::Variables(_)
+        | AreaRequest::Semaphores(_)
+        | AreaRequest::Invocations(_)
+        | AreaRequest::Programs(_) => Ok(false),
     }
 }
 

@@ -15,6 +15,7 @@ use cell_config::Config;
 use cell_services::Clock;
 use mms_time::Semaphores;
 use mms_types::Memory;
+use program_inv::Programs;
 use serve_domains::DomainTables;
 use std::alloc::Global;
 use variable_services::VariableTables;
@@ -74,7 +75,7 @@ pub fn start_parts(alloc: Global, config: &Config) -> Result<Vec<Box<Part>>, Mem
         Part::Variables(variables(alloc, config)?),
     )?;
     put(alloc, &mut parts, Part::Domains(DomainTables::empty(alloc)))?;
-    put(alloc, &mut parts, Part::Programs)?;
+    put(alloc, &mut parts, Part::Programs(Programs::new(alloc)))?;
     put(alloc, &mut parts, Part::Conditions)?;
     put(alloc, &mut parts, Part::Journals)?;
     for client in 0..config.clients {

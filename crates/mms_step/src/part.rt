@@ -3,6 +3,7 @@
 use cell_client::Client;
 use cell_services::Clock;
 use mms_time::Semaphores;
+use program_inv::Programs;
 use serve_domains::DomainTables;
 use variable_services::VariableTables;
 
@@ -14,8 +15,8 @@ pub enum Part {
     Variables(VariableTables),
     /// Part 2: domains and uploads.
     Domains(DomainTables),
-    /// Part 3: program invocations. There are none yet.
-    Programs,
+    /// Part 3: program invocations.
+    Programs(Programs),
     /// Part 4: event conditions and enrolments. There are none yet.
     Conditions,
     /// Part 5: journals. There are none yet.
@@ -32,7 +33,7 @@ impl Drop for Part {
             Part::Clock(_clock) => {}
             Part::Variables(_variables) => {}
             Part::Domains(_domains) => {}
-            Part::Programs => {}
+            Part::Programs(_programs) => {}
             Part::Conditions => {}
             Part::Journals => {}
             Part::Client(_client) => {}

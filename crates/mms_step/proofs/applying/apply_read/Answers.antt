@@ -11,8 +11,8 @@ use Rattle.mms_step.specs.Step.{IsInTime}
 use Rattle.mms_step.specs.Partition.{cell, clients_among, clock_in}
 use Rattle.mms_step.specs.Needs.{need}
 use Rattle.cell_services.specs.Serving.{hears}
-use Rattle.mms_step.proofs.Enough.{client_is_held, lost_is_held, heard_becomes, lost_becomes, ticked_becomes, ended_becomes, drained_becomes, becomes_as, places_either}
-use Rattle.mms_step.proofs.Ready.{loads_held, ready_to_hear}
+use Rattle.mms_step.proofs.Enough.{client_is_held, lost_is_held, heard_becomes, lost_becomes, ticked_becomes, ended_becomes, drained_becomes, becomes_as, places_either, programs_are_held}
+use Rattle.mms_step.proofs.Ready.{loads_held, ready_to_hear, used_held}
 use Rattle.mms_step.proofs.applying.apply_read.Goals as goal
 
 pub hear_from-requires-clause-held : goal.hear_from-requires-clause-held
@@ -152,12 +152,27 @@ returns-in-Drain-clause-places c =
     (subst (λ (e : CellEvent). IsAmong (clients_among (length c.args.held.now)) e) c.in-Drain.is c.requires.among)
     (subst (λ (e : CellEvent). need e c.args.held.now ≡ []) c.in-Drain.is c.requires.held) c.drain-outputs.ensures.emptied)).places
 
+pub hear_from-requires-clause-used : goal.hear_from-requires-clause-used
+hear_from-requires-clause-used c = used_held c.args.held.now c.requires.of
+
+pub end_program-requires : goal.end_program-requires
+end_program-requires c =
+    programs_are_held c.args.held.now c.in-Ends.name c.requires.of (subst (λ (e : CellEvent). need e c.args.held.now ≡ []) c.in-Ends.is c.requires.held)
+
 pub returns-in-Ends-clause-step : goal.returns-in-Ends-clause-step
 returns-in-Ends-clause-step c =
-    (becomes_as c.args.held.now c.args.held.now c.args.event.now (Ends c.in-Ends.name) c.in-Ends.is
-    (ended_becomes c.args.held.now c.in-Ends.name c.requires.of (subst (λ (e : CellEvent). need e c.args.held.now ≡ []) c.in-Ends.is c.requires.held))).step
+    (becomes_as c.args.held.now c.end_program.new.held c.args.event.now (Ends c.in-Ends.name) c.in-Ends.is
+    (ended_becomes c.args.held.now c.end_program.new.held c.in-Ends.name c.requires.of (subst (λ (e : CellEvent). need e c.args.held.now ≡ []) c.in-Ends.is c.requires.held)
+    c.end_program.ensures)).step
 
 pub returns-in-Ends-clause-parts : goal.returns-in-Ends-clause-parts
 returns-in-Ends-clause-parts c =
-    (becomes_as c.args.held.now c.args.held.now c.args.event.now (Ends c.in-Ends.name) c.in-Ends.is
-    (ended_becomes c.args.held.now c.in-Ends.name c.requires.of (subst (λ (e : CellEvent). need e c.args.held.now ≡ []) c.in-Ends.is c.requires.held))).parts
+    (becomes_as c.args.held.now c.end_program.new.held c.args.event.now (Ends c.in-Ends.name) c.in-Ends.is
+    (ended_becomes c.args.held.now c.end_program.new.held c.in-Ends.name c.requires.of (subst (λ (e : CellEvent). need e c.args.held.now ≡ []) c.in-Ends.is c.requires.held)
+    c.end_program.ensures)).parts
+
+pub returns-in-Ends-clause-places : goal.returns-in-Ends-clause-places
+returns-in-Ends-clause-places c =
+    (becomes_as c.args.held.now c.end_program.new.held c.args.event.now (Ends c.in-Ends.name) c.in-Ends.is
+    (ended_becomes c.args.held.now c.end_program.new.held c.in-Ends.name c.requires.of (subst (λ (e : CellEvent). need e c.args.held.now ≡ []) c.in-Ends.is c.requires.held)
+    c.end_program.ensures)).places

@@ -7,7 +7,7 @@ use Rattle.cell_client.specs.Requests.{plain_answer}
 use Rattle.cell_services.specs.Serving.{hears}
 use Rattle.mms_step.specs.Partition.{cell}
 use Rattle.mms_step.specs.Tasks.{row_held}
-use Rattle.mms_step.proofs.Ready.{domains_there, semaphores_there, variables_there}
+use Rattle.mms_step.proofs.Ready.{domains_there, invocations_there, programs_there, semaphores_there, variables_there}
 use Rattle.mms_step.proofs.applying.serve_request.Goals as goal
 
 pub serve_on_device-requires-clause-tables : goal.serve_on_device-requires-clause-tables
@@ -54,3 +54,31 @@ returns-in-Semaphores-clause-put c =
     (λ put. put
     ∙ ap (λ (r : Request). put_in_place cell (hears (tables_shown cell c.args.held.now) (row_held c.args.held.now c.args.client) c.args.client (Takes c.args.invoke r)) c.args.held.now) c.in-Semaphores.ensures)
     c.serve_on_semaphores.ensures.put
+
+pub serve_on_programs-requires-clause-table : goal.serve_on_programs-requires-clause-table
+serve_on_programs-requires-clause-table c =
+    programs_there c.requires.of.0 c.args.held.now c.requires.of.1 c.args.clients c.args.client c.args.invoke c.in-Programs.asked c.args.asked.now c.in-Programs.ensures c.requires.ready
+
+pub make_on_programs-requires-clause-domains : goal.make_on_programs-requires-clause-domains
+make_on_programs-requires-clause-domains c =
+    (invocations_there c.requires.of.0 c.args.held.now c.requires.of.1 c.args.clients c.args.client c.args.invoke c.in-Invocations.asked c.args.asked.now c.in-Invocations.ensures
+    c.requires.ready).0
+
+pub make_on_programs-requires-clause-programs : goal.make_on_programs-requires-clause-programs
+make_on_programs-requires-clause-programs c =
+    (invocations_there c.requires.of.0 c.args.held.now c.requires.of.1 c.args.clients c.args.client c.args.invoke c.in-Invocations.asked c.args.asked.now c.in-Invocations.ensures
+    c.requires.ready).1
+
+pub returns-in-Programs-clause-put : goal.returns-in-Programs-clause-put
+returns-in-Programs-clause-put c =
+    on_ok_weaker c.serve_on_programs.result
+    (λ put. put
+    ∙ ap (λ (r : Request). put_in_place cell (hears (tables_shown cell c.args.held.now) (row_held c.args.held.now c.args.client) c.args.client (Takes c.args.invoke r)) c.args.held.now) c.in-Programs.ensures)
+    c.serve_on_programs.ensures.put
+
+pub returns-in-Invocations-clause-put : goal.returns-in-Invocations-clause-put
+returns-in-Invocations-clause-put c =
+    on_ok_weaker c.make_on_programs.result
+    (λ put. put
+    ∙ ap (λ (r : Request). put_in_place cell (hears (tables_shown cell c.args.held.now) (row_held c.args.held.now c.args.client) c.args.client (Takes c.args.invoke r)) c.args.held.now) c.in-Invocations.ensures)
+    c.make_on_programs.ensures.put

@@ -1,4 +1,4 @@
-use Rattle.std.proofs.Common.{◌≡◌, ℕ, ◌+◌, ◌≤◌, Option, Some, ap, sym, ◌∙◌, subst, set, refl}
+use Rattle.std.proofs.Common.{◌≡◌, ℕ, ◌+◌, ◌≤◌, Some, ap, ◌∙◌, subst, set, refl}
 use Rattle.std.proofs.lemmas.Result.{on_ok_weaker}
 use Rattle.cell_client.specs.Association.{Cancels}
 use Rattle.cell_services.specs.Tables.{Tables, own_semaphores}

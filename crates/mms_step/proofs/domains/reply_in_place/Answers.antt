@@ -1,6 +1,5 @@
-use Rattle.std.proofs.Common.{◌≡◌, ℕ, ◌+◌, ◌≤◌, List, Option, None, Some, true, false, ap, sym, ◌∙◌, subst, set, arith}
+use Rattle.std.proofs.Common.{◌≡◌, ℕ, ◌+◌, ◌≤◌, Option, Some, true, false, ap, sym, ◌∙◌, subst, set}
 use Rattle.std.proofs.lemmas.Result.{on_ok_weaker}
-use Rattle.part_table.specs.Held.{held_at}
 use Rattle.association.specs.Asked.{is_open}
 use Rattle.cell_client.specs.Areas.{lacks_number_in}
 use Rattle.cell_client.specs.Association.{Replies}
