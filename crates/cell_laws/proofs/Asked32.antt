@@ -166,7 +166,15 @@ other-few n v none =
     (either (n == 30) _ _ (record { few = tt })
     (either (n == 31) _ _ (record { few = tt })
     (either (n == 36) _ _ (record { few = tt })
-    (either (n == 37) _ _ (record { few = tt }) (record { few = tt }))))))))))))))))))))))))
+    (either (n == 37) _ _ (record { few = tt })
+    (either (n == 38) _ _ (record { few = tt })
+    (either (n == 39) _ _ (record { few = tt })
+    (either (n == 40) _ _ (record { few = tt })
+    (either (n == 41) _ _ (record { few = tt })
+    (either (n == 42) _ _ (record { few = tt })
+    (either (n == 43) _ _ (record { few = tt })
+    (either (n == 44) _ _ (record { few = tt })
+    (either (n == 45) _ _ (record { few = tt }) (record { few = tt }))))))))))))))))))))))))))))))))
 
 abbrev members : Form → Components
 members (sequence cs) = cs

@@ -103,6 +103,7 @@ few_kept = record {
       let less : length r.asked < calling_of r.association = grind (arith, nat_tests, free) in
       omega (arith, l, less));
   deleted = λ log d rows name none all. all;
+  used = λ log d rows name f of all. all;
   replied = λ log d rows k row number came there apart is all.
       let next = asked_next (reply_of came (is.kind, is.name)) d in
       subst (λ (told : List (ℕ × Effect)). AllRows IsFew (delivered cell told rows)) (sym (as_told (suc k) number next is.name))

@@ -42,11 +42,14 @@ pub mod LiveStays
 pub mod ScopesKept
 pub mod ScopesAlong
 pub mod WorkedScopes
+pub mod UsersLive
+pub mod WorkedPrograms
 pub mod LoadRows
 pub mod LoadMeant
+pub mod LoadTold
+pub mod LoadUsers
 pub mod LoadWalk
 pub mod AskedFew
-pub mod LoadTold
 pub mod LoadsTold
 pub mod LoadsEnded
 pub mod LoadsStay

@@ -2,7 +2,7 @@
 use Rattle.std.proofs.Common.{◌≡◌, ◌∙◌, ℕ, ◌==◌, nat_lt, Bool, true, false, not, cond, List, [], ◌∷◌, ◌++◌, length, Option, None, Some, is_some, refl, ap, sym, subst}
 use Rattle.std.specs.Prelude.{◌||◌}
 use Rattle.std.specs.List.{IsDistinct}
-use Rattle.std.specs.Map.{keys_of, lookup}
+use Rattle.std.specs.Map.{keys_of, lookup, set_value}
 use Rattle.std.specs.Option.{option_map_or}
 use Rattle.std.proofs.lemmas.Bool.Decides.{Decides-eqb}
 use Rattle.std.proofs.lemmas.Slice.Eq.{slice_eq-Decides}
@@ -12,10 +12,11 @@ use Rattle.mms_types.specs.declared.asked.Reply.{Reply}
 use Rattle.mms_types.specs.declared.domain.InitiateDownloadSequence.{InitiateDownloadSequence}
 use Rattle.mms_types.specs.declared.service_error.ServiceError.{ServiceError}
 use Rattle.domain_load.specs.Domains.{Rows, delete_cause, is_held, is_there, name_eq, named, without, without_loads}
-use Rattle.domain_load.specs.Loading.{answers_load, begun, domain_of, initiate_after, reply_after}
+use Rattle.domain_load.specs.Loading.{answers_load, begun, changed, domain_of, initiate_after, reply_after}
 use Rattle.domain_load.specs.Standing.{is_live, is_loaded_by, is_loading}
+use Rattle.domain_load.specs.Used.{after_unused, after_used, had_by, left_by}
 use Rattle.domain_load.specs.declared.domain.Domain.{Domain}
-use Rattle.domain_load.proofs.Outcomes.{gone_others, reply_others, there}
+use Rattle.domain_load.proofs.Outcomes.{found_changed, gone_others, reply_others, there}
 
 -- a domain that is live before is so after
 abbrev pub StayLive : Rows → Rows → Type 0
@@ -93,6 +94,29 @@ replied_stays client answer rows distinct own name live = by_name (name_eq (doma
         let loaded = d.2 in
         absurd (cc (none, loaded))
     by_name false apart = ap live_in (reply_others client answer rows name distinct own apart) ∙ live
+
+-- ---- a program invocation comes to domains, or leaves them
+
+live_changed : (name : List ℕ) (f : Domain → Domain) (rows : Rows) → ((domain : Domain) → (f domain).loader ≡ domain.loader) → StayLive rows (changed name f rows)
+live_changed name f rows keeps other live = by_found (named name rows) refl
+  where
+    by_test : (x : Domain) → named name rows ≡ Some x → (b : Bool) → name_eq name other ≡ b → live_in (cond b (Some (f x)) (named other rows)) ≡ true
+    by_test x e true same =
+        let found : named other rows ≡ Some x = ap (λ (n : List ℕ). named n rows) (sym (names_same name other same)) ∙ e in
+        ap (λ (o : Option ℕ). not (is_some o)) (keeps x) ∙ sym (ap live_in found) ∙ live
+    by_test x e false apart = live
+
+    by_found : (o : Option Domain) → named name rows ≡ o → is_there is_live other (changed name f rows) ≡ true
+    by_found None e = ap (λ (o : Option Domain). is_there is_live other (option_map_or (λ x. set_value (name_eq name) rows (f x)) o rows)) e ∙ live
+    by_found (Some x) e = ap live_in (found_changed name other f rows x e) ∙ by_test x e (name_eq name other) refl
+
+pub used_stay : (names : List (List ℕ)) (by : List ℕ) (rows : Rows) → StayLive rows (after_used names by rows)
+used_stay [] by rows name live = live
+used_stay (own ∷ names) by rows name live = used_stay names by (changed own (had_by by) rows) name (live_changed own (had_by by) rows (λ domain. refl) name live)
+
+pub unused_stay : (names : List (List ℕ)) (by : List ℕ) (rows : Rows) → StayLive rows (after_unused names by rows)
+unused_stay [] by rows name live = live
+unused_stay (own ∷ names) by rows name live = unused_stay names by (changed own (left_by by) rows) name (live_changed own (left_by by) rows (λ domain. refl) name live)
 
 -- ---- a domain is deleted
 

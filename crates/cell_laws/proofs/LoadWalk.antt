@@ -1,5 +1,6 @@
 -- What holds of loads, of domains and of the rows of clients holds along a history, where each thing that may be done to them keeps it.
 use Rattle.std.specs.Prelude.{◌≡◌, ℕ, zero, suc, ◌+◌, Bool, true, false, not, fold, length, Option, None, Some, List, [], ◌∷◌, ◌++◌, option_to_list, option_map, slice_get, unwrap_or, Result, if◌then◌else◌, nat_le, nat_lt, is_some, refl}
+use Rattle.std.specs.Option.{option_map_or}
 use Rattle.std.proofs.Common.{ap, sym, ◌∙◌, subst, arith, append-nil, append_assoc}
 use Rattle.mms_types.proofs.Conditions.{none_holds}
 use Rattle.mms_types.specs.Errors.{capability_unavailable, object_exists}
@@ -29,9 +30,13 @@ use Rattle.association.specs.declared.negotiation.Association.TheVariants.{Idle,
 use Rattle.association.specs.declared.unanswered.Unanswered.{Unanswered}
 use Rattle.association.specs.declared.waiting.Waiting.{Waiting}
 use Rattle.domain_load.specs.Domains.{Rows, is_there, named, without, without_loads}
-use Rattle.domain_load.specs.Loading.{asked_next, initiate_after, initiate_cause, most_domains, reply_after}
+use Rattle.domain_load.specs.Loading.{asked_next, changed, initiate_after, initiate_cause, most_domains, reply_after}
 use Rattle.domain_load.specs.Standing.{is_loading}
+use Rattle.domain_load.specs.Used.{after_unused, after_used, had_by, left_by}
+use Rattle.domain_load.specs.declared.domain.Domain.{Domain}
 use Rattle.domain_load.proofs.Outcomes.{there}
+use Rattle.program_inv.specs.Programs as program
+use Rattle.program_inv.specs.declared.invocation.Invocation.{Invocation}
 use Rattle.parted_state.specs.Served.{delivered, row_at}
 use Rattle.cell_client.specs.Areas.{OutcomeIn}
 use Rattle.cell_client.specs.Association.{Came, Verdict, Tells, Takes, Replies, Exhausts, Concludes, Cancels, Aborts, abort_told, cancel_told, conclusion_told, idle_verdict, loss_told, other_error, verdict}
@@ -42,6 +47,7 @@ use Rattle.serve_domains.proofs.Answered.{told_idle}
 use Rattle.serve_domains.specs.Domains.{asks_next, calling_left, calling_of, delete, replied_to, reply_of}
 use Rattle.serve_domains.specs.Tables.{DomainTables}
 use Rattle.serve_domains.specs.Tables as domains
+use Rattle.serve_programs.specs.Programs.{with_domains}
 use Rattle.cell_services.specs.Requests.{among, told_in}
 use Rattle.cell_services.specs.Services.{area_of, cause, effect, grants_told, relinquish_outcome, reply_in, take_outcome}
 use Rattle.cell_services.specs.Serving.{aborted, all_told, also_lost, also_served, also_told, domains_without, happening_told, is_served_in, loss_also, meanwhile, own_told, resolved, served_told, tables_cancelled, tables_heard, tables_lost, tables_served, waiting_of, without_client}
@@ -53,6 +59,7 @@ use Rattle.mms_step.specs.State.{IsSound, IsSoundRow, State}
 use Rattle.mms_step.specs.Step.{step}
 use Rattle.cell_laws.specs.Loads.{Answers, Begins, LoadStep, load_begun, load_heard, load_step, load_steps}
 use Rattle.cell_laws.proofs.LoadMeant.{IsBoth, IsReply, resolved_both}
+use Rattle.cell_laws.proofs.LoadUsers.{IsOfUsers}
 use Rattle.cell_laws.proofs.LoadRows.{ArePlain, IsLike, grants_plain, none_told, plain_told}
 
 -- one step more, where there is one
@@ -65,7 +72,8 @@ logged_all log None rest = refl
 logged_all log (Some one) rest = append_assoc log (one ∷ []) rest
 
 -- Of the steps of loads, domains and clients something holds whatever is done to them: clients are told something that changes neither what is asked of them nor
--- their associations; one is told what its octets come to at once; its association ends; a load begins; a domain is deleted; a request of a load is answered.
+-- their associations; one is told what its octets come to at once; its association ends; a load begins; a domain is deleted; a request of a load is answered;
+-- program invocations come to a domain or leave it.
 pub record IsKept (P : List LoadStep → Rows → List ClientRow → Type 0) : Type 0 where
   pub plain : (log : List LoadStep) (d : Rows) (told : List (ℕ × Effect)) (rows : List ClientRow) → ArePlain told → P log d rows → P log d (delivered cell told rows)
   pub spared : (log : List LoadStep) (d : Rows) (rows : List ClientRow) (k : ℕ) (row : ClientRow) (effects : List Effect) → slice_get rows k ≡ Some row → AreApart row.asked
@@ -77,6 +85,7 @@ pub record IsKept (P : List LoadStep → Rows → List ClientRow → Type 0) : T
       → ((row : ClientRow) → slice_get rows k ≡ Some row → calling_left row ≡ true) → initiate_cause left x d ≡ None → P log d rows
       → P (log ++ Begins (suc k) x ∷ []) (initiate_after (suc k) x d) (delivered cell ((suc k, Asks asks.Segment x.domain) ∷ []) rows)
   pub deleted : (log : List LoadStep) (d : Rows) (rows : List ClientRow) (name : List ℕ) → is_there is_loading name d ≡ false → P log d rows → P log (without name d) rows
+  pub used : (log : List LoadStep) (d : Rows) (rows : List ClientRow) (name : List ℕ) (f : Domain → Domain) → IsOfUsers f → P log d rows → P log (changed name f d) rows
   pub replied : (log : List LoadStep) (d : Rows) (rows : List ClientRow) (k : ℕ) (row : ClientRow) (number : ℕ) (came : Came) → slice_get rows k ≡ Some row
       → AreApart row.asked → (is : IsReply row.asked number came) → P log d rows
       → P (log ++ Answers (suc k) (reply_of came (is.kind, is.name)) ∷ []) (reply_after (reply_of came (is.kind, is.name)) d)
@@ -126,6 +135,15 @@ module _ (P : List LoadStep → Rows → List ClientRow → Type 0) (kept : IsKe
       → P after d (delivered cell (own ++ also) rows)
   both after d own also rows is = subst (λ (l : List ClientRow). P after d l) (sym (delivered_both own also rows)) is
 
+  -- a program invocation comes to domains, or leaves them
+  used_kept : (names : List (List ℕ)) (by : List ℕ) (d : Rows) (rows : List ClientRow) → P log d rows → P log (after_used names by d) rows
+  used_kept [] by d rows is = is
+  used_kept (name ∷ names) by d rows is = used_kept names by (changed name (had_by by) d) rows (kept.used log d rows name (had_by by) (λ domain. refl) is)
+
+  unused_kept : (names : List (List ℕ)) (by : List ℕ) (d : Rows) (rows : List ClientRow) → P log d rows → P log (after_unused names by d) rows
+  unused_kept [] by d rows is = is
+  unused_kept (name ∷ names) by d rows is = unused_kept names by (changed name (left_by by) d) rows (kept.used log d rows name (left_by by) (λ domain. refl) is)
+
   -- ---- what is heard
 
   module _ (t : Tables) (row : ClientRow) (k : ℕ) (own : row.client ≡ suc k) where
@@ -155,6 +173,12 @@ module _ (P : List LoadStep → Rows → List ClientRow → Type 0) (kept : IsKe
         by_grant : (o : Option (Option Granted)) → P log (relinquish_outcome t row.client x o).tables.domains.domains (delivered cell (relinquish_outcome t row.client x o).also rows)
         by_grant None = is
         by_grant (Some grant) = kept.plain log d (grants_told (option_to_list grant)) rows (grants_plain (option_to_list grant)) is
+    request_kept rows invoke (request.CreateProgramInvocation x) like none is = used_kept x.domains x.name d rows is
+    request_kept rows invoke (request.DeleteProgramInvocation name) like none is = by_found (program.named name t.programs)
+      where
+        by_found : (o : Option Invocation) → P log (option_map_or (λ p. with_domains (after_unused p.domains name t.domains.domains) t.domains) o t.domains).domains rows
+        by_found None = is
+        by_found (Some p) = unused_kept p.domains name d rows is
     request_kept rows invoke asked like none is = is
 
     module _ (rows : List ClientRow) (there : slice_get rows k ≡ Some row) (is : P log d rows) where

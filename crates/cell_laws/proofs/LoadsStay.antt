@@ -27,8 +27,11 @@ use Rattle.cell_config.specs.Said.{IsConfig}
 use Rattle.domain_load.specs.Domains.{Rows, is_there, name_eq, named, without, without_loads}
 use Rattle.domain_load.specs.Loading.{answers_load, changed, domain_of, loaded, reply_after, with_segment}
 use Rattle.domain_load.specs.Standing.{is_loaded_by, is_loading}
+use Rattle.domain_load.specs.Used.{after_unused, after_used, had_by, left_by}
 use Rattle.domain_load.specs.declared.domain.Domain.{Domain}
 use Rattle.domain_load.proofs.Outcomes.{begin_others, gone_others, is_changed, lost_others, reply_others, there}
+use Rattle.program_inv.specs.Programs as program
+use Rattle.program_inv.specs.declared.invocation.Invocation.{Invocation}
 use Rattle.parted_state.specs.Served.{row_at}
 use Rattle.cell_client.specs.Areas.{OutcomeIn}
 use Rattle.cell_client.specs.Association.{Came, Verdict, Tells, Takes, Replies, Exhausts, Concludes, Cancels, Aborts, idle_verdict, verdict}
@@ -38,6 +41,7 @@ use Rattle.serve_domains.specs.Domains.{calling_left, delete, replied_to, reply_
 use Rattle.serve_domains.specs.Loads.{AreLoads}
 use Rattle.serve_domains.specs.Tables.{DomainTables}
 use Rattle.serve_domains.specs.Tables as domains
+use Rattle.serve_programs.specs.Programs.{with_domains}
 use Rattle.cell_services.specs.Requests.{among, told_in}
 use Rattle.cell_services.specs.Services.{cause, effect, relinquish_outcome, take_outcome}
 use Rattle.cell_services.specs.Serving.{aborted, domains_without, is_served, meanwhile, resolved, tables_cancelled, tables_heard, tables_lost, waiting_of}
@@ -52,6 +56,7 @@ use Rattle.cell_laws.specs.Loads.{Answers, EndsLoad, breaks_off, load_heard}
 use Rattle.cell_laws.proofs.Bound.{nat-same, nat-test}
 use Rattle.cell_laws.proofs.LoadMeant.{IsBoth, IsReply, of_load, resolved_both}
 use Rattle.cell_laws.proofs.LoadTold.{names_same, no_loader}
+use Rattle.cell_laws.proofs.LoadUsers.{found_users}
 use Rattle.cell_laws.proofs.LoadWalk.{none_refused, not_loading}
 use Rattle.cell_laws.proofs.LoadsTold.{other_name}
 
@@ -90,6 +95,19 @@ module _ (name : List ℕ) (domain : Domain) (client : ℕ) (loader : domain.loa
           let apart : other ≢ client = λ same. cc (sym e ∙ ap (λ (c : ℕ). other == c) (sym same) ∙ nat-test other other refl) in
           inl (lost_others other name d domain names at (no_loader other client domain apart loader))
 
+  -- a program invocation comes to domains, or leaves them
+  used_stays : (names : List (List ℕ)) (by : List ℕ) (rows : Rows) (was : Domain) → named name rows ≡ Some was → IsNamed name (after_used names by rows)
+  used_stays [] by rows was here = (was, here)
+  used_stays (own ∷ names) by rows was here =
+      let s = found_users own (had_by by) (λ x. refl) rows name was here in
+      used_stays names by (changed own (had_by by) rows) (record was { invocations = s.0 }) s.1
+
+  unused_stays : (names : List (List ℕ)) (by : List ℕ) (rows : Rows) (was : Domain) → named name rows ≡ Some was → IsNamed name (after_unused names by rows)
+  unused_stays [] by rows was here = (was, here)
+  unused_stays (own ∷ names) by rows was here =
+      let s = found_users own (left_by by) (λ x. refl) rows name was here in
+      unused_stays names by (changed own (left_by by) rows) (record was { invocations = s.0 }) s.1
+
   -- ---- what is heard
 
   module _ (t : Tables) (row : ClientRow) (names : HaveNames t.domains.domains) (at : named name t.domains.domains ≡ Some domain) where
@@ -123,6 +141,12 @@ module _ (name : List ℕ) (domain : Domain) (client : ℕ) (loader : domain.loa
         by_grant : (o : Option (Option Granted)) → IsNamed name (relinquish_outcome t row.client x o).tables.domains.domains
         by_grant None = (domain, at)
         by_grant (Some grant) = (domain, at)
+    request_stays invoke (request.CreateProgramInvocation x) none = used_stays x.domains x.name d domain at
+    request_stays invoke (request.DeleteProgramInvocation own) none = by_found (program.named own t.programs)
+      where
+        by_found : (o : Option Invocation) → IsNamed name (option_map_or (λ p. with_domains (after_unused p.domains own t.domains.domains) t.domains) o t.domains).domains
+        by_found None = (domain, at)
+        by_found (Some p) = unused_stays p.domains own d domain at
     request_stays invoke asked none = (domain, at)
 
     -- it stays, or its load ends by a verdict

@@ -15,7 +15,7 @@ use Rattle.association.specs.declared.unanswered.Unanswered.{Unanswered}
 use Rattle.cell_config.specs.declared.config.Config.{Config}
 use Rattle.cell_config.specs.Said.{IsConfig}
 use Rattle.domain_load.specs.Domains.{Rows, is_there, name_eq, named, without, without_loads}
-use Rattle.domain_load.specs.Loading.{answers_load, asked_next, domain_of, initiate_after, initiate_cause, reply_after}
+use Rattle.domain_load.specs.Loading.{answers_load, asked_next, changed, domain_of, initiate_after, initiate_cause, reply_after}
 use Rattle.domain_load.specs.Standing.{is_live, is_loaded_by, is_loading}
 use Rattle.domain_load.specs.declared.domain.Domain.{Domain}
 use Rattle.domain_load.proofs.Outcomes.{begin_others, gone, gone_others, reply_others}
@@ -30,7 +30,7 @@ use Rattle.serve_domains.specs.Loads.{AreLoads, asks_load, is_of_load_kind}
 use Rattle.serve_domains.specs.Tables.{DomainTables, no_domains}
 use Rattle.mms_step.proofs.DomainNames.{HaveNames, deleted_names}
 use Rattle.mms_step.proofs.Loading.{first_names}
-use Rattle.mms_step.proofs.LoadsKept.{AreAllLoads, AreRight, begun_right, closed_right, nobody_lost, quiet_right, replied_right, told_loads}
+use Rattle.mms_step.proofs.LoadsKept.{AreAllLoads, AreSane, begun_sane, closed_sane, nobody_sane, quiet_sane, replied_sane, told_loads}
 use Rattle.mms_step.proofs.Sound.{start_sound}
 use Rattle.mms_step.specs.Partition.{cell}
 use Rattle.mms_step.specs.State.{start}
@@ -40,6 +40,7 @@ use Rattle.cell_laws.proofs.AskedFew.{as_told, first_asked}
 use Rattle.cell_laws.proofs.LoadMeant.{IsBoth, IsReply, IsSpared, of_load}
 use Rattle.cell_laws.proofs.LoadRows.{AllRows, ArePlain, plain_quiet, plain_rows, told_rows}
 use Rattle.cell_laws.proofs.LoadTold.{EachAsked, IsTold, NextAsked, Outcome, brought_first, each_moved, each_of, each_push, each_rest, each_unsettled, last_begins, last_other, names_same, no_loader, once, settle, stays, there_before, told_first, turned}
+use Rattle.cell_laws.proofs.LoadUsers.{IsOfUsers, before_users, changed_names, each_users, there_users, told_users}
 use Rattle.cell_laws.proofs.LoadWalk.{IsKept, kept_along}
 
 -- the domains, without uploads
@@ -51,18 +52,18 @@ abbrev IsOfLoads : Rows → List LoadStep → ℕ → ClientRow → Type 0
 IsOfLoads d log client row = EachAsked client d log row.asked
 
 record IsTracked (log : List LoadStep) (d : Rows) (rows : List ClientRow) : Type 0 where
-  sane : AreRight (bare d) rows
+  sane : AreSane (bare d) rows
   each : (name : List ℕ) (domain : Domain) → named name d ≡ Some domain → IsTold name domain.loader domain (last_load name log)
   asked : AllRows (IsOfLoads d log) rows
 
-sane_of : (d : Rows) (rows : List ClientRow) → HaveNames d → AreAllLoads rows d → AreRight (bare d) rows
+sane_of : (d : Rows) (rows : List ClientRow) → HaveNames d → AreAllLoads rows d → AreSane (bare d) rows
 sane_of d rows names loads = record { names = names; loads = loads; uploads = record { each = λ k x low. absurd (omega (arith, low)) } }
 
 -- ---- clients are told something
 
 tracked_plain : (log : List LoadStep) (d : Rows) (told : List (ℕ × Effect)) (rows : List ClientRow) → ArePlain told → IsTracked log d rows → IsTracked log d (delivered cell told rows)
 tracked_plain log d told rows plain is = record {
-  sane = quiet_right (bare d) told rows (plain_quiet told plain) is.sane;
+  sane = quiet_sane (bare d) told rows (plain_quiet told plain) is.sane;
   each = is.each;
   asked = plain_rows (IsOfLoads d log) (λ client b a like q. subst (λ (us : List Unanswered). EachAsked client d log us) (sym like.asked) q) told rows plain is.asked;
 }
@@ -94,7 +95,7 @@ tracked_spared log d rows k row effects at apart both is = record {
 tracked_closed : (log : List LoadStep) (d : Rows) (rows : List ClientRow) (k : ℕ) (effects : List Effect) → ((row : ClientRow) → (felt_all effects row).asked ≡ [])
     → IsTracked log d rows → IsTracked log (without_loads (suc k) d) (delivered cell (tell (suc k) effects) rows)
 tracked_closed log d rows k effects none is =
-    let right = closed_right (bare d) rows is.sane effects k none in
+    let right = closed_sane (bare d) rows is.sane effects k none in
     record {
       sane = sane_of (without_loads (suc k) d) (delivered cell (tell (suc k) effects) rows) right.names right.loads;
       each = λ name domain at. is.each name domain (there_before (suc k) name d domain is.sane.names at);
@@ -106,7 +107,7 @@ tracked_closed log d rows k effects none is =
 
 tracked_nobody : (log : List LoadStep) (d : Rows) (rows : List ClientRow) → IsTracked log d rows → IsTracked log (without_loads 0 d) rows
 tracked_nobody log d rows is =
-    let right = nobody_lost (bare d) rows is.sane in
+    let right = nobody_sane (bare d) rows is.sane in
     record {
       sane = sane_of (without_loads 0 d) rows right.names right.loads;
       each = λ name domain at. is.each name domain (there_before 0 name d domain is.sane.names at);
@@ -151,7 +152,7 @@ module _ (log : List LoadStep) (d : Rows) (k : ℕ) (left : Bool) (x : InitiateD
 
   tracked_begun : (rows : List ClientRow) → IsTracked log d rows → IsTracked began_log began (delivered cell (tell (suc k) (Asks asks.Segment x.domain ∷ [])) rows)
   tracked_begun rows is =
-      let right = begun_right (bare d) rows is.sane k left x none in
+      let right = begun_sane (bare d) rows is.sane k left x none in
       record {
         sane = sane_of began (delivered cell (tell (suc k) (Asks asks.Segment x.domain ∷ [])) rows) right.names right.loads;
         each = began_each is.each;
@@ -187,6 +188,25 @@ tracked_deleted log d rows name stands is = record {
         by_test true e =
             absurd (cc (sym stands ∙ ap (λ (n : List ℕ). is_there is_loading n d) (names_same name other e) ∙ loading))
         by_test false e = refl
+
+-- ---- program invocations come to a domain, or leave it
+
+tracked_used : (log : List LoadStep) (d : Rows) (rows : List ClientRow) (name : List ℕ) (f : Domain → Domain) → IsOfUsers f → IsTracked log d rows
+    → IsTracked log (changed name f d) rows
+tracked_used log d rows name f of is = record {
+  sane = sane_of (changed name f d) rows (changed_names name f d is.sane.names) (λ i row here. loads (suc i) row.asked (is.sane.loads i row here));
+  each = λ other after at.
+      let was = before_users name f of d other after at in
+      subst (λ (m : Domain). IsTold other m.loader m (last_load other log)) (sym was.2)
+      (told_users other was.0.loader was.0 after.invocations (last_load other log) (is.each other was.0 was.1));
+  asked = λ i row here. each_users name f of d (suc i) log row.asked (is.asked i row here);
+}
+  where
+    loads : (client : ℕ) (us : List Unanswered) → AreLoads client us d → AreLoads client us (changed name f d)
+    loads client us agree = record {
+      each = λ own.
+          agree.each own ∙ ap once (sym (there_users name f of d (is_loaded_by client) (λ domain users. refl) own));
+    }
 
 -- ---- a client answers
 
@@ -275,7 +295,7 @@ module _ (log : List LoadStep) (d : Rows) (rows : List ClientRow) (k : ℕ) (row
 
   tracked_told : IsTracked answered_log answered (delivered cell (tell (suc k) (reply_told number next own)) rows)
   tracked_told =
-      let right = replied_right (bare d) rows is.sane k row at apart number from (of_load row.asked number from reply) in
+      let right = replied_sane (bare d) rows is.sane k row at apart number from (of_load row.asked number from reply) in
       record {
         sane = sane_of answered (delivered cell (tell (suc k) (reply_told number next own)) rows) right.names
             (subst (λ (told : List (ℕ × Effect)). AreAllLoads (delivered cell told rows) answered) (as_told (suc k) number next own) right.loads);
@@ -297,6 +317,7 @@ tracked_kept = record {
   nobody = tracked_nobody;
   begun = λ log d rows k left x room none is. tracked_begun log d k left x none rows is;
   deleted = tracked_deleted;
+  used = tracked_used;
   replied = tracked_replied;
 }
 

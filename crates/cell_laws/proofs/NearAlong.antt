@@ -1,7 +1,6 @@
 -- After any history no deadline is further away than 32 bits tell.
-use Rattle.std.proofs.Common.{◌≡◌, ℕ, ◌+◌, ◌-◌, ◌≤◌, Bool, IfSome, true, false, nat_le, nat_lt, List, [], ◌∷◌, fold, Option, None, Some, option_map, Result, Ok, Err, if◌then◌else◌, refl, sym, subst, arith}
+use Rattle.std.proofs.Common.{◌≡◌, ℕ, ◌+◌, ◌≤◌, Bool, IfSome, true, false, nat_lt, List, [], ◌∷◌, fold, Option, None, Some, option_map, Result, Ok, Err, if◌then◌else◌, sym, subst, arith}
 use Rattle.std.specs.List.{All}
-use Rattle.std.proofs.lemmas.Bool.Decides.{nat_tests}
 use Rattle.mms_types.specs.Order.{key_of}
 use Rattle.mms_types.specs.declared.cells.PoolRow.{PoolRow}
 use Rattle.mms_types.specs.declared.event.CellEvent.{CellEvent}

@@ -31,7 +31,7 @@ nobody_asked : (client number : ℕ) (came : Came) (domains : domain.Rows) → I
 nobody_asked client number came domains is = let none : None ≡ Some is.of = is.asked in absurd (cc none)
 
 module _ (count : ℕ) (s : State) (sound : IsSound count s) where
-  its_loads : (client number : ℕ) (came : Came) → IsOfLoad (row_at cell client s.clients).asked number came
+  pub its_loads : (client number : ℕ) (came : Came) → IsOfLoad (row_at cell client s.clients).asked number came
       → AreLoads (row_at cell client s.clients).client (row_at cell client s.clients).asked s.domains.domains
   its_loads zero number came is = nobody_asked no_client.client number came s.domains.domains is
   its_loads (suc k) number came is = by_row (slice_get s.clients k) refl is

@@ -3,6 +3,7 @@ use Rattle.std.proofs.Common.{◌≡◌, ◌∙◌, ℕ, Bool, true, false, not,
 use Rattle.std.specs.Prelude.{◌||◌, ◌&&◌}
 use Rattle.std.specs.List.{IsDistinct, list_any}
 use Rattle.std.specs.Map.{keys_of}
+use Rattle.std.specs.Option.{option_map_or}
 use Rattle.std.proofs.lemmas.Cmp.{nat_list_eq_equiv}
 use Rattle.mms_types.proofs.Conditions.{none_holds}
 use Rattle.mms_types.specs.Datum.{Datum}
@@ -55,7 +56,10 @@ use Rattle.domain_load.specs.Domains.{is_there, name_eq, without, without_loads}
 use Rattle.domain_load.specs.Domains as domain
 use Rattle.domain_load.specs.Loading.{initiate_after, reply_after}
 use Rattle.domain_load.specs.Standing.{is_live}
+use Rattle.domain_load.specs.Used.{after_unused, after_used}
 use Rattle.domain_upload.specs.Uploads.{uploads_of}
+use Rattle.program_inv.specs.Programs as program
+use Rattle.program_inv.specs.declared.invocation.Invocation.{Invocation}
 use Rattle.cell_client.specs.Areas.{domain_in, is_of_domain}
 use Rattle.cell_client.specs.Association.{Came, Verdict, Tells, Takes, Replies, Exhausts, Concludes, Cancels, Aborts}
 use Rattle.cell_client.specs.Requests.{is_done, size_of}
@@ -64,6 +68,7 @@ use Rattle.serve_domains.specs.Domains.{replied_to, reply_of}
 use Rattle.serve_domains.specs.Loads.{AreLoads}
 use Rattle.serve_domains.specs.Tables.{DomainTables}
 use Rattle.serve_domains.specs.Tables as domains
+use Rattle.serve_programs.specs.Programs as programs
 use Rattle.serve_variables.specs.Variables.{specifies_domain, write}
 use Rattle.cell_services.specs.Facts.{is_domain_live, is_scope_used}
 use Rattle.cell_services.specs.Requests.{among, told_in}
@@ -72,7 +77,7 @@ use Rattle.cell_services.specs.Serving.{aborted, domains_without, is_served_in, 
 use Rattle.cell_services.specs.Tables.{Tables, moment_after, moment_of, own_domains, own_variables}
 use Rattle.cell_laws.specs.Scopes.{IsScopeLive}
 use Rattle.cell_laws.proofs.EachName.{Each, each_added, each_changed, each_left, each_mapped, each_other, each_removed, each_weaker, each_without}
-use Rattle.cell_laws.proofs.LiveStays.{StayLive, begun_stays, deleted_stays, lost_stays, not_scoped, replied_stays}
+use Rattle.cell_laws.proofs.LiveStays.{StayLive, begun_stays, deleted_stays, lost_stays, not_scoped, replied_stays, unused_stay, used_stay}
 
 -- ---- something holds of the name of each variable, of each list and of each semaphore
 
@@ -310,6 +315,14 @@ module _ (t : Tables) (all : AreLive t) where
     effect_live (request.DeleteDomain name) none distinct =
         names_other Live (HasLive (without name t.domains.domains)) t.variables t.semaphores (Domain name) (others_stay name t.domains.domains distinct)
         (not_scoped name (uploads_of name t.domains.uploads) (is_scope_used name t) t.domains.domains none) all
+    effect_live (request.CreateProgramInvocation x) none distinct =
+        with_domains (programs.with_domains (after_used x.domains x.name t.domains.domains) t.domains) (used_stay x.domains x.name t.domains.domains)
+    effect_live (request.DeleteProgramInvocation name) none distinct = by_found (program.named name t.programs)
+      where
+        by_found : (o : Option Invocation)
+            → AreLive (record t { domains = option_map_or (λ p. programs.with_domains (after_unused p.domains name t.domains.domains) t.domains) o t.domains })
+        by_found None = all
+        by_found (Some p) = with_domains (programs.with_domains (after_unused p.domains name t.domains.domains) t.domains) (unused_stay p.domains name t.domains.domains)
     effect_live asked none distinct = all
 
     served_live : (asked : Request) → IsDistinct name_eq (keys_of t.domains.domains) → AreLive (tables_served t row invoke (area_of asked))

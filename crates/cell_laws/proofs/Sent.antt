@@ -24,7 +24,6 @@ use Rattle.association.specs.declared.client_part.NotAdmitted.TheVariants as not
 use Rattle.association.specs.declared.negotiation.Association.{Association}
 use Rattle.association.specs.declared.negotiation.Association.TheVariants.{Idle, Open}
 use Rattle.association.specs.declared.negotiation.Negotiated.{Negotiated}
-use Rattle.association.specs.declared.waiting.Waiting.{Waiting}
 use Rattle.association.specs.Admission.{admission, waiting_if}
 use Rattle.association.specs.Asked.{asked_of}
 use Rattle.association.specs.Client.{ClientRow}

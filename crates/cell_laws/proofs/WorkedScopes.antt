@@ -67,6 +67,7 @@ device domains s = record {
     lists = (name_of (scope.Domain (d 51)), record { variables = [] }) ∷ [];
   };
   domains = record { domains = domains; uploads = record { rows = []; given = 0 } };
+  programs = [];
   semaphores = semaphore s ∷ [];
   clients = [];
 }

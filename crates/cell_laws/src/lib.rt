@@ -1,9 +1,10 @@
 //! What holds of the device over all histories: of requests that wait, of answers, of tokens that are lost and freed,
-//! of deadlines, of the loads of domains, and of domains as scopes of names.
+//! of deadlines, of the loads of domains, of domains as scopes of names, and of domains and program invocations.
 #![tactic(auto)]
 
 mod laws;
 mod loads;
+mod programs;
 mod scopes;
 
 pub use laws::{
@@ -15,4 +16,5 @@ pub use loads::{
     each_domain_is_what_its_client_answered, no_client_is_asked_too_much,
     nothing_of_an_ended_load_stays,
 };
+pub use programs::each_domain_knows_its_programs;
 pub use scopes::each_scope_is_live;
