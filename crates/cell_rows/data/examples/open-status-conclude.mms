@@ -1,7 +1,13 @@
 mms-recording 1
 config
 end
-# One client opens an association, asks for the state of the device, and concludes.
-1 A8 26 80 03 00 FD E8 81 01 0A 82 01 0A 83 01 05 A4 16 80 01 01 81 03 05 F1 00 82 0C 03 EE 1C 00 00 04 08 00 00 79 EF 18
-1 A0 06 02 01 01 80 01 00
-1 8B 00
+# One client opens an association, asks for the state of the device, and concludes. In these examples octets are parted
+# element by element: of one that holds others its tag and its length stand alone, and what it holds comes behind.
+# Initiate (A8): PDUs of 65,000 octets at most (80), ten requests each way at a time (81 and 82), data that nests to
+# depth 5 (83), and in A4 version 1 (80), the parameters of the conversation (81), and the services that the client
+# would serve (82).
+1 A826 800300FDE8 81010A 82010A 830105 A416 800101 810305F100 820C03EE1C00000408000079EF18
+# A confirmed request (A0) with the invokeID 1 (02): Status (80), not derived anew (00).
+1 A006 020101 800100
+# Conclude (8B), which holds nothing.
+1 8B00

@@ -1,7 +1,8 @@
 mms-recording 1
 config
 clients = 1
-# The cells are the unnamed variables of the device. This one is an integer of 32 bits (TypeSpecification 85 01 20), and holds 0.
+# The cells are the unnamed variables of the device. This one is an integer of 32 bits (TypeSpecification 85 01 20), and
+# holds 0.
 [[cell]]
 number = 0
 type = "850120"
@@ -17,32 +18,33 @@ name = "Speed"
 cell = 0
 end
 # Variables: a client opens an association.
-1 A8 26 80 03 00 FD E8 81 01 0A 82 01 0A 83 01 05 A4 16 80 01 01 81 03 05 F1 00 82 0C 03 EE 1C 00 00 04 08 00 00 79 EF 18
+1 A826 800300FDE8 81010A 82010A 830105 A416 800101 810305F100 820C03EE1C00000408000079EF18
 # Read of Speed: integer 0.
-1 A0 14 02 01 01 A4 0F A1 0D A0 0B 30 09 A0 07 80 05 53 70 65 65 64
-# Write of 7 to Speed, of 8 to cell 1, which takes no integer, and of FALSE to it: success, type-inconsistent (7), success.
-1 A0 2B 02 01 02 A5 26 A0 19 30 09 A0 07 80 05 53 70 65 65 64 30 05 A1 03 80 01 01 30 05 A1 03 80 01 01 A0 09 85 01 07 85 01 08 83 01 00
+1 A014 020101 A40F A10D A00B 3009 A007 80055370656564
+# Write of 7 to Speed, of 8 to cell 1, which takes no integer, and of FALSE to it: success, type-inconsistent (7),
+# success.
+1 A02B 020102 A526 A019 3009 A007 80055370656564 3005 A103 800101 3005 A103 800101 A009 850107 850108 830100
 # What Speed is: it can't be deleted, since it is configured; it is cell 0; it is an integer of 32 bits.
-1 A0 0E 02 01 03 A6 09 A0 07 80 05 53 70 65 65 64
+1 A00E 020103 A609 A007 80055370656564
 # The name Flag for cell 1.
-1 A0 12 02 01 04 A7 0D A0 06 80 04 46 6C 61 67 A1 03 80 01 01
+1 A012 020104 A70D A006 8004466C6167 A103 800101
 # The same name once more: error, definition object-exists.
-1 A0 12 02 01 05 A7 0D A0 06 80 04 46 6C 61 67 A1 03 80 01 00
+1 A012 020105 A70D A006 8004466C6167 A103 800100
 # The names of variables (class 0) of the VMD: Flag and Speed, and no more follow.
-1 A0 0E 02 01 06 A1 09 A0 03 80 01 00 A1 02 80 00
+1 A00E 020106 A109 A003 800100 A102 8000
 # The list Both of Speed and Flag.
-1 A0 22 02 01 07 AB 1D 80 04 42 6F 74 68 A0 15 30 09 A0 07 80 05 53 70 65 65 64 30 08 A0 06 80 04 46 6C 61 67
+1 A022 020107 AB1D 8004426F7468 A015 3009 A007 80055370656564 3008 A006 8004466C6167
 # Read of the list: 7 and FALSE.
-1 A0 0F 02 01 08 A4 0A A1 08 A1 06 80 04 42 6F 74 68
+1 A00F 020108 A40A A108 A106 8004426F7468
 # Deletion of Flag and of Speed: two names match, and one of them is deleted, since Speed is configured.
-1 A0 14 02 01 09 AA 0F A1 0D 80 04 46 6C 61 67 80 05 53 70 65 65 64
+1 A014 020109 AA0F A10D 8004466C6167 80055370656564
 # The list keeps the name: object-non-existent (10) in its place.
-1 A0 0F 02 01 0A A4 0A A1 08 A1 06 80 04 42 6F 74 68
+1 A00F 02010A A40A A108 A106 8004426F7468
 # What the list is: it can be deleted; Speed and Flag.
-1 A0 0B 02 01 0B AC 06 80 04 42 6F 74 68
+1 A00B 02010B AC06 8004426F7468
 # Deletion of all lists of the VMD (scope 3): one matches, and is deleted.
-1 A0 08 02 01 0C AD 03 80 01 03
+1 A008 02010C AD03 800103
 # Read of the list, which isn't there any more: error, access object-non-existent.
-1 A0 0F 02 01 0D A4 0A A1 08 A1 06 80 04 42 6F 74 68
+1 A00F 02010D A40A A108 A106 8004426F7468
 # Data that nests to depth 6, where 5 was negotiated: reject, max-recursion-exceeded, with the invokeID 14.
-1 A0 1F 02 01 0E A5 1A A0 07 30 05 A1 03 80 01 00 A0 0F A2 0D A2 0B A2 09 A2 07 A2 05 A2 03 83 01 00
+1 A01F 02010E A51A A007 3005 A103 800100 A00F A20D A20B A209 A207 A205 A203 830100
