@@ -1,0 +1,4 @@
+pub mod Times
+pub mod Conditions
+pub mod Changes
+pub mod Enrollments
