@@ -4,3 +4,4 @@ pub mod Access
 pub mod Bounds
 pub mod Definitions
 pub mod NewValues
+pub mod Truth

@@ -7,6 +7,7 @@ mod defining;
 mod deleting;
 mod opening;
 mod rows;
+mod truth;
 mod updating;
 mod vars;
 
