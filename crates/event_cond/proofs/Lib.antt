@@ -1,0 +1,8 @@
+pub mod Mentioned
+pub mod Multiples
+pub mod Rows
+pub mod Soonest
+pub mod Sound
+pub mod Unopposed
+pub mod Walked
+mod Worked

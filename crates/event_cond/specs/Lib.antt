@@ -1,0 +1,7 @@
+pub mod Conditions
+pub mod Deletion
+pub mod Evaluations
+pub mod Kept
+pub mod Multiples
+pub mod Services
+pub mod Transitions
