@@ -3,7 +3,8 @@
 The rail at the left is the cell's history: a dot for each event, in order of place. What a client sends runs from its
 lane to the dot, and each answer from the rail to the lane of the client that gets it, below its event. A bar on a lane
 shows how long a request waits: a full one for a client's, a dashed one for a request of the cell that a client has yet
-to answer. Octets are told where the pointer rests on a line.
+to answer. Octets are told where the pointer rests on a line. A picture has at most 2,000 events: of a report with more
+--places or --clients chooses a part.
 """
 
 import os

@@ -44,6 +44,7 @@ Take = { semaphoreName: [0] Name, namedToken: [1] Id ?, priority: [2] INTEGER ?,
     controlTimeOut: [4] MS ?, abortOnTimeOut: [5] BOOLEAN ?, relinquishIfConnectionLost: [6] BOOLEAN ?,
     applicationToPreempt: [7] Application ? }
 Starting = { programInvocationName: [0] Id, executionArgument: [1] VisibleString ? }
+Commanded = { programInvocationName: [0] Id }
 JournalContent = { occurrenceTime: [0] TIME, data: [2] { event: [0] { eventConditionName: [0] Name, currentState: [1]
     ConditionState } ?, listOfVariables: [1] * { variableTag: [0] VisibleString, valueSpecification: [1] Data } ? } ?,
     annotation: [3] VisibleString ? }
@@ -105,10 +106,10 @@ SERVICES = """
     NULL
 39 deleteProgramInvocation: Id => NULL
 40 start: Starting => NULL
-41 stop: Starting => NULL
+41 stop: Commanded => NULL
 42 resume: Starting => NULL
-43 reset: Starting => NULL
-44 kill: Starting => NULL
+43 reset: Commanded => NULL
+44 kill: Commanded => NULL
 45 getProgramInvocationAttributes: Id => { state: [0] InvocationState, listOfDomainName: [1] * Id, mmsDeletable: [2]
     BOOLEAN, reusable: [3] BOOLEAN, monitor: [4] BOOLEAN, executionArgument: [5] VisibleString }
 47 defineEventCondition: { eventConditionName: [0] Name, class: [1] ConditionClass, priority: [2] INTEGER ?, severity:

@@ -7,7 +7,7 @@ which one that was is worked out from the answers themselves. Reports with a pha
 import subprocess
 from collections import Counter, deque
 from dataclasses import dataclass, field
-from typing import Dict, List, Optional, Set, Tuple
+from typing import Deque, Dict, Iterator, List, Optional, Set, Tuple
 
 from . import grammar
 from .texts import BadText, Event, Recording, Report, read_report, write_recording
@@ -101,6 +101,36 @@ def served(recording: Recording, device: List[str]) -> List[Row]:
     return rows
 
 
+class _Queue:
+    """What a client is sent in a phase, of which the first part has found its events."""
+
+    def __init__(self, outs: List[Output]):
+        self.outs, self.taken = outs, 0
+        self.by_invoke: Dict[Optional[int], Dict[tuple, Deque[int]]] = {}  # and by what tells answers apart
+        for n, out in enumerate(outs):
+            says = out.said
+            told = says.detail if says.service == "takeControl" or says.pdu == "confirmed-Error" else ""
+            like = self.by_invoke.setdefault(says.invoke, {})
+            like.setdefault((says.pdu, says.service, told), deque()).append(n)
+
+    def head(self) -> Optional[Output]:
+        """The first that has found no event."""
+        return self.outs[self.taken] if self.taken < len(self.outs) else None
+
+    def take(self) -> Output:
+        """That one, which now has found its event."""
+        self.taken += 1
+        return self.outs[self.taken - 1]
+
+    def alike(self, invoke: Optional[int]) -> Iterator[Tuple[int, Output]]:
+        """Of those with an invokeID that have found no event the first of each kind, with how many stand before it."""
+        for like in self.by_invoke.get(invoke, {}).values() if invoke is not None else ():
+            while like and like[0] < self.taken:
+                like.popleft()
+            if like:
+                yield like[0] - self.taken, self.outs[like[0]]
+
+
 class _History:
     """Follows a report event by event, with what its answers tell of associations, semaphores and loads."""
 
@@ -116,7 +146,7 @@ class _History:
         self.asked: Dict[int, set] = {}  # invokeIDs of the server's requests, by client
         known = _Known()
         for phase in report.phases:
-            self.queue = {c: deque(Output(c, o, say(o)) for o in os) for c, os in phase.outputs.items()}
+            self.queue = {c: _Queue([Output(c, o, say(o)) for o in os]) for c, os in phase.outputs.items()}
             first = len(self.rows)
             for place, event in phase.served:
                 if event.kind == "tick":
@@ -219,15 +249,10 @@ class _History:
 
     def skip_to(self, row: Row, c: int) -> bool:
         """Where the answer to this event is behind others that found no event, these stand at the event before."""
-        asks, q = row.said, self.queue[c]
-        at = next(
-            (
-                i
-                for i, o in enumerate(q)
-                if o.said.invoke is not None and o.said.pdu in ANSWERS.get(asks.pdu, ()) and self.own(row, o)
-            ),
-            None,
-        )
+        asks = row.said
+        alike = self.queue[c].alike(asks.invoke) if asks.pdu in ANSWERS else []
+        own = [n for n, o in alike if o.said.pdu in ANSWERS[asks.pdu] and self.own(row, o)]
+        at = min(own, default=None)
         if at is None:
             return False
         earlier = self.rows[-2] if len(self.rows) > 1 and self.rows[-2].phase == row.phase else row
@@ -352,11 +377,11 @@ class _History:
     def head(self, c: int) -> Optional[Output]:
         """The client's next output."""
         q = self.queue.get(c)
-        return q[0] if q else None
+        return q.head() if q else None
 
     def put(self, row: Row, c: int, asked: Optional[Row]) -> Output:
         """The client's next output is this row's."""
-        out = self.queue[c].popleft()
+        out = self.queue[c].take()
         row.outputs.append(out)
         out.asked = asked
         if out.said.pdu == "confirmed-Request":
@@ -428,9 +453,11 @@ class _History:
 
     def left_over(self, rows: List[Row]) -> None:
         """What found no event stands at the phase's last one, marked as a guess."""
+        here = {id(row) for row in rows}
         for c in sorted(self.queue):
-            while self.queue[c] and rows:
-                head = self.queue[c][0]
+            own = [r for r in rows if r.event.client == c]
+            while rows and self.head(c) is not None:
+                head = self.head(c)
                 asked = (
                     self.pending.get(c, {}).get(head.said.invoke)
                     if head.said.pdu.startswith("confirmed-") or head.said.pdu == "reject"
@@ -438,8 +465,9 @@ class _History:
                 )
                 if head.said.pdu == "initiate-Response":
                     self.open[c] = True
-                own = [r for r in rows if r.event.client == c and r.answer is None]
-                out = self.put(asked if asked in rows else (own or rows)[-1], c, asked)
+                while own and own[-1].answer is not None:
+                    own.pop()
+                out = self.put(asked if id(asked) in here else (own or rows)[-1], c, asked)
                 out.sure = len(rows) == 1
 
 
@@ -449,130 +477,212 @@ class _History:
 def _place(rows: List[Row], known: "_Known") -> None:
     """Marks what outputs of a phase may have come of more than one of its events, and moves what stands where it can't.
 
-    An event answers its own request first, then come grants and ends of waits. What an event may send says `_may`; an
+    An event answers its own request first, then come grants and ends of waits. What an event may send says `_Ways`; an
     output is sure where all ways to cut the client's outputs into those of the events give it to the same event."""
     by_client: Dict[int, List[Tuple[Row, Output]]] = {}
-    for r in rows:
-        for o in r.outputs:
-            by_client.setdefault(o.client, []).append((r, o))
+    at = {id(row): i for i, row in enumerate(rows)}
+    for row in rows:
+        for out in row.outputs:
+            by_client.setdefault(out.client, []).append((row, out))
+        row.outputs = []
     for client, placed in by_client.items():
-        found, least = _candidates(rows, client, [o for _, o in placed], known), 0
-        for (row, out), places in zip(placed, found):
-            out.sure = len(places) == 1 or out.tracked and row in [rows[i] for i in places]
-            own = next((i for i in places if rows[i] is row and i >= least), None)
-            least = next((i for i in places if i >= least), least) if own is None else own
-            _move(out, row, rows[least])
+        may = _Ways(client, [out for _, out in placed], known).of(rows)
+        least = 0
+        for j, (row, out) in enumerate(placed):
+            own = at[id(row)]
+            stands = may.may_send(own, j)
+            out.sure = may.is_of_one(j) or out.tracked and stands
+            least = own if stands and own >= least else may.next(least, j)
+            rows[least].outputs.append(out)
+            if out.asked is not None and out.asked.answer is out:
+                out.asked.answered = rows[least]
+    for row in rows:
+        row.outputs.sort(key=lambda o: o.client != row.event.client)
 
 
-def _move(out: Output, row: Row, to: Row) -> None:
-    """An output stands at that event, behind the client's outputs that do already."""
-    row.outputs.remove(out)
-    to.outputs.append(out)
-    to.outputs.sort(key=lambda o: o.client != to.event.client)
-    if out.asked is not None and out.asked.answer is out:
-        out.asked.answered = to
+class _Senders:
+    """Which events of a phase may have sent which outputs of a client.
+
+    `sent` has a set of outputs for each event, as the bits of a number."""
+
+    def __init__(self, sent: List[int]):
+        self.sent = sent
+        self.some = self.several = 0  # outputs that some event may have sent, and more than one
+        for outs in sent:
+            self.several |= self.some & outs
+            self.some |= outs
+        self.last: Dict[int, int] = {}  # of each output the last event that may have sent it
+        left = self.some
+        for i in reversed(range(len(sent))):
+            for j in _members(left & sent[i]):
+                self.last[j] = i
+            left &= ~sent[i]
+
+    def may_send(self, event: int, output: int) -> bool:
+        """Whether the event may have sent the output."""
+        return self.sent[event] >> output & 1 == 1
+
+    def is_of_one(self, output: int) -> bool:
+        """Whether exactly one event may have sent the output."""
+        return (self.some & ~self.several) >> output & 1 == 1
+
+    def next(self, least: int, output: int) -> int:
+        """The first event from that one on that may have sent the output; where there is none, that one."""
+        if self.last.get(output, -1) < least:
+            return least
+        return next(i for i in range(least, len(self.sent)) if self.may_send(i, output))
 
 
-def _candidates(rows: List[Row], client: int, outs: List[Output], known: "_Known") -> List[List[int]]:
-    """For each output of a client the events of the phase that may have sent it, by their index."""
-    ways = [_ways(row, client, outs, known) for row in rows]
-    ahead = [{0}]  # after so many events: how many outputs may have been sent
-    for way in ways:
-        ahead.append({end for start in ahead[-1] for end in way(start)})
-    back = [{len(outs)}]  # from the end on: from how many outputs on all may be sent
-    for way, starts in zip(reversed(ways), reversed(ahead[:-1])):
-        back.append({start for start in starts if back[-1] & set(way(start))})
-    back.reverse()
-    found: List[List[int]] = [[] for _ in outs]
-    for i, way in enumerate(ways):
-        sent = set()
-        for start in ahead[i] & back[i]:
-            for end in set(way(start)) & back[i + 1]:
-                sent.update(range(start, end))
-        for j in sent:
-            found[j].append(i)
-    return found
+class _Ways:
+    """What each event of a phase may have sent to one client, as far as single outputs tell.
+
+    A set of outputs is a number, whose bit j is 1 where the output j belongs to it. So is a set of cuts, whose bit j
+    stands for the cut behind the first j outputs. All cuts of an event are followed at once, so that 10,000 events, of
+    which each may have sent many outputs, take seconds."""
+
+    def __init__(self, client: int, outs: List[Output], known: "_Known"):
+        self.client, self.count, self.known = client, len(outs), known
+        self.anything = 0  # what may answer anything: aborts, and rejects without an invokeID
+        self.answering: Dict[tuple, int] = {}  # other outputs, by what they have to fit
+        self.late = self.by_tick = 0  # what any event may send behind its own answer, and what any tick may
+        self.grants: Dict[str, Dict[str, int]] = {}  # by semaphore and token: what an event sends that frees one
+        for j, out in enumerate(outs):
+            self._answers(1 << j, out)
+            self._late(1 << j, out)
+
+    def _note(self, bit: int, *key) -> None:
+        self.answering[key] = self.answering.get(key, 0) | bit
+
+    def _found(self, *key) -> int:
+        return self.answering.get(key, 0)
+
+    def _answers(self, bit: int, out: Output) -> None:
+        """Notes what an output may answer, by what kind it is and by its invokeID."""
+        says = out.said
+        self._note(bit, "invokeID", says.invoke)
+        self._note(bit, says.pdu)
+        if out.octets is None or says.pdu == "reject" and says.invoke is None:
+            self.anything |= bit
+        elif says.pdu == "confirmed-Request":
+            self._note(bit, "domain", _domain(says))
+        elif says.pdu == "reject":
+            self._note(bit, "reject", says.invoke)
+        elif says.pdu != "initiate-Error":
+            self._note(bit, says.pdu, says.invoke, says.service)
+
+    def _late(self, bit: int, out: Output) -> None:
+        """Notes which events may send an output that another one asked for: the end of a wait, or of control."""
+        says = out.said
+        if out.octets is None:
+            self.by_tick |= bit
+        elif says.pdu == "unconfirmed":
+            self.late |= bit
+        elif says.pdu == "confirmed-Error" and says.detail.startswith("service-preempt: timeout"):
+            self.by_tick |= bit
+        elif says.pdu == "confirmed-Response" and says.service == "takeControl":
+            if out.asked is None or self.known.used[self.client, says.invoke] > 1:
+                self.late |= bit
+            else:
+                tokens = self.grants.setdefault(_semaphore(out.asked.said.node, self.client), {})
+                token = _token(out.asked.said, says)
+                tokens[token] = tokens.get(token, 0) | bit
+
+    def of(self, rows: List[Row]) -> _Senders:
+        """Which outputs each event may have sent."""
+        steps = [self._steps(row) for row in rows]
+        ahead = [1]  # the cuts that the events so far may lead to
+        for none, one, two, late in steps:
+            firsts = (ahead[-1] if none else 0) | (ahead[-1] & one) << 1 | (ahead[-1] & two) << 2
+            ahead.append(_along(firsts, late))
+        sent = [0] * len(rows)
+        back = 1 << self.count  # the cuts from which the events left may send all that is left
+        for i in reversed(range(len(rows))):
+            none, one, two, late = steps[i]
+            ends = _back_along(back, late, self.count)
+            none, one, two = ahead[i] & ends if none else 0, ahead[i] & one & ends >> 1, ahead[i] & two & ends >> 2
+            behind = _along(none | one << 1 | two << 2, late) & late & ends >> 1
+            sent[i] = one | two | two << 1 | behind
+            back = none | one | two
+        return _Senders(sent)
+
+    def _steps(self, row: Row) -> Tuple[bool, int, int, int]:
+        """Whether an event may send no answer of its own; which outputs may be its one answer, and which the first of
+        two; and what may come behind."""
+        late = self.late | (self.by_tick if row.event.kind == "tick" else 0) | (self._freed(row) if self.grants else 0)
+        if row.event.client != self.client or row.event.kind != "heard":
+            return True, 0, 0, late
+        asks, answers = row.said, self._answering(row)
+        if row.event.octets[:1] in ASKING:
+            none = asks.service == "takeControl"
+        else:
+            none = not self.known.loads_on(row)
+        if asks.service == "initiateDownloadSequence":
+            begun = answers & self._found("confirmed-Response")
+            return none, answers & ~begun, begun & self._found("confirmed-Request") >> 1, late
+        if asks.pdu == "cancel-Request":
+            other = self._found("invokeID", asks.invoke) >> 1
+            return none, answers, answers & self._found("cancel-Response") & other, late
+        return none, answers, 0, late
+
+    def _answering(self, row: Row) -> int:
+        """The outputs that may answer what the client sent."""
+        asks = row.said
+        found = self.anything | self._found("reject", asks.invoke)
+        if row.event.octets[:1] not in ASKING:
+            found |= self._found("domain", self.known.domain(self.client, asks.invoke))
+        if asks.pdu in ("", "initiate-Request"):
+            found |= self._found("initiate-Error")
+        if asks.pdu == "initiate-Request":
+            return found | self._found("initiate-Response")
+        if asks.pdu == "conclude-Request":
+            return found | self._found("conclude-Response") | self._found("conclude-Error")
+        for pdu in ANSWERS.get(asks.pdu, ()):
+            found |= self._found(pdu, asks.invoke, "") | self._found(pdu, asks.invoke, asks.service)
+        return found
+
+    def _freed(self, row: Row) -> int:
+        """The grants of tokens that an event may have freed."""
+        known, said, c = self.known, row.said, row.event.client
+        if row.event.kind == "tick":
+            return sum(self._of(s) for s in self.grants if known.aborts or s in known.timed)
+        if row.event.kind == "heard" and said.service == "relinquishControl":
+            one = known.used[c, said.invoke] == 1  # else it isn't known which answer is this request's
+            if one and row.answer is not None and row.answer.said.pdu != "confirmed-Response":
+                return 0
+            token, tokens = _token(said, None), self.grants.get(_semaphore(said.node, c), {})
+            return sum(bits for other, bits in tokens.items() if not token or not other or token == other)
+        if row.event.kind == "lost" or row.event.octets[:1] in (b"\x8b", b"\xa8"):
+            return sum(self._of(s) for s in self.grants if c != self.client and c in known.takers.get(s, ()))
+        return 0
+
+    def _of(self, semaphore: str) -> int:
+        """The grants of tokens of a semaphore."""
+        return sum(self.grants[semaphore].values())
 
 
-def _ways(row: Row, client: int, outs: List[Output], known: "_Known"):
-    """From how many outputs on to how many the event may lead the client."""
-
-    def way(start: int) -> List[int]:
-        """From so many on."""
-        firsts = [start]
-        if row.event.client == client and row.event.kind == "heard":
-            most = min(start + 2, len(outs))
-            firsts = [end for end in range(start, most + 1) if _direct(row, outs[start:end], known)]
-        ends = set(firsts)
-        for first in firsts:
-            end = first
-            while end < len(outs) and _late(row, client, outs[end], known):
-                end += 1
-                ends.add(end)
-        return sorted(ends)
-
-    return way
+def _along(cuts: int, outs: int) -> int:
+    """These cuts, and all that they lead to by outputs of that set, one after the other."""
+    on = cuts & outs  # added to a run of bits, one of them carries behind its end, and turns all from there on
+    return cuts | (outs + on) ^ outs
 
 
-def _direct(row: Row, outs: List[Output], known: "_Known") -> bool:
-    """Whether these outputs may be all that answers the event's own octets, at once."""
-    asks, first = row.said, row.event.octets[:1]
+def _back_along(cuts: int, outs: int, count: int) -> int:
+    """All cuts from which outputs of that set, one after the other, lead to one of these, of so many outputs."""
     if not outs:
-        waits = asks.service == "takeControl"
-        return waits if first in ASKING else not known.loads_on(row)
-    if not _answers(row, outs[0], known):
-        return False
-    if asks.service == "initiateDownloadSequence" and outs[0].said.pdu == "confirmed-Response":
-        return len(outs) == 2 and outs[1].said.pdu == "confirmed-Request"
-    if len(outs) == 1:
-        return True
-    return asks.pdu == "cancel-Request" and outs[0].said.pdu == "cancel-Response" and outs[1].said.invoke == asks.invoke
+        return cuts
+    return _mirrored(_along(_mirrored(cuts, count + 1), _mirrored(outs, count)), count + 1)
 
 
-def _answers(row: Row, out: Output, known: "_Known") -> bool:
-    """Whether an output may be the answer to what a client sent, by what kind it is and by its invokeID."""
-    asks, says = row.said, out.said
-    if out.octets is None or says.pdu == "reject" and says.invoke is None:
-        return True
-    if says.pdu == "confirmed-Request":
-        return row.event.octets[:1] not in ASKING and known.domain(out.client, asks.invoke) == _domain(says)
-    if says.pdu == "reject":
-        return asks.invoke == says.invoke
-    if says.pdu == "initiate-Error":
-        return asks.pdu in ("", "initiate-Request")
-    if says.pdu not in ANSWERS.get(asks.pdu, ()):
-        return False
-    return asks.pdu in ("initiate-Request", "conclude-Request") or (
-        asks.invoke == says.invoke and says.service in ("", asks.service)
-    )
+def _mirrored(bits: int, count: int) -> int:
+    """So many bits in the other order."""
+    return int(f"{bits:0{count}b}"[::-1], 2)
 
 
-def _late(row: Row, client: int, out: Output, known: "_Known") -> bool:
-    """Whether an event may send what another one asked for: the end of a wait, or of control."""
-    kind, says = row.event.kind, out.said
-    if out.octets is None:
-        return kind == "tick"
-    if says.pdu == "unconfirmed":
-        return True
-    if says.pdu == "confirmed-Error":
-        return kind == "tick" and says.detail.startswith("service-preempt: timeout")
-    if says.pdu != "confirmed-Response" or says.service != "takeControl":
-        return False
-    return out.asked is None or known.used[client, says.invoke] > 1 or _frees(row, client, out, known)
-
-
-def _frees(row: Row, client: int, out: Output, known: "_Known") -> bool:
-    """Whether an event may free the token that a grant is of."""
-    wanted, c, said = _semaphore(out.asked.said.node, client), row.event.client, row.said
-    if row.event.kind == "tick":
-        return wanted in known.timed or known.aborts
-    if row.event.kind == "heard" and said.service == "relinquishControl":
-        one = known.used[c, said.invoke] == 1  # else it isn't known which answer is this request's
-        refused = one and row.answer is not None and row.answer.said.pdu != "confirmed-Response"
-        tokens = {_token(out.asked.said, out.said), _token(said, None)} - {""}
-        return not refused and wanted == _semaphore(said.node, c) and len(tokens) < 2
-    ends = row.event.kind == "lost" or row.event.octets[:1] in (b"\x8b", b"\xa8")
-    return ends and c != client and c in known.takers.get(wanted, ())
+def _members(bits: int) -> Iterator[int]:
+    """The places of the bits that are 1."""
+    while bits:
+        yield (bits & -bits).bit_length() - 1
+        bits &= bits - 1
 
 
 def _token(asks: Said, says: Optional[Said]) -> str:

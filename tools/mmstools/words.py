@@ -208,8 +208,16 @@ def _error(n: Node) -> str:
     code = c.parts[0]
     number = _number(code)
     name = grammar.VALUES.get(code.label, {}).get(number, f"code {number}")
-    further = [_labelled(p) for p in (n.find("serviceSpecificInformation"),) if p is not None]
+    further = [_refusing(p) for p in (n.find("serviceSpecificInformation"),) if p is not None]
     return ", ".join([f"{code.label or f'class {code.element.number}'}: {name}", *further])
+
+
+def _refusing(n: Node) -> str:
+    """What a service adds to its error: a command of a program invocation, the state that refuses it."""
+    found = n.parts[0] if n.parts else n
+    if found.kind == "InvocationState":
+        return f"{found.label[:1].upper()}{found.label[1:]} found it {_brief(found)}"
+    return _labelled(n)
 
 
 def _joined(said: List[str], between: str, count: int) -> str:

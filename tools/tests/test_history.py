@@ -1,4 +1,6 @@
 """Tests of history."""
+import time
+
 from common import *  # noqa: F403
 
 
@@ -101,6 +103,35 @@ class History(unittest.TestCase):
         outs = [o for r in rows for o in r.outputs]
         self.assertEqual(len(outs), 3)
         self.assertFalse(any(o.sure for o in outs[1:]))
+
+    def of_many(self, opened, asks, answers, times):
+        """The rows of a phase of so many times the same events, with the same invokeIDs, and their seconds."""
+        first = ["%d %s" % (c, ASK.hex().upper()) for c in (1, 2)]
+        events = first + [ask for ask, _ in opened] + asks * times
+        text = ["phase 1"] + ["%d %s" % (i, e) for i, e in enumerate(events, 1)]
+        for c, first in ((1, [answer for _, answer in opened if answer]), (2, [])):
+            text += ["client %d" % c, "> " + YES.hex().upper()]
+            text += ["> " + o for o in first + answers[c - 1] * times]
+        report = texts.read_report("\n".join(text) + "\n")
+        begun = time.process_time()
+        return history(report), time.process_time() - begun
+
+    def test_ten_thousand_events(self):
+        """Events of one phase that reuse their invokeIDs take seconds, and all outputs find their events."""
+        define = ("1 A00D020101B508A003800154810101", "A1050201019500")
+        taken, given = "A107020101B3028000", "A1050201019400"
+        take, give, brief = "A00A020101B305A003800154", "A00A020101B405A003800154", "A00D020101B308A003800154830101"
+        late = "A20A800101A205A003850101"  # service-preempt: timeout
+        for opened, asks, answers, times in [
+            ([], ["1 A0050201018200", "2 A0050201018200"], [[NAMED.hex().upper()]] * 2, 5000),
+            ([define], ["1 " + take, "2 " + take, "1 " + give, "2 " + give], [[taken, given], [taken, given]], 2500),
+            ([define, ("1 " + take, taken)], ["2 " + brief, "tick 2"], [[], [late]], 5000),
+        ]:
+            rows, seconds = self.of_many(opened, asks, answers, times)
+            outs = [o for r in rows for o in r.outputs]
+            self.assertTrue(all(o.sure for o in outs))
+            self.assertEqual(len(outs), 2 + len(opened) + sum(map(len, answers)) * times)
+            self.assertLess(seconds, 60)  # before, the first waits of 500 took half a minute
 
     def test_loads(self):
         """What the server asks a client stands at the client's answer, or at the request for the load."""

@@ -1,7 +1,9 @@
 """Texts read and written, elements, and PDUs in a line of words."""
 
 import random
+import re
 import unittest
+from typing import List
 
 from common import EXAMPLES, REPORTS, text_of
 from mmstools import ber, explain, grammar, texts, words
@@ -52,6 +54,26 @@ class Texts(unittest.TestCase):
         for line in ("1 8B0", "1 8 B00", "1", "lost", "tick -1", "ends 1a", "ends " + "a" * 33, "\u0661 8B00", "phase"):
             self.assertIsNone(texts.event(line), line)
 
+    def test_examples_are_spelled_by_element(self):
+        """Octets of an example are parted element by element; what isn't whole stands as it is."""
+        for path in REPORTS:
+            text = text_of(path[: -len(".report")] + ".mms")
+            for line in text.partition("\nend\n")[2].split("\n"):
+                if re.match(r"\s*\d+ ", line):
+                    digits = line.split(maxsplit=1)[1]
+                    if digits != "A0":
+                        self.assertEqual(digits.upper(), by_element(bytes.fromhex(digits)), path)
+
+
+def by_element(octets: bytes) -> str:
+    """Octets parted so that tag and length of what holds others stand alone, and other elements stand whole."""
+
+    def pieces(e: ber.Element) -> List[bytes]:
+        inner = [piece for part in e.parts for piece in pieces(part)]
+        return [octets[e.at : e.start], *inner] if inner else [octets[e.at : e.end]]
+
+    return " ".join(piece.hex().upper() for e in ber.elements(octets) for piece in pieces(e))
+
 
 class Elements(unittest.TestCase):
     def test_lengths_and_tags(self):
@@ -100,7 +122,12 @@ SAID = [
     ("A20A800102A205A003870102", "error", "access: object-non-existent"),
     ("A40680010E810108", "reject", "max-recursion-exceeded (confirmed-requestPDU)"),
     ("A403850101", "reject", "invalid-pdu (pdu-error)"),
-    ("A20F800101A20AA003840102A303810103", "error", "service: object-state-conflict, start running"),
+    ("A20F800101A20AA003840102A303810103", "error", "service: object-state-conflict, Start found it running"),
+    ("A20F800101A20AA003840102A303820104", "error", "service: object-state-conflict, Stop found it stopped"),
+    ("A20F800101A20AA003840102A303830102", "error", "service: object-state-conflict, Resume found it idle"),
+    ("A20F800101A20AA003840102A303840101", "error", "service: object-state-conflict, Reset found it unrunnable"),
+    ("A20F800101A20AA003840102A303810109", "error", "service: object-state-conflict, Start found it unknown"),
+    ("A20F800101A20AA003840102A303800107", "error", "service: object-state-conflict, obtainFile 7"),
     ("AD05A003890101", "conclude-Error", "conclude: further-communication-required"),
     ("A70A800109A105A0038A0101", "cancel-Error", "cancel: invoke-id-unknown"),
     ("AA05A003880104", "initiate-Error", "initiate: max-services-outstanding-called-insufficient"),
@@ -139,17 +166,42 @@ SAID = [
     # program invocations
     (asked("BF26", "800150", "A1041A024431"), "CreateProgramInvocation", "P, D1"),
     (asked("BF26", "800150", "A1041A024431", "820100"), "CreateProgramInvocation", "P, D1, reusable FALSE"),
+    (asked("BF26", "800150", "A1081A0244311A024432"), "CreateProgramInvocation", "P, D1, D2"),
+    (asked("BF26", "800150", "A100"), "CreateProgramInvocation", "P, none"),
     (asked("9F27", "50"), "DeleteProgramInvocation", "P"),
     (asked("BF28", "800150", "8101" + "78"), "Start", 'P, argument "x"'),
     (asked("BF29", "800150"), "Stop", "P"),
+    (asked("BF28", "800150", "8100"), "Start", 'P, argument ""'),
+    (asked("BF28", "800150"), "Start", "P"),
     (asked("BF2A", "800150"), "Resume", "P"),
+    (asked("BF2A", "800150", "8100"), "Resume", 'P, argument ""'),
     (asked("BF2B", "800150"), "Reset", "P"),
     (asked("BF2C", "800150"), "Kill", "P"),
+    (answered("9F26"), "CreateProgramInvocation", "done"),
+    (answered("9F27"), "DeleteProgramInvocation", "done"),
     (answered("9F28"), "Start", "done"),
+    (answered("9F29"), "Stop", "done"),
+    (answered("9F2A"), "Resume", "done"),
+    (answered("9F2B"), "Reset", "done"),
+    (answered("9F2C"), "Kill", "done"),
+    (asked("9F2D", "50"), "GetProgramInvocationAttributes", "P"),
     (
         answered("BF2D", "800103", "A1041A024431", "8201FF", "8301FF", "840100", "8500"),
         "GetProgramInvocationAttributes",
         'state running, D1, deletable TRUE, reusable TRUE, monitor FALSE, argument ""',
+    ),
+    (
+        answered("BF2D", "800101", "A1081A0244311A024432", "8201FF", "830100", "840100", "850178"),
+        "GetProgramInvocationAttributes",
+        'state unrunnable, D1, D2, deletable TRUE, reusable FALSE, monitor FALSE, argument "x"',
+    ),
+    (asked("A1", "A00380010A", "A1028000"), "GetNameList", "programInvocation of the VMD"),
+    (asked("A1", "A00380010A", "A1028000", "820150"), "GetNameList", "programInvocation of the VMD, after P"),
+    (answered("A1", "A0061A01501A0151", "810100"), "GetNameList", "P, Q"),
+    (
+        "A11A020102BF2514A0008101038201FF8301FFA4041A024431850100",
+        "GetDomainAttributes",
+        "capabilities none, state in-use, deletable TRUE, sharable TRUE, invocations D1, uploads 0",
     ),
     # event conditions and enrolments
     ("A00E020101BF2F08A003800145810100", "DefineEventCondition", "E, class network-triggered"),

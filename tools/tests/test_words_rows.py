@@ -9,11 +9,10 @@ from mmstools import grammar, texts, words
 from mmstools.grammar import Component, Form, Node
 from row_files import HERE, Step, rows
 
-PROFILE = [0, 1, 2, *range(4, 8), *range(10, 14), *range(19, 32), 36, 37]  # the services that are served
+PROFILE = [0, 1, 2, *range(4, 8), *range(10, 14), *range(19, 32), *range(36, 46)]  # the services that are served
 BEYOND = """localDetail listOfAbstractSyntaxes scatteredAccess alternateAccess generalized-time bcd booleanArray objId
     mMSString utc-time ae-invocation-id application-reference time-resolution file others additionalCode
-    additionalDescription serviceSpecificInformation""".split()  # of the table, and in no row
-EMPTY = "listOfProgramInvocations"  # whose members the rows don't have yet
+    additionalDescription obtainFile any""".split()  # of the table, and in no row
 
 
 def _of_examples() -> Iterator[Step]:
@@ -140,7 +139,7 @@ class Table(unittest.TestCase):
         finally:
             grammar._component = whole
         unmet = {label for k in PROFILE for form in grammar.SERVICE[k][1] for label in self.unmet(form, "", met, 0)}
-        self.assertEqual(unmet, {*BEYOND, EMPTY})
+        self.assertEqual(unmet, {*BEYOND})
 
     def unmet(self, form, at: str, met: Set[int], depth: int) -> Iterator[str]:
         form = grammar._resolved(form)

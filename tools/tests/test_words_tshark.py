@@ -60,8 +60,12 @@ def of_rows() -> Set[bytes]:
     return sent | set(test_words_rows.Requests().taken())
 
 
-ALSO = {"basicObjectClass": "objectclass", "numberOfTokens": "numbersoftokens"}  # as tshark has them
-MISSPELLED = {"namedVariable": "nammedVariable"}  # by tshark
+ALSO = {
+    "basicObjectClass": "objectclass",
+    "numberOfTokens": "numbersoftokens",
+    "executionArgument": "startargument",
+}  # as tshark has them
+MISSPELLED = {"namedVariable": "nammedVariable", "unrunnable": "unrunable"}  # by tshark
 NOT_SHOWN = {"format-width", "exponent-width"}  # by tshark
 # what tshark objects to, by service, and why
 OBJECTED = {
