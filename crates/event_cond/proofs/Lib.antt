@@ -1,5 +1,8 @@
 pub mod Mentioned
 pub mod Multiples
+pub mod Orders
+pub mod Passing
+pub mod Placed
 pub mod Rows
 pub mod Soonest
 pub mod Sound

@@ -70,13 +70,13 @@ module _ (rows : Rows) where
 
 -- ---- none comes before the least
 
-order : IsTotalOrder evaluation_order
+pub order : IsTotalOrder evaluation_order
 order = then_total (on_total (λ (e : Moment × Key). e.0.0) nat_cmp_total) (on_total (λ (e : Moment × Key). e.1) keys_total)
 
-ranks : IsStrictWeakOrder sooner
+pub ranks : IsStrictWeakOrder sooner
 ranks = ranks_by order (λ e. e)
 
-abbrev In : List (Moment × Key) → Moment × Key → Type 0
+abbrev pub In : List (Moment × Key) → Moment × Key → Type 0
 In [] x = ⊥
 In (y ∷ ys) x = (y ≡ x) ⊎ In ys x
 
@@ -102,7 +102,7 @@ fold_first (y ∷ ys) b m x e h = by_test (sooner y b) refl h (λ c. fold_first 
     by_test false t (inr (inl same)) ih e = ih b e (inl (ap (λ z. sooner z b) (sym same) ∙ t))
     by_test false t (inr (inr h)) ih e = ih b e (inr h)
 
-least_first : (xs : List (Moment × Key)) (m x : Moment × Key) → fold sooner_of None xs ≡ Some m → In xs x → sooner x m ≡ false
+pub least_first : (xs : List (Moment × Key)) (m x : Moment × Key) → fold sooner_of None xs ≡ Some m → In xs x → sooner x m ≡ false
 least_first [] m x e h = absurd h
 least_first (y ∷ ys) m x e (inl same) = fold_first ys y m x e (inl (ap (λ z. sooner z y) (sym same) ∙ irreflexive y))
 least_first (y ∷ ys) m x e (inr h) = fold_first ys y m x e (inr h)

@@ -4,4 +4,5 @@ pub mod Evaluations
 pub mod Kept
 pub mod Multiples
 pub mod Services
+pub mod Skips
 pub mod Transitions

@@ -128,7 +128,7 @@ impl Conditions {
 
 /// Whether an evaluation comes before another one.
 #[inline(always)]
-fn is_sooner(at: Moment, key: &Key, first_at: Moment, first_key: &Key) -> bool
+pub(crate) fn is_sooner(at: Moment, key: &Key, first_at: Moment, first_key: &Key) -> bool
     ensures { result ≡ sooner (at, key.now) (first_at, first_key.now) }
 {
     if at.0 == first_at.0 {

@@ -12,6 +12,7 @@ mod evaluating;
 mod kept;
 mod laws;
 mod moves;
+mod skipping;
 mod status;
 mod triggering;
 
@@ -21,3 +22,4 @@ pub use deleting::ConditionsDeleted;
 pub use laws::{
     a_least_multiple_is_the_least, each_condition_is_sound, the_next_evaluation_is_the_least,
 };
+pub use skipping::Cells;

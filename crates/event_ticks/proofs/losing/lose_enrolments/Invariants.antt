@@ -1,0 +1,10 @@
+use Rattle.std.proofs.Common.{◌≡◌, length}
+use Rattle.event_ticks.specs.Skipping.{enrolments_left}
+use Rattle.event_ticks.proofs.losing.lose_enrolments.Given as goal
+
+-- what the losses that are to come leave is what all leave
+abbrev pub invariant-loop-loss : goal.invariant-loop-loss
+invariant-loop-loss l = enrolments_left l.until l.rest l.enrolments ≡ enrolments_left l.fn.until l.fn.losses l.fn.enrolments
+
+abbrev pub decreases-loop-loss : goal.decreases-loop-loss
+decreases-loop-loss l = length l.rest

@@ -1,0 +1,4 @@
+pub mod Settling
+pub mod Skipping
+pub mod Sound
+pub mod Ticks
