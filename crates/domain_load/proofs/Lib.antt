@@ -6,3 +6,4 @@ pub mod RowLemmas
 pub mod Unopposed
 pub mod Users
 mod Worked
+pub mod UserNames

@@ -4,3 +4,4 @@ pub mod Loading
 pub mod Segmented
 pub mod Standing
 pub mod Used
+pub mod UserNames

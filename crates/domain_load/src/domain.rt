@@ -2,8 +2,8 @@ ghost use Rattle.std.specs.Prelude.{◌≡◌, ◌≤◌, IfOk};
 ghost use Rattle.domain_load.specs.Segmented.{most_octets, octets_in, piece};
 ghost use Rattle.domain_load.specs.Standing.{is_live, is_loaded_by, is_loading, state};
 
-use crate::Segments;
-use mms_types::{DomainState, Identifiers, Memory, Octets, Texts};
+use crate::{Invocations, Segments};
+use mms_types::{DomainState, Memory, Octets, Texts};
 use std::alloc::Global;
 
 /// A domain (ISO 9506-1, domain management): a part of the device's capabilities, with a program or data that a client
@@ -18,7 +18,7 @@ pub struct Domain {
     /// Its segments, in the order in which they came (loadData).
     pub segments: Segments,
     /// The names of the program invocations that have it.
-    pub invocations: Identifiers,
+    pub invocations: Invocations,
 }
 
 impl Domain {

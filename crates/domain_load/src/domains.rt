@@ -188,7 +188,7 @@ impl Domains {
             state: domain.state(),
             deletable: true,
             sharable: domain.sharable,
-            invocations: in_order(alloc, &domain.invocations)?,
+            invocations: in_order(alloc, domain.invocations.as_slice())?,
             uploads: uploads as i8,
         }))
     }

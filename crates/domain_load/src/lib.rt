@@ -4,6 +4,7 @@
 
 mod domain;
 mod domains;
+mod invocations;
 mod laws;
 mod loading;
 mod segments;
@@ -13,6 +14,7 @@ mod used;
 
 pub use domain::Domain;
 pub use domains::Domains;
+pub use invocations::Invocations;
 pub use laws::{
     a_deleted_domain_is_gone, a_load_begins_empty, a_load_goes_on_as_asked,
     a_loaded_domain_is_what_came, a_lost_client_loads_nothing,

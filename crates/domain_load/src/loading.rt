@@ -8,11 +8,10 @@ ghost use Rattle.domain_load.specs.Loading.{also_asked, answers_load, asked_next
 ghost use Rattle.domain_load.specs.Domains.{is_there, name_eq};
 ghost use Rattle.domain_load.specs.Standing.{is_loaded_by};
 
-use crate::{Domain, Domains, Segments};
+use crate::{Domain, Domains, Invocations, Segments};
 use indexmap::IndexMap;
 use mms_types::{
-    Also, Asked, Identifier, Identifiers, InitiateDownloadSequence, Memory, Octets, Reply,
-    ServiceError,
+    Also, Asked, Identifier, InitiateDownloadSequence, Memory, Octets, Reply, ServiceError,
 };
 use std::alloc::Global;
 
@@ -67,7 +66,7 @@ impl Domains {
             sharable: asked.sharable,
             loader: Some(by),
             segments: Segments::new(alloc),
-            invocations: Identifiers::new(alloc),
+            invocations: Invocations::new(alloc),
         };
         put_row(&mut self.rows, name, domain)?;
         Ok(also)

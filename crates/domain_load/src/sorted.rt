@@ -59,15 +59,14 @@ pub fn copied_names(alloc: Global, names: &[&Identifier]) -> Result<Identifiers,
 }
 
 /// The names in order of octets, copied.
-pub(crate) fn in_order(alloc: Global, names: &Identifiers) -> Result<Identifiers, Memory>
+pub(crate) fn in_order(alloc: Global, names: &[Identifier]) -> Result<Identifiers, Memory>
     ensures { IfOk result (λ sorted. sorted ≡ sorted_names names.now) }
 {
     let mut sorted = Vec::new(alloc);
-    let given = names.as_slice();
-    let mut left = given.len();
+    let mut left = names.len();
     while left > 0 {
         left -= 1;
-        put_name(&mut sorted, &given[left], given.len())?;
+        put_name(&mut sorted, &names[left], names.len())?;
     }
     copied_names(alloc, &sorted)
 }

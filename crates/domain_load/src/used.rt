@@ -1,8 +1,6 @@
 //! Which program invocations have a domain: their names stand in it, in order of octets.
-ghost use Rattle.std.specs.Prelude.{◌≡◌, ◌≤◌, ◌∷◌, ◌++◌, drop, length, OnErr, OnOk, slice_get, take};
-ghost use Rattle.object_names.specs.Listing.{insert_name};
+ghost use Rattle.std.specs.Prelude.{◌≡◌, length, OnErr, OnOk};
 ghost use Rattle.domain_load.specs.Domains.{is_there};
-ghost use Rattle.domain_load.specs.Kept.{comes_before};
 ghost use Rattle.domain_load.specs.Loading.{changed};
 ghost use Rattle.domain_load.specs.Used.{AreFreeFor, after_unused, after_used, had_by, is_taken, left_by};
 
@@ -61,39 +59,15 @@ impl Domain {
         ensures put { OnOk result (self.new ≡ had_by name self.old) }
         ensures kept { OnErr result (self.new ≡ self.old) }
     {
-        let place = place_among(self.invocations.as_slice(), &name);
-        self.invocations.insert(place, name)
+        self.invocations.put(name)
     }
 
     /// The invocation of that name doesn't have it any more.
     fn take_name(&mut self, name: &Identifier)
         ensures { self.new ≡ left_by name.now self.old }
     {
-        self.invocations.remove(name);
+        self.invocations.take(name);
     }
-}
-
-/// Whether the name at a place comes before that one. No where there are not as many.
-fn comes_before(names: &[Identifier], place: usize, name: &Identifier) -> bool
-    ensures { result ≡ comes_before name.now (slice_get names.now place) }
-{
-    match names.get(place) {
-        None => false,
-        Some(other) => *other < *name,
-    }
-}
-
-/// The place of a name among names in order: that of the first that doesn't come before it.
-fn place_among(names: &[Identifier], name: &Identifier) -> usize
-    ensures within { result ≤ length names.now }
-    ensures place { insert_name name.now names.now
-        ≡ take result names.now ++ name.now ∷ drop result names.now }
-{
-    let mut place = 0;
-    while comes_before(names, place, name) {
-        place += 1;
-    }
-    place
 }
 
 /// The invocation has the domain of that name too. The one refusal is want of memory; then all is as before.

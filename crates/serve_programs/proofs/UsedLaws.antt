@@ -14,7 +14,6 @@ use Rattle.mms_types.specs.declared.invocation.CreateProgramInvocation.{CreatePr
 use Rattle.mms_types.specs.declared.invocation.RunProgram.{RunProgram}
 use Rattle.object_names.specs.Listing.{insert_name, sorted_names}
 use Rattle.object_names.proofs.Fewer.{still_few}
-use Rattle.object_names.proofs.Ordered.{IsOrdered, before}
 use Rattle.object_names.proofs.NameOrder.{ordered_inserted, sorted_ordered, sum_inserted, sum_sorted, unique}
 use Rattle.domain_load.specs.Domains.{Rows as DomainRows, is_there, name_eq}
 use Rattle.domain_load.specs.Domains as loaded
@@ -23,6 +22,7 @@ use Rattle.domain_load.specs.Standing.{is_live}
 use Rattle.domain_load.specs.Used.{AreFreeFor, after_unused, after_used, had_by, is_free_for, is_had_by, is_taken, left_by}
 use Rattle.domain_load.specs.declared.domain.Domain.{Domain}
 use Rattle.domain_load.proofs.Outcomes.{found_changed}
+use Rattle.domain_load.proofs.UserNames.{order_left}
 use Rattle.domain_load.proofs.Users.{others_free}
 use Rattle.program_inv.specs.Programs.{Rows, after_command, after_create, after_delete, after_ends, after_resume, after_start, changed, commanded, create_cause, made, named, told}
 use Rattle.program_inv.specs.Table.{ended, next}
@@ -306,27 +306,9 @@ module _ {X : Type 0} (p : X → Bool) where
       by_test true rest = sum_by-cons f x (filter p xs) ∙ ap (λ (n : ℕ). f x + n) rest
       by_test false rest = let same = rest in omega (arith, same)
 
-  none_filtered : (f : X → ℕ) (xs : List X) → sum_by f xs ≡ 0 → sum_by f (filter p xs) ≡ 0
-  none_filtered f [] e = refl
-  none_filtered f (x ∷ xs) e =
-      let parts = sum_by-cons f x xs in
-      by_test (p x) (omega (arith, parts, e)) (none_filtered f xs (omega (arith, parts, e)))
-    where
-      by_test : (b : Bool) → f x ≡ 0 → sum_by f (filter p xs) ≡ 0 → sum_by f (cond b (x ∷ filter p xs) (filter p xs)) ≡ 0
-      by_test true first rest = let parts = sum_by-cons f x (filter p xs) in omega (arith, parts, first, rest)
-      by_test false first rest = rest
-
-ordered_filtered : (p : List ℕ → Bool) (names : List (List ℕ)) → IsOrdered names → IsOrdered (filter p names)
-ordered_filtered p [] h = tt
-ordered_filtered p (name ∷ names) h = by_test (p name) (none_filtered p (before name) names h.0) (ordered_filtered p names h.1)
-  where
-    by_test : (b : Bool) → sum_by (before name) (filter p names) ≡ 0 → IsOrdered (filter p names) → IsOrdered (cond b (name ∷ filter p names) (filter p names))
-    by_test true first rest = (first, rest)
-    by_test false first rest = rest
-
 sorted_filtered : (p : List ℕ → Bool) (names : List (List ℕ)) → sorted_names (filter p names) ≡ filter p (sorted_names names)
 sorted_filtered p names =
-    unique (sorted_names (filter p names)) (filter p (sorted_names names)) (sorted_ordered (filter p names)) (ordered_filtered p (sorted_names names) (sorted_ordered names))
+    unique (sorted_names (filter p names)) (filter p (sorted_names names)) (sorted_ordered (filter p names)) (order_left p (sorted_names names) (sorted_ordered names))
     (λ f.
     sum_sorted f (filter p names)
     ∙ sum_filtered p f names

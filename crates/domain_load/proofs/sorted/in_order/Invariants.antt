@@ -5,8 +5,8 @@ use Rattle.domain_load.proofs.sorted.in_order.Given as goal
 -- the names from that one on are in order
 abbrev pub invariant-loop-left : goal.invariant-loop-left
 invariant-loop-left l = record {
-  within : l.left ≤ length l.given;
-  sorted : map (λ name. name.now) l.sorted.items ≡ sorted_names (drop l.left l.given);
+  within : l.left ≤ length l.names;
+  sorted : map (λ name. name.now) l.sorted.items ≡ sorted_names (drop l.left l.names);
 }
 
 abbrev pub decreases-loop-left : goal.decreases-loop-left
