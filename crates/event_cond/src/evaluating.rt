@@ -1,7 +1,9 @@
 //! Evaluations of monitored conditions, and the next of them.
 
 ghost use Rattle.std.specs.Prelude.{◌≡◌, ◌≢◌, IfOk, IfSome, None, OnErr, OnOk, Some, option_map};
+ghost use Rattle.std.specs.declared.cmp.Ordering.TheVariants.{Less};
 ghost use Rattle.mms_types.specs.Moments.{IsDated};
+ghost use Rattle.mms_types.specs.Order.{key_order};
 ghost use Rattle.event_cond.specs.Conditions.{after_evaluate, class_evaluated, evaluate_told, evaluated, move_told, moved};
 ghost use Rattle.event_cond.specs.Evaluations.{evaluation_meant, next_evaluation, next_named, next_of, next_of_class, sooner, sooner_if};
 ghost use Rattle.event_cond.specs.Kept.{IsClass, IsCondition, IsWatch};
@@ -9,6 +11,7 @@ ghost use Rattle.event_cond.specs.Kept.{IsClass, IsCondition, IsWatch};
 use crate::kept::Kept;
 use crate::{Condition, ConditionClass, Conditions, Evaluation, Watch};
 use mms_types::{Key, Memory, Moment, Turned};
+use object_names::rows_stand_in_order;
 use std::alloc::Global;
 use std::cmp::Ordering;
 
@@ -137,13 +140,15 @@ pub(crate) fn is_sooner(at: Moment, key: &Key, first_at: Moment, first_key: &Key
     at.0 < first_at.0
 }
 
-/// The sooner of the first evaluation so far and that of one more condition, where it is to be evaluated.
+/// The sooner of the first evaluation so far and that of one more condition, where it is to be evaluated: of one moment
+/// the first, whose name comes before the other.
 #[inline(always)]
 fn sooner_of<'a>(
     first: Option<(Moment, &'a Key)>,
     key: &'a Key,
     next: Option<Moment>,
 ) -> Option<(Moment, &'a Key)>
+    requires { IfSome first (λ e. key_order e.1.now key.now ≡ Less) }
     ensures { option_map evaluation_meant result
         ≡ sooner_if (option_map evaluation_meant first.entry)
         (option_map (λ at. (at, key.now)) next) }
@@ -152,7 +157,7 @@ fn sooner_of<'a>(
         return first;
     };
     match first {
-        Some((first_at, first_key)) if !is_sooner(at, key, first_at, first_key) => first,
+        Some((first_at, first_key)) if first_at.0 <= at.0 => Some((first_at, first_key)),
         _ => Some((at, key)),
     }
 }
@@ -164,9 +169,10 @@ impl Conditions {
         ensures least { option_map evaluation_meant result ≡ next_evaluation self.now }
         ensures stands { IfSome result (λ e. next_named e.1.now self.now ≡ Some e.0) }
     {
+        rows_stand_in_order(&self.rows);
         let mut first = None;
-        for place in 0..self.rows.len() {
-            let Some((key, kept)) = self.rows.at(place) else {
+        for rank in 0..self.rows.len() {
+            let Some((key, kept)) = self.rows.ranked(rank) else {
                 unreachable!()
             };
             first = sooner_of(first, key, kept.condition.next());

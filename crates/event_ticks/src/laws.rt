@@ -11,17 +11,17 @@ ghost use Rattle.event_ticks.specs.Skipping.{skipping};
 ghost use Rattle.event_ticks.specs.Sound.{AreSound};
 ghost use Rattle.event_ticks.specs.Ticks.{Ticking, next_met, ticked};
 
-/// No cell changes within a tick. So it comes to the same, and the same is told in the same order, where each condition is
-/// met at its first evaluation alone, and its next evaluation is then the first that lies after the tick: however many
-/// evaluations there are.
+/// No cell changes within a tick. So it comes to the same, and the same is told in the same order, where each condition
+/// is met at its first evaluation alone, and its next evaluation is then the first that lies after the tick: however
+/// many evaluations there are.
 pub fn evaluations_are_skipped()
     ensures { (cells : Saying) (until : Moment) (s : Ticking) → AreSound s.conditions
         → ticked cells until s ≡ skipping cells until s }
 {}
 
-/// A tick is what comes next, again and again: where nothing comes up to its end, all stays as it is; else the first of the
-/// evaluations and the losses is met, a loss before the evaluations of its moment, and then the tick goes on. It ends where
-/// nothing comes any more.
+/// A tick is what comes next, again and again: where nothing comes up to its end, all stays as it is; else the first of
+/// the evaluations and the losses is met, a loss before the evaluations of its moment, and then the tick goes on. It
+/// ends where nothing comes any more.
 pub fn a_tick_meets_what_comes_next()
     ensures rests { (cells : Saying) (until : Moment) (s : Ticking) → next_met cells until s ≡ None
         → ticked cells until s ≡ s }
@@ -44,8 +44,8 @@ pub fn every_evaluation_lies_ahead()
         → All (λ e. until.0 < e.0.0) (evaluations (ticked cells until s).conditions) }
 {}
 
-/// Time that goes by up to one moment and then up to a later one is time that goes by up to the later: the same is told in
-/// the same order, and conditions and enrollments are the same.
+/// Time that goes by up to one moment and then up to a later one is time that goes by up to the later: the same is told
+/// in the same order, and conditions and enrollments are the same.
 pub fn two_ticks_are_one()
     ensures { (cells : Saying) (first later : Moment) (s : Ticking) → AreSound s.conditions
         → first.0 ≤ later.0

@@ -1,5 +1,5 @@
-//! Time goes by for the event conditions and enrollments of a device: every evaluation up to a moment is made at its own
-//! moment, clients are lost meanwhile, and what is told of it, in order (ISO 9506-1, event management).
+//! Time goes by for the event conditions and enrollments of a device: every evaluation up to a moment is made at its
+//! own moment, clients are lost meanwhile, and what is told of it, in order (ISO 9506-1, event management).
 #![tactic(auto)]
 
 mod laws;

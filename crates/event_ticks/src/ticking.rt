@@ -61,10 +61,11 @@ fn all_told(
     Ok(told)
 }
 
-/// What is told where time goes by up to a moment, no cell changes meanwhile, and clients are lost at the moments given,
-/// in order (ISO 9506-1, event condition, monitored): every evaluation that is at most that moment is made at its own
-/// moment, by names of one moment, and after the losses of its moment; each transition is told to the enrollments as they
-/// are then. Nothing changes. The one refusal is want of memory, only where the state of a condition changes.
+/// What is told where time goes by up to a moment, no cell changes meanwhile, and clients are lost at the moments
+/// given, in order (ISO 9506-1, event condition, monitored): every evaluation that is at most that moment is made at
+/// its own moment, by names of one moment, and after the losses of its moment; each transition is told to the
+/// enrollments as they are then. Nothing changes. The one refusal is want of memory, only where the state of a
+/// condition changes.
 pub fn tick_told<C: Cells>(
     alloc: Global,
     conditions: &Conditions,
@@ -87,8 +88,8 @@ pub fn tick_told<C: Cells>(
     all_told(alloc, enrolments, losses, turns)
 }
 
-/// Lets time go by up to a moment, as `tick_told` tells it: what becomes of the conditions and the enrollments. It takes no
-/// memory.
+/// Lets time go by up to a moment, as `tick_told` tells it: what becomes of the conditions and the enrollments. It
+/// takes no memory.
 pub fn tick<C: Cells>(
     conditions: &mut Conditions,
     enrolments: &mut Enrolments,

@@ -1,3 +1,4 @@
+pub mod ByName
 pub mod Fewer
 pub mod Found
 pub mod KeysInOrder

@@ -4,5 +4,6 @@ pub mod Deletion
 pub mod Index
 pub mod Listing
 pub mod NewName
+pub mod Ranked
 pub mod Scopes
 pub mod Selected
