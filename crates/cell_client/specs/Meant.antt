@@ -1,9 +1,7 @@
 -- What a verdict that was found means, and what its client alone is told of it.
-use Rattle.std.specs.Prelude.{Bool, true, false, is_some, List, [], ◌∷◌, Option, None, Some, Result}
+use Rattle.std.specs.Prelude.{Bool, true, false, is_some, List, [], ◌∷◌, Option, None, Some}
 use Rattle.mms_types.specs.declared.event.What.TheVariants.{Abort}
 use Rattle.mms_types.specs.declared.pdu.Pdu.TheVariants as pdu
-use Rattle.mms_pdu.specs.declared.reading.Read.{Read}
-use Rattle.mms_pdu.specs.declared.refusal.Refusal.{Refusal}
 use Rattle.association.specs.Client.{ClientRow}
 use Rattle.association.specs.Negotiation.{negotiation}
 use Rattle.cell_client.specs.declared.verdict.Came.{Came as CameBorrowed}
@@ -14,9 +12,8 @@ use Rattle.cell_client.specs.declared.verdict.Said.{Said}
 use Rattle.cell_client.specs.declared.verdict.Said.TheVariants as said
 use Rattle.cell_client.specs.declared.verdict.Found.{Found}
 use Rattle.cell_client.specs.declared.verdict.Found.TheVariants as found
-use Rattle.cell_client.specs.Association.{Verdict, Tells, Takes, Replies, Exhausts, Concludes, Cancels, Aborts, Came, Arrives, Ends, Fails, keeps_open, sends, negotiated, unknown_error, verdict_by}
+use Rattle.cell_client.specs.Association.{Verdict, Tells, Takes, Replies, Exhausts, Concludes, Cancels, Aborts, Came, Arrives, Ends, Fails, keeps_open, sends, negotiated, unknown_error}
 use Rattle.cell_client.specs.Effects.{Effect, Sends, Settles}
-use Rattle.cell_client.specs.Reads.{pdu_read}
 use Rattle.cell_client.specs.Requests.{plain_answer, request_told, size_of}
 
 abbrev pub effects_of : Said → List Effect
@@ -40,10 +37,6 @@ meant (found.Replies number answer) = Replies number (came answer)
 meant found.Concludes = Concludes
 meant (found.Cancels invoke) = Cancels invoke
 meant found.Aborts = Aborts
-
--- what was read of the octets of the client of a row comes to
-abbrev pub verdict_read : ClientRow → Result Read Refusal → Verdict
-verdict_read row read = verdict_by row.association row (pdu_read read)
 
 -- whether a verdict on what the client of a row sends is done on that row alone
 abbrev pub uses_no_table : ClientRow → Verdict → Bool

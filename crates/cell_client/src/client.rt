@@ -9,16 +9,15 @@ ghost use Rattle.mms_types.specs.Serves.{Serves};
 ghost use Rattle.mms_types.specs.declared.pdu.Pdu.TheVariants as pdu;
 ghost use Rattle.cell_client.specs.Association.{further_error, negotiated, other_error, sends, unknown_error, Takes};
 ghost use Rattle.cell_client.specs.Effects.{asking_octets, felt, felt_all, server_request, settled, Asks, Sends, Settles};
-ghost use Rattle.cell_client.specs.Meant.{act_verdict, effects_of, told_alone, verdict_read, uses_no_table};
-ghost use Rattle.cell_client.specs.Reads.{IsDeep};
+ghost use Rattle.cell_client.specs.Meant.{act_verdict, effects_of, meant, told_alone, uses_no_table};
 ghost use Rattle.cell_client.specs.Requests.{fits, identity, is_done, plain_answer, refuses, request_told, size_of};
 ghost use Rattle.cell_client.specs.Telling.{effect_of, output_count, told_row, wait_count};
 
 use crate::plain::{STATUS, identity};
-use crate::{Act, Found, Said, Told, verdict_of};
+use crate::{Act, Found, Said, Told};
 use association::{ClientPart, Constants, outcome_of};
 use mms_pdu::{
-    Read, Refusal, Writer, put_answer, put_cancel_error, put_conclude_error, put_confirmed_error,
+    Writer, put_answer, put_cancel_error, put_conclude_error, put_confirmed_error,
     put_initiate_error, put_initiate_response, put_reject, put_server_request,
 };
 use mms_types::{
@@ -368,27 +367,20 @@ impl Client {
         }
     }
 
-    /// Hears what was read from the client: where no table is used, all of it is done, and the client is told all that
-    /// comes of it. Otherwise that is answered which is to be done on the tables, and all stays as it was, as it does
-    /// without memory.
-    pub fn hear<'a>(
-        &mut self,
-        alloc: Global,
-        read: &'a Result<Read, Refusal>,
-    ) -> Result<Option<Act<'a>>, Memory>
-        requires depth { IsDeep read.now }
+    /// Hears what the octets of the client come to: where no table is used, all of it is done, and the client is told
+    /// all that comes of it. Otherwise that is answered which is to be done on the tables, and all stays as it was, as
+    /// it does without memory.
+    pub fn hear<'a>(&mut self, alloc: Global, found: &Found<'a>) -> Result<Option<Act<'a>>, Memory>
         ensures done { IfOk result (λ left. IfNone left (self.new ≡ settled
-            (felt_all (told_alone self.old.row (verdict_read self.old.row read.now))
-            self.old.row))) }
+            (felt_all (told_alone self.old.row (meant found.now)) self.old.row))) }
         ensures left { IfOk result (λ left. IfSome left (λ act.
-            act_verdict act ≡ Some (verdict_read self.old.row read.now))) }
+            act_verdict act ≡ Some (meant found.now))) }
         ensures exact { IfOk result (λ left.
-            is_none left ≡ uses_no_table self.old.row (verdict_read self.old.row read.now)) }
+            is_none left ≡ uses_no_table self.old.row (meant found.now)) }
         ensures same { IfOk result (λ left. OnSome left (self.new ≡ self.old)) }
         ensures kept { OnErr result (self.new ≡ self.old) }
     {
-        let found = verdict_of(&self.part, read)?;
-        match found {
+        match *found {
             Found::Tells(said) => {
                 self.say(alloc, &said)?;
                 Ok(None)

@@ -7,7 +7,14 @@ use Rattle.part_table.specs.Held.{held_at, IsHandOf}
 use Rattle.part_table.specs.HeldLaws.{held_set_else, held_of_list, hand_of}
 use Rattle.parted_state.specs.CutLaws as laws
 use Rattle.mms_step.specs.declared.part.Part.{Part}
+use Rattle.mms_types.specs.declared.event.CellEvent.{CellEvent}
+use Rattle.mms_types.specs.declared.event.CellEvent.TheVariants.{Heard, Lost, Tick, Ends, Drain}
+use Rattle.cell_client.specs.Association.{verdict}
+use Rattle.cell_client.specs.declared.verdict.Found.{Found}
+use Rattle.mms_step.specs.declared.part.Part.TheVariants.{Client}
 use Rattle.mms_step.specs.Needs.{is_held}
+use Rattle.mms_step.specs.Partition.{client_in, client_place, row_in, IsClient}
+use Rattle.mms_step.specs.Tasks.{IsFoundOf}
 use Rattle.mms_device.specs.Shared.{Caller}
 use Rattle.mms_device.specs.Taken.{HasGrown, HasTaken, free_count}
 use Rattle.mms_device.proofs.Steps.{the_held}
@@ -54,7 +61,29 @@ grown_one hand part x free = record {
 pub sub_hand : (asked : List ℕ) (before after : List (Option Part)) (parts : List Part) → HasGrown asked before after → IsHandOf after parts → IsHandOf before parts
 sub_hand asked before after parts grown of = hand_of before parts (sym grown.places ∙ of.places) (λ i x e. held_of_list after parts i x of (grown.kept i x e))
 
+-- what was found of the octets of an event stays so: the part of its client is held as it was
+pub found_grown : (found : Option Found) (event : CellEvent) (asked : List ℕ) (before after : List (Option Part)) → HasGrown asked before after → IsFoundOf found event before
+    → IsFoundOf found event after
+found_grown None event asked before after grown of = tt
+found_grown (Some f) (Heard client octets) asked before after grown of =
+    let same : held_at after (client_place client) ≡ held_at before (client_place client) = grown.kept (client_place client) (Client (client_in (held_at before (client_place client)))) of.0 ∙ sym of.0 in (
+      subst (λ (o : Option Part). IsClient o) (sym same) of.0,
+      of.1 ∙ ap (λ (o : Option Part). verdict (row_in o) octets) (sym same),
+    )
+found_grown (Some f) (Lost client) asked before after grown of = tt
+found_grown (Some f) (Tick ms) asked before after grown of = tt
+found_grown (Some f) (Ends name) asked before after grown of = tt
+found_grown (Some f) (Drain client) asked before after grown of = tt
+
 -- ---- passes
+
+-- as it does by a pass that saw the history, and took parts
+pub found_seen : (found : Option Found) (event : CellEvent) (old saw : Caller) → saw ≡ record old { seen = saw.seen } → IsFoundOf found event old.taken → IsFoundOf found event saw.taken
+found_seen found event old saw is of = subst (λ (h : List (Option Part)). IsFoundOf found event h) (sym (ap (λ (p : Caller). p.taken) is)) of
+
+pub found_taken : (found : Option Found) (event : CellEvent) (old saw new : Caller) (asked : List ℕ) → saw ≡ record old { seen = saw.seen } → HasTaken asked saw new
+    → IsFoundOf found event old.taken → IsFoundOf found event new.taken
+found_taken found event old saw new asked is took of = found_grown found event asked saw.taken new.taken took.grown (found_seen found event old saw is of)
 
 pub taken_none : (asked : List ℕ) (pass : Caller) → pass.hand ≡ pass.taken → HasTaken asked pass pass
 taken_none asked pass same = record { pass = refl; hand = same; grown = grown_none asked pass.taken }

@@ -7,14 +7,15 @@ use Rattle.mms_step.specs.declared.part.Part.{Part}
 use Rattle.mms_step.specs.After.{after}
 use Rattle.mms_step.specs.Needs.{need}
 use Rattle.mms_step.specs.Partition.{parts_of, clients_among, clock_in}
-use Rattle.cell_client.specs.Reads.{Kept, IsReadingOf}
+use Rattle.cell_client.specs.declared.verdict.Found.{Found}
+use Rattle.mms_step.specs.Tasks.{IsFoundOf}
 use Rattle.mms_step.specs.State.{State, IsSound}
 use Rattle.mms_step.specs.Step.{IsInTime}
 
--- they are parts of a state that may come, nothing else is needed, and the event is one of a client that is there, in time
-pub record MayStep (event : CellEvent) (kept : Kept) (hand : List (Option Part)) : Type 0 where
+-- they are parts of a state that may come, nothing else is needed, what is found is what its octets come to, and the event is one of a client that is there, in time
+pub record MayStep (event : CellEvent) (found : Option Found) (hand : List (Option Part)) : Type 0 where
   pub of : (s : State) × ((count : ℕ) × IsSound count s) × IsHandOf hand (parts_of s)
-  pub reading : IsReadingOf kept event
+  pub found_of : IsFoundOf found event hand
   pub among : IsAmong (clients_among (length hand)) event
   pub held : need event hand ≡ []
   pub time : IsInTime (clock_in (held_at hand 0)) event

@@ -16,7 +16,7 @@ ghost use Rattle.mms_step.specs.Partition.{client_place, outbox_held, parts_of, 
 ghost use Rattle.mms_step.specs.State.{State};
 ghost use Rattle.mms_device.specs.Making.{MayMake};
 
-use mms_step::{Cell, Part, Reading, apply_read};
+use mms_step::{Cell, Found, Part, apply_by};
 use mms_types::{CellEvent, Memory, What};
 use part_table::{Hand, Held, PartTable, Pass};
 use std::alloc::Global;
@@ -129,22 +129,22 @@ pub(crate) trait OnHeld {
         ensures kept { OnErr result (held.new ≡ held.old) };
 }
 
-/// The step of an event, of whose octets that was read.
+/// The step of an event, whose octets come to that.
 #[derive(Clone, Copy, Drop)]
 pub(crate) struct StepOf<'a> {
     pub(crate) event: &'a CellEvent,
-    pub(crate) reading: &'a Reading,
+    pub(crate) found: Option<Found<'a>>,
 }
 
 impl OnHeld for StepOf<'_> {
     ghost use Rattle.mms_device.specs.Stepping.{MayStep, HasStepped};
 
-    ghost may = { λ step hand. MayStep step.event.now step.reading.now hand };
+    ghost may = { λ step hand. MayStep step.event.now step.found hand };
 
     ghost does = { λ step old new. HasStepped step.event.now old new };
 
     fn on(&self, alloc: Global, held: &mut Hand<Cell>) -> Result<(), Memory> {
-        apply_read(alloc, self.event, self.reading, held)
+        apply_by(alloc, self.event, &self.found, held)
     }
 }
 

@@ -10,6 +10,7 @@ ghost use Rattle.mms_step.specs.Needs.{footprint, need};
 ghost use Rattle.mms_step.specs.Partition.{parts_of};
 ghost use Rattle.cell_client.specs.Reads.{IsReadingOf};
 ghost use Rattle.mms_step.specs.Step.{said};
+ghost use Rattle.mms_step.specs.Tasks.{IsFoundOf};
 ghost use Rattle.mms_device.specs.Making.{MayMake};
 ghost use Rattle.mms_device.specs.Refusals.{IsRefused};
 ghost use Rattle.mms_device.specs.Shared.{HasTried, IsBusy, IsServed, IsTimely, all_events, led_to};
@@ -20,7 +21,7 @@ use crate::giving::give_all;
 use crate::taking::take_each;
 use crate::{Device, Drained, calls};
 use cell_io::{Gate, Point};
-use mms_step::{Cell, Reading, footprint, need_read, read_event};
+use mms_step::{Cell, Found, Reading, footprint, need_by, read_event, verdict};
 use mms_types::{CellEvent, Memory};
 use part_table::Pass;
 use std::alloc::Global;
@@ -33,17 +34,18 @@ impl Device {
         alloc: Global,
         pass: &mut Pass<Cell>,
         event: &CellEvent,
-        reading: &Reading,
+        found: &Option<Found<'_>>,
         gate: &G,
     ) -> Result<bool, Refused>
         requires table { pass.old.table ≡ self.now.table }
         requires hand { pass.old.hand ≡ pass.old.taken }
         requires actor { MayMake pass.old.by event.now }
         requires time { IsTimely self.now.config pass.old event.now }
-        requires reading { IsReadingOf reading.now event.now }
+        requires found { IsFoundOf found.now event.now pass.old.taken }
         requires wanted { HoldsWanted event.now pass.old.taken }
         ensures taking { IsTaking event.now pass.old pass.new }
         ensures time { IsTimely self.now.config pass.new event.now }
+        ensures found { IsFoundOf found.now event.now pass.new.taken }
         ensures all { IfOk result (λ all. all ≡ true → (need event.now pass.new.taken ≡ [])
             × IsHandOf pass.new.taken (parts_of (led_to self.now.config pass.new.seen))) }
         ensures more { IfOk result (λ all. all ≡ false
@@ -54,7 +56,7 @@ impl Device {
         calls::a_pass_knows_its_own_places(pass);
         calls::see(&self.table, pass);
         calls::a_pass_knows_its_own_places(pass);
-        let Ok(missing) = need_read(alloc, event, reading, calls::hand(pass)) else {
+        let Ok(missing) = need_by(alloc, event, found, calls::hand(pass)) else {
             return Err(Refused::Memory);
         };
         if missing.is_empty() {
@@ -90,31 +92,38 @@ impl Device {
         take_each(&self.table, pass, &parts, gate)
     }
 
-    /// Takes all parts that the event wants, by a pass that holds nothing.
-    fn take_wanted<G: Gate>(
+    /// Takes all parts that the event wants, by a pass that holds nothing, and answers what its octets come to. That is
+    /// found once, as soon as the part of its client is held.
+    fn take_wanted<'a, G: Gate>(
         &self,
         alloc: Global,
         pass: &mut Pass<Cell>,
         event: &CellEvent,
-        reading: &Reading,
+        reading: &'a Reading,
         gate: &G,
-    ) -> Result<(), Refused>
+    ) -> Result<Option<Found<'a>>, Refused>
         requires table { pass.old.table ≡ self.now.table }
         requires idle { HoldsNothing pass.old }
         requires actor { MayMake pass.old.by event.now }
         requires time { IsTimely self.now.config pass.old event.now }
         requires reading { IsReadingOf reading.now event.now }
         ensures taking { IsTaking event.now pass.old pass.new }
+        ensures found { IfOk result (λ found. IsFoundOf found event.now pass.new.taken) }
         ensures all { IfOk result (λ _. (need event.now pass.new.taken ≡ [])
             × IsHandOf pass.new.taken (parts_of (led_to self.now.config pass.new.seen))
             × (pass.new.lost ≡ pass.old.lost)) }
         ensures stopped { IfErr result (IsStopped event.now pass.old pass.new) }
     {
+        let _clients = self.clients;
+        calls::a_pass_knows_its_own_places(pass);
         if let Err(busy) = self.take_told(pass, event, gate) {
             return Err(Refused::Busy(busy));
         }
-        while !self.take_more(alloc, pass, event, reading, gate)? {}
-        Ok(())
+        let Ok(found) = verdict(event, reading, calls::hand(pass)) else {
+            return Err(Refused::Memory);
+        };
+        while !self.take_more(alloc, pass, event, &found, gate)? {}
+        Ok(found)
     }
 
     /// Serves an event of whose octets that was read.
@@ -137,15 +146,18 @@ impl Device {
         ensures refused { IfErr result (IsRefused self.now.config event.now pass.old pass.new) }
     {
         calls::a_pass_knows_its_own_places(pass);
-        if let Err(refused) = self.take_wanted(alloc, pass, event, reading, gate) {
-            calls::see(&self.table, pass);
-            calls::a_pass_knows_its_own_places(pass);
-            give_all(&self.table, pass);
-            tell(gate, calls::by(pass), refused);
-            return Err(refused);
-        }
+        let found = match self.take_wanted(alloc, pass, event, reading, gate) {
+            Ok(found) => found,
+            Err(refused) => {
+                calls::see(&self.table, pass);
+                calls::a_pass_knows_its_own_places(pass);
+                give_all(&self.table, pass);
+                tell(gate, calls::by(pass), refused);
+                return Err(refused);
+            }
+        };
         calls::a_pass_knows_its_own_places(pass);
-        let Ok(()) = calls::on_hand(alloc, pass, &calls::StepOf { event, reading }) else {
+        let Ok(()) = calls::on_hand(alloc, pass, &calls::StepOf { event, found }) else {
             give_all(&self.table, pass);
             return Err(Refused::Memory);
         };

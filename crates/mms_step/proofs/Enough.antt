@@ -36,7 +36,8 @@ use Rattle.mms_step.specs.After.{after}
 use Rattle.mms_step.specs.AfterLaws.{after_holds_the_same}
 use Rattle.mms_step.proofs.Holding.{client_at, clients_counted, held_client, held_part, after_of_hand, change_is_held}
 use Rattle.mms_step.proofs.Needed.{drain_needs_none}
-use Rattle.mms_step.proofs.ServeLaws.{programs_put, shown_own}
+use Rattle.mms_step.proofs.ServeLaws.{shown_own}
+use Rattle.mms_step.proofs.TakenOut.{programs_put}
 use Rattle.mms_step.proofs.PartsAfter.{with_client, client_changed, step_drained}
 
 -- parts of a sound state

@@ -29,7 +29,8 @@ use Rattle.mms_step.specs.Rooms.{no_room, with_room}
 use Rattle.mms_step.specs.Tasks.{row_held, AreDone, AreMade, IsRoomless}
 use Rattle.mms_step.proofs.Changed.{client_arm}
 use Rattle.mms_step.proofs.Holding.{client_at, clients_counted, held_part}
-use Rattle.mms_step.proofs.ServeLaws.{behind_clients, both_changed, change_as, done_in_place, first_of, held_after_set, part_settled, put_tables, shown_own, told_row_at, four_same, domains_done_in_place, invocations_done_in_place, programs_done_in_place, three_changed, varied_same}
+use Rattle.mms_step.proofs.ServeLaws.{behind_clients, change_as, first_of, part_settled, put_tables, shown_own, told_row_at, four_same, varied_same}
+use Rattle.mms_step.proofs.TakenOut.{both_changed, done_in_place, held_after_set, domains_done_in_place, invocations_done_in_place, programs_done_in_place, three_changed}
 
 -- ---- a held part of a state has no room
 

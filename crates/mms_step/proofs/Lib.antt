@@ -18,6 +18,7 @@ pub mod TokensKept
 pub mod TwoTicks
 pub mod ToldLaws
 pub mod ServeLaws
+pub mod TakenOut
 pub mod InPlace
 pub mod Ready
 pub mod Scoping

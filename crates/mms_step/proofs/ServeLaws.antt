@@ -1,18 +1,8 @@
 -- What is done on the tables that are lifted out of held parts is put in place.
 use Rattle.std.specs.Prelude.{◌≡◌, ◌≢◌, ℕ, zero, suc, ◌+◌, ◌-◌, ◌<◌, ◌≤◌, nat_lt, Bool, true, false, Option, None, Some, List, [], ◌∷◌, ◌++◌, is_some, map, length, slice_get, unwrap_or, if◌then◌else◌, refl}
 use Rattle.std.specs.Option.{option_map}
-use Rattle.std.specs.Prelude.{Result, Ok, Err, IfOk, IfNone, IfSome, OnSome, OnErr}
-use Rattle.std.proofs.Common.{set, ap, ap₂, sym, ◌∙◌, subst, arith}
-use Rattle.mms_types.specs.declared.memory.Memory.{Memory}
-use Rattle.mms_pdu.specs.declared.refusal.Refusal.{Refusal}
-use Rattle.mms_pdu.specs.declared.reading.Read.{Read}
-use Rattle.mms_pdu.specs.declared.refusal.Refusal.TheVariants as refusal
-use Rattle.mms_pdu.specs.Heard.{pdu_heard}
-use Rattle.mms_pdu.specs.Hearing.{Hears}
-use Rattle.mms_types.specs.declared.pdu.Pdu.{Pdu}
-use Rattle.association.specs.declared.constants.Constants.{Constants}
-use Rattle.cell_client.specs.Reads.{IsRead, pdu_read, wants_memory}
-use Rattle.association.specs.Client.{ClientRow, Client as RoomyRow}
+use Rattle.std.proofs.Common.{ap, ap₂, sym, ◌∙◌, subst, arith}
+use Rattle.association.specs.Client.{ClientRow}
 use Rattle.part_table.specs.Held.{held_at, IsHandOf}
 use Rattle.part_table.specs.HeldLaws.{held_of_list}
 use Rattle.parted_state.specs.Lifted.{put_from, with_tables, tables_shown, part_told, told_to, told_all, put_in_place}
@@ -34,12 +24,10 @@ use Rattle.serve_domains.specs.Tables.{DomainTables}
 use Rattle.cell_services.specs.Tables.{Tables}
 use Rattle.mms_step.specs.Needs.{is_held}
 use Rattle.cell_client.specs.Effects.{Effect, felt, felt_all, tell, settled}
-use Rattle.cell_services.specs.Meant.{no_tables, row_after, IsPlainlyHeard}
-use Rattle.cell_client.specs.Association.{Verdict, verdict, verdict_by}
+use Rattle.cell_services.specs.Meant.{no_tables, row_after}
+use Rattle.cell_client.specs.Association.{Verdict}
 use Rattle.cell_services.specs.Serving.{hears, own_told}
-use Rattle.cell_client.specs.declared.acts.Act.{Act}
 use Rattle.cell_services.specs.Acts.{act_done}
-use Rattle.cell_client.specs.Meant.{verdict_read}
 use Rattle.mms_step.specs.Tasks.{row_held, task_done, HoldsOwn, IsHeardInPlace, IsTimely}
 use Rattle.mms_step.specs.Lifting.{clocked, domained, varied, tabled, with_programs, with_semaphores}
 use Rattle.variable_services.specs.declared.tables.VariableTables.{VariableTables}
@@ -48,7 +36,6 @@ use Rattle.cell_client.specs.Telling.{effects_told}
 use Rattle.mms_step.specs.declared.telling.Room.{Room}
 use Rattle.mms_step.specs.Rooms.{no_room, room_to, with_room, room_or_same, room_before, with_rooms, without_rooms, IsSettled, MayBeClient, AreClients}
 use Rattle.mms_step.specs.AfterLaws.{is_device}
-use Rattle.mms_step.proofs.Changed.{changed_part, as_it_was, client_arm, client_kept}
 use Rattle.mms_step.proofs.Holding.{client_at, clients_counted, held_part}
 use Rattle.mms_step.proofs.ToldLaws.{at_place, placed_same, placed_none, change_placed, change_same, rooms_gone, clients_roomed, told_to_one}
 
@@ -338,7 +325,7 @@ beside_all now variables domains programs semaphores hand =
     (same_place hand (first_four now variables domains programs hand) (sym (as_long now variables domains programs hand)))
 
 -- one beside the other
-apart : (now : ℕ) (variables : VariableTables) (hand : List (Option Part)) → clocked now (varied variables hand) ≡ varied variables (clocked now hand)
+pub apart : (now : ℕ) (variables : VariableTables) (hand : List (Option Part)) → clocked now (varied variables hand) ≡ varied variables (clocked now hand)
 apart now variables [] = refl
 apart now variables (first ∷ hand) = refl
 
@@ -346,7 +333,7 @@ clock_apart : (now : ℕ) (domains : DomainTables) (hand : List (Option Part)) �
 clock_apart now domains [] = refl
 clock_apart now domains (first ∷ hand) = refl
 
-vary_apart : (variables : VariableTables) (domains : DomainTables) (hand : List (Option Part)) → varied variables (domained domains hand) ≡ domained domains (varied variables hand)
+pub vary_apart : (variables : VariableTables) (domains : DomainTables) (hand : List (Option Part)) → varied variables (domained domains hand) ≡ domained domains (varied variables hand)
 vary_apart variables domains [] = refl
 vary_apart variables domains (first ∷ []) = refl
 vary_apart variables domains (first ∷ second ∷ hand) = refl
@@ -389,7 +376,7 @@ tabled_twice t u hand =
     ∙ semaphores_twice t.semaphores u.semaphores (first_of t (first_of u hand))
     ∙ ap (with_semaphores t.semaphores) (four_twice t u hand)
 
-clocked_same : (hand : List (Option Part)) → clocked (clock_in (held_at hand 0)) hand ≡ hand
+pub clocked_same : (hand : List (Option Part)) → clocked (clock_in (held_at hand 0)) hand ≡ hand
 clocked_same [] = refl
 clocked_same (None ∷ hand) = refl
 clocked_same (Some (Clock n) ∷ hand) = refl
@@ -458,7 +445,7 @@ tabled_same hand = ap (with_semaphores (semaphores_in (held_at hand (behind_clie
 behind_four : (t : Tables) (hand : List (Option Part)) → behind_clients (first_of t hand) ≡ behind_clients hand
 behind_four t hand = same_place (first_of t hand) hand (as_long t.now t.variables t.domains t.programs hand)
 
-beside : (t : Tables) (hand : List (Option Part)) (place : ℕ) → place ≢ 0 → place ≢ 1 → place ≢ 2 → place ≢ 3 → place ≢ behind_clients hand
+pub beside : (t : Tables) (hand : List (Option Part)) (place : ℕ) → place ≢ 0 → place ≢ 1 → place ≢ 2 → place ≢ 3 → place ≢ behind_clients hand
     → held_at (tabled t hand) place ≡ held_at hand place
 beside t hand place first second third fourth last =
     held_else (option_map (on_semaphores (λ was. t.semaphores))) (first_of t hand) (behind_clients (first_of t hand)) place
@@ -711,285 +698,3 @@ module _ (s : State) (hand : List (Option Part)) (of : IsHandOf hand (parts_of s
       ∙ ap (λ (r : ClientRow). told_all cell (clients_among (length hand)) (tell client (own_told no_tables r v)) hand) (sym same)
       ∙ ap (told_all cell (clients_among (length hand)) (tell client (own_told no_tables (row_held hand client) v))) (sym tables_kept)
       ∙ ap (λ (d : Done Tables Effect). put_in_place cell d hand) (sym (heard.alone (tables_shown cell hand)))
-
--- ---- a part that is taken out beside a client's
-
-change_set : (g : Option Part → Option Part) (hand : List (Option Part)) (i j : ℕ) (y : Option Part) → i ≢ j → change g (set hand i y) j ≡ set (change g hand j) i y
-change_set g [] i j y other = refl
-change_set g (held ∷ hand) zero zero y other = absurd (other refl)
-change_set g (held ∷ hand) zero (suc j) y other = refl
-change_set g (held ∷ hand) (suc i) zero y other = refl
-change_set g (held ∷ hand) (suc i) (suc j) y other = ap (λ (l : List (Option Part)). held ∷ l) (change_set g hand i j y (λ same. other (ap suc same)))
-
-pub held_after_set : (hand : List (Option Part)) (i j : ℕ) (y : Option Part) → i ≢ j → held_at (set hand i y) j ≡ held_at hand j
-held_after_set [] i j y other = refl
-held_after_set (held ∷ hand) zero zero y other = absurd (other refl)
-held_after_set (held ∷ hand) zero (suc j) y other = refl
-held_after_set (held ∷ hand) (suc i) zero y other = refl
-held_after_set (held ∷ hand) (suc i) (suc j) y other = held_after_set hand i j y (λ same. other (ap suc same))
-
--- a client's part and one more are taken out, and that one is put back first
-pub both_changed : (f : ClientRow → ClientRow) (g : Part → Part) (hand out gone there new : List (Option Part)) (place other : ℕ) (part table : Part) (own after : RoomyRow)
-    → place ≢ other → Some part ≡ held_at hand place → out ≡ set hand place None → Some table ≡ held_at out other → gone ≡ set out other None
-    → part ≡ Client own → after ≡ settled (f own.row) → there ≡ set gone other (Some (g table)) → new ≡ set there place (Some (Client after))
-    → new ≡ change (option_map (on_client f)) (change (option_map g) hand other) place
-both_changed f g hand out gone there new place other part table own after apart held taken second left is done put back =
-    back
-    ∙ ap (λ (l : List (Option Part)). set l place (Some (Client after))) (put ∙ ap (λ (l : List (Option Part)). set l other (Some (g table))) left
-    ∙ changed_part g out other table (sym second)
-    ∙ ap (λ (l : List (Option Part)). change (option_map g) l other) taken
-    ∙ change_set (option_map g) hand place other None apart)
-    ∙ ap (λ (r : RoomyRow). set (set (change (option_map g) hand other) place None) place (Some (Client r))) done
-    ∙ changed_part (on_client f) (change (option_map g) hand other) place (Client own)
-    (held_else (option_map g) hand other place apart ∙ sym held ∙ ap Some is)
-
--- so are a client's and two more: of these that which was taken out last is put back first
-pub three_changed : (f : ClientRow → ClientRow) (g h : Part → Part) (hand out less gone put there new : List (Option Part)) (place : ℕ) (part table more : Part) (own after : RoomyRow)
-    → place ≢ 2 → place ≢ 3 → Some part ≡ held_at hand place → out ≡ set hand place None → Some table ≡ held_at out 2 → less ≡ set out 2 None → Some more ≡ held_at less 3
-    → gone ≡ set less 3 None → part ≡ Client own → after ≡ settled (f own.row) → put ≡ set gone 3 (Some (h more)) → there ≡ set put 2 (Some (g table))
-    → new ≡ set there place (Some (Client after)) → new ≡ change (option_map (on_client f)) (change (option_map h) (change (option_map g) hand 2) 3) place
-three_changed f g h hand out less gone put there new place part table more own after apart beside held taken second left third gone_too is done put_first put_next back =
-    both_changed f g (change (option_map h) hand 3) (change (option_map h) out 3) put there new place 2 part table own after apart
-    (held ∙ sym (held_else (option_map h) hand 3 place beside))
-    (ap (λ (l : List (Option Part)). change (option_map h) l 3) taken ∙ change_set (option_map h) hand place 3 None beside)
-    (second ∙ sym (held_else (option_map h) out 3 2 (λ same. omega (arith, same))))
-    (put_first ∙ ap (λ (l : List (Option Part)). set l 3 (Some (h more))) gone_too
-    ∙ changed_part h less 3 more (sym third)
-    ∙ ap (λ (l : List (Option Part)). change (option_map h) l 3) left
-    ∙ change_set (option_map h) out 2 3 None (λ same. omega (arith, same)))
-    is done put_next back
-    ∙ ap (λ (l : List (Option Part)). change (option_map (on_client f)) l place)
-    (change_other (option_map g) (option_map h) hand 3 2 (λ same. omega (arith, same)))
-
-module _ (s : State) (hand : List (Option Part)) (of : IsHandOf hand (parts_of s)) where
-  pub done_in_place : (client : ℕ) (effects : List Effect) (variables : VariableTables) → 1 ≤ client → client ≤ clients_among (length hand) → IsClient (held_at hand (client_place client))
-      → change (option_map (on_client (felt_all effects))) (varied variables hand) (client_place client)
-      ≡ put_in_place cell (record { tables = record (tables_shown cell hand) { variables = variables }; told = tell client effects }) hand
-  done_in_place client effects variables some few held =
-      let counted = clients_counted s hand of in
-      let found = client_at s client some (omega (arith, few, counted)) in
-      let is_on : is_held hand (client_place client) ≡ true = ap (λ (o : Option Part). is_some o) held in
-      let there : held_at hand (client_place client) ≡ Some (client_part found.0) =
-      held_part hand (parts_of s) (client_place client) (client_part found.0) of is_on found.1 in
-      let row : held_at (varied variables hand) (client_place client) ≡ Some (client_part found.0) =
-      held_else (option_map (on_variables (λ was. variables))) hand 1 (client_place client) (λ same. omega (arith, same)) ∙ there in
-      change_as (option_map (on_client (felt_all effects))) (λ o. Some (client_part (felt_all effects found.0))) (varied variables hand) (client_place client)
-      (ap (option_map (on_client (felt_all effects))) row)
-      ∙ sym (told_row_at (clients_among (length hand)) effects client (varied variables hand) found.0 some few row)
-      ∙ ap (told_all cell (clients_among (length hand)) (tell client effects)) (sym lowered)
-    where
-      lowered : with_tables cell (clients_among (length hand)) (record (tables_shown cell hand) { variables = variables }) hand ≡ varied variables hand
-      lowered =
-          put_tables s hand of (record (tables_shown cell hand) { variables = variables })
-          ∙ ap (λ (t : Tables). with_semaphores t.semaphores (with_programs t.programs (domained t.domains (varied variables (clocked t.now hand))))) (sym (shown_own hand))
-          ∙ ap
-          (λ (h : List (Option Part)). with_semaphores (semaphores_in (held_at hand (behind_clients hand)))
-          (with_programs (programs_in (held_at hand 3)) (domained (domains_in (held_at hand 2)) (varied variables h))))
-          (clocked_same hand)
-          ∙ ap (λ (h : List (Option Part)). with_semaphores (semaphores_in (held_at hand (behind_clients hand))) (with_programs (programs_in (held_at hand 3)) h))
-          (sym (vary_apart variables (domains_in (held_at hand 2)) hand) ∙ ap (varied variables) (domained_same hand))
-          ∙ ap (with_semaphores (semaphores_in (held_at hand (behind_clients hand))))
-          (sym (change_other (option_map (on_variables (λ was. variables))) (option_map (on_programs (λ was. programs_in (held_at hand 3)))) hand 3 1 (λ same. omega (arith, same)))
-          ∙ ap (varied variables) (programs_same hand))
-          ∙ sym (change_other (option_map (on_variables (λ was. variables))) (option_map (on_semaphores (λ was. semaphores_in (held_at hand (behind_clients hand))))) hand (behind_clients hand) 1
-          (λ same. omega (arith, same))
-          ∙ ap (change (option_map (on_semaphores (λ was. semaphores_in (held_at hand (behind_clients hand))))) (varied variables hand))
-          (same_place hand (varied variables hand) (sym (length-change (option_map (on_variables (λ was. variables))) hand 1))))
-          ∙ ap (varied variables) (semaphores_same hand)
-
-  pub domains_done_in_place : (client : ℕ) (effects : List Effect) (domains : DomainTables) → 1 ≤ client → client ≤ clients_among (length hand) → IsClient (held_at hand (client_place client))
-      → change (option_map (on_client (felt_all effects))) (domained domains hand) (client_place client)
-      ≡ put_in_place cell (record { tables = record (tables_shown cell hand) { domains = domains }; told = tell client effects }) hand
-  domains_done_in_place client effects domains some few held =
-      let counted = clients_counted s hand of in
-      let found = client_at s client some (omega (arith, few, counted)) in
-      let is_on : is_held hand (client_place client) ≡ true = ap (λ (o : Option Part). is_some o) held in
-      let there : held_at hand (client_place client) ≡ Some (client_part found.0) =
-      held_part hand (parts_of s) (client_place client) (client_part found.0) of is_on found.1 in
-      let row : held_at (domained domains hand) (client_place client) ≡ Some (client_part found.0) =
-      held_else (option_map (on_domains (λ was. domains))) hand 2 (client_place client) (λ same. omega (arith, same)) ∙ there in
-      change_as (option_map (on_client (felt_all effects))) (λ o. Some (client_part (felt_all effects found.0))) (domained domains hand) (client_place client)
-      (ap (option_map (on_client (felt_all effects))) row)
-      ∙ sym (told_row_at (clients_among (length hand)) effects client (domained domains hand) found.0 some few row)
-      ∙ ap (told_all cell (clients_among (length hand)) (tell client effects)) (sym lowered)
-    where
-      lowered : with_tables cell (clients_among (length hand)) (record (tables_shown cell hand) { domains = domains }) hand ≡ domained domains hand
-      lowered =
-          put_tables s hand of (record (tables_shown cell hand) { domains = domains })
-          ∙ ap (λ (t : Tables). with_semaphores t.semaphores (with_programs t.programs (domained domains (varied t.variables (clocked t.now hand))))) (sym (shown_own hand))
-          ∙ ap (λ (h : List (Option Part)). with_semaphores (semaphores_in (held_at hand (behind_clients hand))) (with_programs (programs_in (held_at hand 3)) (domained domains h)))
-          (ap (varied (variables_in (held_at hand 1))) (clocked_same hand) ∙ varied_same hand)
-          ∙ ap (with_semaphores (semaphores_in (held_at hand (behind_clients hand))))
-          (sym (change_other (option_map (on_domains (λ was. domains))) (option_map (on_programs (λ was. programs_in (held_at hand 3)))) hand 3 2 (λ same. omega (arith, same)))
-          ∙ ap (domained domains) (programs_same hand))
-          ∙ sym (change_other (option_map (on_domains (λ was. domains))) (option_map (on_semaphores (λ was. semaphores_in (held_at hand (behind_clients hand))))) hand (behind_clients hand) 2
-          (λ same. omega (arith, same))
-          ∙ ap (change (option_map (on_semaphores (λ was. semaphores_in (held_at hand (behind_clients hand))))) (domained domains hand))
-          (same_place hand (domained domains hand) (sym (length-change (option_map (on_domains (λ was. domains))) hand 2))))
-          ∙ ap (domained domains) (semaphores_same hand)
-
-  -- so are domains and program invocations
-  invocations_lowered : (domains : DomainTables) (programs : Invocations)
-      → with_tables cell (clients_among (length hand)) (record (tables_shown cell hand) { domains = domains; programs = programs }) hand ≡ with_programs programs (domained domains hand)
-  invocations_lowered domains programs =
-      put_tables s hand of (record (tables_shown cell hand) { domains = domains; programs = programs })
-      ∙ ap (λ (t : Tables). with_semaphores t.semaphores (with_programs programs (domained domains (varied t.variables (clocked t.now hand))))) (sym (shown_own hand))
-      ∙ ap (λ (h : List (Option Part)). with_semaphores own (with_programs programs (domained domains h)))
-      (ap (varied (variables_in (held_at hand 1))) (clocked_same hand) ∙ varied_same hand)
-      ∙ sym (ap (with_programs programs)
-      (change_other (option_map (on_domains (λ was. domains))) (option_map (on_semaphores (λ was. own))) hand (behind_clients hand) 2 (λ same. omega (arith, same)))
-      ∙ change_other (option_map (on_programs (λ was. programs))) (option_map (on_semaphores (λ was. own))) (domained domains hand) (behind_clients hand) 3
-      (λ same. omega (arith, same))
-      ∙ ap (change (option_map (on_semaphores (λ was. own))) two) as_many)
-      ∙ ap (λ (h : List (Option Part)). with_programs programs (domained domains h)) (semaphores_same hand)
-    where
-      own : Rows
-      own = semaphores_in (held_at hand (behind_clients hand))
-
-      two : List (Option Part)
-      two = with_programs programs (domained domains hand)
-
-      as_many : behind_clients hand ≡ behind_clients two
-      as_many =
-          same_place hand two
-          (sym (length-change (option_map (on_programs (λ was. programs))) (domained domains hand) 3 ∙ length-change (option_map (on_domains (λ was. domains))) hand 2))
-
-  pub invocations_done_in_place : (client : ℕ) (effects : List Effect) (domains : DomainTables) (programs : Invocations) → 1 ≤ client → client ≤ clients_among (length hand)
-      → IsClient (held_at hand (client_place client))
-      → change (option_map (on_client (felt_all effects))) (with_programs programs (domained domains hand)) (client_place client)
-      ≡ put_in_place cell (record { tables = record (tables_shown cell hand) { domains = domains; programs = programs }; told = tell client effects }) hand
-  invocations_done_in_place client effects domains programs some few held =
-      let counted = clients_counted s hand of in
-      let found = client_at s client some (omega (arith, few, counted)) in
-      let is_on : is_held hand (client_place client) ≡ true = ap (λ (o : Option Part). is_some o) held in
-      let there : held_at hand (client_place client) ≡ Some (client_part found.0) =
-      held_part hand (parts_of s) (client_place client) (client_part found.0) of is_on found.1 in
-      let row : held_at (with_programs programs (domained domains hand)) (client_place client) ≡ Some (client_part found.0) =
-      held_else (option_map (on_programs (λ was. programs))) (domained domains hand) 3 (client_place client) (λ same. omega (arith, same))
-      ∙ held_else (option_map (on_domains (λ was. domains))) hand 2 (client_place client) (λ same. omega (arith, same)) ∙ there in
-      change_as (option_map (on_client (felt_all effects))) (λ o. Some (client_part (felt_all effects found.0))) (with_programs programs (domained domains hand)) (client_place client)
-      (ap (option_map (on_client (felt_all effects))) row)
-      ∙ sym (told_row_at (clients_among (length hand)) effects client (with_programs programs (domained domains hand)) found.0 some few row)
-      ∙ ap (told_all cell (clients_among (length hand)) (tell client effects)) (sym (invocations_lowered domains programs))
-
-  -- and program invocations alone
-  pub programs_done_in_place : (client : ℕ) (effects : List Effect) (programs : Invocations) → 1 ≤ client → client ≤ clients_among (length hand)
-      → IsClient (held_at hand (client_place client))
-      → change (option_map (on_client (felt_all effects))) (with_programs programs hand) (client_place client)
-      ≡ put_in_place cell (record { tables = record (tables_shown cell hand) { programs = programs }; told = tell client effects }) hand
-  programs_done_in_place client effects programs some few held =
-      ap (λ (h : List (Option Part)). change (option_map (on_client (felt_all effects))) (with_programs programs h) (client_place client)) (sym (domained_same hand))
-      ∙ invocations_done_in_place client effects (domains_in (held_at hand 2)) programs some few held
-      ∙ ap (λ (t : Tables). put_in_place cell (record { tables = record (tables_shown cell hand) { domains = t.domains; programs = programs }; told = tell client effects }) hand)
-      (shown_own hand)
-
-  pub programs_put : (programs : Invocations) → with_programs programs hand ≡ put_in_place cell (record { tables = record (tables_shown cell hand) { programs = programs }; told = [] }) hand
-  programs_put programs =
-      ap (with_programs programs) (sym (domained_same hand))
-      ∙ sym (invocations_lowered (domains_in (held_at hand 2)) programs)
-      ∙ ap (λ (t : Tables). with_tables cell (clients_among (length hand)) (record (tables_shown cell hand) { domains = t.domains; programs = programs }) hand) (shown_own hand)
-
--- both parts are put back as they were
-pub both_back : (hand out gone there new : List (Option Part)) (place other : ℕ) (part table : Part) → Some part ≡ held_at hand place → out ≡ set hand place None
-    → Some table ≡ held_at out other → gone ≡ set out other None → there ≡ set gone other (Some table) → new ≡ set there place (Some part) → new ≡ hand
-both_back hand out gone there new place other part table own taken second left put back =
-    as_it_was hand there new place part own (as_it_was out gone there other table second left put ∙ taken) back
-
--- and so are three
-pub three_back : (hand out less gone put there new : List (Option Part)) (place : ℕ) (part table more : Part) → Some part ≡ held_at hand place → out ≡ set hand place None
-    → Some table ≡ held_at out 2 → less ≡ set out 2 None → Some more ≡ held_at less 3 → gone ≡ set less 3 None → put ≡ set gone 3 (Some more) → there ≡ set put 2 (Some table)
-    → new ≡ set there place (Some part) → new ≡ hand
-three_back hand out less gone put there new place part table more own taken second left third gone_too put_first put_next back =
-    both_back hand out less there new place 2 part table own taken second left
-    (put_next ∙ ap (λ (l : List (Option Part)). set l 2 (Some table)) (as_it_was less gone put 3 more third gone_too put_first)) back
-
--- ---- a client hears, with its part taken out
-
-module _ (client : ℕ) (hand taken new : List (Option Part)) (part value : Part) (own after : RoomyRow) (held : Some part ≡ held_at hand (client_place client))
-    (out : taken ≡ set hand (client_place client) None) (same : value ≡ part) (is : value ≡ Client own) (back : new ≡ set taken (client_place client) (Some (Client after))) where
-  row_there : own.row ≡ row_held hand client
-  row_there = ap (λ (p : Part). row_in (Some p)) (sym is ∙ same) ∙ ap row_in held
-
-  pub heard_in_place : (read : Result Read Refusal) (result : Result (Option Act) Memory)
-      → IfOk result (λ left. IfNone left (IsPlainlyHeard own.row after (verdict_read own.row read)))
-      → IfOk result (λ left. IfNone left (IsHeardInPlace client (verdict_read (row_held hand client) read) hand new))
-  heard_in_place read (Err memory) heard = tt
-  heard_in_place read (Ok (Some a)) heard = tt
-  heard_in_place read (Ok None) heard =
-      let there : IsPlainlyHeard (row_held hand client) after (verdict_read (row_held hand client) read) =
-      subst (λ (r : ClientRow). IsPlainlyHeard r after (verdict_read r read)) row_there heard in
-      record {
-        is = client_arm (on_client (row_after (verdict_read (row_held hand client) read))) hand taken new (client_place client) part value own after held out same is
-            (ap Client (there.is ∙ ap (λ (r : ClientRow). settled (row_after (verdict_read (row_held hand client) read) r)) (sym row_there))) back;
-        alone = λ t. there.alone t client;
-      }
-
-  pub heard_nothing : (result : Result (Option Act) Memory) → IfOk result (λ left. OnSome left (after ≡ own)) → IfOk result (λ left. OnSome left (new ≡ hand))
-  heard_nothing (Err memory) kept = tt
-  heard_nothing (Ok None) kept = tt
-  heard_nothing (Ok (Some a)) kept = client_kept hand taken new (client_place client) part value own after held out same is kept back
-
--- what was read is what the octets come to
-pub verdict_same : (hand : List (Option Part)) (client : ℕ) (part : RoomyRow) (constants : Constants) (octets : List ℕ) (read : Result Read Refusal)
-    → held_at hand (client_place client) ≡ Some (Client part) → constants ≡ part.row.constants → IsRead read (pdu_heard constants.edition octets)
-    → verdict_read (row_held hand client) read ≡ verdict (row_held hand client) octets
-verdict_same hand client part constants octets read held same is =
-    ap (verdict_by (row_held hand client).association (row_held hand client))
-    (is.pdu ∙ ap (λ (k : Constants). pdu_heard k.edition octets) (same ∙ ap (λ (o : Option Part). (row_in o).constants) (sym held)))
-
--- and by what is heard by that edition
-pub verdict_of_edition : (hand : List (Option Part)) (client : ℕ) (part : RoomyRow) (constants : Constants) (octets : List ℕ)
-    → held_at hand (client_place client) ≡ Some (Client part) → constants ≡ part.row.constants
-    → verdict_by (row_held hand client).association (row_held hand client) (pdu_heard constants.edition octets) ≡ verdict (row_held hand client) octets
-verdict_of_edition hand client part constants octets held same =
-    ap (λ (k : Constants). verdict_by (row_held hand client).association (row_held hand client) (pdu_heard k.edition octets))
-    (same ∙ ap (λ (o : Option Part). (row_in o).constants) (sym held))
-
--- where memory wasn't wanting, what was read is what is heard
-pub read_heard_so : (read : Result Read Refusal) (heard : Result Pdu Refusal) → wants_memory read ≡ false → Hears (λ (r : Read). r.pdu) read heard → pdu_read read ≡ heard
-read_heard_so (Ok read) heard had told = sym told
-read_heard_so (Err refusal.InvalidPdu) heard had told = sym told
-read_heard_so (Err refusal.UnknownType) heard had told = sym told
-read_heard_so (Err (refusal.Modifier invoke)) heard had told = sym told
-read_heard_so (Err (refusal.Service invoke)) heard had told = sym told
-read_heard_so (Err (refusal.Recursion invoke)) heard had told = sym told
-read_heard_so (Err (refusal.Argument invoke)) heard had told = sym told
-read_heard_so (Err refusal.Memory) heard had told = absurd (cc had)
-
--- ---- one of the two
-
-pub if_none : {A : Type 0} {P : Type 0} (o : Option A) → o ≡ None → IfNone o P → P
-if_none None e there = there
-if_none (Some x) e there = absurd (cc e)
-
-pub if_some : {A : Type 0} (P : A → Type 0) (o : Option A) (x : A) → o ≡ Some x → IfSome o P → P x
-if_some P None x e there = absurd (cc e)
-if_some P (Some y) x e there = let same : y ≡ x = cc e in subst P same there
-
-pub on_some : {A : Type 0} {P : Type 0} (o : Option A) (x : A) → o ≡ Some x → OnSome o P → P
-on_some None x e there = absurd (cc e)
-on_some (Some y) x e there = there
-
-pub if_ok_then : {A E : Type 0} {P Q : A → Type 0} (result : Result A E) → ((x : A) → P x → Q x) → IfOk result P → IfOk result Q
-if_ok_then (Ok x) next there = next x there
-if_ok_then (Err e) next there = tt
-
-pub none_then : {A : Type 0} {P Q : Type 0} (o : Option A) → (P → Q) → IfNone o P → IfNone o Q
-none_then None next there = next there
-none_then (Some x) next there = tt
-
-pub some_then : {A : Type 0} {P Q : A → Type 0} (o : Option A) → ((x : A) → P x → Q x) → IfSome o P → IfSome o Q
-some_then None next there = tt
-some_then (Some x) next there = next x there
-
-pub on_some_then : {A : Type 0} {P Q : Type 0} (o : Option A) → (P → Q) → OnSome o P → OnSome o Q
-on_some_then None next there = tt
-on_some_then (Some x) next there = next there
-
-pub on_err_both : {A E : Type 0} {P Q R : Type 0} (result : Result A E) → (P → Q → R) → OnErr result P → OnErr result Q → OnErr result R
-on_err_both (Ok x) next p q = tt
-on_err_both (Err e) next p q = next p q
-
-pub on_err_three : {A E : Type 0} {P Q R S : Type 0} (result : Result A E) → (P → Q → R → S) → OnErr result P → OnErr result Q → OnErr result R → OnErr result S
-on_err_three (Ok x) next p q r = tt
-on_err_three (Err e) next p q r = next p q r

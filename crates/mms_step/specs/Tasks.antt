@@ -1,12 +1,17 @@
 -- What is done on the tables that are lifted out of held parts (this profile's choice).
-use Rattle.std.specs.Prelude.{◌≡◌, Bool, true, false, ℕ, ◌+◌, ◌≤◌, List, [], Option, Some}
+use Rattle.std.specs.Prelude.{◌≡◌, ◌≢◌, Bool, true, false, ℕ, ◌+◌, ◌≤◌, List, [], Option, None, Some}
 use Rattle.std.specs.Option.{option_map}
 use Rattle.part_table.specs.Held.{held_at}
 use Rattle.association.specs.Client.{ClientRow, Client as RoomyRow}
 use Rattle.parted_state.specs.Area.{Own}
 use Rattle.parted_state.specs.Served.{Done, change}
 use Rattle.cell_services.specs.Acts.{act_done, IsDoneIn, IsLeft}
-use Rattle.cell_client.specs.Association.{Verdict}
+use Rattle.mms_types.specs.declared.event.CellEvent.{CellEvent}
+use Rattle.mms_types.specs.declared.event.CellEvent.TheVariants.{Heard}
+use Rattle.cell_client.specs.declared.verdict.Found.{Found}
+use Rattle.cell_client.specs.Association.{Verdict, verdict}
+use Rattle.cell_client.specs.Meant.{meant}
+use Rattle.cell_client.specs.Reads.{Kept, edition_of}
 use Rattle.cell_client.specs.Effects.{Effect, settled, tell}
 use Rattle.cell_services.specs.Meant.{no_tables, row_after}
 use Rattle.cell_services.specs.Serving.{hears, own_told, passes}
@@ -49,6 +54,19 @@ IsTimely (task.Time ms) t = t.now + ms ≤ last_moment
 abbrev pub IsLeftTo : Task → Type 0
 IsLeftTo (task.Client client act) = IsLeft act
 IsLeftTo (task.Time ms) = Unit {0}
+
+-- ---- what octets come to
+
+-- What the octets of an event come to is found once for all that it needs and for its step: the verdict by the row of its client, whose part is held. Nothing may be
+-- found yet, and of other events nothing is.
+abbrev pub IsFoundOf : Option Found → CellEvent → List (Option Part) → Type 0
+IsFoundOf (Some found) (Heard client octets) hand = IsClient (held_at hand (client_place client)) × (meant found ≡ verdict (row_held hand client) octets)
+IsFoundOf found event hand = Unit {0}
+
+-- it is found where the part of the client is held, and its octets were read by its edition
+abbrev pub IsFoundWhereRead : Option Found → Kept → CellEvent → List (Option Part) → Type 0
+IsFoundWhereRead None kept (Heard client octets) hand = IsClient (held_at hand (client_place client)) → edition_of kept ≢ Some (row_held hand client).constants.edition
+IsFoundWhereRead found kept event hand = Unit {0}
 
 -- ---- what is done in place
 

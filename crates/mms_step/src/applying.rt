@@ -8,7 +8,6 @@ ghost use Rattle.association.specs.Asked.{is_open};
 ghost use Rattle.association.specs.Client.{drained_row};
 ghost use Rattle.serve_domains.specs.Loads.{AreLoads};
 ghost use Rattle.mms_types.specs.declared.pdu.Pdu.{Pdu};
-ghost use Rattle.mms_pdu.specs.Heard.{pdu_heard};
 ghost use Rattle.mms_pdu.specs.Hearing.{Hears};
 ghost use Rattle.part_table.specs.Held.{held_at, places_held, IsHandOf};
 ghost use Rattle.parted_state.specs.Lifted.{put_in_place, tables_shown};
@@ -18,10 +17,10 @@ ghost use Rattle.cell_client.specs.Association.{verdict, verdict_by, Takes};
 ghost use Rattle.mms_step.specs.Step.{step, IsInTime};
 ghost use Rattle.mms_step.specs.Partition.{cell, domains_in, parts_of, clients_among, clock_in, client_place, outbox_held, on_client, IsClient, IsDomains};
 ghost use Rattle.mms_step.specs.Needs.{need};
-ghost use Rattle.cell_client.specs.Reads.{IsDeep, IsReadOf, IsReadingOf};
-ghost use Rattle.cell_client.specs.Meant.{act_verdict, verdict_read, uses_no_table};
+ghost use Rattle.cell_client.specs.Reads.{IsDeep};
+ghost use Rattle.cell_client.specs.Meant.{act_verdict, meant, uses_no_table};
 ghost use Rattle.cell_client.specs.Requests.{plain_answer};
-ghost use Rattle.mms_step.specs.Tasks.{row_held, AreUsedIn, IsHeardInPlace, IsReady};
+ghost use Rattle.mms_step.specs.Tasks.{row_held, AreUsedIn, IsFoundOf, IsHeardInPlace, IsReady};
 ghost use Rattle.cell_services.specs.Serving.{hears};
 ghost use Rattle.mms_step.specs.After.{after};
 
@@ -33,10 +32,10 @@ use crate::programs::{end_program, make_on_programs, serve_on_programs};
 use crate::serving::{Task, serve};
 use crate::tables::{BEFORE_CLIENTS, clients_of};
 use crate::{Cell, Part};
-use cell_client::{Act, Reading, wants_memory};
+use cell_client::{Act, Found, verdict_of, wants_memory};
 use cell_services::hear;
 use mms_pdu::{Read, Refusal, read_pdu_to};
-use mms_types::{AreaRequest, CellEvent, Edition, Memory, Request, What};
+use mms_types::{AreaRequest, CellEvent, Memory, Request, What};
 use part_table::Hand;
 use std::alloc::Global;
 
@@ -63,30 +62,28 @@ pub(crate) fn put_client(held: &mut Hand<Cell>, client: u32, part: Box<Part>)
     held.put(BEFORE_CLIENTS + client, part);
 }
 
-/// Lets a client hear what was read from it. Where no table is used, all of it is done; otherwise that is answered
+/// Lets a client hear what its octets come to. Where no table is used, all of it is done; otherwise that is answered
 /// which is to be done on the tables, and all is as before, as it is without memory.
 fn hear_own<'a>(
     alloc: Global,
     held: &mut Hand<Cell>,
     client: u32,
-    read: &'a Result<Read, Refusal>,
+    found: &Found<'a>,
 ) -> Result<Option<Act<'a>>, Memory>
     requires small { client ≤ 64 }
-    requires depth { IsDeep read.now }
     requires held { IsClient (held_at held.old (client_place client)) }
     ensures done { IfOk result (λ left. IfNone left
-        (IsHeardInPlace client (verdict_read (row_held held.old client) read.now)
-        held.old held.new)) }
+        (IsHeardInPlace client (meant found.now) held.old held.new)) }
     ensures left { IfOk result (λ left. IfSome left (λ act.
-        act_verdict act ≡ Some (verdict_read (row_held held.old client) read.now))) }
+        act_verdict act ≡ Some (meant found.now))) }
     ensures exact { IfOk result (λ left. is_none left ≡ uses_no_table
-        (row_held held.old client) (verdict_read (row_held held.old client) read.now)) }
+        (row_held held.old client) (meant found.now)) }
     ensures same { IfOk result (λ left. OnSome left (held.new ≡ held.old)) }
     ensures kept { OnErr result (held.new ≡ held.old) }
 {
     let mut part = take_client(held, client);
     let heard = match &mut *part {
-        Part::Client(own) => hear(alloc, own, read),
+        Part::Client(own) => hear(alloc, own, found),
         _ => unreachable!(),
     };
     put_client(held, client, part);
@@ -138,31 +135,30 @@ fn serve_request(
     }
 }
 
-/// Lets a client hear what was read from it.
-fn hear_read(
+/// Lets a client hear what its octets come to.
+fn hear_found(
     alloc: Global,
     held: &mut Hand<Cell>,
     clients: u32,
     client: u32,
-    read: &Result<Read, Refusal>,
+    found: &Found<'_>,
 ) -> Result<(), Memory>
     requires of { (s : State) × IsHandOf held.old (parts_of s) }
     requires many { clients ≡ clients_among (length held.old) }
     requires few { clients ≤ 64 }
     requires among { (1 ≤ client) × (client ≤ clients) }
-    requires depth { IsDeep read.now }
     requires held { IsClient (held_at held.old (client_place client)) }
-    requires ready { IsReady clients client (verdict_read (row_held held.old client) read.now)
-        held.old }
+    requires found { (told : Result Pdu Refusal) × (meant found.now
+        ≡ verdict_by (row_held held.old client).association (row_held held.old client) told) }
+    requires ready { IsReady clients client (meant found.now) held.old }
     requires loads { IsDomains (held_at held.old 2) → AreLoads client
         (row_held held.old client).asked (domains_in (held_at held.old 2)).domains }
     requires used { AreUsedIn held.old }
-    ensures heard { OnOk result (held.new ≡ put_in_place cell
-        (hears (tables_shown cell held.old) (row_held held.old client) client
-        (verdict_read (row_held held.old client) read.now)) held.old) }
+    ensures heard { OnOk result (held.new ≡ put_in_place cell (hears (tables_shown cell held.old)
+        (row_held held.old client) client (meant found.now)) held.old) }
     ensures kept { OnErr result (held.new ≡ held.old) }
 {
-    match hear_own(alloc, held, client, read)? {
+    match hear_own(alloc, held, client, found)? {
         None => Ok(()),
         Some(Act::Request { invoke, asked }) => {
             serve_request(alloc, held, clients, client, invoke, asked)
@@ -205,53 +201,22 @@ fn hear_told(
     if wants_memory(read) {
         return Err(Memory::wanting());
     }
-    hear_read(alloc, held, clients, client, read)
+    let found = verdict_of(client_held(held, client), read)?;
+    hear_found(alloc, held, clients, client, &found)
 }
 
-/// Lets octets be heard from a client of that edition, which are read here.
+/// Lets octets be heard from a client, which are read here.
 fn hear_octets(
     alloc: Global,
     held: &mut Hand<Cell>,
     clients: u32,
     client: u32,
     octets: &[u8],
-    edition: Edition,
 ) -> Result<(), Memory>
     requires of { (s : State) × IsHandOf held.old (parts_of s) }
     requires many { clients ≡ clients_among (length held.old) }
     requires few { clients ≤ 64 }
     requires among { (1 ≤ client) × (client ≤ clients) }
-    requires held { IsClient (held_at held.old (client_place client)) }
-    requires ready { IsReady clients client (verdict_by (row_held held.old client).association
-        (row_held held.old client) (pdu_heard edition octets.now)) held.old }
-    requires loads { IsDomains (held_at held.old 2) → AreLoads client
-        (row_held held.old client).asked (domains_in (held_at held.old 2)).domains }
-    requires used { AreUsedIn held.old }
-    ensures heard { OnOk result (held.new ≡ put_in_place cell
-        (hears (tables_shown cell held.old) (row_held held.old client) client
-        (verdict_by (row_held held.old client).association (row_held held.old client)
-        (pdu_heard edition octets.now))) held.old) }
-    ensures kept { OnErr result (held.new ≡ held.old) }
-{
-    let mut read = Err(Refusal::Memory);
-    read_pdu_to(alloc, octets, edition, &mut read);
-    hear_told(alloc, held, clients, client, &read)
-}
-
-/// Lets octets be heard from a client, of which that was read.
-fn hear_from(
-    alloc: Global,
-    held: &mut Hand<Cell>,
-    clients: u32,
-    client: u32,
-    octets: &[u8],
-    reading: &Reading,
-) -> Result<(), Memory>
-    requires of { (s : State) × IsHandOf held.old (parts_of s) }
-    requires many { clients ≡ clients_among (length held.old) }
-    requires few { clients ≤ 64 }
-    requires among { (1 ≤ client) × (client ≤ clients) }
-    requires reading { IsReadOf reading.now octets.now }
     requires held { IsClient (held_at held.old (client_place client)) }
     requires ready { IsReady clients client (verdict (row_held held.old client) octets.now)
         held.old }
@@ -264,9 +229,40 @@ fn hear_from(
     ensures kept { OnErr result (held.new ≡ held.old) }
 {
     let edition = client_held(held, client).constants().edition;
-    match reading.by(edition) {
-        Some(read) => hear_read(alloc, held, clients, client, read),
-        None => hear_octets(alloc, held, clients, client, octets, edition),
+    let mut read = Err(Refusal::Memory);
+    read_pdu_to(alloc, octets, edition, &mut read);
+    hear_told(alloc, held, clients, client, &read)
+}
+
+/// Lets octets be heard from a client that come to that, or whose verdict isn't found yet.
+fn hear_from(
+    alloc: Global,
+    held: &mut Hand<Cell>,
+    clients: u32,
+    client: u32,
+    octets: &[u8],
+    found: &Option<Found<'_>>,
+) -> Result<(), Memory>
+    requires of { (s : State) × IsHandOf held.old (parts_of s) }
+    requires many { clients ≡ clients_among (length held.old) }
+    requires few { clients ≤ 64 }
+    requires among { (1 ≤ client) × (client ≤ clients) }
+    requires held { IsClient (held_at held.old (client_place client)) }
+    requires found { IfSome found.now (λ found.
+        meant found ≡ verdict (row_held held.old client) octets.now) }
+    requires ready { IsReady clients client (verdict (row_held held.old client) octets.now)
+        held.old }
+    requires loads { IsDomains (held_at held.old 2) → AreLoads client
+        (row_held held.old client).asked (domains_in (held_at held.old 2)).domains }
+    requires used { AreUsedIn held.old }
+    ensures heard { OnOk result (held.new ≡ put_in_place cell
+        (hears (tables_shown cell held.old) (row_held held.old client) client
+        (verdict (row_held held.old client) octets.now)) held.old) }
+    ensures kept { OnErr result (held.new ≡ held.old) }
+{
+    match found {
+        Some(found) => hear_found(alloc, held, clients, client, found),
+        None => hear_octets(alloc, held, clients, client, octets),
     }
 }
 
@@ -295,16 +291,17 @@ pub fn drain(client: u32, held: &mut Hand<Cell>) -> Vec<What>
 }
 
 /// Does the step of an event on the parts that are held, and puts outputs into outboxes. `held` are parts of a state of
-/// the device, a client of the event is one of its clients, and nothing is needed that is not held. Octets of which
-/// nothing was read are read here. Without memory the parts are as before.
-pub fn apply_read(
+/// the device, a client of the event is one of its clients, and nothing is needed that is not held. `found` is what the
+/// octets of the event come to, by the part of its client that is held; where nothing is found they are read here.
+/// Without memory the parts are as before.
+pub fn apply_by(
     alloc: Global,
     event: &CellEvent,
-    reading: &Reading,
+    found: &Option<Found<'_>>,
     held: &mut Hand<Cell>,
 ) -> Result<(), Memory>
     requires of { (s : State) × ((count : ℕ) × IsSound count s) × IsHandOf held.old (parts_of s) }
-    requires reading { IsReadingOf reading.now event.now }
+    requires found { IsFoundOf found.now event.now held.old }
     requires among { IsAmong (clients_among (length held.old)) event.now }
     requires held { need event.now held.old ≡ [] }
     requires time { IsInTime (clock_in (held_at held.old 0)) event.now }
@@ -318,7 +315,7 @@ pub fn apply_read(
     let clients = clients_of(held);
     match event {
         CellEvent::Heard { client, octets } => {
-            hear_from(alloc, held, clients, *client, octets.as_slice(), reading)
+            hear_from(alloc, held, clients, *client, octets.as_slice(), found)
         }
         CellEvent::Lost { client } => serve(
             alloc,
@@ -338,7 +335,7 @@ pub fn apply_read(
     }
 }
 
-/// Does the step of an event on the parts that are held, as `apply_read` where nothing was read.
+/// Does the step of an event on the parts that are held, as `apply_by` where nothing is found.
 pub fn apply(alloc: Global, event: &CellEvent, held: &mut Hand<Cell>) -> Result<(), Memory>
     requires of { (s : State) × ((count : ℕ) × IsSound count s) × IsHandOf held.old (parts_of s) }
     requires among { IsAmong (clients_among (length held.old)) event.now }
@@ -351,5 +348,5 @@ pub fn apply(alloc: Global, event: &CellEvent, held: &mut Hand<Cell>) -> Result<
     ensures places { places_held held.new ≡ places_held held.old }
     ensures kept { OnErr result (held.new ≡ held.old) }
 {
-    apply_read(alloc, event, &Reading::none(), held)
+    apply_by(alloc, event, &None, held)
 }

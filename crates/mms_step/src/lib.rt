@@ -18,12 +18,12 @@ mod serving;
 mod tables;
 mod telling;
 
-pub use applying::{apply, apply_read, drain};
+pub use applying::{apply, apply_by, drain};
 pub use cell::Cell;
-pub use cell_client::{Client, Reading, read_event};
+pub use cell_client::{Client, Found, Reading, read_event};
 pub use cell_services::Clock;
 pub use laws::{a_step_is_of_the_held_parts, all_parts_are_enough, each_state_is_sound};
-pub use needs::{footprint, need, need_read};
+pub use needs::{footprint, need, need_by, verdict};
 pub use opening::start_parts;
 pub use part::Part;
 pub use parted_state::{Numbers, Parts};

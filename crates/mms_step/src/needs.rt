@@ -1,6 +1,6 @@
 //! Which parts an event needs.
 
-ghost use Rattle.std.specs.Prelude.{◌≡◌, ℕ, ◌+◌, ◌<◌, ◌≤◌, [], true, Some, length, IfOk};
+ghost use Rattle.std.specs.Prelude.{◌≡◌, ℕ, ◌+◌, ◌<◌, ◌≤◌, [], true, Some, length, IfOk, IfNone, IfSome};
 ghost use Rattle.mms_types.specs.Actors.{IsAmong};
 ghost use Rattle.part_table.specs.Held.{held_at, IsHandOf};
 ghost use Rattle.cell_client.specs.Meant.{came, meant};
@@ -14,11 +14,12 @@ ghost use Rattle.sem_ticks.specs.Ticks.{ticked};
 ghost use Rattle.parted_state.specs.Cut.{missing};
 ghost use Rattle.parted_state.specs.Sets.{IsSetOf};
 ghost use Rattle.mms_step.specs.Partition.{cell, parts_of, client_place, clients_among, clock_in, semaphores_in, semaphores_place, variables_in, IsClient};
-ghost use Rattle.cell_client.specs.Association.{verdict_by, Concludes, Replies, Takes};
+ghost use Rattle.cell_client.specs.Association.{verdict, verdict_by, Concludes, Replies, Takes};
 ghost use Rattle.cell_services.specs.Services.{area_of, lacks_number};
 ghost use Rattle.mms_step.specs.Needs.{also_parts, client_parts, footprint, happened_need, heard_need, is_held, is_own, lost_need, need, placed, time_need, verdict_need};
 ghost use Rattle.mms_step.specs.Step.{IsInTime};
-ghost use Rattle.cell_client.specs.Reads.{pdu_read, IsDeep, IsReadOf, IsReadingOf};
+ghost use Rattle.mms_step.specs.Tasks.{IsFoundOf, IsFoundWhereRead};
+ghost use Rattle.cell_client.specs.Reads.{pdu_read, IsDeep, IsReadingOf};
 
 use crate::asks::{request_asks, request_more};
 use crate::domains::domains_held;
@@ -215,6 +216,19 @@ pub(crate) fn client_held(held: &Hand<Cell>, client: u32) -> &ClientPart
     }
 }
 
+/// The part of a client, where it is held.
+fn part_held(held: &Hand<Cell>, client: u32) -> Option<&ClientPart>
+    requires small { client ≤ 64 }
+    ensures some { IfSome result (λ part.
+        held_at held.now (client_place client) ≡ Some (Part.Client part.now)) }
+    ensures none { IfNone result (IsClient (held_at held.now (client_place client)) → ⊥) }
+{
+    match held.get(BEFORE_CLIENTS + client) {
+        Some(Part::Client(client)) => Some(client.part()),
+        _ => None,
+    }
+}
+
 /// The moment, where the clock is held, and else 0.
 pub(crate) fn now_held(held: &Hand<Cell>) -> Moment
     ensures moment { result.0 ≡ clock_in (held_at held.now 0) }
@@ -358,26 +372,43 @@ fn need_of(
     found_need(alloc, clients, held, part, &found)
 }
 
-/// What octets from a client need, of which that was read, once its part is held.
+/// What octets from a client need that are read here, once its part is held.
+fn need_octets(
+    alloc: Global,
+    clients: u32,
+    held: &Hand<Cell>,
+    part: &ClientPart,
+    octets: &[u8],
+) -> Result<Parts, Memory>
+    requires many { clients ≡ clients_among (length held.now) }
+    requires few { clients ≤ 64 }
+    requires own { is_held held.now (client_place part.now.row.client) ≡ true }
+    ensures { IfOk result (λ parts.
+        IsSetOf parts (heard_need clients held.now part.now.row octets.now)) }
+{
+    let edition = part.constants().edition;
+    need_of(alloc, clients, held, part, &read(alloc, octets, edition)?)
+}
+
+/// What octets from a client need that come to that, or whose verdict isn't found yet, once its part is held.
 fn need_heard(
     alloc: Global,
     clients: u32,
     held: &Hand<Cell>,
     part: &ClientPart,
     octets: &[u8],
-    reading: &Reading,
+    found: &Option<Found<'_>>,
 ) -> Result<Parts, Memory>
     requires many { clients ≡ clients_among (length held.now) }
     requires few { clients ≤ 64 }
     requires own { is_held held.now (client_place part.now.row.client) ≡ true }
-    requires reading { IsReadOf reading.now octets.now }
+    requires found { IfSome found.now (λ found. meant found ≡ verdict part.now.row octets.now) }
     ensures { IfOk result (λ parts.
         IsSetOf parts (heard_need clients held.now part.now.row octets.now)) }
 {
-    let edition = part.constants().edition;
-    match reading.by(edition) {
-        Some(read) => need_of(alloc, clients, held, part, read),
-        None => need_of(alloc, clients, held, part, &read(alloc, octets, edition)?),
+    match found {
+        Some(found) => found_need(alloc, clients, held, part, found),
+        None => need_octets(alloc, clients, held, part, octets),
     }
 }
 
@@ -468,12 +499,12 @@ fn need_time(alloc: Global, clients: u32, held: &Hand<Cell>, ms: u32) -> Result<
 fn need_more(
     alloc: Global,
     event: &CellEvent,
-    reading: &Reading,
+    found: &Option<Found<'_>>,
     clients: u32,
     held: &Hand<Cell>,
 ) -> Result<Parts, Memory>
     requires of { (s : State) × ((count : ℕ) × IsSound count s) × IsHandOf held.now (parts_of s) }
-    requires reading { IsReadingOf reading.now event.now }
+    requires found { IsFoundOf found.now event.now held.now }
     requires clients { clients ≡ clients_among (length held.now) }
     requires among { IsAmong clients event.now }
     requires words { missing held.now (footprint clients event.now) ≡ [] }
@@ -483,7 +514,7 @@ fn need_more(
     match event {
         CellEvent::Heard { client, octets } => {
             let part = client_held(held, *client);
-            need_heard(alloc, clients, held, part, octets.as_slice(), reading)
+            need_heard(alloc, clients, held, part, octets.as_slice(), found)
         }
         CellEvent::Lost { client } => {
             let part = client_held(held, *client);
@@ -495,18 +526,43 @@ fn need_more(
     }
 }
 
+/// What the octets of an event come to, by the part of its client as it is held: a verdict, which is found once for all
+/// that the event needs and for its step. None where the event has no octets, where that part isn't held, and where
+/// they were read by another edition than that of the client.
+pub fn verdict<'a>(
+    event: &CellEvent,
+    reading: &'a Reading,
+    held: &Hand<Cell>,
+) -> Result<Option<Found<'a>>, Memory>
+    requires reading { IsReadingOf reading.now event.now }
+    requires among { IsAmong 64 event.now }
+    ensures found { IfOk result (λ found. IsFoundOf found event.now held.now) }
+    ensures read { IfOk result (λ found. IsFoundWhereRead found reading.now event.now held.now) }
+{
+    let CellEvent::Heard { client, .. } = event else {
+        return Ok(None);
+    };
+    let Some(part) = part_held(held, *client) else {
+        return Ok(None);
+    };
+    match reading.by(part.constants().edition) {
+        None => Ok(None),
+        Some(read) => Ok(Some(verdict_of(part, read)?)),
+    }
+}
+
 /// The parts that the event's words and the held parts show to be needed, and that are not held. With parts of one
 /// state, more held parts show at least as much. `held` are parts of a state of the device, and a client of the event
-/// is one of its clients; a tick from a clock that is held ends no later than the last moment. Octets of which nothing
-/// was read are read here.
-pub fn need_read(
+/// is one of its clients; a tick from a clock that is held ends no later than the last moment. `found` is what the
+/// octets of the event come to, by the part of its client that is held; where nothing is found they are read here.
+pub fn need_by(
     alloc: Global,
     event: &CellEvent,
-    reading: &Reading,
+    found: &Option<Found<'_>>,
     held: &Hand<Cell>,
 ) -> Result<Parts, Memory>
     requires of { (s : State) × ((count : ℕ) × IsSound count s) × IsHandOf held.now (parts_of s) }
-    requires reading { IsReadingOf reading.now event.now }
+    requires found { IsFoundOf found.now event.now held.now }
     requires among { IsAmong (clients_among (length held.now)) event.now }
     requires time { IsInTime (clock_in (held_at held.now 0)) event.now }
     ensures { IfOk result (λ parts. IsSetOf parts (need event.now held.now)) }
@@ -514,19 +570,19 @@ pub fn need_read(
     let clients = clients_of(held);
     let missing = unheld(&footprint(event, clients), held);
     if missing.is_empty() {
-        need_more(alloc, event, reading, clients, held)
+        need_more(alloc, event, found, clients, held)
     } else {
         Ok(missing)
     }
 }
 
-/// The parts that the event's words and the held parts show to be needed, and that are not held, as `need_read` where
-/// nothing was read.
+/// The parts that the event's words and the held parts show to be needed, and that are not held, as `need_by` where
+/// nothing is found.
 pub fn need(alloc: Global, event: &CellEvent, held: &Hand<Cell>) -> Result<Parts, Memory>
     requires of { (s : State) × ((count : ℕ) × IsSound count s) × IsHandOf held.now (parts_of s) }
     requires among { IsAmong (clients_among (length held.now)) event.now }
     requires time { IsInTime (clock_in (held_at held.now 0)) event.now }
     ensures { IfOk result (λ parts. IsSetOf parts (need event.now held.now)) }
 {
-    need_read(alloc, event, &Reading::none(), held)
+    need_by(alloc, event, &None, held)
 }

@@ -8,7 +8,7 @@ use Rattle.mms_step.specs.declared.part.Part.{Part}
 use Rattle.mms_step.specs.declared.part.Part.TheVariants.{Semaphores}
 use Rattle.mms_step.specs.Tasks.{AreDone}
 use Rattle.mms_step.proofs.InPlace.{semaphores_served}
-use Rattle.mms_step.proofs.ServeLaws.{both_back, on_err_both}
+use Rattle.mms_step.proofs.TakenOut.{both_back, on_err_both}
 use Rattle.mms_step.proofs.areas.cancel.Goals as goal
 
 pub returns-clause-put : goal.returns-clause-put

@@ -8,7 +8,7 @@ use Rattle.cell_services.specs.Tables.{Tables, own_semaphores}
 use Rattle.serve_semaphores.specs.Tokens.{told_after}
 use Rattle.mms_step.specs.Partition.{cell}
 use Rattle.mms_step.specs.declared.part.Part.{Part}
-use Rattle.mms_step.proofs.ServeLaws.{if_some, on_some}
+use Rattle.mms_step.proofs.TakenOut.{if_some, on_some}
 use Rattle.mms_step.proofs.areas.serve_on_semaphores.Goals as goal
 
 pub returns-in-Some-clause-put : goal.returns-in-Some-clause-put

@@ -13,7 +13,7 @@ use Rattle.mms_step.specs.declared.part.Part.{Part}
 use Rattle.mms_step.specs.declared.part.Part.TheVariants.{Domains}
 use Rattle.mms_step.specs.Tasks.{row_held, AreDone, IsRoomless}
 use Rattle.mms_step.proofs.InPlace.{domains_out, domains_served, held_roomless}
-use Rattle.mms_step.proofs.ServeLaws.{both_back, on_err_both}
+use Rattle.mms_step.proofs.TakenOut.{both_back, on_err_both}
 use Rattle.mms_step.proofs.domains.serve_in_place.Goals as goal
 
 pub domains_in_parts-done-requires-clause-settled : goal.domains_in_parts-done-requires-clause-settled

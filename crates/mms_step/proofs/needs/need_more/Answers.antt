@@ -11,6 +11,8 @@ use Rattle.mms_step.specs.Partition.{clock_in}
 use Rattle.mms_step.specs.Step.{IsInTime}
 use Rattle.mms_step.proofs.Enough.{client_by_words, own_held, own_is_held}
 use Rattle.mms_step.proofs.Needed.{need_heard, need_lost, need_ticked, need_ended, drain_needs_none}
+use Rattle.mms_step.specs.Tasks.{IsFoundOf}
+use Rattle.mms_step.proofs.TakenOut.{found_by_part, found_heard}
 use Rattle.mms_step.proofs.needs.need_more.Goals as goal
 
 pub client_held-part-requires-clause-held : goal.client_held-part-requires-clause-held
@@ -37,6 +39,12 @@ returns-in-Heard c =
     (λ parts. IsSetOf parts (need c.args.event.now c.args.held.now))
     (λ parts is. subst (IsSetOf parts) same is)
     c.need_heard.ensures
+
+pub need_heard-requires-clause-found : goal.need_heard-requires-clause-found
+need_heard-requires-clause-found c =
+    found_by_part c.args.found.now c.args.held.now c.in-Heard.client c.client_held-part.result.now c.as_slice.result.now c.client_held-part.ensures
+    (found_heard c.args.found.now c.args.held.now c.in-Heard.client c.in-Heard.octets c.as_slice.result.now
+    (subst (λ (e : CellEvent). IsFoundOf c.args.found.now e c.args.held.now) c.in-Heard.is c.requires.found) c.as_slice.ensures)
 
 pub need_heard-requires-clause-own : goal.need_heard-requires-clause-own
 need_heard-requires-clause-own c =

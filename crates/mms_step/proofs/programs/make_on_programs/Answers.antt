@@ -9,7 +9,7 @@ use Rattle.mms_step.specs.Partition.{domains_in, programs_in, IsDomains, IsProgr
 use Rattle.mms_step.specs.declared.part.Part.{Part}
 use Rattle.mms_step.specs.Tasks.{AreMade, IsRoomless}
 use Rattle.mms_step.proofs.InPlace.{domains_out, invocations_served, held_roomless, programs_left, programs_out_too}
-use Rattle.mms_step.proofs.ServeLaws.{on_err_three, three_back}
+use Rattle.mms_step.proofs.TakenOut.{on_err_three, three_back}
 use Rattle.mms_step.proofs.programs.make_on_programs.Goals as goal
 
 pub make_in_parts-done-requires-clause-settled : goal.make_in_parts-done-requires-clause-settled

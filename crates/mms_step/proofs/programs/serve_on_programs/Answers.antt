@@ -8,7 +8,7 @@ use Rattle.mms_step.specs.declared.part.Part.{Part}
 use Rattle.mms_step.specs.declared.part.Part.TheVariants.{Programs}
 use Rattle.mms_step.specs.Tasks.{AreDone, IsRoomless}
 use Rattle.mms_step.proofs.InPlace.{programs_out, programs_served, held_roomless}
-use Rattle.mms_step.proofs.ServeLaws.{both_back, on_err_both}
+use Rattle.mms_step.proofs.TakenOut.{both_back, on_err_both}
 use Rattle.mms_step.proofs.programs.serve_on_programs.Goals as goal
 
 pub programs_in_parts-done-requires-clause-settled : goal.programs_in_parts-done-requires-clause-settled

@@ -11,18 +11,25 @@ use Rattle.mms_device.specs.Making.{MayMake}
 use Rattle.mms_device.specs.Shared.{IsOf, IsTimely, Caller, Shared, led_to}
 use Rattle.mms_device.specs.Taken.{HoldsWanted}
 use Rattle.mms_device.proofs.Outcomes.{actor_among, sees, state_shown, among_shown, missing_shown, missing_within, fewer, more_taken, lost_more, time_shown}
+use Rattle.mms_step.specs.Tasks.{IsFoundOf}
+use Rattle.mms_device.proofs.Growing.{found_seen, found_taken}
 use Rattle.mms_device.proofs.Leading.{timely_seen, timely_taken}
 use Rattle.mms_device.proofs.many.Device.take_more.Goals as goal
 
-pub need_read-requires-clause-of : goal.need_read-requires-clause-of
-need_read-requires-clause-of g c =
+pub need_by-requires-clause-of : goal.need_by-requires-clause-of
+need_by-requires-clause-of g c =
     let config = c.self.inside.config.value in
     let table = ap (λ (p : Caller). p.table) c.see.ensures.kept ∙ c.requires.table ∙ sym (ap (λ (d : Shared). d.table) c.self.view_is) in
     let state = sees config c.args.pass.now c.see.new.pass c.self.invariant.1 (subst (λ t. IsOf t config) (sym table) c.self.invariant.0) c.see.ensures.parts c.see.ensures.kept c.requires.hand in
     state_shown config c.see.new.pass state c.hand.result.now c.hand.ensures
 
-pub need_read-requires-clause-among : goal.need_read-requires-clause-among
-need_read-requires-clause-among g c =
+pub need_by-requires-clause-found : goal.need_by-requires-clause-found
+need_by-requires-clause-found g c =
+    subst (λ (h : List (Option Part)). IsFoundOf c.args.found.now c.args.event.now h)
+    (sym (c.hand.ensures ∙ ap (λ (p : Caller). p.hand) c.see.ensures.kept ∙ c.requires.hand)) c.requires.found
+
+pub need_by-requires-clause-among : goal.need_by-requires-clause-among
+need_by-requires-clause-among g c =
     let config = c.self.inside.config.value in
     let table = ap (λ (p : Caller). p.table) c.see.ensures.kept ∙ c.requires.table ∙ sym (ap (λ (d : Shared). d.table) c.self.view_is) in
     let is = subst (λ t. IsOf t config) (sym table) c.self.invariant.0 in
@@ -31,8 +38,8 @@ need_read-requires-clause-among g c =
     let among = actor_among config c.see.new.pass c.args.event.now is c.a_pass_knows_its_own_places-2.ensures.number may in
     among_shown config c.see.new.pass state c.args.event.now c.hand.result.now c.hand.ensures among
 
-pub need_read-requires-clause-time : goal.need_read-requires-clause-time
-need_read-requires-clause-time g c =
+pub need_by-requires-clause-time : goal.need_by-requires-clause-time
+need_by-requires-clause-time g c =
     let config = c.self.inside.config.value in
     let table = ap (λ (p : Caller). p.table) c.see.ensures.kept ∙ c.requires.table ∙ sym (ap (λ (d : Shared). d.table) c.self.view_is) in
     let state = sees config c.args.pass.now c.see.new.pass c.self.invariant.1 (subst (λ t. IsOf t config) (sym table) c.self.invariant.0) c.see.ensures.parts c.see.ensures.kept c.requires.hand in
@@ -51,6 +58,20 @@ pub returns-then-is_empty-clause-time : goal.returns-then-is_empty-clause-time
 returns-then-is_empty-clause-time g c =
     timely_seen c.args.self.now.config c.args.event.now c.args.pass.now c.see.new.pass c.see.ensures.kept c.see.ensures.seen c.a_pass_knows_its_own_places.ensures
     c.a_pass_knows_its_own_places-2.ensures c.requires.time
+
+pub returns-in_default-clause-found : goal.returns-in_default-clause-found
+returns-in_default-clause-found g c = found_seen c.args.found.now c.args.event.now c.args.pass.now c.see.new.pass c.see.ensures.kept c.requires.found
+
+pub returns-then-is_empty-clause-found : goal.returns-then-is_empty-clause-found
+returns-then-is_empty-clause-found g c = found_seen c.args.found.now c.args.event.now c.args.pass.now c.see.new.pass c.see.ensures.kept c.requires.found
+
+pub returns-in-Ok-take_each-clause-found : goal.returns-in-Ok-take_each-clause-found
+returns-in-Ok-take_each-clause-found g c =
+    found_taken c.args.found.now c.args.event.now c.args.pass.now c.see.new.pass c.take_each.new.pass c.in-Ok.missing c.see.ensures.kept c.take_each.ensures.taken c.requires.found
+
+pub returns-in-Err-clause-found : goal.returns-in-Err-clause-found
+returns-in-Err-clause-found g c =
+    found_taken c.args.found.now c.args.event.now c.args.pass.now c.see.new.pass c.take_each.new.pass c.in-Ok.missing c.see.ensures.kept c.take_each.ensures.taken c.requires.found
 
 pub returns-in-Ok-take_each-clause-time : goal.returns-in-Ok-take_each-clause-time
 returns-in-Ok-take_each-clause-time g c =

@@ -1,4 +1,5 @@
 use Rattle.std.proofs.Common.{◌≡◌}
+use Rattle.mms_step.specs.Tasks.{IsFoundOf}
 use Rattle.mms_device.specs.Shared.{IsTimely}
 use Rattle.mms_device.specs.Taken.{IsTaking, free_count}
 use Rattle.mms_device.proofs.many.Device.take_wanted.Given as goal
@@ -8,6 +9,7 @@ invariant-loop g l = record {
   taking : IsTaking l.event l.fn.pass l.pass;
   lost : l.pass.lost ≡ l.fn.pass.lost;
   time : IsTimely l.self.config l.pass l.event;
+  found : IsFoundOf l.found l.event l.pass.taken;
 }
 
 abbrev pub decreases-loop : goal.decreases-loop

@@ -1,6 +1,6 @@
 use Rattle.std.proofs.Common.{sym, ◌∙◌}
 use Rattle.mms_step.proofs.Needed.{need_by_test, words_by_test}
-use Rattle.mms_step.proofs.needs.need_read.Goals as goal
+use Rattle.mms_step.proofs.needs.need_by.Goals as goal
 
 pub need_more-requires-clause-words : goal.need_more-requires-clause-words
 need_more-requires-clause-words c =

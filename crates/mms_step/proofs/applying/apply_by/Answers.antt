@@ -4,7 +4,7 @@ use Rattle.mms_types.specs.Actors.{IsAmong}
 use Rattle.mms_types.specs.declared.event.CellEvent.{CellEvent}
 use Rattle.mms_types.specs.declared.event.CellEvent.TheVariants.{Heard, Lost, Tick, Ends, Drain}
 use Rattle.parted_state.specs.Lifted.{put_in_place, tables_shown}
-use Rattle.mms_step.specs.Tasks.{row_held, IsReady}
+use Rattle.mms_step.specs.Tasks.{row_held, IsFoundOf, IsReady}
 use Rattle.cell_client.specs.Association.{verdict}
 use Rattle.part_table.specs.Held.{held_at}
 use Rattle.mms_step.specs.Step.{IsInTime}
@@ -13,7 +13,8 @@ use Rattle.mms_step.specs.Needs.{need}
 use Rattle.cell_services.specs.Serving.{hears}
 use Rattle.mms_step.proofs.Enough.{client_is_held, lost_is_held, heard_becomes, lost_becomes, ticked_becomes, ended_becomes, drained_becomes, becomes_as, places_either, programs_are_held}
 use Rattle.mms_step.proofs.Ready.{loads_held, ready_to_hear, used_held}
-use Rattle.mms_step.proofs.applying.apply_read.Goals as goal
+use Rattle.mms_step.proofs.TakenOut.{found_heard}
+use Rattle.mms_step.proofs.applying.apply_by.Goals as goal
 
 pub hear_from-requires-clause-held : goal.hear_from-requires-clause-held
 hear_from-requires-clause-held c =
@@ -21,6 +22,11 @@ hear_from-requires-clause-held c =
     let told = Heard c.in-Heard.client c.in-Heard.octets in
     client_is_held hand told c.in-Heard.client c.requires.of (subst (λ (e : CellEvent). IsAmong (clients_among (length hand)) e) c.in-Heard.is c.requires.among) refl
     (subst (λ (e : CellEvent). need e hand ≡ []) c.in-Heard.is c.requires.held)
+
+pub hear_from-requires-clause-found : goal.hear_from-requires-clause-found
+hear_from-requires-clause-found c =
+    found_heard c.args.found.now c.args.held.now c.in-Heard.client c.in-Heard.octets c.as_slice.result.now
+    (subst (λ (e : CellEvent). IsFoundOf c.args.found.now e c.args.held.now) c.in-Heard.is c.requires.found) c.as_slice.ensures
 
 pub hear_from-requires-clause-ready : goal.hear_from-requires-clause-ready
 hear_from-requires-clause-ready c =

@@ -7,11 +7,10 @@ use Rattle.cell_client.specs.declared.acts.Act.{Act}
 use Rattle.cell_client.specs.declared.acts.Act.TheVariants as act
 use Rattle.association.specs.Asked.{is_open}
 use Rattle.cell_client.specs.Association.{Verdict, Cancels, Replies, Takes}
-use Rattle.cell_client.specs.Reads.{pdu_read}
 use Rattle.serve_domains.specs.Domains.{AnswersLoad}
 use Rattle.serve_domains.specs.Loads.{AreLoads}
 use Rattle.serve_domains.proofs.Answered.{answers_load_by, is_open_reply, is_open_request}
-use Rattle.cell_client.specs.Meant.{act_verdict, came, uses_no_table, verdict_read}
+use Rattle.cell_client.specs.Meant.{act_verdict, came, meant, uses_no_table}
 use Rattle.cell_services.specs.Acts.{act_done}
 use Rattle.cell_services.specs.Serving.{hears}
 use Rattle.mms_step.specs.Tasks.{row_held, IsReady}
@@ -21,14 +20,15 @@ use Rattle.mms_step.specs.Partition.{cell, domains_in, semaphores_place, IsDomai
 use Rattle.cell_services.specs.Tables.{Tables}
 use Rattle.cell_services.proofs.PlanLaws.{left_of}
 use Rattle.mms_step.proofs.Ready.{cancels_left, domains_to_reply, not_plain, replies_left, semaphores_to_cancel, takes_left}
-use Rattle.mms_step.proofs.ServeLaws.{alone_in_place, if_none, if_some, on_some}
-use Rattle.mms_step.proofs.applying.hear_read.Goals as goal
+use Rattle.mms_step.proofs.ServeLaws.{alone_in_place}
+use Rattle.mms_step.proofs.TakenOut.{if_none, if_some, on_some}
+use Rattle.mms_step.proofs.applying.hear_found.Goals as goal
 
 pub returns-in-None-clause-heard : goal.returns-in-None-clause-heard
 returns-in-None-clause-heard c =
     let few = c.requires.among.1 in
     let many = c.requires.many in
-    alone_in_place c.requires.of.0 c.args.held.now c.requires.of.1 c.args.client (verdict_read (row_held c.args.held.now c.args.client) c.args.read.now) c.hear_own.new.held
+    alone_in_place c.requires.of.0 c.args.held.now c.requires.of.1 c.args.client (meant c.args.found.now) c.hear_own.new.held
     c.requires.among.0 (omega (arith, few, many)) c.requires.held (if_none c.in_ok-hear_own.field-0 c.in-None.is c.in_ok-hear_own.ensures.done)
 
 pub serve_request-requires-clause-ready : goal.serve_request-requires-clause-ready
@@ -36,7 +36,7 @@ serve_request-requires-clause-ready c =
     let same = on_some c.in_ok-hear_own.field-0 (act.Request c.in-Some-Request.invoke c.in-Some-Request.asked) (c.in-Some-Request.is ∙ ap Some c.in-Some-Request.field-0-is) c.in_ok-hear_own.ensures.same in
     subst (λ (h : List (Option Part)). IsReady c.args.clients c.args.client (Takes c.in-Some-Request.invoke c.in-Some-Request.asked.now) h) (sym same)
     (subst (λ (v : Verdict). IsReady c.args.clients c.args.client v c.args.held.now)
-    (sym (takes_left (verdict_read (row_held c.args.held.now c.args.client) c.args.read.now) c.in_ok-hear_own.field-0 c.in-Some-Request.invoke c.in-Some-Request.asked (c.in-Some-Request.is ∙ ap Some c.in-Some-Request.field-0-is)
+    (sym (takes_left (meant c.args.found.now) c.in_ok-hear_own.field-0 c.in-Some-Request.invoke c.in-Some-Request.asked (c.in-Some-Request.is ∙ ap Some c.in-Some-Request.field-0-is)
     c.in_ok-hear_own.ensures.left))
     c.requires.ready)
 
@@ -46,7 +46,7 @@ serve_request-requires-clause-tables c =
     not_plain (row_held c.hear_own.new.held c.args.client) c.in-Some-Request.invoke c.in-Some-Request.asked.now
     (subst (λ (h : List (Option Part)). uses_no_table (row_held h c.args.client) (Takes c.in-Some-Request.invoke c.in-Some-Request.asked.now) ≡ false) (sym same)
     (subst (λ (v : Verdict). uses_no_table (row_held c.args.held.now c.args.client) v ≡ false)
-    (sym (takes_left (verdict_read (row_held c.args.held.now c.args.client) c.args.read.now) c.in_ok-hear_own.field-0 c.in-Some-Request.invoke c.in-Some-Request.asked (c.in-Some-Request.is ∙ ap Some c.in-Some-Request.field-0-is)
+    (sym (takes_left (meant c.args.found.now) c.in_ok-hear_own.field-0 c.in-Some-Request.invoke c.in-Some-Request.asked (c.in-Some-Request.is ∙ ap Some c.in-Some-Request.field-0-is)
     c.in_ok-hear_own.ensures.left))
     (sym c.in_ok-hear_own.ensures.exact ∙ ap (λ (o : Option Act). is_none o) (c.in-Some-Request.is ∙ ap Some c.in-Some-Request.field-0-is))))
 
@@ -57,7 +57,7 @@ returns-in-Some-Request-clause-heard c =
     (λ put. put
     ∙ ap (λ (h : List (Option Part)). put_in_place cell (hears (tables_shown cell h) (row_held h c.args.client) c.args.client (Takes c.in-Some-Request.invoke c.in-Some-Request.asked.now)) h) same
     ∙ ap (λ (v : Verdict). put_in_place cell (hears (tables_shown cell c.args.held.now) (row_held c.args.held.now c.args.client) c.args.client v) c.args.held.now)
-    (takes_left (verdict_read (row_held c.args.held.now c.args.client) c.args.read.now) c.in_ok-hear_own.field-0 c.in-Some-Request.invoke c.in-Some-Request.asked (c.in-Some-Request.is ∙ ap Some c.in-Some-Request.field-0-is)
+    (takes_left (meant c.args.found.now) c.in_ok-hear_own.field-0 c.in-Some-Request.invoke c.in-Some-Request.asked (c.in-Some-Request.is ∙ ap Some c.in-Some-Request.field-0-is)
     c.in_ok-hear_own.ensures.left))
     c.serve_request.ensures.put
 
@@ -65,8 +65,8 @@ pub serve_request-requires-clause-open : goal.serve_request-requires-clause-open
 serve_request-requires-clause-open c =
     let same = on_some c.in_ok-hear_own.field-0 (act.Request c.in-Some-Request.invoke c.in-Some-Request.asked) (c.in-Some-Request.is ∙ ap Some c.in-Some-Request.field-0-is) c.in_ok-hear_own.ensures.same in
     subst (λ (h : List (Option Part)). is_open (row_held h c.args.client).association ≡ true) (sym same)
-    (is_open_request (row_held c.args.held.now c.args.client) (row_held c.args.held.now c.args.client).association (pdu_read c.args.read.now) c.in-Some-Request.invoke c.in-Some-Request.asked.now
-    (sym (takes_left (verdict_read (row_held c.args.held.now c.args.client) c.args.read.now) c.in_ok-hear_own.field-0 c.in-Some-Request.invoke c.in-Some-Request.asked (c.in-Some-Request.is ∙ ap Some c.in-Some-Request.field-0-is)
+    (is_open_request (row_held c.args.held.now c.args.client) (row_held c.args.held.now c.args.client).association c.requires.found.0 c.in-Some-Request.invoke c.in-Some-Request.asked.now
+    (sym c.requires.found.1 ∙ sym (takes_left (meant c.args.found.now) c.in_ok-hear_own.field-0 c.in-Some-Request.invoke c.in-Some-Request.asked (c.in-Some-Request.is ∙ ap Some c.in-Some-Request.field-0-is)
     c.in_ok-hear_own.ensures.left)))
 
 -- ---- what a client answers to the server
@@ -81,26 +81,26 @@ reply_on_domains-requires-clause-table c =
     let same = on_some c.in_ok-hear_own.field-0 (act.Reply c.in-Some-Reply.number c.in-Some-Reply.answer) (c.in-Some-Reply.is ∙ ap Some c.in-Some-Reply.field-0-is) c.in_ok-hear_own.ensures.same in
     subst (λ (h : List (Option Part)). IsDomains (held_at h 2)) (sym same)
     (domains_to_reply c.requires.of.0 c.args.held.now c.requires.of.1 c.args.clients c.args.client c.in-Some-Reply.number (came c.in-Some-Reply.answer)
-    (subst (λ (v : Verdict). IsReady c.args.clients c.args.client v c.args.held.now) (sym (replies_left (verdict_read (row_held c.args.held.now c.args.client) c.args.read.now) c.in_ok-hear_own.field-0 c.in-Some-Reply.number c.in-Some-Reply.answer (c.in-Some-Reply.is ∙ ap Some c.in-Some-Reply.field-0-is)
+    (subst (λ (v : Verdict). IsReady c.args.clients c.args.client v c.args.held.now) (sym (replies_left (meant c.args.found.now) c.in_ok-hear_own.field-0 c.in-Some-Reply.number c.in-Some-Reply.answer (c.in-Some-Reply.is ∙ ap Some c.in-Some-Reply.field-0-is)
     c.in_ok-hear_own.ensures.left)) c.requires.ready))
 
 pub reply_on_domains-requires-clause-open : goal.reply_on_domains-requires-clause-open
 reply_on_domains-requires-clause-open c =
     let same = on_some c.in_ok-hear_own.field-0 (act.Reply c.in-Some-Reply.number c.in-Some-Reply.answer) (c.in-Some-Reply.is ∙ ap Some c.in-Some-Reply.field-0-is) c.in_ok-hear_own.ensures.same in
     subst (λ (h : List (Option Part)). is_open (row_held h c.args.client).association ≡ true) (sym same)
-    (is_open_reply (row_held c.args.held.now c.args.client) (row_held c.args.held.now c.args.client).association (pdu_read c.args.read.now) c.in-Some-Reply.number (came c.in-Some-Reply.answer)
-    (sym (replies_left (verdict_read (row_held c.args.held.now c.args.client) c.args.read.now) c.in_ok-hear_own.field-0 c.in-Some-Reply.number c.in-Some-Reply.answer (c.in-Some-Reply.is ∙ ap Some c.in-Some-Reply.field-0-is)
+    (is_open_reply (row_held c.args.held.now c.args.client) (row_held c.args.held.now c.args.client).association c.requires.found.0 c.in-Some-Reply.number (came c.in-Some-Reply.answer)
+    (sym c.requires.found.1 ∙ sym (replies_left (meant c.args.found.now) c.in_ok-hear_own.field-0 c.in-Some-Reply.number c.in-Some-Reply.answer (c.in-Some-Reply.is ∙ ap Some c.in-Some-Reply.field-0-is)
     c.in_ok-hear_own.ensures.left)))
 
 pub reply_on_domains-requires-clause-load : goal.reply_on_domains-requires-clause-load
 reply_on_domains-requires-clause-load c =
     let same = on_some c.in_ok-hear_own.field-0 (act.Reply c.in-Some-Reply.number c.in-Some-Reply.answer) (c.in-Some-Reply.is ∙ ap Some c.in-Some-Reply.field-0-is) c.in_ok-hear_own.ensures.same in
     let table = domains_to_reply c.requires.of.0 c.args.held.now c.requires.of.1 c.args.clients c.args.client c.in-Some-Reply.number (came c.in-Some-Reply.answer)
-    (subst (λ (v : Verdict). IsReady c.args.clients c.args.client v c.args.held.now) (sym (replies_left (verdict_read (row_held c.args.held.now c.args.client) c.args.read.now) c.in_ok-hear_own.field-0 c.in-Some-Reply.number c.in-Some-Reply.answer (c.in-Some-Reply.is ∙ ap Some c.in-Some-Reply.field-0-is)
+    (subst (λ (v : Verdict). IsReady c.args.clients c.args.client v c.args.held.now) (sym (replies_left (meant c.args.found.now) c.in_ok-hear_own.field-0 c.in-Some-Reply.number c.in-Some-Reply.answer (c.in-Some-Reply.is ∙ ap Some c.in-Some-Reply.field-0-is)
     c.in_ok-hear_own.ensures.left)) c.requires.ready) in
     subst (λ (h : List (Option Part)). AnswersLoad (row_held h c.args.client) c.in-Some-Reply.number (came c.in-Some-Reply.answer) (domains_in (held_at h 2))) (sym same)
-    (answers_load_by (domains_in (held_at c.args.held.now 2)) (row_held c.args.held.now c.args.client) (pdu_read c.args.read.now) c.in-Some-Reply.number (came c.in-Some-Reply.answer)
-    (sym (replies_left (verdict_read (row_held c.args.held.now c.args.client) c.args.read.now) c.in_ok-hear_own.field-0 c.in-Some-Reply.number c.in-Some-Reply.answer (c.in-Some-Reply.is ∙ ap Some c.in-Some-Reply.field-0-is)
+    (answers_load_by (domains_in (held_at c.args.held.now 2)) (row_held c.args.held.now c.args.client) c.requires.found.0 c.in-Some-Reply.number (came c.in-Some-Reply.answer)
+    (sym c.requires.found.1 ∙ sym (replies_left (meant c.args.found.now) c.in_ok-hear_own.field-0 c.in-Some-Reply.number c.in-Some-Reply.answer (c.in-Some-Reply.is ∙ ap Some c.in-Some-Reply.field-0-is)
     c.in_ok-hear_own.ensures.left))
     (subst (λ (k : ℕ). AreLoads k (row_held c.args.held.now c.args.client).asked (domains_in (held_at c.args.held.now 2)).domains) (sym c.requires.ready.number) (c.requires.loads table)))
 
@@ -111,7 +111,7 @@ returns-in-Some-Reply-clause-heard c =
     (λ put. put
     ∙ ap (λ (h : List (Option Part)). put_in_place cell (hears (tables_shown cell h) (row_held h c.args.client) c.args.client (Replies c.in-Some-Reply.number (came c.in-Some-Reply.answer))) h) same
     ∙ ap (λ (v : Verdict). put_in_place cell (hears (tables_shown cell c.args.held.now) (row_held c.args.held.now c.args.client) c.args.client v) c.args.held.now)
-    (replies_left (verdict_read (row_held c.args.held.now c.args.client) c.args.read.now) c.in_ok-hear_own.field-0 c.in-Some-Reply.number c.in-Some-Reply.answer (c.in-Some-Reply.is ∙ ap Some c.in-Some-Reply.field-0-is)
+    (replies_left (meant c.args.found.now) c.in_ok-hear_own.field-0 c.in-Some-Reply.number c.in-Some-Reply.answer (c.in-Some-Reply.is ∙ ap Some c.in-Some-Reply.field-0-is)
     c.in_ok-hear_own.ensures.left))
     c.reply_on_domains.ensures.put
 
@@ -126,7 +126,7 @@ cancel-requires-clause-table c =
     subst (λ (h : List (Option Part)). IsSemaphores (held_at h (semaphores_place c.args.clients))) (sym same)
     (semaphores_to_cancel c.requires.of.0 c.args.held.now c.requires.of.1 c.args.clients c.args.client c.in-Some-Cancel.invoke c.requires.many
     (subst (λ (v : Verdict). IsReady c.args.clients c.args.client v c.args.held.now)
-    (sym (cancels_left (verdict_read (row_held c.args.held.now c.args.client) c.args.read.now) c.in_ok-hear_own.field-0 c.in-Some-Cancel.invoke (c.in-Some-Cancel.is ∙ ap Some c.in-Some-Cancel.field-0-is)
+    (sym (cancels_left (meant c.args.found.now) c.in_ok-hear_own.field-0 c.in-Some-Cancel.invoke (c.in-Some-Cancel.is ∙ ap Some c.in-Some-Cancel.field-0-is)
     c.in_ok-hear_own.ensures.left))
     c.requires.ready))
 
@@ -137,7 +137,7 @@ returns-in-Some-Cancel-clause-heard c =
     (λ put. put
     ∙ ap (λ (h : List (Option Part)). put_in_place cell (hears (tables_shown cell h) (row_held h c.args.client) c.args.client (Cancels c.in-Some-Cancel.invoke)) h) same
     ∙ ap (λ (v : Verdict). put_in_place cell (hears (tables_shown cell c.args.held.now) (row_held c.args.held.now c.args.client) c.args.client v) c.args.held.now)
-    (cancels_left (verdict_read (row_held c.args.held.now c.args.client) c.args.read.now) c.in_ok-hear_own.field-0 c.in-Some-Cancel.invoke (c.in-Some-Cancel.is ∙ ap Some c.in-Some-Cancel.field-0-is)
+    (cancels_left (meant c.args.found.now) c.in_ok-hear_own.field-0 c.in-Some-Cancel.invoke (c.in-Some-Cancel.is ∙ ap Some c.in-Some-Cancel.field-0-is)
     c.in_ok-hear_own.ensures.left))
     c.cancel.ensures.put
 
@@ -145,14 +145,14 @@ pub returns-in-Some : goal.returns-in-Some
 returns-in-Some c =
     let same = on_some c.in_ok-hear_own.field-0 c.in-Some.act c.in-Some.is c.in_ok-hear_own.ensures.same in
     let left = if_some
-    (λ (a : Act). act_verdict a ≡ Some (verdict_read (row_held c.args.held.now c.args.client) c.args.read.now))
+    (λ (a : Act). act_verdict a ≡ Some (meant c.args.found.now))
     c.in_ok-hear_own.field-0 c.in-Some.act c.in-Some.is c.in_ok-hear_own.ensures.left in
     record {
       heard = on_ok_weaker c.serve.result
           (λ put. put
           ∙ ap (λ (h : List (Option Part)). put_in_place cell (act_done (tables_shown cell h) (row_held h c.args.client) c.args.client c.in-Some.act) h) same
           ∙ ap (λ (d : Done Tables Effect). put_in_place cell d c.args.held.now)
-          (left_of (row_held c.args.held.now c.args.client) (verdict_read (row_held c.args.held.now c.args.client) c.args.read.now) c.in-Some.act left (tables_shown cell c.args.held.now) c.args.client))
+          (left_of (row_held c.args.held.now c.args.client) (meant c.args.found.now) c.in-Some.act left (tables_shown cell c.args.held.now) c.args.client))
           c.serve.ensures.put;
       kept = on_err_weaker c.serve.result (λ kept. kept ∙ same) c.serve.ensures.kept;
     }
