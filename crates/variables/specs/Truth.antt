@@ -5,7 +5,6 @@ use Rattle.mms_types.specs.Datum.{Datum, boolean}
 use Rattle.mms_types.specs.declared.condition.CellFact.{CellFact}
 use Rattle.mms_types.specs.declared.condition.CellFact.TheVariants.{Missing, Other, Found}
 use Rattle.mms_types.specs.declared.variable.Spec.{Spec}
-use Rattle.variables.specs.declared.rows.Cell.{Cell}
 use Rattle.variables.specs.Rows.{Rows, cell_at, number_named}
 
 -- the truth value that a value is: none where it isn't boolean
