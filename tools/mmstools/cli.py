@@ -5,6 +5,7 @@ import sys
 
 from . import capture as capturing
 from . import chart as drawing
+from . import comments
 from . import compare as comparing
 from . import explain as explaining
 from . import texts
@@ -65,8 +66,10 @@ def _capture_words(sub) -> None:
 def _explain_words(sub) -> None:
     """The words of `mms explain`."""
     text = "a recording, a report or one PDU in words, octet by octet"
-    add = _command(sub, "explain", explaining.command, text, explaining.__doc__)
+    add = _command(sub, "explain", _explain, text, explaining.__doc__)
     add("file", help="a recording or a report, - for standard input; or a PDU in hexadecimal digits")
+    again = "the recording again, with the meaning of each element in comments above its PDU"
+    add("--comments", action="store_true", help=again)
 
 
 def _chart_words(sub) -> None:
@@ -162,6 +165,14 @@ def _server(words):
         if "]" in port:
             host, port = words, ""
     return host.strip("[]") or None, int(port) if port.isdigit() else None
+
+
+def _explain(a) -> int:
+    """`mms explain`."""
+    if not a.comments:
+        return explaining.command(a)
+    _write(None, comments.commented(_read(a.file)))
+    return 0
 
 
 def _chart(a) -> int:

@@ -8,6 +8,7 @@ ABORT = None  # an output that is no PDU
 MOST_EVENTS, MOST_OCTETS = 16384, 67108864  # of a phase
 MOST_CLIENTS, MOST_TICK, MOST_PDU = 64, 3600000, 65000
 CLIENTS = 4  # where the configuration doesn't say
+MADE = "#:"  # a comment that `explain --comments` made begins so
 
 
 class BadText(Exception):
@@ -94,7 +95,7 @@ def read_recording(text: str) -> Recording:
     for n, line in enumerate(lines[stop + 1 :], stop + 2):
         line = line.strip(" \t")
         if line.startswith("#"):
-            notes.append(line[1:].strip())
+            notes += [line[1:].strip()] * (not line.startswith(MADE))
         elif line == "phase":
             out.phases.append([])
         elif line:

@@ -2,7 +2,7 @@
 
     tools/tests/test_chart.py --store
 
-writes the charts of the examples and their index into docs/charts, which a test compares with what is drawn today.
+writes the charts of the examples and their index beside them, which a test compares with what is drawn today.
 """
 
 import os
@@ -24,7 +24,7 @@ from mmstools.words import say
 HERE = os.path.dirname(os.path.abspath(__file__))
 TOP = os.path.dirname(os.path.dirname(HERE))
 EXAMPLES = os.path.join(TOP, "crates", "cell_rows", "data", "examples")
-CHARTS = os.path.join(TOP, "docs", "charts")
+KINDS = (("report", "report"), ("in words", "txt"), ("chart", "svg"))
 NAMES = sorted(name[:-7] for name in os.listdir(EXAMPLES) if name.endswith(".report"))
 SVG = "{http://www.w3.org/2000/svg}"
 ASK = "A826800300FDE881010A82010A830105A416800101810305F100820C03EE1C00000408000079EF18"
@@ -401,9 +401,11 @@ class Files(unittest.TestCase):
 
     def test_stored_charts(self):
         for name, text in stored().items():
-            with self.subTest(name), open(os.path.join(CHARTS, name), encoding="utf-8") as file:
+            with self.subTest(name), open(os.path.join(EXAMPLES, name), encoding="utf-8") as file:
                 self.assertTrue(file.read() == text, "tools/tests/test_chart.py --store writes them anew")
-        self.assertEqual(sorted(os.listdir(CHARTS)), sorted(stored()))
+        kinds = ("mms", "report", *(kind for _, kind in KINDS[1:]))
+        there = {f"{name}.{kind}" for name in NAMES for kind in kinds} | {"README.md"}
+        self.assertEqual(set(os.listdir(EXAMPLES)), there)
 
     @unittest.skipUnless(program(), "no program: MMSCELL names none, and crates/mmscell/out/mmscell isn't there")
     def test_recordings_are_drawn_as_their_reports(self):
@@ -463,38 +465,39 @@ def index():
         heard += [output.said for row in rows for output in row.outputs if chart_lines.asks(output)]
         asked[name] = sorted({spelled(said) for said in heard if said.pdu.endswith("-Request")}, key=str.lower)
     lines = [
-        "# Charts of the examples",
+        "# Examples",
         "",
-        "Each recording of `crates/cell_rows/data/examples/`, as `tools/mms chart` draws it: one lane for the cell and",
-        "one for each client, time downwards. `tools/tests/test_chart.py --store` writes this folder, and a test",
-        "compares it with what is drawn today.",
+        "A recording for each feature: its comments tell what is asked, those that begin with `#:` each element. Its",
+        "report is what `mmscell replay` answers, which the gate checks. The report stands beside it in words, as",
+        "`tools/mms explain` tells them, and as a chart, as `tools/mms chart` draws it: a lane for the cell and one for",
+        "each client, time downwards. `tools/tests/test_explain.py --store` and `tools/tests/test_chart.py --store` write",
+        "the comments, the words, the charts and this index, and tests compare them.",
         "",
-        "| example | chart | what is asked there |",
-        "|---|---|---|",
+        "| recording | | | | what is asked there |",
+        "|---|---|---|---|---|",
     ]
     for name in NAMES:
-        mms = f"../../crates/cell_rows/data/examples/{name}.mms"
-        lines.append(f"| [{name}]({mms}) | [{name}.svg]({name}.svg) | {', '.join(asked[name])} |")
-    lines += ["", "| service or PDU | examples |", "|---|---|"]
+        links = [f"[{said}]({name}.{kind})" for said, kind in KINDS]
+        lines.append(f"| [{name}]({name}.mms) | {' | '.join(links)} | {', '.join(asked[name])} |")
+    lines += ["", "| service or PDU | where it stands |", "|---|---|"]
     for service in sorted({service for services in asked.values() for service in services}, key=str.lower):
-        where = [f"[{name}]({name}.svg)" for name in NAMES if service in asked[name]]
+        where = [f"[{name}]({name}.mms)" for name in NAMES if service in asked[name]]
         lines.append(f"| {service} | {', '.join(where)} |")
     return "\n".join(lines) + "\n"
 
 
 def stored():
-    """Each file of docs/charts with its text."""
+    """Each chart, and the index, with its text."""
     return {f"{name}.svg": drawn(name) for name in NAMES} | {"README.md": index()}
 
 
 def store():
-    """Writes docs/charts anew."""
-    os.makedirs(CHARTS, exist_ok=True)
-    for name in os.listdir(CHARTS):
-        if name not in stored():
-            os.remove(os.path.join(CHARTS, name))
+    """Writes them anew."""
+    for name in os.listdir(EXAMPLES):
+        if name.endswith(".svg") and name not in stored():
+            os.remove(os.path.join(EXAMPLES, name))
     for name, text in stored().items():
-        with open(os.path.join(CHARTS, name), "w", encoding="utf-8", newline="\n") as file:
+        with open(os.path.join(EXAMPLES, name), "w", encoding="utf-8", newline="\n") as file:
             file.write(text)
 
 

@@ -1,11 +1,13 @@
 """Explanations: of PDUs, recordings and reports, and what the command does with what can't be read.
 
-    tools/tests/test_explain.py --store    writes the explanations of the examples, to be looked through
+    tools/tests/test_explain.py --store    writes beside the examples what they are in words, and into them the meaning of
+                                           each element in comments, both to be looked through
 """
 
 import contextlib
 import io
 import os
+import random
 import re
 import sys
 import tempfile
@@ -13,20 +15,23 @@ import unittest
 from typing import List, Tuple
 
 from common import EXAMPLES, REPORTS, text_of
-from mmstools import cli, explain, texts
+from mmstools import cli, comments, explain, texts
 
-STORED = os.path.join(os.path.dirname(os.path.abspath(__file__)), "explained")  # by NAME.txt, of each example
 HEAD = "mms-recording 1\nconfig\nend\n"
 
 
 def stored(report: str) -> str:
     """Where an example's explanation is stored."""
-    return os.path.join(STORED, os.path.basename(report)[: -len(".report")] + ".txt")
+    return report[: -len(".report")] + ".txt"
 
 
 def store() -> None:
-    """Writes the explanation of each example."""
+    """Writes the explanation of each example, and its comments anew."""
     for path in REPORTS:
+        recording = path[: -len(".report")] + ".mms"
+        text = comments.commented(text_of(recording))
+        with open(recording, "w", encoding="latin-1", newline="\n") as f:
+            f.write(text)
         with open(stored(path), "w", encoding="utf-8") as f:
             f.write("\n".join(explain.explained(path)) + "\n")
 
@@ -163,6 +168,52 @@ class Recordings(Files):
     def test_no_file(self):
         status, _, err = run("explain", "/no/such/file")
         self.assertEqual((status, err.count("\n")), (2, 1))
+
+
+class Comments(Files):
+    def test_examples(self):
+        """The comments of each example have the meaning of each element."""
+        for path in REPORTS:
+            text = text_of(path[: -len(".report")] + ".mms")
+            self.assertEqual(comments.commented(text), text, path)
+            self.assertLessEqual(max(len(line) for line in text.split("\n") if line.startswith("#")), 120, path)
+
+    def test_command(self):
+        """Comments stand above their PDU, those that stood there give way, and all else stays as it is."""
+        text = HEAD.replace("end", "#: a\nend") + "# who\n#: old\n1 A005 020101 8200\n\ntick 5\n 2 A0\n"
+        path = os.path.join(self.folder, "a.mms")
+        with open(path, "w", encoding="latin-1", newline="") as f:
+            f.write(text)
+        said = "#: A0 confirmed-Request; 02 invokeID 1; 82 identify\n1 A005"
+        flawed = "#: A0 confirmed-Request <-- there is no length\n 2 A0"
+        wanted = text.replace("#: old\n1 A005", said).replace(" 2 A0", flawed)
+        self.assertEqual(run("explain", "--comments", path), (0, wanted, ""))
+        self.assertEqual(comments.commented(wanted), wanted)
+        self.assertEqual(texts.read_recording(wanted).notes, {(0, 0): ["who"]})
+
+    def test_no_recording(self):
+        status, out, err = run("explain", "--comments", REPORTS[0])
+        self.assertEqual((status, out, err.count("\n")), (2, "", 1))
+
+    def test_any_octets(self):
+        """Each element of any octets is there, in lines that are no longer than a text's."""
+        rng = random.Random(3)
+        for _ in range(1000):
+            octets = bytes(rng.choice([0xA0, 0x30, 0x80, 2, 1, 4, rng.randrange(256)]) for _ in range(rng.randrange(1, 60)))
+            lines = comments.of_pdu(octets)
+            self.assertLessEqual(max(map(len, lines)), 120)
+            self.assertTrue(all(line.startswith("#: ") for line in lines))
+            tags = [line.tag.replace(" ", "") for line in explain.table(octets)]
+            at, said = 0, " ".join(line[2:].strip() for line in lines)
+            for tag in tags:
+                at = said.index(tag, at) + len(tag)
+
+    def test_as_above(self):
+        """What stands there twice is explained once."""
+        octets = "A826800300FDE881010A82010A830105A416800101810305F100820C03EE1C00000408000079EF18"
+        lines = comments.commented(HEAD + f"1 {octets}\n2 {octets}\n").split("\n")
+        self.assertGreater(lines.index(f"1 {octets}"), 6)
+        self.assertEqual(lines[-3:], ["#: A8 initiate-Request, as above", f"2 {octets}", ""])
 
 
 class Reports(Files):
