@@ -5,7 +5,7 @@ use Rattle.mms_types.specs.declared.initiate.Initiate.{Initiate}
 use Rattle.mms_types.specs.declared.initiate.InitiateAnswer.{InitiateAnswer}
 use Rattle.mms_types.specs.declared.service_error.ServiceError.{ServiceError}
 use Rattle.mms_types.specs.Errors.{version_incompatible, max_segment_insufficient, calling_insufficient, called_insufficient, nesting_insufficient}
-use Rattle.mms_types.specs.OptionBits.{option_octets, conclude, cancel}
+use Rattle.mms_types.specs.OptionBits.{option_octets, event_notification, conclude, cancel}
 use Rattle.mms_pdu.specs.Services.{service_numbers}
 use Rattle.association.specs.declared.negotiation.Negotiated.{Negotiated}
 
@@ -41,9 +41,10 @@ refusal_of p = first_error (causes p)
 abbrev pub parameters_of_both : List ℕ → List ℕ
 parameters_of_both octets = bit_and (slice_index octets 0) 0xE9 ∷ bit_and (slice_index octets 1) 0x00 ∷ []
 
--- the services that the server offers, 85 bits: the confirmed services of the one list, whoever asks them, conclude and cancel
+-- the services that the server offers, 85 bits: the confirmed services of the one list, whoever asks them, eventNotification, conclude and
+-- cancel
 abbrev pub offered : List ℕ
-offered = option_octets 11 (service_numbers ++ conclude ∷ cancel ∷ [])
+offered = option_octets 11 (service_numbers ++ event_notification ∷ conclude ∷ cancel ∷ [])
 
 -- the answer to a proposal: of each value the lesser of the proposal's and the server's (65,000 octets, 10, 10, 10, version 1), the parameters of both
 abbrev pub answer_to : Initiate → InitiateAnswer

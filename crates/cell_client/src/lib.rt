@@ -15,7 +15,8 @@ pub use client::{Client, size_of};
 pub use plain::{STATUS, identity};
 pub use reading::{Reading, read, read_event, wants_memory};
 pub use spelling::{
-    answer_octets, answer_within, cancel_response, conclude_error, conclude_response, refusal,
+    answer_octets, answer_within, cancel_response, conclude_error, conclude_response, notification,
+    refusal,
 };
 pub use told::{Told, one_told};
 pub use verdict::{Came, Found, Said, verdict_of};

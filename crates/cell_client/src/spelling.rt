@@ -11,9 +11,9 @@ ghost use Rattle.cell_client.specs.Telling.{effect_of};
 use crate::Told;
 use mms_pdu::{
     Writer, put_answer, put_cancel_response, put_conclude_error, put_conclude_response,
-    put_confirmed_error,
+    put_confirmed_error, put_event_notification,
 };
-use mms_types::{Answer, ConfirmedError, Memory, Octets, ServiceError, What};
+use mms_types::{Answer, ConfirmedError, EventNotification, Memory, Octets, ServiceError, What};
 use std::alloc::Global;
 
 /// A client is sent a PDU, as it is spelled there.
@@ -64,6 +64,19 @@ pub fn refusal(alloc: Global, invoke: u32, error: ServiceError) -> Result<Told, 
     let mut out = Writer::new(alloc);
     put_confirmed_error(&mut out, &error)?;
     sent(alloc, &out)
+}
+
+/// A client is sent an eventNotification. What it is spelled into is given, and is empty then but for that.
+pub fn notification(
+    alloc: Global,
+    out: &mut Writer,
+    told: &EventNotification,
+) -> Result<Told, Memory>
+    ensures { IfOk result (λ sent. effect_of sent ≡ sends (pdu.EventNotification told.now)) }
+{
+    out.truncate(0);
+    put_event_notification(out, told)?;
+    sent(alloc, out)
 }
 
 /// A client is sent a conclude-Response.

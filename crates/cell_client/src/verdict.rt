@@ -233,6 +233,7 @@ fn open<'a>(
         | Pdu::Reject(_)
         | Pdu::CancelResponse { .. }
         | Pdu::CancelError(_)
+        | Pdu::EventNotification(_)
         | Pdu::HeardOther
         | Pdu::InitiateResponse(_)
         | Pdu::InitiateError(_)

@@ -25,6 +25,7 @@ use Rattle.pdu_assoc.specs.Services.{device_area}
 use Rattle.pdu_vars.specs.Services.{variable_area}
 use Rattle.pdu_sems.specs.Services.{semaphore_area}
 use Rattle.pdu_programs.specs.Services.{domain_area, program_area}
+use Rattle.pdu_events.specs.Services.{event_area}
 use Rattle.mms_pdu.specs.declared.refusal.Refusal.{Refusal}
 use Rattle.mms_pdu.specs.declared.refusal.Refusal.TheVariants as refusal
 use Rattle.mms_pdu.specs.Services.{requests, answers, request_shares, one_asks, one_answers}
@@ -90,16 +91,19 @@ module _ (lengths : Lengths) (edition : Edition) (invoke : ℕ) (p : Part) (shar
   unread_request unread.Malformed own e = refused_by fault.malformed own e
   unread_request unread.TooDeep own e = refused_by fault.too_deep own e
 
--- ---- the areas, by their numbers: 0 to 3, 4 to 18, 19 to 25, 26 to 37 and 38 to 45
+-- ---- the areas, by their numbers: 0 to 3, 4 to 18, 19 to 25, 26 to 37, 38 to 45 and 46 to 58
 
 abbrev after_device : List (Share Request)
-after_device = variable_area.requests ∷ semaphore_area.requests ∷ domain_area.requests ∷ program_area.requests ∷ []
+after_device = variable_area.requests ∷ semaphore_area.requests ∷ domain_area.requests ∷ program_area.requests ∷ event_area.requests ∷ []
 
 abbrev after_variables : List (Share Request)
-after_variables = semaphore_area.requests ∷ domain_area.requests ∷ program_area.requests ∷ []
+after_variables = semaphore_area.requests ∷ domain_area.requests ∷ program_area.requests ∷ event_area.requests ∷ []
 
 abbrev after_semaphores : List (Share Request)
-after_semaphores = domain_area.requests ∷ program_area.requests ∷ []
+after_semaphores = domain_area.requests ∷ program_area.requests ∷ event_area.requests ∷ []
+
+abbrev after_domains : List (Share Request)
+after_domains = program_area.requests ∷ event_area.requests ∷ []
 
 abbrev before_semaphores : List (Share Request)
 before_semaphores = device_area.requests ∷ variable_area.requests ∷ []
@@ -110,41 +114,51 @@ before_domains = device_area.requests ∷ variable_area.requests ∷ semaphore_a
 abbrev before_programs : List (Share Request)
 before_programs = device_area.requests ∷ variable_area.requests ∷ semaphore_area.requests ∷ domain_area.requests ∷ []
 
+abbrev before_events : List (Share Request)
+before_events = device_area.requests ∷ variable_area.requests ∷ semaphore_area.requests ∷ domain_area.requests ∷ program_area.requests ∷ []
+
 module _ (n : ℕ) (edition : Edition) where
   pub device_form : n ≤ 3 → form_at n (requests.alternatives edition) ≡ form_at n (forms_of device_area.requests.arms edition)
   unfolding requests
   device_form few =
-      form_there [] device_area.requests after_device n edition refl (none_within 4 45 (joined after_device) n refl (λ low high. omega (arith, few, low)))
+      form_there [] device_area.requests after_device n edition refl (none_within 4 58 (joined after_device) n refl (λ low high. omega (arith, few, low)))
 
   pub variable_form : 4 ≤ n → n ≤ 18 → form_at n (requests.alternatives edition) ≡ form_at n (forms_of variable_area.requests.arms edition)
   unfolding requests
   variable_form most few =
       form_there (device_area.requests ∷ []) variable_area.requests after_variables n edition
       (none_within 0 3 (joined (device_area.requests ∷ [])) n refl (λ low high. omega (arith, most, high)))
-      (none_within 19 45 (joined after_variables) n refl (λ low high. omega (arith, few, low)))
+      (none_within 19 58 (joined after_variables) n refl (λ low high. omega (arith, few, low)))
 
   pub semaphore_form : 19 ≤ n → n ≤ 25 → form_at n (requests.alternatives edition) ≡ form_at n (forms_of semaphore_area.requests.arms edition)
   unfolding requests
   semaphore_form most few =
       form_there before_semaphores semaphore_area.requests after_semaphores n edition
       (none_within 0 18 (joined before_semaphores) n refl (λ low high. omega (arith, most, high)))
-      (none_within 26 45 (joined after_semaphores) n refl (λ low high. omega (arith, few, low)))
+      (none_within 26 58 (joined after_semaphores) n refl (λ low high. omega (arith, few, low)))
 
   pub domain_form : 26 ≤ n → n ≤ 37 → form_at n (requests.alternatives edition) ≡ form_at n (forms_of domain_area.requests.arms edition)
   unfolding requests
   domain_form most few =
-      form_there before_domains domain_area.requests (program_area.requests ∷ []) n edition
+      form_there before_domains domain_area.requests after_domains n edition
       (none_within 0 25 (joined before_domains) n refl (λ low high. omega (arith, most, high)))
-      (none_within 38 45 (joined (program_area.requests ∷ [])) n refl (λ low high. omega (arith, few, low)))
+      (none_within 38 58 (joined after_domains) n refl (λ low high. omega (arith, few, low)))
 
-  pub program_form : 38 ≤ n → form_at n (requests.alternatives edition) ≡ form_at n (forms_of program_area.requests.arms edition)
+  pub program_form : 38 ≤ n → n ≤ 45 → form_at n (requests.alternatives edition) ≡ form_at n (forms_of program_area.requests.arms edition)
   unfolding requests
-  program_form most =
-      form_there before_programs program_area.requests [] n edition (none_within 0 37 (joined before_programs) n refl (λ low high. omega (arith, most, high))) refl
+  program_form most few =
+      form_there before_programs program_area.requests (event_area.requests ∷ []) n edition
+      (none_within 0 37 (joined before_programs) n refl (λ low high. omega (arith, most, high)))
+      (none_within 46 58 (joined (event_area.requests ∷ [])) n refl (λ low high. omega (arith, few, low)))
 
-  pub no_request_form : 45 < n → form_at n (requests.alternatives edition) ≡ None
+  pub event_form : 46 ≤ n → form_at n (requests.alternatives edition) ≡ form_at n (forms_of event_area.requests.arms edition)
   unfolding requests
-  no_request_form many = no_form (joined request_shares) n edition (none_within 0 45 (joined request_shares) n refl (λ low high. omega (arith, many, high)))
+  event_form most =
+      form_there before_events event_area.requests [] n edition (none_within 0 45 (joined before_events) n refl (λ low high. omega (arith, most, high))) refl
+
+  pub no_request_form : 58 < n → form_at n (requests.alternatives edition) ≡ None
+  unfolding requests
+  no_request_form many = no_form (joined request_shares) n edition (none_within 0 58 (joined request_shares) n refl (λ low high. omega (arith, many, high)))
 
 -- ---- what an area's requests say
 
@@ -162,23 +176,28 @@ semaphore_said = λ r v. value_there before_semaphores semaphore_area.requests a
 
 pub domain_said : IsSaid domain_area.requests requests
 unfolding requests
-domain_said = λ r v. value_there before_domains domain_area.requests (program_area.requests ∷ []) r v (one_asks r)
+domain_said = λ r v. value_there before_domains domain_area.requests after_domains r v (one_asks r)
 
 pub program_said : IsSaid program_area.requests requests
 unfolding requests
-program_said = λ r v. value_there before_programs program_area.requests [] r v (one_asks r)
+program_said = λ r v. value_there before_programs program_area.requests (event_area.requests ∷ []) r v (one_asks r)
+
+pub event_said : IsSaid event_area.requests requests
+unfolding requests
+event_said = λ r v. value_there before_events event_area.requests [] r v (one_asks r)
 
 -- ---- how they are spelled: the areas are asked in turn
 
--- where none of the first four has it, the last does
-last_has : (a b c d o : Option Value) → counted a (counted b (counted c (counted d (counted o 0)))) ≡ 1 → is_some a ≡ false → is_some b ≡ false → is_some c ≡ false → is_some d ≡ false
-    → is_some o ≡ true
-last_has None None None None None one e f g h = absurd (omega (arith, one))
-last_has None None None None (Some v) one e f g h = refl
-last_has None None None (Some v) o one e f g h = absurd cc
-last_has None None (Some v) d o one e f g h = absurd cc
-last_has None (Some v) c d o one e f g h = absurd cc
-last_has (Some v) b c d o one e f g h = absurd cc
+-- where none of the first five has it, the last does
+last_has : (a b c d p o : Option Value) → counted a (counted b (counted c (counted d (counted p (counted o 0))))) ≡ 1 → is_some a ≡ false → is_some b ≡ false → is_some c ≡ false
+    → is_some d ≡ false → is_some p ≡ false → is_some o ≡ true
+last_has None None None None None None one e f g h i = absurd (omega (arith, one))
+last_has None None None None None (Some v) one e f g h i = refl
+last_has None None None None (Some v) o one e f g h i = absurd cc
+last_has None None None (Some v) p o one e f g h i = absurd cc
+last_has None None (Some v) d p o one e f g h i = absurd cc
+last_has None (Some v) c d p o one e f g h i = absurd cc
+last_has (Some v) b c d p o one e f g h i = absurd cc
 
 -- nothing is appended of an area that doesn't have it
 nothing_put : (others : Alternatives) (o : Option Value) (before after : List ℕ) → after ≡ before ++ octets_if others o → is_some o ≡ false → after ≡ before
@@ -206,14 +225,18 @@ module _ (r : Request) where
 
   pub domain_spelled : is_some (domain_area.requests.value r) ≡ true → IsSpelled (octets_if (forms_of domain_area.requests.arms widest) (domain_area.requests.value r))
   unfolding requests
-  domain_spelled e = octets_own before_domains domain_area.requests (program_area.requests ∷ []) r widest refl (one_asks r) e
+  domain_spelled e = octets_own before_domains domain_area.requests after_domains r widest refl (one_asks r) e
 
-  pub program_spelled : is_some (device_area.requests.value r) ≡ false → is_some (variable_area.requests.value r) ≡ false → is_some (semaphore_area.requests.value r) ≡ false
-      → is_some (domain_area.requests.value r) ≡ false → IsSpelled (octets_if (forms_of program_area.requests.arms widest) (program_area.requests.value r))
+  pub program_spelled : is_some (program_area.requests.value r) ≡ true → IsSpelled (octets_if (forms_of program_area.requests.arms widest) (program_area.requests.value r))
   unfolding requests
-  program_spelled e f g h =
-      octets_own before_programs program_area.requests [] r widest refl (one_asks r)
-      (last_has (device_area.requests.value r) (variable_area.requests.value r) (semaphore_area.requests.value r) (domain_area.requests.value r) (program_area.requests.value r) (one_asks r) e f g h)
+  program_spelled e = octets_own before_programs program_area.requests (event_area.requests ∷ []) r widest refl (one_asks r) e
+
+  pub event_spelled : is_some (device_area.requests.value r) ≡ false → is_some (variable_area.requests.value r) ≡ false → is_some (semaphore_area.requests.value r) ≡ false
+      → is_some (domain_area.requests.value r) ≡ false → is_some (program_area.requests.value r) ≡ false → IsSpelled (octets_if (forms_of event_area.requests.arms widest) (event_area.requests.value r))
+  unfolding requests
+  event_spelled e f g h i =
+      octets_own before_events event_area.requests [] r widest refl (one_asks r)
+      (last_has (device_area.requests.value r) (variable_area.requests.value r) (semaphore_area.requests.value r) (domain_area.requests.value r) (program_area.requests.value r) (event_area.requests.value r) (one_asks r) e f g h i)
 
 module _ (r : Request) (old one : List ℕ) (first : one ≡ old ++ octets_if (forms_of device_area.requests.arms widest) (device_area.requests.value r)) where
   abbrev RequestPut : List ℕ → Type 0
@@ -243,19 +266,29 @@ module _ (r : Request) (old one : List ℕ) (first : one ≡ old ++ octets_if (f
         pub fourth_put : is_some (domain_area.requests.value r) ≡ true → RequestPut four
         fourth_put e = put_next old three four (octets_if (forms_of domain_area.requests.arms widest) (domain_area.requests.value r)) (alternative_octets (requests.alternatives widest) (requests.value r)) fourth none_still (domain_spelled r e)
 
-        pub fifth_put : (five : List ℕ) → is_some (domain_area.requests.value r) ≡ false → five ≡ four ++ octets_if (forms_of program_area.requests.arms widest) (program_area.requests.value r) → RequestPut five
-        fifth_put five e fifth =
-            put_next old four five (octets_if (forms_of program_area.requests.arms widest) (program_area.requests.value r)) (alternative_octets (requests.alternatives widest) (requests.value r)) fifth
-            (nothing_put (forms_of domain_area.requests.arms widest) (domain_area.requests.value r) three four fourth e ∙ none_still) (program_spelled r none no not e)
+        module _ (five : List ℕ) (fifth : five ≡ four ++ octets_if (forms_of program_area.requests.arms widest) (program_area.requests.value r)) (nor : is_some (domain_area.requests.value r) ≡ false) where
+          none_even : four ≡ old
+          none_even = nothing_put (forms_of domain_area.requests.arms widest) (domain_area.requests.value r) three four fourth nor ∙ none_still
+
+          pub fifth_put : is_some (program_area.requests.value r) ≡ true → RequestPut five
+          fifth_put e = put_next old four five (octets_if (forms_of program_area.requests.arms widest) (program_area.requests.value r)) (alternative_octets (requests.alternatives widest) (requests.value r)) fifth none_even (program_spelled r e)
+
+          pub sixth_put : (six : List ℕ) → is_some (program_area.requests.value r) ≡ false → six ≡ five ++ octets_if (forms_of event_area.requests.arms widest) (event_area.requests.value r) → RequestPut six
+          sixth_put six e sixth =
+              put_next old five six (octets_if (forms_of event_area.requests.arms widest) (event_area.requests.value r)) (alternative_octets (requests.alternatives widest) (requests.value r)) sixth
+              (nothing_put (forms_of program_area.requests.arms widest) (program_area.requests.value r) four five fifth e ∙ none_even) (event_spelled r none no not nor e)
 
 abbrev after_device_answers : List (Share Answer)
-after_device_answers = variable_area.answers ∷ semaphore_area.answers ∷ domain_area.answers ∷ program_area.answers ∷ []
+after_device_answers = variable_area.answers ∷ semaphore_area.answers ∷ domain_area.answers ∷ program_area.answers ∷ event_area.answers ∷ []
 
 abbrev after_variable_answers : List (Share Answer)
-after_variable_answers = semaphore_area.answers ∷ domain_area.answers ∷ program_area.answers ∷ []
+after_variable_answers = semaphore_area.answers ∷ domain_area.answers ∷ program_area.answers ∷ event_area.answers ∷ []
 
 abbrev after_semaphore_answers : List (Share Answer)
-after_semaphore_answers = domain_area.answers ∷ program_area.answers ∷ []
+after_semaphore_answers = domain_area.answers ∷ program_area.answers ∷ event_area.answers ∷ []
+
+abbrev after_domain_answers : List (Share Answer)
+after_domain_answers = program_area.answers ∷ event_area.answers ∷ []
 
 abbrev before_semaphore_answers : List (Share Answer)
 before_semaphore_answers = device_area.answers ∷ variable_area.answers ∷ []
@@ -265,6 +298,9 @@ before_domain_answers = device_area.answers ∷ variable_area.answers ∷ semaph
 
 abbrev before_program_answers : List (Share Answer)
 before_program_answers = device_area.answers ∷ variable_area.answers ∷ semaphore_area.answers ∷ domain_area.answers ∷ []
+
+abbrev before_event_answers : List (Share Answer)
+before_event_answers = device_area.answers ∷ variable_area.answers ∷ semaphore_area.answers ∷ domain_area.answers ∷ program_area.answers ∷ []
 
 module _ (a : Answer) where
   abbrev pub IsAnswered : List ℕ → Type 0
@@ -284,14 +320,18 @@ module _ (a : Answer) where
 
   pub domain_answered : is_some (domain_area.answers.value a) ≡ true → IsAnswered (octets_if (forms_of domain_area.answers.arms widest) (domain_area.answers.value a))
   unfolding answers
-  domain_answered e = octets_own before_domain_answers domain_area.answers (program_area.answers ∷ []) a widest refl (one_answers a) e
+  domain_answered e = octets_own before_domain_answers domain_area.answers after_domain_answers a widest refl (one_answers a) e
 
-  pub program_answered : is_some (device_area.answers.value a) ≡ false → is_some (variable_area.answers.value a) ≡ false → is_some (semaphore_area.answers.value a) ≡ false
-      → is_some (domain_area.answers.value a) ≡ false → IsAnswered (octets_if (forms_of program_area.answers.arms widest) (program_area.answers.value a))
+  pub program_answered : is_some (program_area.answers.value a) ≡ true → IsAnswered (octets_if (forms_of program_area.answers.arms widest) (program_area.answers.value a))
   unfolding answers
-  program_answered e f g h =
-      octets_own before_program_answers program_area.answers [] a widest refl (one_answers a)
-      (last_has (device_area.answers.value a) (variable_area.answers.value a) (semaphore_area.answers.value a) (domain_area.answers.value a) (program_area.answers.value a) (one_answers a) e f g h)
+  program_answered e = octets_own before_program_answers program_area.answers (event_area.answers ∷ []) a widest refl (one_answers a) e
+
+  pub event_answered : is_some (device_area.answers.value a) ≡ false → is_some (variable_area.answers.value a) ≡ false → is_some (semaphore_area.answers.value a) ≡ false
+      → is_some (domain_area.answers.value a) ≡ false → is_some (program_area.answers.value a) ≡ false → IsAnswered (octets_if (forms_of event_area.answers.arms widest) (event_area.answers.value a))
+  unfolding answers
+  event_answered e f g h i =
+      octets_own before_event_answers event_area.answers [] a widest refl (one_answers a)
+      (last_has (device_area.answers.value a) (variable_area.answers.value a) (semaphore_area.answers.value a) (domain_area.answers.value a) (program_area.answers.value a) (event_area.answers.value a) (one_answers a) e f g h i)
 
 module _ (a : Answer) (old one : List ℕ) (first : one ≡ old ++ octets_if (forms_of device_area.answers.arms widest) (device_area.answers.value a)) where
   abbrev AnswerPut : List ℕ → Type 0
@@ -321,7 +361,14 @@ module _ (a : Answer) (old one : List ℕ) (first : one ≡ old ++ octets_if (fo
         pub fourth_put_answer : is_some (domain_area.answers.value a) ≡ true → AnswerPut four
         fourth_put_answer e = put_next old three four (octets_if (forms_of domain_area.answers.arms widest) (domain_area.answers.value a)) (alternative_octets (answers.alternatives widest) (answers.value a)) fourth no_answer_still (domain_answered a e)
 
-        pub fifth_put_answer : (five : List ℕ) → is_some (domain_area.answers.value a) ≡ false → five ≡ four ++ octets_if (forms_of program_area.answers.arms widest) (program_area.answers.value a) → AnswerPut five
-        fifth_put_answer five e fifth =
-            put_next old four five (octets_if (forms_of program_area.answers.arms widest) (program_area.answers.value a)) (alternative_octets (answers.alternatives widest) (answers.value a)) fifth
-            (nothing_put (forms_of domain_area.answers.arms widest) (domain_area.answers.value a) three four fourth e ∙ no_answer_still) (program_answered a none no not e)
+        module _ (five : List ℕ) (fifth : five ≡ four ++ octets_if (forms_of program_area.answers.arms widest) (program_area.answers.value a)) (nor : is_some (domain_area.answers.value a) ≡ false) where
+          no_answer_even : four ≡ old
+          no_answer_even = nothing_put (forms_of domain_area.answers.arms widest) (domain_area.answers.value a) three four fourth nor ∙ no_answer_still
+
+          pub fifth_put_answer : is_some (program_area.answers.value a) ≡ true → AnswerPut five
+          fifth_put_answer e = put_next old four five (octets_if (forms_of program_area.answers.arms widest) (program_area.answers.value a)) (alternative_octets (answers.alternatives widest) (answers.value a)) fifth no_answer_even (program_answered a e)
+
+          pub sixth_put_answer : (six : List ℕ) → is_some (program_area.answers.value a) ≡ false → six ≡ five ++ octets_if (forms_of event_area.answers.arms widest) (event_area.answers.value a) → AnswerPut six
+          sixth_put_answer six e sixth =
+              put_next old five six (octets_if (forms_of event_area.answers.arms widest) (event_area.answers.value a)) (alternative_octets (answers.alternatives widest) (answers.value a)) sixth
+              (nothing_put (forms_of program_area.answers.arms widest) (program_area.answers.value a) four five fifth e ∙ no_answer_even) (event_answered a none no not nor e)

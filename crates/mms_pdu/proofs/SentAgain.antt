@@ -12,11 +12,12 @@ use Rattle.mms_types.specs.declared.pdu.Pdu.{Pdu}
 use Rattle.mms_types.specs.declared.pdu.Pdu.TheVariants as pdu
 use Rattle.mms_types.specs.Spelling.{widest}
 use Rattle.pdu_names.specs.Kinds.{Arms, unsigned32, null, or, no_other, made_of}
+use Rattle.pdu_names.specs.Names.{names_sound}
 use Rattle.pdu_assoc.specs.Initiate.{initiate_answer}
 use Rattle.pdu_assoc.specs.Reject.{reject}
 use Rattle.pdu_assoc.specs.ServiceErrors.{service_error, confirmed_error, cancel_error, classes_sound, states_sound}
 use Rattle.mms_pdu.specs.Services.{answers_sound}
-use Rattle.mms_pdu.specs.Pdus.{server_asked, responded, pdu_value, pdu_octets}
+use Rattle.mms_pdu.specs.Pdus.{server_asked, responded, notified, pdu_value, pdu_octets}
 use Rattle.mms_pdu.specs.Answering.{IsSent, HasUnsigned32}
 
 abbrev sent_arms : Arms Pdu
@@ -24,6 +25,7 @@ sent_arms =
     or 0 server_asked (λ x. pdu.ServerRequest x.0 x.1) (
     or 1 responded (λ x. pdu.ConfirmedResponse x.0 x.1) (
     or 2 confirmed_error pdu.ConfirmedError (
+    or 3 notified pdu.EventNotification (
     or 4 reject pdu.Reject (
     or 6 unsigned32 pdu.CancelResponse (
     or 7 cancel_error pdu.CancelError (
@@ -31,7 +33,7 @@ sent_arms =
     or 10 service_error pdu.InitiateError (
     or 12 null (λ _. pdu.ConcludeResponse) (
     or 13 service_error pdu.ConcludeError (
-    no_other pdu.HeardOther))))))))))
+    no_other pdu.HeardOther)))))))))))
 
 module _ (edition : Edition) where
   -- a value tells what was sent
@@ -39,6 +41,7 @@ module _ (edition : Edition) where
   sent_again (pdu.ServerRequest invoke request) h = ap (λ (x : ℕ × ServerRequest). pdu.ServerRequest x.0 x.1) (server_asked.again (invoke, request))
   sent_again (pdu.ConfirmedResponse invoke answer) h = ap (λ (x : ℕ × Answer). pdu.ConfirmedResponse x.0 x.1) (responded.again (invoke, answer))
   sent_again (pdu.ConfirmedError error) h = ap pdu.ConfirmedError (confirmed_error.again error)
+  sent_again (pdu.EventNotification x) h = ap pdu.EventNotification (notified.again x)
   sent_again (pdu.Reject x) h = ap pdu.Reject (reject.again x)
   sent_again (pdu.CancelResponse invoke) h = refl
   sent_again (pdu.CancelError error) h = ap pdu.CancelError (cancel_error.again error)
@@ -56,6 +59,7 @@ module _ (edition : Edition) where
   sent_fits (pdu.ServerRequest invoke request) h = h
   sent_fits (pdu.ConfirmedResponse invoke answer) h = h
   sent_fits (pdu.ConfirmedError error) h = h
+  sent_fits (pdu.EventNotification x) h = h
   sent_fits (pdu.Reject x) h = h
   sent_fits (pdu.CancelResponse invoke) h = h
   sent_fits (pdu.CancelError error) h = h
@@ -69,6 +73,7 @@ module _ (edition : Edition) where
   sent_so (pdu.ServerRequest invoke request) h = refl
   sent_so (pdu.ConfirmedResponse invoke answer) h = refl
   sent_so (pdu.ConfirmedError error) h = refl
+  sent_so (pdu.EventNotification x) h = refl
   sent_so (pdu.Reject x) h = refl
   sent_so (pdu.CancelResponse invoke) h = refl
   sent_so (pdu.CancelError error) h = refl
@@ -82,7 +87,7 @@ module _ (edition : Edition) where
   sent_spelled p h = sent_arms.alike edition (pdu_value p) ∙ sent_so p h
 
   sent_sound : IsTrue (is_sound (choice (sent_arms.alternatives edition)))
-  sent_sound = rw (answers_sound edition, classes_sound, states_sound) refl
+  sent_sound = rw (answers_sound edition, classes_sound, states_sound, names_sound edition) refl
 
   -- ---- the laws
 
@@ -107,6 +112,7 @@ module _ (edition : Edition) where
   sent_small (pdu.ServerRequest invoke request) h = tt
   sent_small (pdu.ConfirmedResponse invoke answer) h = grind (arith, h.0)
   sent_small (pdu.ConfirmedError error) h = grind (arith, h.0)
+  sent_small (pdu.EventNotification x) h = tt
   sent_small (pdu.Reject x) h = tt
   sent_small (pdu.CancelResponse invoke) h = tt
   sent_small (pdu.CancelError error) h = tt

@@ -9,7 +9,7 @@ use Rattle.pdu_names.specs.Kinds.{IsOf, unsigned32}
 use Rattle.pdu_assoc.specs.Initiate.{initiate_answer}
 use Rattle.pdu_assoc.specs.Reject.{reject}
 use Rattle.pdu_assoc.specs.ServiceErrors.{service_error, confirmed_error, cancel_error}
-use Rattle.mms_pdu.specs.Pdus.{server_asked, responded}
+use Rattle.mms_pdu.specs.Pdus.{server_asked, responded, notified}
 
 -- ---- octets that answer
 
@@ -49,11 +49,12 @@ HasUnsigned32 p = Unit {0}
 
 -- ---- what a server sends
 
--- the PDUs that a server sends, but for unconfirmed ones, of their forms in the edition
+-- the PDUs that a server sends, of their forms in the edition
 abbrev pub IsSent : Edition → Pdu → Type 0
 IsSent edition (pdu.ServerRequest invoke request) = IsOf server_asked edition (invoke, request)
 IsSent edition (pdu.ConfirmedResponse invoke answer) = IsOf responded edition (invoke, answer)
 IsSent edition (pdu.ConfirmedError error) = IsOf confirmed_error edition error
+IsSent edition (pdu.EventNotification x) = IsOf notified edition x
 IsSent edition (pdu.Reject x) = IsOf reject edition x
 IsSent edition (pdu.CancelResponse invoke) = IsOf unsigned32 edition invoke
 IsSent edition (pdu.CancelError error) = IsOf cancel_error edition error

@@ -8,6 +8,7 @@ use Rattle.mms_types.specs.declared.pdu.Request.{Request}
 use Rattle.mms_types.specs.declared.pdu.Answer.{Answer}
 use Rattle.mms_types.specs.declared.pdu.ServerRequest.{ServerRequest}
 use Rattle.mms_types.specs.declared.pdu.ClientAnswer.{ClientAnswer}
+use Rattle.mms_types.specs.declared.condition.EventNotification.{EventNotification}
 use Rattle.mms_types.specs.declared.pdu.Pdu.{Pdu}
 use Rattle.mms_types.specs.declared.pdu.Pdu.TheVariants as pdu
 use Rattle.mms_types.specs.Spelling.{widest}
@@ -17,6 +18,7 @@ use Rattle.pdu_assoc.specs.Initiate.{initiate, initiate_answer}
 use Rattle.pdu_assoc.specs.Reject.{reject}
 use Rattle.pdu_assoc.specs.ServiceErrors.{service_error, confirmed_error, cancel_error}
 use Rattle.pdu_programs.specs.Services.{server_requests, client_answers}
+use Rattle.pdu_events.specs.Enrollments.{event_notification}
 use Rattle.mms_pdu.specs.Services.{requests, answers}
 
 -- confirmed-Request of a client, without modifiers: an invokeID, and then a service
@@ -47,6 +49,10 @@ client_answered = sequence (
     required (one_of client_answers) (λ x. x.1) no_more))
     (λ invoke answer. (invoke, answer)) (λ x. refl)
 
+-- the unconfirmed PDU of the server: an eventNotification, which is the service 2
+abbrev pub notified : Kind EventNotification
+notified = sequence (required (context 2 event_notification) (λ x. x) no_more) (λ x. x) (λ x. refl)
+
 -- what is kept of a reject that a client sent: the invokeID, where it says one
 abbrev pub heard_reject : Kind (Option ℕ)
 heard_reject = sequence (optional (context 0 unsigned32) (λ o. o) no_more) (λ o. o) (λ o. refl)
@@ -65,12 +71,13 @@ kept_arms =
 abbrev pub whole_arms : Arms Pdu
 whole_arms = or 0 asked (λ x. pdu.ConfirmedRequest x.0 x.1) kept_arms
 
--- the PDUs as they are sent, but for unconfirmed ones and a confirmed-Request of the server, with the names of any edition
+-- the PDUs as they are sent, but for a confirmed-Request of the server, with the names of any edition
 abbrev pub pdus : Alternatives
 pdus =
     asn.or 0 (asked.form widest) (
     asn.or 1 (responded.form widest) (
     asn.or 2 (confirmed_error.form widest) (
+    asn.or 3 (notified.form widest) (
     asn.or 4 (reject.form widest) (
     asn.or 5 (unsigned32.form widest) (
     asn.or 6 (unsigned32.form widest) (
@@ -80,7 +87,7 @@ pdus =
     asn.or 10 (service_error.form widest) (
     asn.or 11 (null.form widest) (
     asn.or 12 (null.form widest) (
-    asn.or 13 (service_error.form widest) asn.no_other))))))))))))
+    asn.or 13 (service_error.form widest) asn.no_other)))))))))))))
 
 -- and that
 abbrev pub server_pdu : Alternatives
@@ -94,6 +101,7 @@ pdu_value (pdu.ConfirmedResponse invoke answer) = chosen 1 (responded.value (inv
 pdu_value (pdu.HeardResponse invoke answer) = chosen 1 (client_answered.value (invoke, answer))
 pdu_value (pdu.ConfirmedError error) = chosen 2 (confirmed_error.value error)
 pdu_value (pdu.HeardError invoke) = chosen 2 (heard_error.value invoke)
+pdu_value (pdu.EventNotification x) = chosen 3 (notified.value x)
 pdu_value (pdu.Reject x) = chosen 4 (reject.value x)
 pdu_value (pdu.HeardReject invoke) = chosen 4 (heard_reject.value invoke)
 pdu_value (pdu.CancelRequest invoke) = chosen 5 (unsigned32.value invoke)

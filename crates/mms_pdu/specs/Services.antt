@@ -15,10 +15,11 @@ use Rattle.pdu_assoc.specs.Services.{device_area}
 use Rattle.pdu_vars.specs.Services.{variable_area}
 use Rattle.pdu_sems.specs.Services.{semaphore_area}
 use Rattle.pdu_programs.specs.Services.{domain_area, program_area, server_requests, client_answers}
+use Rattle.pdu_events.specs.Services.{event_area}
 
 -- the areas, in the order of their numbers
 abbrev pub areas : List Area
-areas = device_area ∷ variable_area ∷ semaphore_area ∷ domain_area ∷ program_area ∷ []
+areas = device_area ∷ variable_area ∷ semaphore_area ∷ domain_area ∷ program_area ∷ event_area ∷ []
 
 -- The one list of services: from it follow the services that an initiate-Response names, what clients ask and are answered, and what the
 -- server asks and is answered.

@@ -70,8 +70,8 @@ pub fn an_answer_is_told_by_its_octets()
         → (invoke : ℕ) → is_answer invoke p ≡ is_answer invoke q }
 {}
 
-/// Of each edition, the PDUs that a server sends, but for unconfirmed ones, have one spelling each: two with the same
-/// octets are one PDU. None of these spellings begins another. The invokeID of an answer is an Unsigned32.
+/// Of each edition, the PDUs that a server sends have one spelling each: two with the same octets are one PDU. None of
+/// these spellings begins another. The invokeID of an answer is an Unsigned32.
 pub fn spells_each_sent()
     ensures one { (edition : Edition) (p q : Pdu) → IsSent edition p → IsSent edition q
         → length (pdu_octets p) < 2 ^ 64 → pdu_octets p ≡ pdu_octets q → p ≡ q }

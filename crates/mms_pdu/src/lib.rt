@@ -19,6 +19,6 @@ pub use reading::{Read, read_pdu, read_pdu_to};
 pub use refusal::{Refusal, reject_for};
 pub use writing::{
     put_answer, put_cancel_error, put_cancel_response, put_conclude_error, put_conclude_response,
-    put_confirmed_error, put_initiate_error, put_initiate_response, put_pdu, put_reject,
-    put_server_request, write_pdu,
+    put_confirmed_error, put_event_notification, put_initiate_error, put_initiate_response,
+    put_pdu, put_reject, put_server_request, write_pdu,
 };

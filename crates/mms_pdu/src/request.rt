@@ -25,6 +25,7 @@ use ber_forms::{Cursor, Unread};
 use mms_types::{Boxed, Edition, Pdu, Request};
 use pdu_areas::Area;
 use pdu_assoc::{DeviceServices, StatusRequest};
+use pdu_events::EventServices;
 use pdu_names::{Formed, cursor, read_as};
 use pdu_programs::{DomainServices, ProgramServices};
 use pdu_sems::{RelinquishControlRequest, SemaphoreServices, TakeControlRequest};
@@ -274,7 +275,7 @@ fn tell_relinquish(
 
 /// Tells the request that is asked for, or why it is refused: by its area. What is asked most has a way of its own, on
 /// which no other request is made room for.
-#[tactic(auto, unfolding(crate::specs::Hearing::request_told), using(crate::proofs::ByArea::device_form, crate::proofs::ByArea::variable_form, crate::proofs::ByArea::semaphore_form, crate::proofs::ByArea::domain_form, crate::proofs::ByArea::program_form, crate::proofs::ByArea::no_request_form, crate::proofs::ByArea::device_said, crate::proofs::ByArea::variable_said, crate::proofs::ByArea::semaphore_said, crate::proofs::ByArea::domain_said, crate::proofs::ByArea::program_said))]
+#[tactic(auto, unfolding(crate::specs::Hearing::request_told), using(crate::proofs::ByArea::device_form, crate::proofs::ByArea::variable_form, crate::proofs::ByArea::semaphore_form, crate::proofs::ByArea::domain_form, crate::proofs::ByArea::program_form, crate::proofs::ByArea::event_form, crate::proofs::ByArea::no_request_form, crate::proofs::ByArea::device_said, crate::proofs::ByArea::variable_said, crate::proofs::ByArea::semaphore_said, crate::proofs::ByArea::domain_said, crate::proofs::ByArea::program_said, crate::proofs::ByArea::event_said))]
 pub(crate) fn tell_request(
     alloc: Global,
     invoke: u32,
@@ -303,6 +304,7 @@ pub(crate) fn tell_request(
         19..=25 => tell_of::<SemaphoreServices>(alloc, invoke, service, edition, told),
         26..=37 => tell_of::<DomainServices>(alloc, invoke, service, edition, told),
         38..=45 => tell_of::<ProgramServices>(alloc, invoke, service, edition, told),
+        46..=58 => tell_of::<EventServices>(alloc, invoke, service, edition, told),
         _ => tell(told, Err(Refusal::Service { invoke })),
     }
 }
@@ -318,9 +320,10 @@ pub(crate) fn put_argument(out: &mut Writer, request: &Request) -> Result<(), Fu
         || VariableServices::put_request(out, request)?
         || SemaphoreServices::put_request(out, request)?
         || DomainServices::put_request(out, request)?
+        || ProgramServices::put_request(out, request)?
     {
         return Ok(());
     }
-    ProgramServices::put_request(out, request)?;
+    EventServices::put_request(out, request)?;
     Ok(())
 }

@@ -12,6 +12,7 @@ use ber_forms::Unread;
 use mms_types::{Answer, ClientAnswer, Edition};
 use pdu_areas::Area;
 use pdu_assoc::DeviceServices;
+use pdu_events::EventServices;
 use pdu_names::{OneOf, Own, cursor};
 use pdu_programs::{ClientAnswers, DomainServices, ProgramServices};
 use pdu_sems::SemaphoreServices;
@@ -28,10 +29,11 @@ pub(crate) fn put_result(out: &mut Writer, answer: &Answer) -> Result<(), Full>
         || VariableServices::put_answer(out, answer)?
         || SemaphoreServices::put_answer(out, answer)?
         || DomainServices::put_answer(out, answer)?
+        || ProgramServices::put_answer(out, answer)?
     {
         return Ok(());
     }
-    ProgramServices::put_answer(out, answer)?;
+    EventServices::put_answer(out, answer)?;
     Ok(())
 }
 

@@ -5,19 +5,20 @@ ghost use Rattle.std.specs.Prelude.{◌≡◌, ◌++◌, Ok, Err, OnOk, OnErr, I
 ghost use Rattle.ber_forms.specs.Spelling.{Begins};
 ghost use Rattle.pdu_names.specs.Kinds.{context};
 ghost use Rattle.pdu_names.specs.Gives.{PutsContents, Puts};
-ghost use Rattle.mms_pdu.specs.Pdus.{asked, responded, server_asked, pdu_octets};
+ghost use Rattle.mms_pdu.specs.Pdus.{asked, notified, responded, server_asked, pdu_octets};
 
 use crate::request::put_argument;
 use crate::response::put_result;
 use ber_core::{Memory as Full, Tag, Writer};
 use ber_forms::{enclose, put_universal_integer};
 use mms_types::{
-    Answer, CancelError, ConfirmedError, InitiateAnswer, Memory, Pdu, Reject, Request,
-    ServerRequest, ServiceError,
+    Answer, CancelError, ConfirmedError, EventNotification, InitiateAnswer, Memory, Pdu, Reject,
+    Request, ServerRequest, ServiceError,
 };
 use pdu_assoc::{
     CancelErrors, ConfirmedErrors, InitiateRequest, InitiateResponse, Rejects, ServiceErrors,
 };
+use pdu_events::EventNotifications;
 use pdu_names::{Chosen, Formed, Null, Unsigned32, as_memory};
 use pdu_programs::ServerRequests;
 use std::alloc::Global;
@@ -73,6 +74,22 @@ fn put_response(out: &mut Writer, invoke: u32, answer: &Answer) -> Result<(), Fu
     enclose(out, since, written, Tag::constructed(1))
 }
 
+fn put_notified(out: &mut Writer, notification: &EventNotification) -> Result<(), Full>
+    ensures ok { PutsContents notified notification.now out.old out.new result }
+    ensures begins { Begins out.old out.new }
+{
+    EventNotifications::put_part(out, 2, notification)
+}
+
+fn put_notification(out: &mut Writer, notification: &EventNotification) -> Result<(), Full>
+    ensures ok { Puts (context 3 notified) notification.now out.old out.new result }
+    ensures err { OnErr result (out.new ≡ out.old) }
+{
+    let since = out.len();
+    let written = put_notified(out, notification);
+    enclose(out, since, written, Tag::constructed(3))
+}
+
 /// Appends the PDU, or nothing where memory runs out.
 fn put(out: &mut Writer, pdu: &Pdu) -> Result<(), Full>
     ensures ok { OnOk result (out.new ≡ out.old ++ pdu_octets pdu.now) }
@@ -83,6 +100,7 @@ fn put(out: &mut Writer, pdu: &Pdu) -> Result<(), Full>
         Pdu::ServerRequest { invoke, request } => put_asking(out, *invoke, request),
         Pdu::ConfirmedResponse { invoke, answer } => put_response(out, *invoke, answer),
         Pdu::ConfirmedError(error) => ConfirmedErrors::put_part(out, 2, error),
+        Pdu::EventNotification(notification) => put_notification(out, notification.get()),
         Pdu::Reject(reject) => Rejects::put_part(out, 4, reject),
         Pdu::CancelRequest { invoke } => Unsigned32::put_part(out, 5, invoke),
         Pdu::CancelResponse { invoke } => Unsigned32::put_part(out, 6, invoke),
@@ -140,6 +158,19 @@ pub fn put_confirmed_error(out: &mut Writer, error: &ConfirmedError) -> Result<(
     ensures err { OnErr result (out.new ≡ out.old) }
 {
     as_memory(ConfirmedErrors::put_part(out, 2, error))
+}
+
+/// Appends the one spelling of an eventNotification, one element, as `put_pdu` appends that of the PDU. Where memory is
+/// wanting, nothing is changed.
+pub fn put_event_notification(
+    out: &mut Writer,
+    notification: &EventNotification,
+) -> Result<(), Memory>
+    ensures ok { OnOk result (out.new
+        ≡ out.old ++ pdu_octets (Pdu.EventNotification notification.now)) }
+    ensures err { OnErr result (out.new ≡ out.old) }
+{
+    as_memory(put_notification(out, notification))
 }
 
 /// Appends the one spelling of a reject, one element, as `put_pdu` appends that of the PDU. Where memory is wanting,

@@ -2,11 +2,13 @@
 use Rattle.mms_types.specs.declared.pdu.Request.{Request}
 use Rattle.mms_types.specs.declared.pdu.Request.TheVariants as request
 use Rattle.mms_types.specs.declared.area.AreaRequest.{AreaRequest}
-use Rattle.mms_types.specs.declared.area.AreaRequest.TheVariants.{Device, Variables, Semaphores, Domains, Invocations, Programs}
+use Rattle.mms_types.specs.declared.area.AreaRequest.TheVariants.{Device, Variables, Semaphores, Domains, Invocations, Programs, Events}
 use Rattle.mms_types.specs.declared.area.DeviceRequest.{DeviceRequest}
 use Rattle.mms_types.specs.declared.area.DeviceRequest.TheVariants as device
 use Rattle.mms_types.specs.declared.area.DomainRequest.{DomainRequest}
 use Rattle.mms_types.specs.declared.area.DomainRequest.TheVariants as domains
+use Rattle.mms_types.specs.declared.area.EventRequest.{EventRequest}
+use Rattle.mms_types.specs.declared.area.EventRequest.TheVariants as events
 use Rattle.mms_types.specs.declared.area.InvocationRequest.{InvocationRequest}
 use Rattle.mms_types.specs.declared.area.InvocationRequest.TheVariants as invocations
 use Rattle.mms_types.specs.declared.area.ProgramRequest.{ProgramRequest}
@@ -60,6 +62,15 @@ program_request (programs.Reset x) = request.Reset x.now
 program_request (programs.Kill x) = request.Kill x.now
 program_request (programs.GetProgramInvocationAttributes x) = request.GetProgramInvocationAttributes x.now
 
+abbrev pub event_request : EventRequest → Request
+event_request (events.DefineEventCondition x) = request.DefineEventCondition x.now
+event_request (events.DeleteEventCondition x) = request.DeleteEventCondition x.now
+event_request (events.ReportEventConditionStatus x) = request.ReportEventConditionStatus x.now
+event_request (events.AlterEventConditionMonitoring x) = request.AlterEventConditionMonitoring x.now
+event_request (events.TriggerEvent x) = request.TriggerEvent x.now
+event_request (events.DefineEventEnrollment x) = request.DefineEventEnrollment x.now
+event_request (events.DeleteEventEnrollment x) = request.DeleteEventEnrollment x.now
+
 abbrev pub request_of : AreaRequest → Request
 request_of (Device asked) = device_request asked
 request_of (Variables asked) = variable_request asked
@@ -67,3 +78,4 @@ request_of (Semaphores asked) = semaphore_request asked
 request_of (Domains asked) = domain_request asked
 request_of (Invocations asked) = invocation_request asked
 request_of (Programs asked) = program_request asked
+request_of (Events asked) = event_request asked

@@ -4,10 +4,12 @@ ghost use Rattle.std.specs.Prelude.{◌≡◌};
 ghost use Rattle.mms_types.specs.Areas.{request_of};
 
 use crate::{
-    CreateProgramInvocation, DefineNamedVariable, DefineNamedVariableList, DefineSemaphore,
-    DeleteNames, GetNameList, Identifier, InitiateDownloadSequence, ObjectName, Read,
-    RelinquishControl, ReportPoolSemaphoreStatus, ReportSemaphoreEntryStatus, Request, RunProgram,
-    Spec, Status, TakeControl, Write,
+    AlterEventConditionMonitoring, CreateProgramInvocation, DefineEventCondition,
+    DefineEventEnrollment, DefineNamedVariable, DefineNamedVariableList, DefineSemaphore,
+    DeleteEventEnrollment, DeleteNames, GetNameList, Identifier, InitiateDownloadSequence,
+    ObjectName, ObjectNames, Read, RelinquishControl, ReportPoolSemaphoreStatus,
+    ReportSemaphoreEntryStatus, Request, RunProgram, Spec, Status, TakeControl, TriggerEvent,
+    Write,
 };
 
 /// What is asked of the device itself (ISO 9506-1, VMD support).
@@ -73,6 +75,18 @@ pub enum ProgramRequest<'a> {
     GetProgramInvocationAttributes(&'a Identifier),
 }
 
+/// What is asked of event conditions and event enrollments (ISO 9506-1, event management).
+#[derive(Clone, Copy)]
+pub enum EventRequest<'a> {
+    DefineEventCondition(&'a DefineEventCondition),
+    DeleteEventCondition(&'a ObjectNames),
+    ReportEventConditionStatus(&'a ObjectName),
+    AlterEventConditionMonitoring(&'a AlterEventConditionMonitoring),
+    TriggerEvent(&'a TriggerEvent),
+    DefineEventEnrollment(&'a DefineEventEnrollment),
+    DeleteEventEnrollment(&'a DeleteEventEnrollment),
+}
+
 /// A request, by the area of the device that serves it.
 #[derive(Clone, Copy)]
 pub enum AreaRequest<'a> {
@@ -82,6 +96,7 @@ pub enum AreaRequest<'a> {
     Domains(DomainRequest<'a>),
     Invocations(InvocationRequest<'a>),
     Programs(ProgramRequest<'a>),
+    Events(EventRequest<'a>),
 }
 
 impl Request {
@@ -163,6 +178,25 @@ impl Request {
             Request::Kill(name) => AreaRequest::Programs(ProgramRequest::Kill(name)),
             Request::GetProgramInvocationAttributes(name) => {
                 AreaRequest::Programs(ProgramRequest::GetProgramInvocationAttributes(name))
+            }
+            Request::DefineEventCondition(asked) => {
+                AreaRequest::Events(EventRequest::DefineEventCondition(asked.get()))
+            }
+            Request::DeleteEventCondition(names) => {
+                AreaRequest::Events(EventRequest::DeleteEventCondition(names))
+            }
+            Request::ReportEventConditionStatus(name) => {
+                AreaRequest::Events(EventRequest::ReportEventConditionStatus(name))
+            }
+            Request::AlterEventConditionMonitoring(asked) => {
+                AreaRequest::Events(EventRequest::AlterEventConditionMonitoring(asked))
+            }
+            Request::TriggerEvent(asked) => AreaRequest::Events(EventRequest::TriggerEvent(asked)),
+            Request::DefineEventEnrollment(asked) => {
+                AreaRequest::Events(EventRequest::DefineEventEnrollment(asked.get()))
+            }
+            Request::DeleteEventEnrollment(asked) => {
+                AreaRequest::Events(EventRequest::DeleteEventEnrollment(asked))
             }
         }
     }

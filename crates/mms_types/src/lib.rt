@@ -44,6 +44,7 @@ pub use access_result::WriteResults;
 pub use area::AreaRequest;
 pub use area::DeviceRequest;
 pub use area::DomainRequest;
+pub use area::EventRequest;
 pub use area::InvocationRequest;
 pub use area::ProgramRequest;
 pub use area::SemaphoreRequest;

@@ -1,12 +1,14 @@
 use crate::{
-    Boxed, CancelError, ConfirmedError, CreateProgramInvocation, DefineNamedVariable,
-    DefineNamedVariableList, DefineSemaphore, DeleteNames, Deleted, DomainAttributes,
-    EntryStatuses, GetNameList, GetNameListAnswer, Identifier, IdentifyAnswer, Initiate,
-    InitiateAnswer, InitiateDownloadSequence, InitiateUploadSequenceAnswer, InvocationAttributes,
-    ListAttributes, ObjectName, PoolStatus, Read, ReadAnswer, RelinquishControl,
-    ReportPoolSemaphoreStatus, ReportSemaphoreEntryStatus, RunProgram, Segment, SemaphoreStatus,
-    ServiceError, Spec, Status, StatusAnswer, TakeControl, TakeControlAnswer,
-    TerminateDownloadSequence, VariableAttributes, Write, WriteAnswer,
+    AlterEventConditionMonitoring, Boxed, CancelError, ConditionStatus, ConfirmedError,
+    CreateProgramInvocation, DefineEventCondition, DefineEventEnrollment, DefineNamedVariable,
+    DefineNamedVariableList, DefineSemaphore, DeleteEventEnrollment, DeleteNames, Deleted,
+    DomainAttributes, EntryStatuses, EventNotification, GetNameList, GetNameListAnswer, Identifier,
+    IdentifyAnswer, Initiate, InitiateAnswer, InitiateDownloadSequence,
+    InitiateUploadSequenceAnswer, InvocationAttributes, ListAttributes, ObjectName, ObjectNames,
+    PoolStatus, Read, ReadAnswer, RelinquishControl, ReportPoolSemaphoreStatus,
+    ReportSemaphoreEntryStatus, RunProgram, Segment, SemaphoreStatus, ServiceError, Spec, Status,
+    StatusAnswer, TakeControl, TakeControlAnswer, TerminateDownloadSequence, TriggerEvent,
+    VariableAttributes, Write, WriteAnswer,
 };
 
 /// What a client asks of the server (ISO 9506-2, ConfirmedServiceRequest): a variant for each service that clients ask,
@@ -76,6 +78,20 @@ pub enum Request {
     Kill(Identifier),
     /// What the program invocation of this name is.
     GetProgramInvocationAttributes(Identifier),
+    /// An event condition is to be made. What is asked is kept apart, so that no request grows by it.
+    DefineEventCondition(Boxed<DefineEventCondition>),
+    /// The deletion of the event conditions of these names.
+    DeleteEventCondition(ObjectNames),
+    /// What the event condition of this name is.
+    ReportEventConditionStatus(ObjectName),
+    /// How an event condition is monitored is to be changed.
+    AlterEventConditionMonitoring(AlterEventConditionMonitoring),
+    /// An event condition is triggered.
+    TriggerEvent(TriggerEvent),
+    /// An event enrollment is to be made. What is asked is kept apart, so that no request grows by it.
+    DefineEventEnrollment(Boxed<DefineEventEnrollment>),
+    /// The deletion of event enrollments.
+    DeleteEventEnrollment(DeleteEventEnrollment),
 }
 
 /// What the server answers to a request (ISO 9506-2, ConfirmedServiceResponse): a variant for each service that clients
@@ -145,6 +161,20 @@ pub enum Answer {
     Kill,
     /// What the program invocation is.
     GetProgramInvocationAttributes(InvocationAttributes),
+    /// The event condition was made.
+    DefineEventCondition,
+    /// How many event conditions were not deleted.
+    DeleteEventCondition(u32),
+    /// What the event condition is.
+    ReportEventConditionStatus(ConditionStatus),
+    /// The event condition was changed.
+    AlterEventConditionMonitoring,
+    /// The event condition was triggered.
+    TriggerEvent,
+    /// The event enrollment was made.
+    DefineEventEnrollment,
+    /// How many event enrollments were not deleted.
+    DeleteEventEnrollment(u32),
 }
 
 /// What the server asks of a client (ISO 9506-2, ConfirmedServiceRequest): a variant for each service that the server
@@ -219,6 +249,9 @@ pub enum Pdu {
     CancelResponse { invoke: u32 },
     /// A cancel-Error that the server sends.
     CancelError(CancelError),
+    /// An unconfirmed PDU that the server sends: what a client is told of an event. What it is told is kept apart, so
+    /// that no PDU grows by it.
+    EventNotification(Boxed<EventNotification>),
     /// An unconfirmed PDU, a cancel-Response or a cancel-Error that a client sent: nothing is read.
     HeardOther,
     /// An initiate-Request.
@@ -270,6 +303,13 @@ impl Drop for Request {
             Request::Reset(_x) => {}
             Request::Kill(_x) => {}
             Request::GetProgramInvocationAttributes(_x) => {}
+            Request::DefineEventCondition(_x) => {}
+            Request::DeleteEventCondition(_x) => {}
+            Request::ReportEventConditionStatus(_x) => {}
+            Request::AlterEventConditionMonitoring(_x) => {}
+            Request::TriggerEvent(_x) => {}
+            Request::DefineEventEnrollment(_x) => {}
+            Request::DeleteEventEnrollment(_x) => {}
         }
     }
 }
@@ -309,6 +349,13 @@ impl Drop for Answer {
             Answer::Reset => {}
             Answer::Kill => {}
             Answer::GetProgramInvocationAttributes(_x) => {}
+            Answer::DefineEventCondition => {}
+            Answer::DeleteEventCondition(_) => {}
+            Answer::ReportEventConditionStatus(_) => {}
+            Answer::AlterEventConditionMonitoring => {}
+            Answer::TriggerEvent => {}
+            Answer::DefineEventEnrollment => {}
+            Answer::DeleteEventEnrollment(_) => {}
         }
     }
 }
@@ -357,6 +404,7 @@ impl Drop for Pdu {
             Pdu::CancelRequest { invoke: _ } => {}
             Pdu::CancelResponse { invoke: _ } => {}
             Pdu::CancelError(_x) => {}
+            Pdu::EventNotification(_x) => {}
             Pdu::HeardOther => {}
             Pdu::InitiateRequest(_x) => {}
             Pdu::InitiateResponse(_x) => {}
