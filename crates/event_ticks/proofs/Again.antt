@@ -6,7 +6,7 @@ use Rattle.mms_types.specs.declared.key.Key.{Key}
 use Rattle.mms_types.specs.declared.moment.Moment.{Moment}
 use Rattle.event_cond.specs.Conditions.{class_evaluated, dated, enabled_state, evaluated, move_told, moved, state_of, turn}
 use Rattle.event_cond.specs.Evaluations.{next_of, next_of_class}
-use Rattle.event_cond.specs.Kept.{IsClass}
+use Rattle.event_ticks.specs.Sound.{IsTimedClass}
 use Rattle.event_cond.specs.Multiples.{IsMultiple, later, least_multiple}
 use Rattle.event_cond.specs.Skips.{Saying, class_passed, first_due, first_turn, passed, says, says_class, skipped, skipped_from, turn_from, up_to}
 use Rattle.event_cond.specs.Transitions.{transition}
@@ -65,7 +65,7 @@ module _ (until : Moment) (cells : Saying) where
   skipped_due c m is low = ap (skipped_from until cells c) (is_due c m is low)
 
   module _ (c : Condition) (m : Moment) (low : m.0 ≤ until.0) where
-    again_from : (k : ConditionClass) → IsClass k → next_of_class k ≡ Some m
+    again_from : (k : ConditionClass) → IsTimedClass k → next_of_class k ≡ Some m
         → skipped until cells (moved_from k m (class_evaluated m (says_class cells k) k) c) ≡ moved_from k m (class_passed until (says_class cells k) k) c
     again_from NetworkTriggered sound is = absurd (cc is)
     again_from (Monitored w) sound is = by_test (nat_le (m.0 + w.interval) until.0) refl
@@ -103,7 +103,7 @@ module _ (until : Moment) (cells : Saying) where
         by_test false = refl
 
   -- it comes to the same
-  pub again : (c : Condition) (m : Moment) → IsClass c.class → next_of c ≡ Some m → m.0 ≤ until.0 → skipped until cells (after_one m c) ≡ skipped until cells c
+  pub again : (c : Condition) (m : Moment) → IsTimedClass c.class → next_of c ≡ Some m → m.0 ≤ until.0 → skipped until cells (after_one m c) ≡ skipped until cells c
   again c m sound is low = again_from c m low c.class sound is ∙ sym (skipped_due c m is low)
 
   -- it has nothing to tell any more

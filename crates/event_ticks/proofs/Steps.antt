@@ -14,7 +14,7 @@ use Rattle.mms_types.specs.declared.moment.Moment.{Moment}
 use Rattle.event_cond.specs.Conditions as cond_rows
 use Rattle.event_cond.specs.Conditions.{after_evaluate, changed, class_evaluated, evaluate_told, move_told, moved, named}
 use Rattle.event_cond.specs.Evaluations.{evaluations, next_evaluation, next_of, next_of_class, sooner}
-use Rattle.event_cond.specs.Kept.{IsClass}
+use Rattle.event_ticks.specs.Sound.{IsTimedClass}
 use Rattle.event_cond.specs.Multiples.{IsMultiple}
 use Rattle.event_cond.specs.Skips.{Saying, after_skip, first_turn, first_turns, row_skipped, says}
 use Rattle.event_cond.specs.declared.condition.Condition.{Condition}
@@ -39,36 +39,36 @@ multiple_more : (since m : Moment) (interval : ℕ) → IsMultiple since interva
 multiple_more since m interval (n, same) = let more : suc n * interval ≡ n * interval + interval = suc-mul n interval in (suc n, omega (arith, same, more))
 
 -- its interval is some, and its next evaluation a multiple
-pub class_kept : (m : Moment) (b : Bool) (k : ConditionClass) → IsClass k → next_of_class k ≡ Some m → IsClass (class_evaluated m b k)
+pub class_kept : (m : Moment) (b : Bool) (k : ConditionClass) → IsTimedClass k → next_of_class k ≡ Some m → IsTimedClass (class_evaluated m b k)
 class_kept m b NetworkTriggered sound is = tt
 class_kept m b (Monitored w) sound is = by_evaluation w.evaluation refl
   where
-    by_evaluation : (o : Option Evaluation) → w.evaluation ≡ o → IsClass (class_evaluated m b (Monitored w))
+    by_evaluation : (o : Option Evaluation) → w.evaluation ≡ o → IsTimedClass (class_evaluated m b (Monitored w))
     by_evaluation None e = absurd (cc (sym is ∙ ap (option_map (λ (x : Evaluation). x.next)) e))
     by_evaluation (Some x) e =
         let at : x.next ≡ m = cc (sym (ap (option_map (λ (y : Evaluation). y.next)) e) ∙ is) in
         let multiple : IsMultiple w.defined w.interval m = subst (IsMultiple w.defined w.interval) at (subst (λ (o : Option Evaluation). IfSome o (λ y. IsMultiple w.defined w.interval y.next)) e sound.next) in
-        record { interval = sound.interval; defined = sound.defined; next = multiple_more w.defined m w.interval multiple }
+        record { interval = sound.interval; next = multiple_more w.defined m w.interval multiple }
 
-pub later_next : (m until : Moment) (b : Bool) (k : ConditionClass) → IsClass k → next_of_class k ≡ Some m → m.0 ≤ until.0
+pub later_next : (m until : Moment) (b : Bool) (k : ConditionClass) → IsTimedClass k → next_of_class k ≡ Some m → m.0 ≤ until.0
     → most_from until (next_of_class (class_evaluated m b k)) < most_from until (Some m)
 later_next m until b NetworkTriggered sound is low = absurd (cc is)
 later_next m until b (Monitored w) sound is low = let some = sound.interval in omega (arith, some, low)
 
 -- what each condition keeps
 abbrev pub ClassOf : Key × Condition → Type 0
-ClassOf row = IsClass row.1.class
+ClassOf row = IsTimedClass row.1.class
 
-pub class_of_named : (key : Key) (c : Condition) (rows : cond_rows.Rows) → AllByRecursion ClassOf rows → named key rows ≡ Some c → IsClass c.class
+pub class_of_named : (key : Key) (c : Condition) (rows : cond_rows.Rows) → AllByRecursion ClassOf rows → named key rows ≡ Some c → IsTimedClass c.class
 class_of_named key c [] all is = absurd (cc is)
 class_of_named key c (row ∷ rows) all is = by_test (key_eq key row.0) refl (class_of_named key c rows all.1)
   where
-    by_test : (b : Bool) → key_eq key row.0 ≡ b → (named key rows ≡ Some c → IsClass c.class) → IsClass c.class
-    by_test true t rest = let here : row.1 ≡ c = cc (sym (found_here key row rows t) ∙ is) in subst (λ (d : Condition). IsClass d.class) here all.0
+    by_test : (b : Bool) → key_eq key row.0 ≡ b → (named key rows ≡ Some c → IsTimedClass c.class) → IsTimedClass c.class
+    by_test true t rest = let here : row.1 ≡ c = cc (sym (found_here key row rows t) ∙ is) in subst (λ (d : Condition). IsTimedClass d.class) here all.0
     by_test false t rest = rest (sym (found_later key row rows t) ∙ is)
 
 module _ (cells : Saying) (until : Moment) (s : Ticking) (key : Key) (m : Moment) (c : Condition)
-    (found : named key s.conditions ≡ Some c) (next : next_of c ≡ Some m) (low : m.0 ≤ until.0) (sound : IsClass c.class) where
+    (found : named key s.conditions ≡ Some c) (next : next_of c ≡ Some m) (low : m.0 ≤ until.0) (sound : IsTimedClass c.class) where
   -- as the condition says
   abbrev one : Condition → Condition
   one d = moved m (class_evaluated m (says cells c) d.class) d

@@ -1,5 +1,5 @@
 -- A tick goes on as long as something is due, and comes to the same where each condition is met at its first evaluation alone.
-use Rattle.std.proofs.Common.{◌≡◌, ◌∙◌, ap, sym, subst, refl, ℕ, zero, suc, ◌<◌, ◌≤◌, inl, inr, Bool, true, false, nat_le, List, [], ◌∷◌, ◌++◌, append-nil, filter_map, length, Option, None, Some, option_map, if◌then◌else◌, arith, All}
+use Rattle.std.proofs.Common.{◌≡◌, ◌∙◌, ap, sym, subst, refl, ℕ, zero, suc, ◌<◌, ◌≤◌, inl, inr, Bool, true, false, nat_le, List, [], ◌∷◌, ◌++◌, append-nil, filter_map, get_or, length, Option, None, Some, option_map, if◌then◌else◌, arith, All}
 use Rattle.std.specs.List.{AllByRecursion, IsDistinct, cons_option}
 use Rattle.std.specs.Map.{keys_of}
 use Rattle.std.proofs.lemmas.Bool.Decides.{nat_tests}
@@ -12,12 +12,14 @@ use Rattle.event_cond.specs.Conditions as cond_rows
 use Rattle.event_cond.specs.Deletion as cond_lost
 use Rattle.event_cond.specs.Evaluations.{evaluation_of, evaluations, next_evaluation, next_of}
 use Rattle.event_cond.specs.Kept.{IsClass, IsCondition}
+use Rattle.event_cond.specs.declared.condition.ConditionClass.{ConditionClass}
+use Rattle.event_cond.specs.declared.condition.ConditionClass.TheVariants.{NetworkTriggered, Monitored}
 use Rattle.event_cond.specs.Skips.{Saying, after_skip, first_due, first_turn, in_order, skipped_from, first_turns, turn_from, up_to}
 use Rattle.event_cond.specs.declared.condition.Condition.{Condition}
 use Rattle.event_cond.proofs.Soonest.{In, least_first, next_none}
 use Rattle.event_enrol.specs.Enrolments as enrol
 use Rattle.event_ticks.specs.Skipping.{conditions_left, enrolments_left, losses_left, skipping, skipping_told, told_left}
-use Rattle.event_ticks.specs.Sound.{AreSound}
+use Rattle.event_ticks.specs.Sound.{AreSound, IsTimedClass}
 use Rattle.event_ticks.specs.Ticks.{Ticking, begun, evaluated, is_before, lost, most_left, next_evaluated, next_lost, next_met, next_of_both, ticked}
 use Rattle.event_ticks.specs.declared.ticks.Loss.{Loss}
 use Rattle.event_ticks.specs.declared.ticks.Told.{Told}
@@ -51,7 +53,7 @@ module _ (cells : Saying) (until : Moment) where
       evaluates : Evaluates cells until s t → Stepped cells until s t
       evaluates e =
           let d = is_due s.conditions e.next sound.0 e.first in
-          let class : IsClass d.condition.class = class_of_named e.next.1 d.condition s.conditions sound.1 d.found in
+          let class : IsTimedClass d.condition.class = class_of_named e.next.1 d.condition s.conditions sound.1 d.found in
           subst (Stepped cells until s) (sym (evaluated_is cells until s e.next.1 e.next.0 d.condition d.found d.next e.low class) ∙ e.is)
           (record {
             sound = after_sound cells until s e.next.1 e.next.0 d.condition d.found d.next e.low class sound.0 sound.1;
@@ -159,10 +161,10 @@ module _ (cells : Saying) (until : Moment) where
 
   -- ---- all
 
-  keeps : (s t : Ticking) → Sound s → next_met cells until s ≡ Some t → Sound t
+  pub keeps : (s t : Ticking) → Sound s → next_met cells until s ≡ Some t → Sound t
   keeps s t sound h = (step s t sound h).sound
 
-  falls : (s t : Ticking) → Sound s → next_met cells until s ≡ Some t → most_left until t < most_left until s
+  pub falls : (s t : Ticking) → Sound s → next_met cells until s ≡ Some t → most_left until t < most_left until s
   falls s t sound h = (step s t sound h).fewer
 
   pub tick_rests : (s : Ticking) → next_met cells until s ≡ None → ticked cells until s ≡ s
@@ -256,8 +258,12 @@ module _ (cells : Saying) (first later : Moment) (le : first.0 ≤ later.0) wher
 
 -- ---- what code makes of a table
 
+timed : (k : ConditionClass) → IsClass k → IsTimedClass k
+timed NetworkTriggered is = tt
+timed (Monitored w) is = record { interval = is.interval; next = is.next }
+
 pub sound_is : (rows : cond_rows.Rows) → IsDistinct key_eq (keys_of rows) → All (λ row. IsCondition row.1) rows → AreSound rows
-sound_is rows names all = record { names = names; each = λ k d low. (all k d low).class }
+sound_is rows names all = record { names = names; each = λ k d low. timed (get_or rows k d).1.class (all k d low).class }
 
 module _ (cells : Saying) (until : Moment) (conditions : cond_rows.Rows) (enrolments : enrol.Rows) (losses : List Loss) (names : IsDistinct key_eq (keys_of conditions)) (all : All (λ row. IsCondition row.1) conditions) where
   is : ticked cells until (begun conditions enrolments losses) ≡ skipping cells until (begun conditions enrolments losses)

@@ -112,7 +112,7 @@ due_stands until rows d is = by_first (first_due rows) refl is
         by_test true k = least-stands due_sooner (all_deadlines rows) d (e ∙ k)
         by_test false k = absurd (cc k)
 
-none_due : (until : Moment) (s : Ticking) → AreSound s.rows → next_met until s ≡ None → next_due until s.rows ≡ None
+pub none_due : (until : Moment) (s : Ticking) → AreSound s.rows → next_met until s ≡ None → next_due until s.rows ≡ None
 none_due until s is none = by_due (next_due until s.rows) refl none
   where
     by_due : (o : Option NamedDeadline) → next_due until s.rows ≡ o → option_and_then (met s) o ≡ None → o ≡ None

@@ -99,7 +99,7 @@ keeps_met s t d same is = by_expired (expired d.key d.entry s.rows) same
         (keeps_aborted x.abort x.client d.at (expire_after d.key d.entry d.at s.rows)
         (keeps_changed (without_due d.entry d.at) d.key s.rows (λ row found sound. due_met d.entry d.at row.semaphore sound) is))
 
-keeps_next : (until : Moment) (s t : Ticking) → next_met until s ≡ Some t → AreSound s.rows → AreSound t.rows
+pub keeps_next : (until : Moment) (s t : Ticking) → next_met until s ≡ Some t → AreSound s.rows → AreSound t.rows
 keeps_next until s t same is = by_due (next_due until s.rows) same
   where
     by_due : (o : Option NamedDeadline) → option_and_then (met s) o ≡ Some t → AreSound t.rows

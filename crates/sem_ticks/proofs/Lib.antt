@@ -1,7 +1,9 @@
 pub mod Ahead
 pub mod AllLost
 pub mod Become
+pub mod Dated
 pub mod Drafting
+pub mod Dues
 pub mod Fewer
 pub mod Gone
 pub mod Inserted

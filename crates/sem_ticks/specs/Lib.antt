@@ -1,3 +1,4 @@
+pub mod Dated
 pub mod Drafts
 pub mod Granted
 pub mod Losing

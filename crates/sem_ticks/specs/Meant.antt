@@ -1,12 +1,15 @@
 -- What code carries, in the words of ticks.
-use Rattle.std.specs.Prelude.{◌≡◌, List, ◌++◌, Some}
+use Rattle.std.specs.Prelude.{◌≡◌, List, ◌++◌, Some, zip}
 use Rattle.token_sem.specs.declared.entry.Expired.{Expired}
 use Rattle.mms_time.specs.Deadlines.{NamedDeadline, expire_after, expired}
 use Rattle.mms_time.specs.Semaphores.{Rows}
+use Rattle.mms_types.specs.declared.moment.Moment.{Moment}
+use Rattle.sem_ticks.specs.Dated.{Dating}
 use Rattle.sem_ticks.specs.Drafts.{become, drafted}
 use Rattle.sem_ticks.specs.Renewed.{renewed}
 use Rattle.sem_ticks.specs.Ticks.{Ticking, expiry_told}
 use Rattle.sem_ticks.specs.declared.drafts.Draft.{Draft}
+use Rattle.sem_ticks.specs.declared.ticks.DatedTicked.{DatedTicked}
 use Rattle.sem_ticks.specs.declared.ticks.Happening.{Happening}
 use Rattle.sem_ticks.specs.declared.ticks.Meeting.{Meeting}
 use Rattle.sem_ticks.specs.declared.ticks.NextOf.{NextOf}
@@ -25,6 +28,13 @@ drafting_of rows drafts happened = record { rows = become (drafted drafts) rows;
 -- what became of a table
 abbrev pub state_of : Ticked → Rows → Ticking
 state_of ticked rows = record { rows = renewed ticked.changed rows; happened = ticked.happened.items }
+
+-- the same with moments, one for each of what happened
+abbrev pub with_moments : Ticking → List Moment → Dating
+with_moments s moments = record { rows = s.rows; happened = zip moments s.happened }
+
+abbrev pub dating_of : DatedTicked → Rows → Dating
+dating_of t rows = with_moments (state_of t.ticked rows) t.moments.items
 
 -- a deadline is met, and what became of its entry is told: that is all but the abort
 pub record IsMet (s : Ticking) (d : NamedDeadline) (x : Expired) (t : Ticking) : Type 0 where

@@ -8,6 +8,7 @@ ghost use Rattle.mms_time.specs.Loss.{lost};
 ghost use Rattle.mms_time.specs.Services.{cancelled, define_after, define_cause, deleted, relinquished, take_after};
 ghost use Rattle.mms_types.specs.declared.moment.Moment.{Moment};
 ghost use Rattle.mms_time.specs.Semaphores.{Rows};
+ghost use Rattle.sem_ticks.specs.Dated.{HappenBy, HappenFrom, IsInOrder, LieFrom, dated, undated};
 ghost use Rattle.sem_ticks.specs.Sound.{AreSound, LieAhead};
 ghost use Rattle.sem_ticks.specs.Ticks.{ticked, ticked_on, Ticking};
 
@@ -58,4 +59,16 @@ pub fn the_semaphores_stay_sound()
         → AreSound rows → AreSound (lost client now rows) }
     ensures ticked { (until : Moment) (rows : Rows)
         → AreSound rows → AreSound (ticked until rows).rows }
+{}
+
+/// Whatever happens has a moment, that of the deadline by which it happens: without the moments it is what happens, and the
+/// semaphores become the same. Nothing happens before what happened before it, nor before a moment that no deadline lies
+/// before, nor after the end.
+pub fn what_happens_has_its_moment()
+    ensures same { (until : Moment) (rows : Rows) → undated (dated until rows) ≡ ticked until rows }
+    ensures in_order { (until : Moment) (rows : Rows) → IsInOrder (dated until rows).happened }
+    ensures from { (until low : Moment) (rows : Rows)
+        → LieFrom low rows → HappenFrom low (dated until rows).happened }
+    ensures by_then { (until : Moment) (rows : Rows)
+        → HappenBy until (dated until rows).happened }
 {}

@@ -11,6 +11,9 @@ mod renewed;
 mod ticks;
 
 pub use granted::{Granted, lose_told, relinquish_told};
-pub use laws::{every_deadline_lies_ahead, the_semaphores_stay_sound, two_ticks_are_one};
+pub use laws::{
+    every_deadline_lies_ahead, the_semaphores_stay_sound, two_ticks_are_one,
+    what_happens_has_its_moment,
+};
 pub use renewed::Renewed;
-pub use ticks::{Happening, Ticked, tick};
+pub use ticks::{DatedTicked, Happening, Ticked, tick, tick_dated};

@@ -1,19 +1,20 @@
 //! Deadlines are met on drafts, one after the other.
 
-ghost use Rattle.std.specs.Prelude.{◌≡◌, ◌++◌, All, IfOk, IfSome, OnOk, Ok, Some, map, true};
+ghost use Rattle.std.specs.Prelude.{◌≡◌, ◌++◌, length, All, IfOk, IfSome, OnOk, Ok, Some, map, true};
 ghost use Rattle.std.specs.Map.{keys_of, lookup};
 ghost use Rattle.mms_types.specs.Moments.{IsDated};
 ghost use Rattle.mms_types.specs.Order.{key_eq};
 ghost use Rattle.mms_time.specs.Semaphores.{Rows};
 ghost use Rattle.sem_ticks.specs.Drafts.{due_rows, next_named, AreDrafts, IsNextOf, IsPlaced};
 ghost use Rattle.sem_ticks.specs.Granted.{granted};
-ghost use Rattle.sem_ticks.specs.Meant.{drafting_of, state_of, IsMet};
+ghost use Rattle.sem_ticks.specs.Dated.{dated};
+ghost use Rattle.sem_ticks.specs.Meant.{dating_of, drafting_of, state_of, IsMet};
 ghost use Rattle.sem_ticks.specs.Ticks.{expiry_told, met, ticked};
 
 use crate::drafts::{Draft, Next, drafts_of, next_of, rows_of};
 use crate::losing::{abort_in, granted_in};
 use crate::renewed::Renewed;
-use crate::ticks::{Happening, Ticked};
+use crate::ticks::{DatedTicked, Happening, Ticked, date};
 use mms_time::Semaphores;
 use mms_types::{Key, Memory, Moment, Scope};
 use std::alloc::Global;
@@ -110,23 +111,32 @@ pub(crate) fn ticked_in_drafts<'a>(
     semaphores: &'a Semaphores,
     due: Vec<(&'a Key, usize)>,
     until: Moment,
-) -> Result<Option<Ticked>, Memory>
+) -> Result<Option<DatedTicked>, Memory>
     requires keys { map (λ p. p.0.now) due.items ≡ keys_of (due_rows until semaphores.now) }
     requires places { All (IsPlaced semaphores.now) due.items }
     requires until { IsDated until }
-    ensures { IfOk result (λ met. IfSome met (λ t.
-        state_of t semaphores.now ≡ ticked until semaphores.now)) }
+    ensures met { IfOk result (λ met. IfSome met (λ t.
+        state_of t.ticked semaphores.now ≡ ticked until semaphores.now)) }
+    ensures dated { IfOk result (λ met. IfSome met (λ t.
+        dating_of t semaphores.now ≡ dated until semaphores.now)) }
+    ensures long { IfOk result (λ met. IfSome met (λ t.
+        length t.moments.items ≡ length t.ticked.happened.items)) }
 {
     let _rows = semaphores.len();
     let mut drafts = drafts_of(alloc, semaphores, until, due)?;
     let mut happened = Vec::new(alloc);
+    let mut moments = Vec::new(alloc);
     while let Some(next) = next_of(semaphores, &drafts, until) {
         if !meet_in(alloc, semaphores, &mut drafts, &mut happened, until, &next)? {
             return Ok(None);
         }
+        date(&mut moments, &happened, next.due.at)?;
     }
-    Ok(Some(Ticked {
-        changed: Renewed::Places(rows_of(alloc, drafts)?),
-        happened,
+    Ok(Some(DatedTicked {
+        ticked: Ticked {
+            changed: Renewed::Places(rows_of(alloc, drafts)?),
+            happened,
+        },
+        moments,
     }))
 }

@@ -1,10 +1,11 @@
 //! Deadlines are met, one after the other.
 
-ghost use Rattle.std.specs.Prelude.{◌≡◌, ◌≢◌, ◌++◌, ◌∷◌, ◌≤◌, [], map, option_map, IfNone, IfOk, IfSome, None, OnErr, OnOk, OnSome, Some};
+ghost use Rattle.std.specs.Prelude.{◌≡◌, ◌≢◌, ◌++◌, ◌∷◌, ◌≤◌, [], drop, length, map, option_map, IfNone, IfOk, IfSome, None, OnErr, OnOk, OnSome, Some};
 ghost use Rattle.mms_types.specs.Moments.{IsDated};
 ghost use Rattle.mms_time.specs.Deadlines.{NamedDeadline, deadline_in, next_due};
 ghost use Rattle.mms_time.specs.Loss.{lost};
-ghost use Rattle.sem_ticks.specs.Meant.{meeting_of, next_meant, state_of};
+ghost use Rattle.sem_ticks.specs.Dated.{dated};
+ghost use Rattle.sem_ticks.specs.Meant.{dating_of, meeting_of, next_meant, state_of, with_moments};
 ghost use Rattle.sem_ticks.specs.Ticks.{abort_told, after_abort, expiry_told, met, ticked};
 
 use crate::drafts::due_places;
@@ -34,6 +35,15 @@ pub struct Ticked {
     pub changed: Renewed,
     /// What happened.
     pub happened: Vec<Happening>,
+}
+
+/// What became of semaphores in some time, what happened meanwhile, in order, and when each of that did.
+#[derive(Drop)]
+pub struct DatedTicked {
+    /// What became of them, and what happened.
+    pub ticked: Ticked,
+    /// The moment of each of that, in the same order.
+    pub moments: Vec<Moment>,
 }
 
 /// A copy of all semaphores, on which deadlines are met, and what happened.
@@ -152,34 +162,98 @@ fn meet(alloc: Global, ticked: &mut Meeting, next: &NextOf) -> Result<(), Memory
     )
 }
 
+/// Whatever has happened since the last moment that was kept happened at this one.
+#[tactic(auto, using(crate::proofs::Dated::date_end))]
+pub(crate) fn date(
+    moments: &mut Vec<Moment>,
+    happened: &[Happening],
+    at: Moment,
+) -> Result<(), Memory>
+    ensures { OnOk result (moments.new.items ≡ moments.old.items
+        ++ map (λ h. at) (drop (length moments.old.items) happened.now)) }
+{
+    while moments.len() < happened.len() {
+        moments.push(at)?;
+    }
+    Ok(())
+}
+
 /// Meets each deadline that is at most that moment, on a copy of all semaphores.
-fn met_in_copy(alloc: Global, semaphores: &Semaphores, until: Moment) -> Result<Meeting, Memory>
+fn met_in_copy(
+    alloc: Global,
+    semaphores: &Semaphores,
+    until: Moment,
+) -> Result<(Meeting, Vec<Moment>), Memory>
     requires { IsDated until }
-    ensures { IfOk result (λ t. meeting_of t ≡ ticked until semaphores.now) }
+    ensures met { IfOk result (λ t. meeting_of t.0 ≡ ticked until semaphores.now) }
+    ensures dated { IfOk result (λ t.
+        with_moments (meeting_of t.0) t.1.items ≡ dated until semaphores.now) }
+    ensures long { IfOk result (λ t. length t.1.items ≡ length t.0.happened.items) }
 {
     let mut ticked = Meeting {
         semaphores: semaphores.copy(alloc)?,
         happened: Vec::new(alloc),
     };
+    let mut moments = Vec::new(alloc);
     while let Some(next) = next_of(alloc, &ticked.semaphores, until)? {
         meet(alloc, &mut ticked, &next)?;
+        date(&mut moments, &ticked.happened, next.at)?;
     }
-    Ok(ticked)
+    Ok((ticked, moments))
 }
 
 /// What became of all semaphores, which are copied.
-fn ticked_in_copy(alloc: Global, semaphores: &Semaphores, until: Moment) -> Result<Ticked, Memory>
+fn ticked_in_copy(
+    alloc: Global,
+    semaphores: &Semaphores,
+    until: Moment,
+) -> Result<DatedTicked, Memory>
     requires { IsDated until }
-    ensures { IfOk result (λ t. state_of t semaphores.now ≡ ticked until semaphores.now) }
+    ensures met { IfOk result (λ t.
+        state_of t.ticked semaphores.now ≡ ticked until semaphores.now) }
+    ensures dated { IfOk result (λ t. dating_of t semaphores.now ≡ dated until semaphores.now) }
+    ensures long { IfOk result (λ t.
+        length t.moments.items ≡ length t.ticked.happened.items) }
 {
+    let (met, moments) = met_in_copy(alloc, semaphores, until)?;
     let Meeting {
         semaphores,
         happened,
-    } = met_in_copy(alloc, semaphores, until)?;
-    Ok(Ticked {
-        changed: Renewed::All(semaphores),
-        happened,
+    } = met;
+    Ok(DatedTicked {
+        ticked: Ticked {
+            changed: Renewed::All(semaphores),
+            happened,
+        },
+        moments,
     })
+}
+
+/// Lets time go by up to a moment, as `tick` does, and tells the moment of whatever happens.
+pub fn tick_dated(
+    alloc: Global,
+    semaphores: &Semaphores,
+    until: Moment,
+) -> Result<Option<DatedTicked>, Memory>
+    requires { IsDated until }
+    ensures met { IfOk result (λ met. IfSome met (λ t.
+        state_of t.ticked semaphores.now ≡ ticked until semaphores.now)) }
+    ensures dated { IfOk result (λ met. IfSome met (λ t.
+        dating_of t semaphores.now ≡ dated until semaphores.now)) }
+    ensures long { IfOk result (λ met. IfSome met (λ t.
+        length t.moments.items ≡ length t.ticked.happened.items)) }
+    ensures some { IfOk result (λ met. OnSome met (next_due until semaphores.now ≢ None)) }
+    ensures none { IfOk result (λ met. IfNone met (next_due until semaphores.now ≡ None)) }
+    ensures wants { OnErr result (next_due until semaphores.now ≢ None) }
+{
+    if !semaphores.is_due(until) {
+        return Ok(None);
+    }
+    let due = due_places(alloc, semaphores, until)?;
+    match ticked_in_drafts(alloc, semaphores, due, until)? {
+        Some(ticked) => Ok(Some(ticked)),
+        None => Ok(Some(ticked_in_copy(alloc, semaphores, until)?)),
+    }
 }
 
 /// Lets time go by up to a moment (ISO 9506-1, TakeControl, acceptableDelay, controlTimeOut and abortOnTimeOut): every
@@ -197,12 +271,8 @@ pub fn tick(alloc: Global, semaphores: &Semaphores, until: Moment) -> Result<Opt
     ensures none { IfOk result (λ met. IfNone met (next_due until semaphores.now ≡ None)) }
     ensures wants { OnErr result (next_due until semaphores.now ≢ None) }
 {
-    if !semaphores.is_due(until) {
-        return Ok(None);
-    }
-    let due = due_places(alloc, semaphores, until)?;
-    match ticked_in_drafts(alloc, semaphores, due, until)? {
-        Some(ticked) => Ok(Some(ticked)),
-        None => Ok(Some(ticked_in_copy(alloc, semaphores, until)?)),
+    match tick_dated(alloc, semaphores, until)? {
+        Some(dated) => Ok(Some(dated.ticked)),
+        None => Ok(None),
     }
 }

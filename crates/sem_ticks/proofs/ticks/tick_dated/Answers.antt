@@ -2,7 +2,7 @@ use Rattle.std.proofs.Common.{◌∙◌, sym}
 use Rattle.mms_time.specs.Deadlines.{next_due}
 use Rattle.mms_time.proofs.Unowned.{on_err}
 use Rattle.sem_ticks.proofs.Made.{is_none, is_there}
-use Rattle.sem_ticks.proofs.ticks.tick.Goals as goal
+use Rattle.sem_ticks.proofs.ticks.tick_dated.Goals as goal
 
 pub returns-then-not-is_due-clause-none : goal.returns-then-not-is_due-clause-none
 returns-then-not-is_due-clause-none c = is_none (next_due c.args.until c.args.semaphores.now) (sym c.is_due.ensures ∙ c.if-not-is_due.true)
