@@ -44,6 +44,10 @@ deletions client now names rows = deletions_of now (mentioned client names) rows
 abbrev pub after_delete : ℕ → List ObjectName → Rows → Rows
 after_delete client names rows = filter (λ row. not (is_listed_by client names row.0)) rows
 
+-- one condition is deleted
+abbrev pub without : Key → Rows → Rows
+without key rows = filter (λ row. not (key_eq key row.0)) rows
+
 -- a client that is lost takes the conditions of its association with it; all others stay, also those that are enabled
 abbrev pub without_client : ℕ → Rows → Rows
 without_client client rows = without_all_of (Association client) rows

@@ -4,7 +4,7 @@ ghost use Rattle.std.specs.Prelude.{◌≡◌, ◌+◌, ◌<◌, if◌then◌els
 ghost use Rattle.std.specs.List.{list_any};
 ghost use Rattle.mms_types.specs.Order.{key_eq};
 ghost use Rattle.event_cond.specs.Conditions.{named};
-ghost use Rattle.event_cond.specs.Deletion.{after_delete, deletion_turn, deletions, deletions_of, mentioned, missing, missing_of};
+ghost use Rattle.event_cond.specs.Deletion.{after_delete, deletion_turn, deletions, deletions_of, mentioned, missing, missing_of, without};
 
 use crate::kept::Kept;
 use crate::{Condition, Conditions};
@@ -143,5 +143,13 @@ impl Conditions {
         let keys = mentioned(alloc, client, names)?;
         take_out(&mut self.rows, &keys);
         Ok(())
+    }
+    /// Deletes the event condition of that name, as `delete` does, where it is there; all others stay as they are, in
+    /// their order. It takes no memory.
+    pub fn remove(&mut self, key: &Key)
+        ensures { self.new ≡ without key.now self.old }
+    {
+        let _distinct = self.rows.len();
+        self.rows.remove(key);
     }
 }

@@ -1,5 +1,5 @@
 //! Who is told of a transition.
-ghost use Rattle.std.specs.Prelude.{◌≡◌, IfOk, filter, map};
+ghost use Rattle.std.specs.Prelude.{◌≡◌, ◌++◌, IfOk, OnOk, filter, map};
 ghost use Rattle.event_enrol.specs.Enrolments.{has_bit, notices};
 ghost use Rattle.event_enrol.specs.Groups.{is_member_told, member_notice};
 
@@ -20,6 +20,18 @@ impl Enrolments {
         match self.groups.get(&turned.condition) {
             None => Ok(Notices::new(alloc)),
             Some(group) => notices_of(alloc, group.as_slice(), turned),
+        }
+    }
+
+    /// The clients of these notices, in the same order, behind those that are given; no notice is made. The one refusal is
+    /// want of memory.
+    pub fn told_clients(&self, turned: &Turned, clients: &mut Vec<u32>) -> Result<(), Memory>
+        ensures { OnOk result (clients.new.items
+            ≡ clients.old.items ++ map (λ n. n.client) (notices turned.now self.now)) }
+    {
+        match self.groups.get(&turned.condition) {
+            None => Ok(()),
+            Some(group) => put_clients(group.as_slice(), turned.transition, clients),
         }
     }
 }
@@ -54,4 +66,19 @@ fn notices_of(alloc: Global, members: &[Member], turned: &Turned) -> Result<Noti
         }
     }
     Ok(told)
+}
+
+/// Puts the clients of those members that are told of a transition behind those that are given.
+fn put_clients(members: &[Member], transition: u8, clients: &mut Vec<u32>) -> Result<(), Memory>
+    ensures { OnOk result (clients.new.items ≡ clients.old.items
+        ++ map (λ m. m.client) (filter (λ m. has_bit transition m.transitions) members.now)) }
+{
+    let mut rest = members;
+    while let Some((member, later)) = rest.split_first() {
+        if has_bit(member.transitions, transition) {
+            clients.push(member.client)?;
+        }
+        rest = later;
+    }
+    Ok(())
 }

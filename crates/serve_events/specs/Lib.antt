@@ -1,0 +1,5 @@
+pub mod AnswerLaws
+pub mod Events
+pub mod Tables
+pub mod Told
+pub mod Turns

@@ -1,0 +1,111 @@
+//! Clients are told of transitions (ISO 9506-2, EventNotification).
+
+ghost use Rattle.std.specs.Prelude.{◌≡◌, ◌++◌, IfOk, OnOk};
+ghost use Rattle.std.specs.Option.{option_map};
+ghost use Rattle.event_cond.specs.Services.{time_of_day};
+ghost use Rattle.cell_client.specs.Telling.{effect_of, effects_told};
+ghost use Rattle.serve_events.specs.Told.{notice_told, notices_told, state_numbered, turns_told};
+
+use cell_client::{Told, notification};
+use event_enrol::Enrolments;
+use mms_pdu::Writer;
+use mms_types::{
+    ConditionState, EventNotification, EventTime, Memory, Moment, Notice, TimeOfDay, Turned,
+};
+use std::alloc::Global;
+
+/// The last millisecond of day 65,535, beyond which no moment is told.
+const LAST_MOMENT: u64 = 5_662_310_399_999;
+
+/// The state of that number.
+fn state_numbered(number: u8) -> ConditionState
+    ensures { result ≡ state_numbered number }
+{
+    if number == 0 {
+        ConditionState::Disabled
+    } else if number == 1 {
+        ConditionState::Idle
+    } else {
+        ConditionState::Active
+    }
+}
+
+/// The same, where there is one.
+fn state_of(number: Option<u8>) -> Option<ConditionState>
+    ensures { result ≡ option_map state_numbered number }
+{
+    match number {
+        None => None,
+        Some(number) => Some(state_numbered(number)),
+    }
+}
+
+/// How a moment is told. No transition takes place beyond the last one.
+fn time_of_day(at: Moment) -> Result<TimeOfDay, Memory>
+    ensures { IfOk result (λ time. time ≡ time_of_day at) }
+{
+    if at.0 > LAST_MOMENT {
+        return Err(Memory::wanting());
+    }
+    Ok(TimeOfDay::of(at))
+}
+
+/// One client is told of a transition.
+fn told_of(
+    alloc: Global,
+    out: &mut Writer,
+    turned: &Turned,
+    notice: &Notice,
+) -> Result<(u32, Told), Memory>
+    ensures { IfOk result (λ told. (told.0, effect_of told.1) ≡ notice_told turned.now notice.now) }
+{
+    let told = EventNotification {
+        enrolment: notice.enrolment.copy(alloc)?,
+        condition: notice.condition.copy(alloc)?,
+        severity: turned.severity,
+        state: state_of(turned.state),
+        time: EventTime::TimeOfDay(time_of_day(turned.at)?),
+    };
+    Ok((notice.client, notification(alloc, out, &told)?))
+}
+
+/// Tells the clients of these notices of a transition, in order, after what is told before. What is told is spelled into
+/// `out`, whose octets are given up.
+pub fn tell_notices(
+    alloc: Global,
+    out: &mut Writer,
+    told: &mut Vec<(u32, Told)>,
+    turned: &Turned,
+    notices: &[Notice],
+) -> Result<(), Memory>
+    ensures { OnOk result (effects_told told.new.items
+        ≡ effects_told told.old.items ++ notices_told turned.now notices.now) }
+{
+    let mut rest = notices;
+    while let Some((notice, later)) = rest.split_first() {
+        told.push(told_of(alloc, out, turned, notice)?)?;
+        rest = later;
+    }
+    Ok(())
+}
+
+/// Tells the clients of the enrollments of transitions, one after the other, after what is told before: of each those that
+/// have its bit, in the order in which they were defined.
+pub fn tell_turns(
+    alloc: Global,
+    told: &mut Vec<(u32, Told)>,
+    enrolments: &Enrolments,
+    turns: &[Turned],
+) -> Result<(), Memory>
+    ensures { OnOk result (effects_told told.new.items
+        ≡ effects_told told.old.items ++ turns_told enrolments.now turns.now) }
+{
+    let mut out = Writer::new(alloc);
+    let mut rest = turns;
+    while let Some((turned, later)) = rest.split_first() {
+        let notices = enrolments.notices(alloc, turned)?;
+        tell_notices(alloc, &mut out, told, turned, notices.as_slice())?;
+        rest = later;
+    }
+    Ok(())
+}
