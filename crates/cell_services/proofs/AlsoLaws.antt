@@ -1,17 +1,21 @@
 -- Who is told something beside the client that is heard.
 use Rattle.std.specs.Prelude.{◌≡◌, ◌≢◌, ◌==◌, ◌||◌, ℕ, Bool, true, false, Option, None, Some, List, [], ◌∷◌, map, option_to_list, refl, if◌then◌else◌}
-use Rattle.std.specs.List.{list_any}
+use Rattle.std.specs.List.{flat_map, list_any}
 use Rattle.std.proofs.Common.{ap, ap₂, sym, ◌∙◌, arith}
 use Rattle.std.proofs.lemmas.Bool.Decides.{nat_tests}
-use Rattle.mms_types.specs.Areas.{device_request, domain_request, invocation_request, program_request, semaphore_request, variable_request}
+use Rattle.std.proofs.lemmas.List.Folds.{list_any-append}
+use Rattle.mms_types.specs.Areas.{device_request, domain_request, event_request, invocation_request, program_request, semaphore_request, variable_request}
 use Rattle.mms_types.specs.declared.asked.Asked.{Asked}
 use Rattle.mms_types.specs.declared.area.DomainRequest.{DomainRequest}
 use Rattle.mms_types.specs.declared.area.DomainRequest.TheVariants as domain
 use Rattle.mms_types.specs.declared.area.DeviceRequest.{DeviceRequest}
+use Rattle.mms_types.specs.declared.area.EventRequest.{EventRequest}
 use Rattle.mms_types.specs.declared.area.SemaphoreRequest.{SemaphoreRequest}
 use Rattle.mms_types.specs.declared.area.InvocationRequest.{InvocationRequest}
 use Rattle.mms_types.specs.declared.area.ProgramRequest.{ProgramRequest}
 use Rattle.mms_types.specs.declared.area.VariableRequest.{VariableRequest}
+use Rattle.mms_types.specs.declared.condition.Notice.{Notice}
+use Rattle.mms_types.specs.declared.condition.Turned.{Turned}
 use Rattle.mms_types.specs.declared.moment.Moment.{Moment}
 use Rattle.mms_types.specs.declared.pdu.Request.{Request}
 use Rattle.sem_ticks.specs.declared.granted.Granted.{Granted}
@@ -35,22 +39,30 @@ use Rattle.domain_load.specs.Loading.{asked_next}
 use Rattle.domain_upload.specs.Uploads.{has_upload}
 use Rattle.serve_domains.specs.Domains as domains
 use Rattle.serve_domains.specs.Tables.{DomainTables}
-use Rattle.cell_services.specs.Others.{AlsoTells, client_of, grant_clients}
-use Rattle.cell_services.specs.AreaLaws.{device_alone, in_device, in_domains, in_invocations, in_programs, in_semaphores, in_variables, variables_alone}
+use Rattle.cell_services.specs.Others.{AlsoTells, client_of, clients_meanwhile, clients_told, grant_clients}
+use Rattle.cell_services.specs.AreaLaws.{device_alone, in_device, in_domains, in_events, in_invocations, in_programs, in_semaphores, in_variables, variables_alone}
 use Rattle.cell_services.specs.Device as device
 use Rattle.cell_services.specs.Requests.{told_in}
-use Rattle.cell_services.specs.Services.{InArea, OfDevice, OfDomains, OfInvocations, OfPrograms, OfSemaphores, OfVariables, area_of, reply_in, cause_of, effect_of, grants_told, lacks_number}
+use Rattle.cell_services.specs.Services.{InArea, OfDevice, OfDomains, OfEvents, OfInvocations, OfPrograms, OfSemaphores, OfVariables, area_of, reply_in, cause_of, effect_of, grants_told, lacks_number}
 use Rattle.cell_client.specs.Areas.{also_in, lacks_number_in}
 use Rattle.cell_client.specs.Facts.{Facts, no_facts}
 use Rattle.cell_client.specs.Requests.{is_done, size_of}
-use Rattle.cell_services.specs.Serving.{all_told, also_lost, also_served, also_told, is_served_in, loss_also, resolved}
-use Rattle.cell_services.specs.Tables.{Tables, own_domains, own_invocations, own_programs, own_semaphores, own_variables}
+use Rattle.cell_services.specs.Serving.{all_told, also_lost, also_served, also_told, happened_told, happening_told, is_served_in, loss_also, resolved}
+use Rattle.cell_services.specs.Tables.{Tables, own_domains, own_events, own_invocations, own_programs, own_semaphores, own_variables}
 use Rattle.parted_state.specs.Area.{no_table}
 use Rattle.serve_semaphores.specs.Semaphores as semaphores
 use Rattle.serve_semaphores.specs.Tokens.{is_the_one}
 use Rattle.serve_programs.specs.AnswerLaws.{makes_alone, programs_alone}
 use Rattle.serve_programs.specs.Programs as programs
 use Rattle.serve_variables.specs.Variables as variables
+use Rattle.serve_events.specs.Events as events
+use Rattle.serve_events.specs.Told.{notices_told}
+use Rattle.serve_events.specs.Turns.{is_one_of}
+use Rattle.serve_events.specs.declared.tables.EventTables.{EventTables}
+use Rattle.cell_ticks.specs.declared.happening.DatedHappening.{DatedHappening}
+use Rattle.cell_ticks.specs.declared.happening.Happening.{Happening as DeviceHappening}
+use Rattle.cell_ticks.specs.declared.happening.Happening.TheVariants as on_device
+use Rattle.cell_services.proofs.AreaLaws.{events_now}
 
 -- ---- grants, and what happens
 
@@ -62,7 +74,7 @@ pub grants_reach : (grants : List Granted) (k : ℕ) → is_told (grants_told gr
 grants_reach [] k = refl
 grants_reach (g ∷ grants) k = twice (g.client == k) _ _ (grants_reach grants k)
 
-pub happening_reaches : (happened : List Happening) (k : ℕ) → is_told (all_told happened) k ≡ list_any (λ c. c == k) (map client_of happened)
+pub happening_reaches : (happened : List Happening) (k : ℕ) → is_told (flat_map happening_told happened) k ≡ list_any (λ c. c == k) (map client_of happened)
 happening_reaches [] k = refl
 happening_reaches (happens.WaitEnds client invoke ∷ rest) k = twice (client == k) _ _ (happening_reaches rest k)
 happening_reaches (happens.Grants g ∷ rest) k = twice (g.client == k) _ _ (happening_reaches rest k)
@@ -70,8 +82,31 @@ happening_reaches (happens.Aborts client ∷ rest) k = twice (client == k) _ _ (
 
 -- so the clients that are collected are those that are told
 pub happened_clients : (happened : List Happening) (clients : List ℕ) → clients ≡ map client_of happened
-    → (k : ℕ) → is_told (all_told happened) k ≡ list_any (λ c. c == k) clients
+    → (k : ℕ) → is_told (flat_map happening_told happened) k ≡ list_any (λ c. c == k) clients
 happened_clients happened clients is k = happening_reaches happened k ∙ ap (list_any (λ (c : ℕ). c == k)) (sym is)
+
+-- ---- what happens on the device
+
+notices_reach : (turned : Turned) (notices : List Notice) (k : ℕ) → is_told (notices_told turned notices) k ≡ list_any (λ c. c == k) (map (λ n. n.client) notices)
+notices_reach turned [] k = refl
+notices_reach turned (n ∷ notices) k = ap (λ (b : Bool). n.client == k || b) (notices_reach turned notices k)
+
+one_reaches : (x : DeviceHappening) (k : ℕ) → is_told (happened_told x) k ≡ list_any (λ c. c == k) (clients_told x)
+one_reaches (on_device.Semaphores (happens.WaitEnds client invoke)) k = twice (client == k) false false refl
+one_reaches (on_device.Semaphores (happens.Grants g)) k = twice (g.client == k) false false refl
+one_reaches (on_device.Semaphores (happens.Aborts client)) k = twice (client == k) false false refl
+one_reaches (on_device.Turns told) k = notices_reach told.turned told.notices k
+
+all_reach : (happened : List DatedHappening) (k : ℕ) → is_told (all_told happened) k ≡ list_any (λ c. c == k) (clients_meanwhile happened)
+all_reach [] k = refl
+all_reach (h ∷ happened) k =
+    list_any-append (λ (t : ℕ × Effect). t.0 == k) (happened_told h.happening) (all_told happened)
+    ∙ ap₂ (λ (a b : Bool). a || b) (one_reaches h.happening k) (all_reach happened k)
+    ∙ sym (list_any-append (λ (c : ℕ). c == k) (clients_told h.happening) (clients_meanwhile happened))
+
+pub meanwhile_clients : (happened : List DatedHappening) (clients : List ℕ) → clients ≡ clients_meanwhile happened
+    → (k : ℕ) → is_told (all_told happened) k ≡ list_any (λ c. c == k) clients
+meanwhile_clients happened clients is k = all_reach happened k ∙ ap (list_any (λ (c : ℕ). c == k)) (sym is)
 
 -- ---- a client is lost
 
@@ -210,13 +245,22 @@ module _ (t : Tables) (row : ClientRow) (invoke : ℕ) (asked : Request) where
       ∙ the_one told k
       ∙ ap (list_any (λ (c : ℕ). c == k)) (sym are)
 
+  -- whom a request for event conditions tells of transitions
+  pub events_tell : (x : EventRequest) (now : Moment) (says : Bool) (was : EventTables) (clients : List ℕ) → event_request x ≡ asked → t.events ≡ was → t.now ≡ now.0
+      → (told_in own_events t row (events.request_in x)).truth ≡ says
+      → ((facts : Facts) → facts.now ≡ now → facts.truth ≡ says → (k : ℕ) → is_told (also_in (events.request_in x) facts row invoke was) k ≡ is_one_of clients k)
+      → AlsoTells t row (Takes invoke asked) clients
+  events_tell x now says was clients is same at true_then reach k other =
+      ap (λ (l : List (ℕ × Effect)). is_told l k) (also_as (OfEvents (events.request_in x)) (ap area_of (sym is) ∙ in_events x))
+      ∙ ap (λ (u : EventTables). is_told (also_in (events.request_in x) (told_in own_events t row (events.request_in x)) row invoke u) k) same
+      ∙ reach (told_in own_events t row (events.request_in x)) (events_now x t row ∙ sym (moment_given t now (sym at))) true_then k
+
 -- ---- what is heard
 
 -- it is the client of that row that is lost
-pub own_loss : (rows : Rows) (now : Moment) (own client : ℕ) (clients : List ℕ) → client ≡ own
-    → ((t : Tables) → t.semaphores ≡ rows → t.now ≡ now.0 → (k : ℕ) → is_told (loss_also client t) k ≡ list_any (λ c. c == k) clients)
-    → (t : Tables) → t.semaphores ≡ rows → t.now ≡ now.0 → (k : ℕ) → is_told (loss_also own t) k ≡ list_any (λ c. c == k) clients
-own_loss rows now own client clients is reach t same at k = ap (λ (n : ℕ). is_told (loss_also n t) k) (sym is) ∙ reach t same at k
+pub own_loss : (t : Tables) (own client : ℕ) (clients : List ℕ) → client ≡ own → ((k : ℕ) → is_told (loss_also client t) k ≡ list_any (λ c. c == k) clients)
+    → (k : ℕ) → is_told (loss_also own t) k ≡ list_any (λ c. c == k) clients
+own_loss t own client clients is reach k = ap (λ (n : ℕ). is_told (loss_also n t) k) (sym is) ∙ reach k
 
 -- a conclusion, by whether an open upload refuses it
 pub conclusion_lost : (t : Tables) (row : ClientRow) (clients : List ℕ) → has_upload row.client t.domains.uploads ≡ false

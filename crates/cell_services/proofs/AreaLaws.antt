@@ -1,15 +1,18 @@
 -- A request that is served on the table of its area and the row of its client is what it does among all tables.
-use Rattle.std.specs.Prelude.{◌≡◌, ℕ, Bool, true, false, ◌||◌, Option, None, Some, is_some, List, ◌++◌, [], Result, Ok, Err, IfNone, IfOk, IfSome, OnOk, if◌then◌else◌, refl}
+use Rattle.std.specs.Prelude.{◌≡◌, ℕ, Bool, true, false, ◌||◌, Option, None, Some, is_some, List, ◌++◌, ◌∷◌, [], Result, Ok, Err, IfNone, IfOk, IfSome, OnOk, OnSome, if◌then◌else◌, refl}
 use Rattle.std.proofs.Common.{ap, ap₂, sym, ◌∙◌, subst}
 use Rattle.std.specs.List.{list_any}
-use Rattle.mms_types.specs.Areas.{domain_request, invocation_request, program_request, semaphore_request, variable_request}
+use Rattle.mms_types.specs.Areas.{domain_request, event_request, invocation_request, program_request, semaphore_request, variable_request}
 use Rattle.mms_types.specs.declared.area.DomainRequest.{DomainRequest}
+use Rattle.mms_types.specs.declared.area.EventRequest.{EventRequest}
+use Rattle.mms_types.specs.declared.area.EventRequest.TheVariants as events
 use Rattle.mms_types.specs.declared.area.InvocationRequest.{InvocationRequest}
 use Rattle.mms_types.specs.declared.area.ProgramRequest.{ProgramRequest}
 use Rattle.mms_types.specs.declared.area.SemaphoreRequest.{SemaphoreRequest}
 use Rattle.mms_types.specs.declared.area.SemaphoreRequest.TheVariants as semaphores
 use Rattle.mms_types.specs.declared.area.VariableRequest.{VariableRequest}
 use Rattle.mms_types.specs.declared.area.VariableRequest.TheVariants as variables
+use Rattle.mms_types.specs.declared.condition.CellFact.{CellFact}
 use Rattle.mms_types.specs.declared.moment.Moment.{Moment}
 use Rattle.mms_types.specs.declared.name_list.GetNameList.{GetNameList}
 use Rattle.mms_types.specs.declared.name_list.ObjectScope.{ObjectScope}
@@ -21,7 +24,7 @@ use Rattle.mms_types.specs.declared.pdu.Answer.TheVariants as answer
 use Rattle.mms_types.specs.declared.pdu.Request.{Request}
 use Rattle.mms_types.specs.declared.pdu.Request.TheVariants as request
 use Rattle.association.specs.Client.{ClientRow, Client as RoomyRow}
-use Rattle.parted_state.specs.Area.{Own, no_table}
+use Rattle.parted_state.specs.Area.{Own, facts_told, no_table}
 use Rattle.parted_state.specs.Served.{Done}
 use Rattle.variable_services.specs.declared.tables.VariableTables.{VariableTables}
 use Rattle.mms_time.specs.Guards.{owns_guard}
@@ -31,7 +34,7 @@ use Rattle.cell_client.specs.Areas.{RequestIn, IsServedIn, IsToldIn, also_in, do
 use Rattle.association.specs.declared.waiting.Waiting.{Waiting}
 use Rattle.cell_client.specs.Association.{Aborts, Came, Cancels, Exhausts, Replies, Takes, cancel_told}
 use Rattle.cell_client.specs.Effects.{Effect, felt_all, settled, tell}
-use Rattle.cell_client.specs.Facts.{Facts, no_facts}
+use Rattle.cell_client.specs.Facts.{Facts, Question, Truth, no_facts}
 use Rattle.cell_client.specs.Telling.{effects_told}
 use Rattle.cell_client.specs.declared.told.Told.{Told}
 use Rattle.mms_types.specs.declared.memory.Memory.{Memory}
@@ -40,20 +43,23 @@ use Rattle.serve_domains.specs.Domains as domain
 use Rattle.serve_domains.specs.Tables.{DomainTables}
 use Rattle.program_inv.specs.Programs.{Rows as Programs}
 use Rattle.serve_programs.specs.Programs as program
+use Rattle.serve_events.specs.Events as event
+use Rattle.serve_events.specs.Turns.{turned_after}
+use Rattle.serve_events.specs.declared.tables.EventTables.{EventTables}
 use Rattle.serve_semaphores.specs.Tokens.{rows_cancelled, told_after, waiting_of}
 use Rattle.serve_variables.specs.Variables as variable
 use Rattle.serve_variables.specs.Variables.{accesses_domain, guards_asked, lists_domain, specifies_domain}
 use Rattle.serve_semaphores.specs.Semaphores as semaphore
 use Rattle.cell_services.specs.Acts.{all_done, IsDoneIn}
 use Rattle.cell_services.specs.Device.{domain_of, get_name_list, is_domain, listed, scope_cause, scope_of}
-use Rattle.cell_services.specs.Facts.{is_domain_live, names_in}
-use Rattle.cell_services.specs.AreaLaws.{in_domains, in_invocations, in_programs, in_semaphores, in_variables}
+use Rattle.cell_services.specs.Facts.{is_domain_live, is_true, names_in, tells}
+use Rattle.cell_services.specs.AreaLaws.{in_domains, in_events, in_invocations, in_programs, in_semaphores, in_variables}
 use Rattle.cell_services.proofs.PlanLaws.{append_none}
 use Rattle.cell_services.proofs.TimeLaws.{moment_given}
 use Rattle.cell_services.specs.Requests.{told_in}
-use Rattle.cell_services.specs.Services.{InArea, OfDomains, OfInvocations, OfPrograms, OfSemaphores, OfVariables, area_of, lacks_number}
+use Rattle.cell_services.specs.Services.{InArea, OfDomains, OfEvents, OfInvocations, OfPrograms, OfSemaphores, OfVariables, area_of, lacks_number}
 use Rattle.cell_services.specs.Serving.{also_served, comes_of, hears, served_told, tables_cancelled, tables_served}
-use Rattle.cell_services.specs.Tables.{Tables, moment_of, own_domains, own_invocations, own_programs, own_semaphores, own_variables}
+use Rattle.cell_services.specs.Tables.{Tables, moment_of, own_domains, own_events, own_invocations, own_programs, own_semaphores, own_variables}
 use Rattle.cell_client.specs.Requests.{is_done, request_told, size_of}
 
 -- what a request of an area does among all tables
@@ -219,6 +225,13 @@ module _ (x : SemaphoreRequest) (row : ClientRow) (invoke : ℕ) (moment : Momen
   semaphores_told (Ok None) items left = tt
   semaphores_told (Err memory) items left = tt
 
+-- both parts stay
+pub both_left : {X : Type 0} (A B : Type 0) (result : Result (Option X) Memory) → IfOk result (λ left. OnSome left A) → IfOk result (λ left. OnSome left B)
+    → IfOk result (λ left. OnSome left (A × B))
+both_left A B (Ok (Some x)) a b = (a, b)
+both_left A B (Ok None) a b = tt
+both_left A B (Err memory) a b = tt
+
 -- ---- a request that waits is cancelled
 
 pub on_ok_both : {A E P Q R : Type 0} (result : Result A E) → (P → Q → R) → OnOk result P → OnOk result Q → OnOk result R
@@ -312,6 +325,69 @@ module _ (t : Tables) (row : ClientRow) (invoke : ℕ) (new : RoomyRow) where
         done = heard_as t row invoke (program_request x) (OfPrograms (program.program_in x)) (in_programs x) refl
             ∙ in_place own_programs (λ u. refl) (program.program_in x) t row invoke now new is;
       }
+
+-- ---- event conditions and enrollments, at the moment of the device
+
+pub events_now : (x : EventRequest) (t : Tables) (row : ClientRow) → (told_in own_events t row (event.request_in x)).now ≡ moment_of t
+events_now (events.DefineEventCondition x) t row = refl
+events_now other t row = refl
+
+-- what the variables say of the cell that is watched
+pub events_truth : (x : EventRequest) (t : Tables) (row : ClientRow) (cell : Option ℕ) → (event.request_in x).more t.events row ≡ Truth cell ∷ []
+    → (told_in own_events t row (event.request_in x)).truth ≡ is_true cell t.variables.vars
+events_truth (events.DefineEventCondition x) t row cell asks = ap (λ (l : List Question). (facts_told tells l t).truth) asks
+events_truth other t row cell asks = ap (λ (l : List Question). (facts_told tells l t).truth) asks
+
+module _ (x : EventRequest) (row : ClientRow) (invoke : ℕ) (moment : Moment) (says : Bool) (was : EventTables) where
+  -- what the other tables tell it
+  abbrev facts_for : Tables → Facts
+  facts_for t = told_in own_events t row (event.request_in x)
+
+  at_moment : (t : Tables) → t.now ≡ moment.0 → (facts_for t).now ≡ moment
+  at_moment t at = events_now x t row ∙ sym (moment_given t moment (sym at))
+
+  module _ (live : Bool) (cell : CellFact) where
+    events_among : (t : Tables) (now : EventTables) (new : RoomyRow)
+        → ((facts : Facts) → facts.now ≡ moment → facts.live ≡ live → facts.cell row.client ≡ cell → facts.truth ≡ says
+        → IsServedIn (event.request_in x) facts invoke row was now new)
+        → t.events ≡ was → t.now ≡ moment.0 → (facts_for t).live ≡ live → (facts_for t).cell row.client ≡ cell → (facts_for t).truth ≡ says
+        → IsDoneIn own_events t row now new (Takes invoke (event_request x))
+    events_among t now new served stood at lives found is_so =
+        let is : IsServedIn (event.request_in x) (facts_for t) invoke row t.events now new =
+        subst (λ (u : EventTables). IsServedIn (event.request_in x) (facts_for t) invoke row u now new) (sym stood) (served (facts_for t) (at_moment t at) lives found is_so) in
+        record {
+          effects = is.effects;
+          is = is.is;
+          done = heard_as t row invoke (event_request x) (OfEvents (event.request_in x)) (in_events x) refl
+              ∙ in_place own_events (λ u. refl) (event.request_in x) t row invoke now new is;
+        }
+
+    pub events_served : {X : Type 0} (now : EventTables) (new : RoomyRow) (result : Result (Option X) Memory)
+        → IfOk result (λ left. IfNone left ((facts : Facts) → facts.now ≡ moment → facts.live ≡ live → facts.cell row.client ≡ cell → facts.truth ≡ says
+        → IsServedIn (event.request_in x) facts invoke row was now new))
+        → IfOk result (λ left. IfNone left ((t : Tables) → t.events ≡ was → t.now ≡ moment.0 → (facts_for t).live ≡ live → (facts_for t).cell row.client ≡ cell → (facts_for t).truth ≡ says
+        → IsDoneIn own_events t row now new (Takes invoke (event_request x))))
+    events_served now new (Ok None) served = λ t stood at lives found is_so. events_among t now new served stood at lives found is_so
+    events_served now new (Ok (Some left)) served = tt
+    events_served now new (Err memory) served = tt
+
+  turned_among : (t : Tables) (now : EventTables) (told : List (ℕ × Told))
+      → ((facts : Facts) → facts.now ≡ moment → facts.truth ≡ says → IsToldIn (event.request_in x) facts invoke row was now (effects_told told))
+      → t.events ≡ was → t.now ≡ moment.0 → (facts_for t).truth ≡ says
+      → hears t row row.client (Takes invoke (event_request x)) ≡ all_done (own_events.put now t) told
+  turned_among t now told left stood at is_so =
+      heard_as t row invoke (event_request x) (OfEvents (event.request_in x)) (in_events x) refl
+      ∙ placed own_events (λ u. refl) (event.request_in x) t row invoke now (effects_told told)
+      (subst (λ (u : EventTables). IsToldIn (event.request_in x) (facts_for t) invoke row u now (effects_told told)) (sym stood) (left (facts_for t) (at_moment t at) is_so))
+
+  pub events_told : {X : Type 0} (result : Result (Option X) Memory) (items : X → List (ℕ × Told))
+      → IfOk result (λ left. IfSome left (λ l. (facts : Facts) → facts.now ≡ moment → facts.truth ≡ says
+      → IsToldIn (event.request_in x) facts invoke row was (turned_after row.client moment says x was) (effects_told (items l))))
+      → IfOk result (λ left. IfSome left (λ l. (t : Tables) → t.events ≡ was → t.now ≡ moment.0 → (facts_for t).truth ≡ says
+      → hears t row row.client (Takes invoke (event_request x)) ≡ all_done (own_events.put (turned_after row.client moment says x was) t) (items l)))
+  events_told (Ok (Some l)) items left = λ t stood at is_so. turned_among t (turned_after row.client moment says x was) (items l) left stood at is_so
+  events_told (Ok None) items left = tt
+  events_told (Err memory) items left = tt
 
 -- ---- names are listed
 

@@ -1,11 +1,14 @@
 -- A request is in the area that looks at it, which tells what it asks besides.
-use Rattle.std.specs.Prelude.{◌≡◌, ℕ, Bool, true, false, [], ◌++◌, is_some, refl}
+use Rattle.std.specs.Prelude.{◌≡◌, ℕ, Bool, true, false, [], ◌∷◌, ◌++◌, List, Option, is_some, refl}
 use Rattle.std.specs.List.{flat_map, list_any}
-use Rattle.mms_types.specs.Areas.{device_request, domain_request, invocation_request, program_request, semaphore_request, variable_request}
+use Rattle.std.proofs.Common.{ap, ◌∙◌}
+use Rattle.mms_types.specs.Areas.{device_request, domain_request, event_request, invocation_request, program_request, semaphore_request, variable_request}
 use Rattle.mms_types.specs.declared.area.DeviceRequest.{DeviceRequest}
 use Rattle.mms_types.specs.declared.area.DeviceRequest.TheVariants as device
 use Rattle.mms_types.specs.declared.area.DomainRequest.{DomainRequest}
 use Rattle.mms_types.specs.declared.area.DomainRequest.TheVariants as domains
+use Rattle.mms_types.specs.declared.area.EventRequest.{EventRequest}
+use Rattle.mms_types.specs.declared.area.EventRequest.TheVariants as events
 use Rattle.mms_types.specs.declared.area.InvocationRequest.{InvocationRequest}
 use Rattle.mms_types.specs.declared.area.InvocationRequest.TheVariants as invocations
 use Rattle.mms_types.specs.declared.area.ProgramRequest.{ProgramRequest}
@@ -17,17 +20,19 @@ use Rattle.mms_types.specs.declared.area.VariableRequest.TheVariants as variable
 use Rattle.association.specs.Client.{ClientRow}
 use Rattle.mms_time.specs.Semaphores.{Rows}
 use Rattle.variable_services.specs.declared.tables.VariableTables.{VariableTables}
-use Rattle.cell_client.specs.Facts.{Facts}
+use Rattle.cell_client.specs.Facts.{Facts, Question, Truth}
 use Rattle.serve_variables.specs.Variables as variable
 use Rattle.serve_variables.specs.Variables.{guards_asked}
 use Rattle.serve_domains.specs.Domains as domain
 use Rattle.serve_domains.specs.Tables.{DomainTables}
 use Rattle.program_inv.specs.Programs.{Rows as Programs}
 use Rattle.serve_programs.specs.Programs as program
+use Rattle.serve_events.specs.Events as event
+use Rattle.serve_events.specs.declared.tables.EventTables.{EventTables}
 use Rattle.serve_semaphores.specs.Semaphores as semaphore
 use Rattle.cell_services.specs.Device as of_device
-use Rattle.cell_services.specs.Facts.{guard_tables, tables_for}
-use Rattle.cell_services.specs.Services.{OfDevice, OfDomains, OfInvocations, OfPrograms, OfSemaphores, OfVariables, area_of}
+use Rattle.cell_services.specs.Facts.{cell_tables, guard_tables, tables_for}
+use Rattle.cell_services.specs.Services.{OfDevice, OfDomains, OfEvents, OfInvocations, OfPrograms, OfSemaphores, OfVariables, area_of}
 
 pub in_device : (x : DeviceRequest) → area_of (device_request x) ≡ OfDevice (of_device.request_in x)
 in_device (device.Status x) = refl
@@ -73,6 +78,15 @@ in_programs (programs.Reset x) = refl
 in_programs (programs.Kill x) = refl
 in_programs (programs.GetProgramInvocationAttributes x) = refl
 
+pub in_events : (x : EventRequest) → area_of (event_request x) ≡ OfEvents (event.request_in x)
+in_events (events.DefineEventCondition x) = refl
+in_events (events.DeleteEventCondition x) = refl
+in_events (events.ReportEventConditionStatus x) = refl
+in_events (events.AlterEventConditionMonitoring x) = refl
+in_events (events.TriggerEvent x) = refl
+in_events (events.DefineEventEnrollment x) = refl
+in_events (events.DeleteEventEnrollment x) = refl
+
 -- ---- what their own tables show to be asked besides
 
 none_behind : (b : Bool) → guard_tables b ++ [] ≡ guard_tables b
@@ -84,6 +98,15 @@ pub more_variables : (x : VariableRequest) (v : VariableTables) (row : ClientRow
     → flat_map tables_for ((variable.request_in x).more v row) ≡ guard_tables (list_any is_some (guards_asked x row.client v))
 more_variables (variables.Write x) v row = none_behind (list_any is_some (guards_asked (variables.Write x) row.client v))
 more_variables other v row = refl
+
+-- by a request for event conditions, whether the cell is TRUE that one watches that it names, where one does
+no_cell_behind : (b : Bool) → cell_tables b ++ [] ≡ cell_tables b
+no_cell_behind true = refl
+no_cell_behind false = refl
+
+pub more_events : (x : EventRequest) (t : EventTables) (row : ClientRow) (cell : Option ℕ) → (event.request_in x).more t row ≡ Truth cell ∷ []
+    → flat_map tables_for ((event.request_in x).more t row) ≡ cell_tables (is_some cell)
+more_events x t row cell asks = ap (λ (l : List Question). flat_map tables_for l) asks ∙ no_cell_behind (is_some cell)
 
 -- by others, nothing
 pub more_semaphores : (x : SemaphoreRequest) (rows : Rows) (row : ClientRow) → flat_map tables_for ((semaphore.request_in x).more rows row) ≡ []

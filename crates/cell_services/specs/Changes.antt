@@ -1,15 +1,35 @@
 -- How tables change (this profile's choice).
-use Rattle.std.specs.Prelude.{◌+◌, ◌≤◌, Bool, true, false}
+use Rattle.std.specs.Prelude.{◌+◌, ◌≤◌, ℕ, Bool, List, map, true, false}
 use Rattle.cell_services.specs.declared.tables.Change.{Change}
 use Rattle.cell_services.specs.declared.tables.Change.TheVariants.{Nothing, Passes, Ticks, Loses}
 use Rattle.sem_ticks.specs.Renewed.{renewed}
-use Rattle.cell_services.specs.Tables.{Tables, last_moment}
-use Rattle.cell_services.specs.Serving.{domains_without, without_client, without_clients}
+use Rattle.event_ticks.specs.Ticks as events
+use Rattle.event_ticks.specs.declared.ticks.Loss.{Loss}
+use Rattle.serve_events.specs.declared.tables.EventTables.{EventTables}
+use Rattle.cell_services.specs.Tables.{Tables, last_moment, moment_after}
+use Rattle.cell_services.specs.Serving.{domains_without, saying, without_client, without_clients}
+
+abbrev pub clients_of : List Loss → List ℕ
+clients_of losses = map (λ loss. loss.client) losses
+
+-- event conditions and enrollments after so many milliseconds, in which clients are lost
+abbrev pub events_ticked : ℕ → List Loss → Tables → events.Ticking
+events_ticked ms losses t = events.ticked (saying t.variables) (moment_after ms t) (events.begun t.events.conditions t.events.enrolments losses)
+
+abbrev pub events_after : ℕ → List Loss → Tables → EventTables
+events_after ms losses t = record { conditions = (events_ticked ms losses t).conditions; enrolments = (events_ticked ms losses t).enrolments }
 
 abbrev pub changed : Change → Tables → Tables
 changed Nothing t = t
 changed (Passes ms) t = record t { now = t.now + ms }
-changed (Ticks ms renewal clients) t = record { now = t.now + ms; variables = without_clients clients.items t.variables; domains = domains_without clients.items t.domains; programs = t.programs; semaphores = renewed renewal t.semaphores }
+changed (Ticks ms renewal losses) t = record {
+  now = t.now + ms;
+  variables = without_clients (clients_of losses.items) t.variables;
+  domains = domains_without (clients_of losses.items) t.domains;
+  programs = t.programs;
+  events = events_after ms losses.items t;
+  semaphores = renewed renewal t.semaphores;
+}
 changed (Loses client) t = without_client client t
 
 -- what may want memory: a client that is lost
@@ -21,5 +41,5 @@ may_want other t = false
 abbrev pub MayChange : Change → Tables → Type 0
 MayChange Nothing t = Unit {0}
 MayChange (Passes ms) t = t.now + ms ≤ last_moment
-MayChange (Ticks ms renewal clients) t = t.now + ms ≤ last_moment
+MayChange (Ticks ms renewal losses) t = t.now + ms ≤ last_moment
 MayChange (Loses client) t = Unit {0}

@@ -3,6 +3,7 @@ pub mod AreaLaws
 pub mod Changes
 pub mod Device
 pub mod Facts
+pub mod Looked
 pub mod Meant
 pub mod Others
 pub mod Requests

@@ -15,15 +15,23 @@ use Rattle.mms_types.specs.declared.event.What.TheVariants.{Abort}
 use Rattle.mms_time.specs.Loss as semaphores
 use Rattle.mms_time.specs.Services.{cancelled}
 use Rattle.sem_ticks.specs.Granted.{lost_granted}
-use Rattle.sem_ticks.specs.Ticks.{Ticking, ticked}
+use Rattle.sem_ticks.specs.Ticks as sem
 use Rattle.sem_ticks.specs.declared.ticks.Happening.{Happening}
 use Rattle.sem_ticks.specs.declared.ticks.Happening.TheVariants as happens
+use Rattle.event_cond.specs.Skips.{Saying, any_due}
+use Rattle.cell_ticks.specs.Ticks.{Ticking, aborted, aborted_one, ticked}
+use Rattle.cell_ticks.specs.declared.happening.DatedHappening.{DatedHappening}
+use Rattle.cell_ticks.specs.declared.happening.Happening.{Happening as DeviceHappening}
+use Rattle.cell_ticks.specs.declared.happening.Happening.TheVariants as device
 use Rattle.variable_services.specs.declared.tables.VariableTables.{VariableTables}
 use Rattle.variable_services.specs.Services.{lost}
 use Rattle.domain_upload.specs.Uploads.{has_upload}
 use Rattle.program_inv.specs.Programs.{after_ends}
 use Rattle.serve_domains.specs.Tables.{DomainTables}
 use Rattle.serve_domains.specs.Tables as domains
+use Rattle.serve_events.specs.Tables as events
+use Rattle.serve_events.specs.Told.{notices_told}
+use Rattle.cell_services.specs.Facts.{is_true}
 use Rattle.parted_state.specs.Served.{Done, Services}
 use Rattle.cell_client.specs.Effects.{Effect, Answers, Closes, Drains, Sends, tell}
 use Rattle.cell_services.specs.Tables.{Tables, moment_of, moment_after, clock_table, variables_table, domains_table, programs_table, conditions_table, journals_table, semaphores_table, loss_tables}
@@ -38,6 +46,7 @@ abbrev pub without_client : ℕ → Tables → Tables
 without_client client t = record t {
   variables = lost client t.variables;
   domains = domains.lost client t.domains;
+  events = events.lost client t.events;
   semaphores = semaphores.lost client (moment_of t) t.semaphores;
 }
 
@@ -173,17 +182,27 @@ happening_told (happens.WaitEnds client invoke) = (client, Answers invoke) ∷ (
 happening_told (happens.Grants grant) = grant_told grant
 happening_told (happens.Aborts client) = (client, Sends Abort) ∷ (client, Closes) ∷ []
 
-abbrev pub all_told : List Happening → List (ℕ × Effect)
-all_told happened = flat_map happening_told happened
+-- and a condition that comes to another state: those that enrolled for it, in the order in which they did
+abbrev pub happened_told : DeviceHappening → List (ℕ × Effect)
+happened_told (device.Semaphores happening) = happening_told happening
+happened_told (device.Turns told) = notices_told told.turned told.notices
+
+abbrev pub dated_told : DatedHappening → List (ℕ × Effect)
+dated_told happened = happened_told happened.happening
+
+abbrev pub all_told : List DatedHappening → List (ℕ × Effect)
+all_told happened = flat_map dated_told happened
 
 -- the clients that are lost by it
-abbrev pub aborted_one : Happening → Option ℕ
-aborted_one (happens.WaitEnds client invoke) = None
-aborted_one (happens.Grants grant) = None
-aborted_one (happens.Aborts client) = Some client
+abbrev pub aborted_then : DeviceHappening → Option ℕ
+aborted_then (device.Semaphores happening) = aborted_one happening
+aborted_then (device.Turns told) = None
 
-abbrev pub aborted : List Happening → List ℕ
-aborted happened = filter_map aborted_one happened
+abbrev pub aborted_at : DatedHappening → Option ℕ
+aborted_at happened = aborted_then happened.happening
+
+abbrev pub lost_in : List DatedHappening → List ℕ
+lost_in happened = filter_map aborted_at happened
 
 abbrev pub without_clients : List ℕ → VariableTables → VariableTables
 without_clients clients variables = fold (λ v client. lost client v) variables clients
@@ -191,18 +210,23 @@ without_clients clients variables = fold (λ v client. lost client v) variables 
 abbrev pub domains_without : List ℕ → DomainTables → DomainTables
 domains_without clients t = fold (λ d client. domains.lost client d) t clients
 
--- what happens to semaphores while so many milliseconds go by
+-- what the cells say that conditions watch: none changes while time goes by
+abbrev pub saying : VariableTables → Saying
+saying variables cell = is_true (Some cell) variables.vars
+
+-- what happens while so many milliseconds go by
 abbrev pub meanwhile : ℕ → Tables → Ticking
-meanwhile ms t = ticked (moment_after ms t) t.semaphores
+meanwhile ms t = ticked (saying t.variables) (moment_after ms t) t.semaphores t.events.conditions t.events.enrolments
 
 abbrev pub passed : ℕ → Tables → Ticking → Done Tables Effect
 passed ms t s = record {
   tables = record {
     now = t.now + ms;
-    variables = without_clients (aborted s.happened) t.variables;
-    domains = domains_without (aborted s.happened) t.domains;
+    variables = without_clients (lost_in s.happened) t.variables;
+    domains = domains_without (lost_in s.happened) t.domains;
     programs = t.programs;
-    semaphores = s.rows;
+    events = record { conditions = s.conditions; enrolments = s.enrolments };
+    semaphores = s.semaphores;
   };
   told = all_told s.happened;
 }
@@ -216,8 +240,16 @@ abbrev pub abort_asks : List ℕ → List ℕ
 abort_asks [] = []
 abort_asks (client ∷ clients) = variables_table ∷ domains_table ∷ journals_table ∷ []
 
+-- where a condition is evaluated, its cell is
+abbrev pub evaluation_asks : Bool → List ℕ
+evaluation_asks due = if due then variables_table ∷ [] else []
+
+-- what the semaphores alone show: who is aborted by them
+abbrev pub aborted_meanwhile : ℕ → Tables → List ℕ
+aborted_meanwhile ms t = aborted (sem.ticked (moment_after ms t) t.semaphores).happened
+
 abbrev pub time_asks : ℕ → Tables → List ℕ
-time_asks ms t = abort_asks (aborted (meanwhile ms t).happened)
+time_asks ms t = evaluation_asks (any_due (moment_after ms t) t.events.conditions) ++ abort_asks (aborted_meanwhile ms t)
 
 -- ---- events
 

@@ -4,6 +4,7 @@ use Rattle.mms_types.specs.declared.moment.Moment.{Moment}
 use Rattle.mms_time.specs.Semaphores.{Rows}
 use Rattle.parted_state.specs.Area.{Own, both}
 use Rattle.program_inv.specs.Programs.{Rows as Programs}
+use Rattle.serve_events.specs.declared.tables.EventTables.{EventTables}
 use Rattle.serve_domains.specs.Tables.{DomainTables}
 use Rattle.variable_services.specs.declared.tables.VariableTables.{VariableTables}
 
@@ -17,6 +18,8 @@ pub record Tables : Type 0 where
   pub domains : DomainTables
   -- program invocations
   pub programs : Programs
+  -- event conditions and the enrollments on them
+  pub events : EventTables
   -- semaphores
   pub semaphores : Rows
 
@@ -58,7 +61,7 @@ semaphores_table = 6
 abbrev pub loss_tables : List ℕ
 loss_tables = clock_table ∷ variables_table ∷ domains_table ∷ conditions_table ∷ journals_table ∷ semaphores_table ∷ []
 
--- ---- the tables of areas: the clock, variables and their lists, domains and uploads, program invocations, semaphores
+-- ---- the tables of areas: the clock, variables and their lists, domains and uploads, program invocations, event conditions and enrollments, semaphores
 
 abbrev pub own_clock : Own Tables ℕ
 own_clock = record { numbers = clock_table ∷ []; of = λ t. t.now; put = λ new t. record t { now = new } }
@@ -71,6 +74,9 @@ own_domains = record { numbers = domains_table ∷ []; of = λ t. t.domains; put
 
 abbrev pub own_programs : Own Tables Programs
 own_programs = record { numbers = programs_table ∷ []; of = λ t. t.programs; put = λ new t. record t { programs = new } }
+
+abbrev pub own_events : Own Tables EventTables
+own_events = record { numbers = conditions_table ∷ []; of = λ t. t.events; put = λ new t. record t { events = new } }
 
 -- what makes and deletes program invocations has the domains too
 abbrev pub own_invocations : Own Tables (DomainTables × Programs)

@@ -2,13 +2,15 @@
 
 ghost use Rattle.std.specs.Prelude.{◌≡◌, ℕ, false, true, IfNone, IfOk, IfSome, OnErr, OnOk, OnSome};
 ghost use Rattle.association.specs.Asked.{is_open};
-ghost use Rattle.mms_types.specs.Areas.{domain_request, invocation_request, program_request, semaphore_request, variable_request};
+ghost use Rattle.mms_types.specs.Areas.{domain_request, event_request, invocation_request, program_request, semaphore_request, variable_request};
 ghost use Rattle.mms_types.specs.Moments.{IsDated};
 ghost use Rattle.mms_time.specs.Guards.{owns_guard};
 ghost use Rattle.serve_semaphores.specs.Tokens.{told_after};
 ghost use Rattle.serve_domains.specs.Domains as of_domains;
 ghost use Rattle.serve_domains.specs.Domains.{AnswersLoad};
 ghost use Rattle.serve_programs.specs.Users.{AreUsed};
+ghost use Rattle.serve_events.specs.Events as of_events;
+ghost use Rattle.serve_events.specs.Turns.{turned_after, turns_of};
 ghost use Rattle.serve_semaphores.specs.Semaphores as of_semaphores;
 ghost use Rattle.serve_variables.specs.Variables as of_variables;
 ghost use Rattle.cell_client.specs.Areas.{lacks_number_in};
@@ -20,16 +22,17 @@ ghost use Rattle.cell_services.specs.Acts.{all_done, IsDoneIn};
 ghost use Rattle.cell_services.specs.Serving.{hears};
 ghost use Rattle.cell_services.specs.Facts.{is_domain_live, is_scope_used};
 ghost use Rattle.cell_services.specs.Requests.{told_in};
-ghost use Rattle.cell_services.specs.Tables.{Tables as Rows, own_domains, own_invocations, own_programs, own_semaphores, own_variables};
+ghost use Rattle.cell_services.specs.Tables.{Tables as Rows, own_domains, own_events, own_invocations, own_programs, own_semaphores, own_variables};
 
 use cell_client::{Came, Client, Told};
 use mms_time::{Semaphores, owns_guard};
 use mms_types::{
-    DomainRequest, Identifier, InvocationRequest, Memory, Moment, ProgramRequest, Scope,
-    SemaphoreRequest, VariableRequest,
+    CellFact, DomainRequest, EventRequest, Identifier, InvocationRequest, Memory, Moment,
+    ProgramRequest, Scope, SemaphoreRequest, VariableRequest,
 };
 use program_inv::Programs;
 use serve_domains::DomainTables;
+use serve_events::{EventTables, Turning};
 use std::alloc::Global;
 use variable_services::VariableTables;
 use variables::OwnsGuards;
@@ -108,20 +111,24 @@ pub fn serve_semaphores(
     serve_semaphores::serve(alloc, own, semaphores, now, live, invoke, asked)
 }
 
-/// Whether some object has that domain for its scope: a variable, a list of variables or a semaphore.
+/// Whether some object has that domain for its scope: a variable, a list of variables, an event condition, an event
+/// enrollment or a semaphore.
 pub fn is_scope_used(
     alloc: Global,
     variables: &VariableTables,
+    events: &EventTables,
     semaphores: &Semaphores,
     domain: &Identifier,
 ) -> Result<bool, Memory>
     ensures { IfOk result (λ used. (t : Rows) → t.variables ≡ variables.now
-        → t.semaphores ≡ semaphores.now → used ≡ is_scope_used domain.now t) }
+        → t.events ≡ events.now → t.semaphores ≡ semaphores.now → used ≡ is_scope_used domain.now t) }
 {
     let scope = Scope::Domain(domain.copy(alloc)?);
     Ok(
         variables.vars.has_any_of(&scope)
             || variables.lists.has_any_of(&scope)
+            || events.conditions.has_any_of(&scope)
+            || events.enrolments.has_any_of(&scope)
             || semaphores.has_any_of(&scope),
     )
 }
@@ -211,6 +218,48 @@ pub fn serve_programs(
     ensures same { OnErr result (programs.new ≡ programs.old) }
 {
     serve_programs::serve(alloc, own, programs, invoke, asked)
+}
+
+/// Serves a request for event conditions and event enrollments on these and the part of its client, at that moment.
+/// `live` is whether the domain is live that has to be, `cell` what becomes of the cell that a new condition is to watch,
+/// and `is_true` whether the cell is TRUE that the named condition watches. Where clients are told of transitions, that is
+/// told, with what its client is answered first, and the tables after it are `turned_after`; then all is as before, as it
+/// is without memory.
+pub fn serve_events(
+    alloc: Global,
+    own: &mut Client,
+    events: &mut EventTables,
+    now: Moment,
+    live: bool,
+    cell: CellFact,
+    is_true: bool,
+    invoke: u32,
+    asked: EventRequest<'_>,
+) -> Result<Option<Turning>, Memory>
+    requires now { IsDated now }
+    requires settled { own.old ≡ settled own.old.row }
+    ensures served { IfOk result (λ left. IfNone left ((t : Rows)
+        → t.events ≡ events.old → t.now ≡ now.0
+        → (told_in own_events t own.old.row (of_events.request_in asked.entry)).live ≡ live
+        → (told_in own_events t own.old.row (of_events.request_in asked.entry)).cell
+        own.old.row.client ≡ cell
+        → (told_in own_events t own.old.row (of_events.request_in asked.entry)).truth ≡ is_true
+        → IsDoneIn own_events t own.old.row events.new
+        own.new (Takes invoke (event_request asked.entry)))) }
+    ensures left { IfOk result (λ left. IfSome left (λ l. (t : Rows)
+        → t.events ≡ events.old → t.now ≡ now.0
+        → (told_in own_events t own.old.row (of_events.request_in asked.entry)).truth ≡ is_true
+        → hears t own.old.row own.old.row.client (Takes invoke (event_request asked.entry))
+        ≡ all_done (own_events.put
+        (turned_after own.old.row.client now is_true asked.entry events.old) t) l.told.items)) }
+    ensures turns { IfOk result (λ left. IfSome left (λ l. l.turns
+        ≡ turns_of own.old.row.client now is_true asked.entry events.old)) }
+    ensures unchanged { IfOk result (λ left. OnSome left (
+        (own.new ≡ own.old) × (events.new ≡ events.old))) }
+    ensures kept { OnErr result (own.new ≡ own.old) }
+    ensures same { OnErr result (events.new ≡ events.old) }
+{
+    serve_events::serve(alloc, own, events, now, live, cell, is_true, invoke, asked)
 }
 
 /// Cancels the request of that invokeID, which waits, on the semaphores and the part of its client (ISO 9506-1, Cancel).

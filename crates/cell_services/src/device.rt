@@ -8,6 +8,7 @@ ghost use Rattle.parted_state.specs.Area.{no_table};
 ghost use Rattle.cell_client.specs.Association.{Takes};
 ghost use Rattle.cell_client.specs.Requests.{plain_answer};
 ghost use Rattle.cell_services.specs.Acts.{IsDoneIn};
+ghost use Rattle.cell_services.specs.Looked.{IsLookedAt};
 ghost use Rattle.cell_services.specs.Device.{domain_of, listed, scope_cause, scope_of};
 ghost use Rattle.cell_services.specs.Facts.{domains_listed, is_domain_live, names_in, programs_listed};
 ghost use Rattle.cell_services.specs.Tables.{Tables as Rows};
@@ -21,11 +22,27 @@ use mms_types::{
 use object_names::Names;
 use program_inv::Programs;
 use serve_domains::DomainTables;
+use serve_events::EventTables;
 use std::alloc::Global;
 use variable_services::VariableTables;
 
 /// The most names that one answer has.
 const MOST_NAMES: usize = 12;
+
+/// The tables with the names of objects, as they are looked at.
+#[derive(Clone, Copy)]
+pub struct NameTables<'a> {
+    /// Cells, named variables and lists of variables.
+    pub variables: &'a VariableTables,
+    /// Domains and the uploads of them.
+    pub domains: &'a DomainTables,
+    /// Program invocations.
+    pub programs: &'a Programs,
+    /// Event conditions and the enrollments on them.
+    pub events: &'a EventTables,
+    /// Semaphores.
+    pub semaphores: &'a Semaphores,
+}
 
 /// The scope that a client means by one whose names it asks for. Names of a domain are listed where it is live.
 fn scope_of(
@@ -92,28 +109,44 @@ fn programs_listed(
 /// The names of a class and a scope that come after that one, with those tables.
 fn names_in(
     alloc: Global,
-    variables: &VariableTables,
-    domains: &DomainTables,
-    programs: &Programs,
-    semaphores: &Semaphores,
+    tables: NameTables<'_>,
     scope: &Scope,
     asked: &GetNameList,
 ) -> Result<GetNameListAnswer, Memory>
-    ensures { IfOk result (λ told. (t : Rows) → t.variables ≡ variables.now
-        → t.domains ≡ domains.now → t.programs ≡ programs.now → t.semaphores ≡ semaphores.now
+    ensures { IfOk result (λ told. (t : Rows) → IsLookedAt tables.entry t
         → told ≡ listed (names_in t scope.now asked.now.class asked.now.after)) }
 {
     let after = asked.after.as_ref();
     let names = match asked.class {
-        ObjectClass::NamedVariable => variables.vars.names_after(alloc, scope, after, MOST_NAMES)?,
+        ObjectClass::NamedVariable => {
+            tables
+                .variables
+                .vars
+                .names_after(alloc, scope, after, MOST_NAMES)?
+        }
         ObjectClass::NamedVariableList => {
-            variables
+            tables
+                .variables
                 .lists
                 .names_after(alloc, scope, after, MOST_NAMES)?
         }
-        ObjectClass::Semaphore => semaphores.names_after(alloc, scope, after, MOST_NAMES)?,
-        ObjectClass::Domain => domains_listed(alloc, domains, scope, after)?,
-        ObjectClass::ProgramInvocation => programs_listed(alloc, programs, scope, after)?,
+        ObjectClass::EventCondition => {
+            tables
+                .events
+                .conditions
+                .names_after(alloc, scope, after, MOST_NAMES)?
+        }
+        ObjectClass::EventEnrollment => {
+            tables
+                .events
+                .enrolments
+                .names_after(alloc, scope, after, MOST_NAMES)?
+        }
+        ObjectClass::Semaphore => tables
+            .semaphores
+            .names_after(alloc, scope, after, MOST_NAMES)?,
+        ObjectClass::Domain => domains_listed(alloc, tables.domains, scope, after)?,
+        ObjectClass::ProgramInvocation => programs_listed(alloc, tables.programs, scope, after)?,
         _ => Names {
             list: Identifiers::new(alloc),
             more: false,
@@ -129,22 +162,16 @@ fn names_in(
 fn name_list(
     alloc: Global,
     client: u32,
-    variables: &VariableTables,
-    domains: &DomainTables,
-    programs: &Programs,
-    semaphores: &Semaphores,
+    tables: NameTables<'_>,
     asked: &GetNameList,
 ) -> Result<Answer, Refuse>
-    ensures { (t : Rows) → t.variables ≡ variables.now → t.domains ≡ domains.now
-        → t.programs ≡ programs.now → t.semaphores ≡ semaphores.now → Serves result
+    ensures { (t : Rows) → IsLookedAt tables.entry t → Serves result
         (scope_cause (is_domain_live (domain_of asked.now.scope) t.domains) asked.now.scope)
         (Some (Answer.GetNameList (listed
         (names_in t (scope_of client asked.now.scope) asked.now.class asked.now.after)))) }
 {
-    let scope = scope_of(alloc, client, domains, &asked.scope)?;
-    let listed = names_in(
-        alloc, variables, domains, programs, semaphores, &scope, asked,
-    )?;
+    let scope = scope_of(alloc, client, tables.domains, &asked.scope)?;
+    let listed = names_in(alloc, tables, &scope, asked)?;
     Ok(Answer::GetNameList(listed))
 }
 
@@ -152,25 +179,19 @@ fn name_list(
 pub fn serve_device(
     alloc: Global,
     own: &mut Client,
-    variables: &VariableTables,
-    domains: &DomainTables,
-    programs: &Programs,
-    semaphores: &Semaphores,
+    tables: NameTables<'_>,
     invoke: u32,
     asked: DeviceRequest<'_>,
 ) -> Result<(), Memory>
     requires tables { plain_answer own.old.row (device_request asked) ≡ None }
-    ensures served { OnOk result ((t : Rows) → t.variables ≡ variables.now
-        → t.domains ≡ domains.now → t.programs ≡ programs.now → t.semaphores ≡ semaphores.now
+    ensures served { OnOk result ((t : Rows) → IsLookedAt tables.entry t
         → IsDoneIn no_table t own.old.row tt own.new (Takes invoke (device_request asked.entry))) }
     ensures kept { OnErr result (own.new ≡ own.old) }
 {
     match asked {
         DeviceRequest::GetNameList(asked) => {
             let client = own.part().client();
-            let said = name_list(
-                alloc, client, variables, domains, programs, semaphores, asked,
-            );
+            let said = name_list(alloc, client, tables, asked);
             let _answered = own.settle(alloc, invoke, &said)?;
             Ok(())
         }

@@ -12,12 +12,12 @@ mod planning;
 mod tables;
 
 pub use areas::{
-    cancel_on_semaphores, is_scope_used, make_programs, serve_domains, serve_programs, serve_reply,
-    serve_semaphores, serve_variables,
+    cancel_on_semaphores, is_scope_used, make_programs, serve_domains, serve_events,
+    serve_programs, serve_reply, serve_semaphores, serve_variables,
 };
 pub use clock::Clock;
-pub use device::serve_device;
+pub use device::{NameTables, serve_device};
 pub use hearing::hear;
-pub use others::{also_told, happened_to, is_lossy, loss_told};
+pub use others::{ToldTables, also_told, happened_to, is_lossy, loss_told, told_meanwhile};
 pub use planning::{Plan, planned, time_planned};
-pub use tables::{Change, Tables};
+pub use tables::{CellsOf, Change, Tables};

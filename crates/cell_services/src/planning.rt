@@ -2,21 +2,25 @@
 
 ghost use Rattle.std.specs.Prelude.{◌≡◌, ◌≢◌, ◌≤◌, ◌+◌, ◌++◌, ◌∷◌, IfOk, OnErr, OnOk, None};
 ghost use Rattle.cell_services.specs.Acts.{act_done, plan_done, IsLeft};
-ghost use Rattle.sem_ticks.specs.Meant.{state_of};
-ghost use Rattle.mms_time.specs.Deadlines.{next_due};
+ghost use Rattle.cell_ticks.specs.Deadlines.{next_due};
 ghost use Rattle.cell_services.specs.Tables.{Tables as Rows, last_moment, moment_after};
 ghost use Rattle.cell_services.specs.Changes.{changed, MayChange};
 ghost use Rattle.cell_client.specs.Effects.{tell};
 ghost use Rattle.mms_types.specs.declared.pdu.Pdu.TheVariants as pdu;
 ghost use Rattle.cell_client.specs.Association.{abort_told, conclusion_told, keeps_open, sends, Concludes};
-ghost use Rattle.cell_services.specs.Serving.{aborted, aborted_one, all_told, happening_told, hears, loses, loss_also, passed, passes};
+ghost use Rattle.cell_services.specs.Serving.{all_told, happened_told, happening_told, hears, loses, loss_also, passes};
 ghost use Rattle.cell_client.specs.Telling.{effects_told};
 
+use crate::tables::CellsOf;
 use crate::{Change, Tables};
 use association::ClientPart;
 use cell_client::{Act, Told, answer_octets, conclude_error, conclude_response, one_told, refusal};
+use cell_ticks::{DatedHappening, DeviceTicked, tick_told};
+use event_ticks::Told as Turns;
+use mms_pdu::Writer;
 use mms_types::{Answer, Memory, Moment, ServiceError, What};
-use sem_ticks::{Happening, Ticked, lose_told, tick};
+use sem_ticks::{Happening, lose_told};
+use serve_events::{EventTables, tell_notices};
 use serve_semaphores::{tell_grant, tell_grants};
 use std::alloc::Global;
 
@@ -147,7 +151,7 @@ fn loss_plan(alloc: Global, tables: &Tables, client: u32, part: &ClientPart) -> 
     lost_plan(alloc, tables, part, told)
 }
 
-/// What happened is told to whom it concerns.
+/// What happened to semaphores is told to whom it concerns.
 fn tell_happening(
     alloc: Global,
     told: &mut Vec<(u32, Told)>,
@@ -170,51 +174,55 @@ fn tell_happening(
     Ok(())
 }
 
+/// What happened on the device is told to whom it concerns. What is told of conditions is spelled into `out`.
+fn tell_happened(
+    alloc: Global,
+    out: &mut Writer,
+    told: &mut Vec<(u32, Told)>,
+    happened: cell_ticks::Happening,
+) -> Result<(), Memory>
+    ensures { OnOk result (effects_told told.new.items
+        ≡ effects_told told.old.items ++ happened_told happened) }
+{
+    match happened {
+        cell_ticks::Happening::Semaphores(happening) => tell_happening(alloc, told, happening),
+        cell_ticks::Happening::Turns(Turns { turned, notices }) => {
+            tell_notices(alloc, out, told, &turned, notices.as_slice())
+        }
+    }
+}
+
 /// All that happened is told, in order.
-fn all_told(alloc: Global, happened: Vec<Happening>) -> Result<Vec<(u32, Told)>, Memory>
+fn all_told(alloc: Global, happened: Vec<DatedHappening>) -> Result<Vec<(u32, Told)>, Memory>
     ensures { IfOk result (λ told. effects_told told.items ≡ all_told happened.items) }
 {
+    let mut out = Writer::new(alloc);
     let mut told = Vec::new(alloc);
-    for happening in happened {
-        tell_happening(alloc, &mut told, happening)?;
+    for DatedHappening { happening, .. } in happened {
+        tell_happened(alloc, &mut out, &mut told, happening)?;
     }
     Ok(told)
 }
 
-/// The client that was lost by what happened.
-fn aborted_one(happening: &Happening) -> Option<u32>
-    ensures { result ≡ aborted_one happening.now }
-{
-    match *happening {
-        Happening::Aborts(client) => Some(client),
-        Happening::WaitEnds { .. } | Happening::Grants(_) => None,
-    }
-}
-
-/// The clients that were lost.
-fn aborted(alloc: Global, happened: &[Happening]) -> Result<Vec<u32>, Memory>
-    ensures { IfOk result (λ clients. clients.items ≡ aborted happened.now) }
-{
-    Ok(happened.iter().filter_map(aborted_one).collect(alloc)?)
-}
-
 /// What happened while so many milliseconds went by.
-fn ticked_plan(alloc: Global, ms: u32, ticked: Ticked) -> Result<Plan, Memory>
-    ensures done { IfOk result (λ plan. (t : Rows)
-        → plan_done t plan.change plan.told.items ≡ passed ms t (state_of ticked t.semaphores)) }
-    ensures may { IfOk result (λ plan. (t : Rows)
-        → t.now + ms ≤ last_moment → MayChange plan.change t) }
+fn ticked_plan(alloc: Global, ms: u32, ticked: DeviceTicked) -> Result<Plan, Memory>
+    ensures told { IfOk result (λ plan. effects_told plan.told.items
+        ≡ all_told ticked.happened.items) }
+    ensures change { IfOk result (λ plan. plan.change
+        ≡ Change.Ticks ms ticked.changed ticked.losses) }
 {
-    let Ticked { changed, happened } = ticked;
-    let clients = aborted(alloc, &happened)?;
-    let told = all_told(alloc, happened)?;
+    let DeviceTicked {
+        changed,
+        losses,
+        happened,
+    } = ticked;
     Ok(Plan {
         change: Change::Ticks {
             ms,
             changed,
-            clients,
+            losses,
         },
-        told,
+        told: all_told(alloc, happened)?,
     })
 }
 
@@ -224,11 +232,25 @@ pub fn time_planned(alloc: Global, tables: &Tables, ms: u32) -> Result<Plan, Mem
     ensures done { IfOk result (λ plan.
         plan_done tables.now plan.change plan.told.items ≡ passes ms tables.now) }
     ensures may { IfOk result (λ plan. MayChange plan.change tables.now) }
-    ensures wants { OnErr result
-        (next_due (moment_after ms tables.now) tables.now.semaphores ≢ None) }
+    ensures wants { OnErr result (next_due (moment_after ms tables.now)
+        tables.now.semaphores tables.now.events.conditions ≢ None) }
 {
     let until = Moment(tables.clock.now().0 + u64::from(ms));
-    match tick(alloc, &tables.semaphores, until)? {
+    let cells = CellsOf {
+        variables: &tables.variables,
+    };
+    let EventTables {
+        conditions,
+        enrolments,
+    } = &tables.events;
+    match tick_told(
+        alloc,
+        &tables.semaphores,
+        conditions,
+        enrolments,
+        &cells,
+        until,
+    )? {
         None => Ok(Plan {
             change: Change::Passes(ms),
             told: Vec::new(alloc),

@@ -2,17 +2,21 @@
 
 ghost use Rattle.std.specs.Prelude.{◌≡◌, OnErr, OnOk, true};
 ghost use Rattle.mms_types.specs.Moments.{IsDated};
-ghost use Rattle.cell_services.specs.Changes.{changed, may_want, MayChange};
+ghost use Rattle.event_ticks.specs.Ticks as events_part;
+ghost use Rattle.cell_services.specs.Changes.{changed, clients_of, may_want, MayChange};
 ghost use Rattle.cell_services.specs.Meant.{no_tables};
-ghost use Rattle.cell_services.specs.Serving.{domains_without, without_client, without_clients};
+ghost use Rattle.cell_services.specs.Serving.{domains_without, saying, without_client, without_clients};
 ghost use Rattle.cell_services.specs.Tables.{moment_of};
 
 use crate::Clock;
+use event_cond::Cells;
+use event_ticks::Loss;
 use mms_time::{Semaphores, lose};
 use mms_types::{Memory, Moment};
 use program_inv::Programs;
 use sem_ticks::Renewed;
 use serve_domains::DomainTables;
+use serve_events::EventTables;
 use std::alloc::Global;
 use std::marker::Model;
 use variable_services::VariableTables;
@@ -28,6 +32,8 @@ pub struct Tables {
     pub domains: DomainTables,
     /// Program invocations.
     pub programs: Programs,
+    /// Event conditions and the enrollments on them.
+    pub events: EventTables,
     /// Semaphores.
     pub semaphores: Semaphores,
 }
@@ -47,6 +53,7 @@ impl Model for Tables {
       variables = tables.variables;
       domains = tables.domains;
       programs = tables.programs;
+      events = tables.events;
       semaphores = tables.semaphores;
     } };
 }
@@ -57,32 +64,73 @@ pub enum Change {
     Nothing,
     /// So many milliseconds go by, and no deadline is met.
     Passes(u32),
-    /// So many milliseconds go by, after which that has become of the semaphores, and those clients were lost.
+    /// So many milliseconds go by, after which that has become of the semaphores, and those clients were lost, each at
+    /// its moment.
     Ticks {
         ms: u32,
         changed: Renewed,
-        clients: Vec<u32>,
+        losses: Vec<Loss>,
     },
     /// A client is lost.
     Loses(u32),
 }
 
 /// Clients are lost, of which variables and lists go.
-fn lose_variables(variables: &mut VariableTables, clients: &[u32])
-    ensures { variables.new ≡ without_clients clients.now variables.old }
+fn lose_variables(variables: &mut VariableTables, losses: &[Loss])
+    ensures { variables.new ≡ without_clients (clients_of losses.now) variables.old }
 {
-    for client in clients {
-        variables.lose(*client);
+    for loss in losses {
+        variables.lose(loss.client);
     }
 }
 
 /// Clients are lost, whose loads and uploads go.
-fn lose_domains(domains: &mut DomainTables, clients: &[u32])
-    ensures { domains.new ≡ domains_without clients.now domains.old }
+fn lose_domains(domains: &mut DomainTables, losses: &[Loss])
+    ensures { domains.new ≡ domains_without (clients_of losses.now) domains.old }
 {
-    for client in clients {
-        domains.lose(*client);
+    for loss in losses {
+        domains.lose(loss.client);
     }
+}
+
+/// What the cells say that event conditions watch.
+#[derive(Drop)]
+pub struct CellsOf<'a> {
+    /// The variables that have them.
+    pub variables: &'a VariableTables,
+}
+
+impl<'a> Cells for CellsOf<'a> {
+    ghost says = { λ by cell. saying by.variables.now cell };
+
+    fn is_true(&self, cell: u16) -> bool {
+        says_true(self.variables, cell)
+    }
+}
+
+/// Whether the cell of that number is TRUE.
+pub(crate) fn says_true(variables: &VariableTables, cell: u16) -> bool
+    ensures { result ≡ saying variables.now cell }
+{
+    matches!(variables.vars.is_true(cell), Some(true))
+}
+
+/// Conditions are evaluated up to a moment, and clients are lost meanwhile.
+fn tick_events(events: &mut EventTables, variables: &VariableTables, losses: &[Loss], until: Moment)
+    requires { IsDated until }
+    ensures conditions { events.new.conditions ≡ (events_part.ticked (saying variables.now) until
+        (events_part.begun events.old.conditions events.old.enrolments losses.now)).conditions }
+    ensures enrolments { events.new.enrolments ≡ (events_part.ticked (saying variables.now) until
+        (events_part.begun events.old.conditions events.old.enrolments losses.now)).enrolments }
+{
+    let cells = CellsOf { variables };
+    event_ticks::tick(
+        &mut events.conditions,
+        &mut events.enrolments,
+        losses,
+        &cells,
+        until,
+    );
 }
 
 impl Tables {
@@ -95,6 +143,7 @@ impl Tables {
             variables: VariableTables::empty(alloc),
             domains: DomainTables::empty(alloc),
             programs: Programs::new(alloc),
+            events: EventTables::empty(alloc),
             semaphores: Semaphores::new(alloc),
         }
     }
@@ -117,6 +166,7 @@ impl Tables {
         let _grants = lose(alloc, &mut self.semaphores, client, now)?;
         self.variables.lose(client);
         self.domains.lose(client);
+        self.events.lose(client);
         Ok(())
     }
 
@@ -145,12 +195,14 @@ impl Change {
             Change::Ticks {
                 ms,
                 changed,
-                clients,
+                losses,
             } => {
                 tables.clock.advance(ms);
+                let until = tables.moment();
                 changed.put(&mut tables.semaphores);
-                lose_variables(&mut tables.variables, &clients);
-                lose_domains(&mut tables.domains, &clients);
+                tick_events(&mut tables.events, &tables.variables, &losses, until);
+                lose_variables(&mut tables.variables, &losses);
+                lose_domains(&mut tables.domains, &losses);
             }
             Change::Loses(client) => tables.lose(alloc, client)?,
         }
@@ -166,7 +218,7 @@ impl Drop for Change {
             Change::Ticks {
                 ms: _,
                 changed: _changed,
-                clients: _clients,
+                losses: _losses,
             } => {}
             Change::Loses(_client) => {}
         }

@@ -18,11 +18,12 @@ use Rattle.parted_state.specs.Served as parted
 use Rattle.parted_state.specs.ServedLaws as served
 use Rattle.mms_step.specs.declared.part.Part.{Part}
 use Rattle.mms_step.specs.State.{State}
-use Rattle.cell_services.specs.Tables.{Tables}
+use Rattle.cell_services.specs.Tables.{Tables, moment_after}
+use Rattle.event_cond.specs.Skips.{any_due}
 use Rattle.cell_client.specs.Association.{Verdict, Takes, verdict, Replies}
-use Rattle.cell_services.specs.Facts.{Question, Now, Live, Owned, Names, class_tables, guard_tables, tables_for, Scoped}
-use Rattle.cell_services.specs.Services.{InArea, OfDevice, OfVariables, OfSemaphores, area_of, asks_of, more_of, OfDomains, OfInvocations, OfPrograms, reply_in}
-use Rattle.cell_services.specs.Serving.{heard_asks, heard_more, loss_asks, services, abort_asks, aborted, meanwhile, time_asks, words, more_of_verdict, resolved}
+use Rattle.cell_services.specs.Facts.{Question, Now, Live, Owned, Names, class_tables, guard_tables, tables_for, Scoped, Cell, Truth, cell_tables}
+use Rattle.cell_services.specs.Services.{InArea, OfDevice, OfVariables, OfSemaphores, area_of, asks_of, more_of, OfDomains, OfEvents, OfInvocations, OfPrograms, reply_in}
+use Rattle.cell_services.specs.Serving.{heard_asks, heard_more, loss_asks, services, abort_asks, aborted_meanwhile, evaluation_asks, time_asks, words, more_of_verdict, resolved}
 use Rattle.mms_step.specs.Step.{step}
 use Rattle.mms_step.specs.Partition.{cell, parts_of, state_in}
 use Rattle.mms_step.specs.Needs.{need, is_held, wants}
@@ -67,6 +68,10 @@ guards_below : (guarded : Bool) → are_tables (guard_tables guarded) ≡ true
 guards_below true = refl
 guards_below false = refl
 
+cells_below : (asked : Bool) → are_tables (cell_tables asked) ≡ true
+cells_below true = refl
+cells_below false = refl
+
 question_below : (k : Question) → are_tables (tables_for k) ≡ true
 question_below Now = refl
 question_below (Live true domain) = refl
@@ -74,6 +79,8 @@ question_below (Live false domain) = refl
 question_below (Scoped domain) = refl
 question_below (Owned client guards) = guards_below (list_any is_some guards)
 question_below (Names c) = class_below c
+question_below (Cell variable) = cells_below (is_some variable)
+question_below (Truth cell) = cells_below (is_some cell)
 
 questions_below : (ks : List Question) → are_tables (flat_map tables_for ks) ≡ true
 questions_below [] = refl
@@ -85,6 +92,7 @@ area_below (OfVariables r) = questions_below r.words
 area_below (OfDomains r) = questions_below r.words
 area_below (OfInvocations r) = questions_below r.words
 area_below (OfPrograms r) = questions_below r.words
+area_below (OfEvents r) = questions_below r.words
 area_below (OfSemaphores r) = questions_below r.words
 
 area_more_below : (t : Tables) (row : ClientRow) (a : InArea) → are_tables (more_of t row a) ≡ true
@@ -93,6 +101,7 @@ area_more_below t row (OfVariables r) = questions_below (r.more t.variables row)
 area_more_below t row (OfDomains r) = questions_below (r.more t.domains row)
 area_more_below t row (OfInvocations r) = questions_below (r.more (t.domains, t.programs) row)
 area_more_below t row (OfPrograms r) = questions_below (r.more t.programs row)
+area_more_below t row (OfEvents r) = questions_below (r.more t.events row)
 area_more_below t row (OfSemaphores r) = questions_below (r.more t.semaphores row)
 
 asks_below : (v : Verdict) → are_tables (heard_asks v) ≡ true
@@ -116,13 +125,22 @@ abort_below : (clients : List ℕ) → are_tables (abort_asks clients) ≡ true
 abort_below [] = refl
 abort_below (client ∷ clients) = refl
 
+evaluation_below : (due : Bool) → are_tables (evaluation_asks due) ≡ true
+evaluation_below true = refl
+evaluation_below false = refl
+
+time_below : (ms : ℕ) (t : Tables) → are_tables (time_asks ms t) ≡ true
+time_below ms t =
+    both_tables (evaluation_asks (any_due (moment_after ms t) t.events.conditions)) (abort_asks (aborted_meanwhile ms t))
+    (evaluation_below (any_due (moment_after ms t) t.events.conditions)) (abort_below (aborted_meanwhile ms t))
+
 uses_below : (t : Tables) (row : ClientRow) (event : CellEvent) → are_tables (parted.uses cell services t row event) ≡ true
 uses_below t row (Heard client octets) =
     both_tables (heard_asks (verdict row octets)) (heard_more t row (verdict row octets) ++ []) (asks_below (verdict row octets))
     (both_tables (heard_more t row (verdict row octets)) [] (more_below t row (verdict row octets)) refl)
 uses_below t row (Lost client) = both_tables (loss_asks row.association) [] (loss_below row.association) refl
 uses_below t row (Tick ms) =
-    both_tables (words (Tick ms)) (time_asks ms t ++ []) refl (both_tables (time_asks ms t) [] (abort_below (aborted (meanwhile ms t).happened)) refl)
+    both_tables (words (Tick ms)) (time_asks ms t ++ []) refl (both_tables (time_asks ms t) [] (time_below ms t) refl)
 uses_below t row event = refl
 
 own_there : (n : ℕ) (event : CellEvent) → IsAmong n event → actor_of event ≤ n

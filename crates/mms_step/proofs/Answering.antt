@@ -29,10 +29,14 @@ use Rattle.serve_programs.specs.AnswerLaws as program_laws
 use Rattle.serve_programs.specs.Programs as of_programs
 use Rattle.mms_types.specs.declared.area.DomainRequest.{DomainRequest}
 use Rattle.mms_types.specs.declared.area.DomainRequest.TheVariants as domains
+use Rattle.serve_events.specs.AnswerLaws as event_laws
+use Rattle.serve_events.specs.Events as of_events
+use Rattle.mms_types.specs.declared.area.EventRequest.{EventRequest}
+use Rattle.mms_types.specs.declared.area.EventRequest.TheVariants as events
 use Rattle.cell_services.specs.Requests.{told_in}
 use Rattle.cell_services.specs.Services.{cause, effect}
 use Rattle.cell_services.specs.Serving.{also_told, own_told}
-use Rattle.cell_services.specs.Tables.{Tables, own_semaphores, own_variables, own_domains, own_invocations, own_programs}
+use Rattle.cell_services.specs.Tables.{Tables, own_semaphores, own_variables, own_domains, own_events, own_invocations, own_programs}
 use Rattle.mms_step.specs.Answered.{AnswersOrWaits, waits_told}
 
 -- as an area looks at it
@@ -62,6 +66,10 @@ module _ (t : Tables) (row : ClientRow) (invoke : ℕ) (uploads : AreOf t.domain
   of_the_programs : (x : ProgramRequest) → (of_programs.program_in x).cause (told_in own_programs t row (of_programs.program_in x)) t.programs row ≡ None
       → AnswersOrWaitsIn row.client invoke ((of_programs.program_in x).effect (told_in own_programs t row (of_programs.program_in x)) t.programs row invoke)
   of_the_programs x = program_laws.answers_or_waits (told_in own_programs t row (of_programs.program_in x)) row invoke t.programs x
+
+  of_the_events : (x : EventRequest) → (of_events.request_in x).cause (told_in own_events t row (of_events.request_in x)) t.events row ≡ None
+      → AnswersOrWaitsIn row.client invoke ((of_events.request_in x).effect (told_in own_events t row (of_events.request_in x)) t.events row invoke)
+  of_the_events x = event_laws.answers_or_waits (told_in own_events t row (of_events.request_in x)) t.events row invoke x
 
   pub settled : (asked : Request) → cause t row asked ≡ None → AnswersOrWaitsIn row.client invoke (effect t row invoke asked)
   settled (request.GetNameList x) none = inl (_, refl, refl)
@@ -96,6 +104,13 @@ module _ (t : Tables) (row : ClientRow) (invoke : ℕ) (uploads : AreOf t.domain
   settled (request.Reset x) none = of_the_programs (programs.Reset (seen x)) none
   settled (request.Kill x) none = of_the_programs (programs.Kill (seen x)) none
   settled (request.GetProgramInvocationAttributes x) none = of_the_programs (programs.GetProgramInvocationAttributes (seen x)) none
+  settled (request.DefineEventCondition x) none = of_the_events (events.DefineEventCondition (seen x)) none
+  settled (request.DeleteEventCondition x) none = of_the_events (events.DeleteEventCondition (seen x)) none
+  settled (request.ReportEventConditionStatus x) none = of_the_events (events.ReportEventConditionStatus (seen x)) none
+  settled (request.AlterEventConditionMonitoring x) none = of_the_events (events.AlterEventConditionMonitoring (seen x)) none
+  settled (request.TriggerEvent x) none = of_the_events (events.TriggerEvent (seen x)) none
+  settled (request.DefineEventEnrollment x) none = of_the_events (events.DefineEventEnrollment (seen x)) none
+  settled (request.DeleteEventEnrollment x) none = of_the_events (events.DeleteEventEnrollment (seen x)) none
 
   -- ---- what is told of it
 

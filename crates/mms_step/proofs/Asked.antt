@@ -1,7 +1,7 @@
 -- What an event needs, as code finds it.
 use Rattle.std.specs.Prelude.{◌≡◌, ℕ, ◌+◌, ◌==◌, ◌&&◌, ◌||◌, nat_le, Bool, true, false, Option, None, option_and_then, List, [], ◌∷◌, ◌++◌, filter, map, length, if◌then◌else◌, refl}
 use Rattle.std.specs.List.{list_any}
-use Rattle.std.proofs.Common.{ap, ap₂, sym, ◌∙◌}
+use Rattle.std.proofs.Common.{ap, sym, ◌∙◌}
 use Rattle.mms_types.specs.declared.moment.Moment.{Moment}
 use Rattle.association.specs.Client.{ClientRow}
 use Rattle.part_table.specs.Held.{held_at}
@@ -12,18 +12,17 @@ use Rattle.parted_state.specs.Served as parted
 use Rattle.parted_state.specs.Sets.{IsSetOf}
 use Rattle.mms_time.specs.Deadlines.{next_due}
 use Rattle.mms_time.specs.Semaphores.{Rows}
-use Rattle.serve_domains.specs.Tables.{DomainTables}
 use Rattle.sem_ticks.specs.Ticks.{Ticking, entries_left, met, next_met, ticked}
 use Rattle.sem_ticks.proofs.Settling.{settle-none}
 use Rattle.sem_ticks.specs.declared.ticks.Happening.{Happening}
 use Rattle.sem_ticks.specs.declared.ticks.Happening.TheVariants as happens
+use Rattle.cell_ticks.specs.Ticks.{aborted}
 use Rattle.mms_step.specs.declared.part.Part.{Part}
-use Rattle.cell_client.specs.Association.{Verdict}
-use Rattle.cell_services.specs.Others.{AlsoTells, is_abort}
-use Rattle.cell_services.specs.Serving.{abort_asks, aborted, also_lost, also_told, meanwhile, resolved}
+use Rattle.cell_services.specs.Others.{is_abort}
+use Rattle.cell_services.specs.Serving.{abort_asks, also_lost}
 use Rattle.cell_services.specs.Tables.{Tables, domains_table, journals_table, variables_table}
-use Rattle.mms_step.specs.Needs.{also_parts, client_parts, is_held, two_stages}
-use Rattle.mms_step.specs.Partition.{cell, client_place, clients_among, clock_in, domains_in, semaphores_in, semaphores_place, variables_in}
+use Rattle.mms_step.specs.Needs.{client_parts, two_stages}
+use Rattle.mms_step.specs.Partition.{cell, client_place, clients_among, clock_in, domains_in, events_in, semaphores_in, semaphores_place, variables_in}
 use Rattle.mms_step.proofs.Needed.{first_by_test, next_by_test}
 use Rattle.mms_step.proofs.Others.{in_append, told_set}
 use Rattle.mms_step.proofs.ServeLaws.{shown_own}
@@ -41,22 +40,13 @@ shown_variables hand = ap (λ (t : Tables). t.variables) (sym (shown_own hand))
 pub shown_domains : (hand : List (Option Part)) → (tables_shown cell hand).domains ≡ domains_in (held_at hand 2)
 shown_domains hand = ap (λ (t : Tables). t.domains) (sym (shown_own hand))
 
+pub shown_events : (hand : List (Option Part)) → (tables_shown cell hand).events ≡ events_in (held_at hand 4)
+shown_events hand = ap (λ (t : Tables). t.events) (sym (shown_own hand))
+
 pub shown_now : (hand : List (Option Part)) → (tables_shown cell hand).now ≡ clock_in (held_at hand 0)
 shown_now hand = ap (λ (t : Tables). t.now) (sym (shown_own hand))
 
 -- ---- those that are told something
-
--- beside the client that is heard
-pub also_set : (hand : List (Option Part)) (n : ℕ) (row : ClientRow) (v : Verdict) (domains : DomainTables) (semaphores : Rows) (now : ℕ) (clients gone : List ℕ)
-    → n ≡ clients_among (length hand) → is_held hand (client_place row.client) ≡ true → domains ≡ domains_in (held_at hand 2)
-    → semaphores ≡ semaphores_in (held_at hand (semaphores_place n)) → now ≡ clock_in (held_at hand 0)
-    → ((t : Tables) → t.domains ≡ domains → t.semaphores ≡ semaphores → t.now ≡ now → AlsoTells t row v clients)
-    → IsSetOf gone (missing hand (client_parts n clients)) → IsSetOf gone (missing hand (also_parts n hand row v))
-also_set hand n row v domains semaphores now clients gone many own of_domains shown moment tells is =
-    told_set hand (also_told (tables_shown cell hand) row (resolved (tables_shown cell hand) row v)) clients n gone
-    (λ k free. tells (tables_shown cell hand) (shown_domains hand ∙ sym of_domains) (shown_semaphores hand n many ∙ sym shown) (shown_now hand ∙ sym moment) k
-    (λ same. cc (sym free ∙ ap (λ (c : ℕ). is_held hand (client_place c)) (sym same) ∙ own)))
-    is
 
 -- beside the client that is lost
 pub lost_set : (hand : List (Option Part)) (n : ℕ) (row : ClientRow) (semaphores : Rows) (now : ℕ) (clients gone : List ℕ) → n ≡ clients_among (length hand)
@@ -85,16 +75,6 @@ nothing_due until rows none =
   where
     start : Ticking
     start = record { rows = rows; happened = [] }
-
--- what happens meanwhile, by the semaphores and the moment that are held
-pub meanwhile_shown : (hand : List (Option Part)) (n ms : ℕ) (until : Moment) (semaphores : Rows) → n ≡ clients_among (length hand)
-    → semaphores ≡ semaphores_in (held_at hand (semaphores_place n)) → until.0 ≡ clock_in (held_at hand 0) + ms
-    → ticked until semaphores ≡ meanwhile ms (tables_shown cell hand)
-meanwhile_shown hand n ms until semaphores many shown moment =
-    ap₂ (λ (m : ℕ) (rows : Rows). at m rows) (moment ∙ ap (λ (m : ℕ). m + ms) (sym (shown_now hand))) (shown ∙ sym (shown_semaphores hand n many))
-  where
-    at : ℕ → Rows → Ticking
-    at m rows = ticked (record { 0 = m }) rows
 
 -- ---- the parts of some clients
 

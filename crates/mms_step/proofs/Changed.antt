@@ -5,14 +5,15 @@ use Rattle.association.specs.Client.{ClientRow, Client as RoomyRow}
 use Rattle.part_table.specs.Held.{held_at}
 use Rattle.part_table.specs.HeldLaws.{held_within}
 use Rattle.mms_step.specs.declared.part.Part.{Part}
-use Rattle.mms_step.specs.declared.part.Part.TheVariants.{Clock, Client, Domains, Programs, Semaphores, Variables}
+use Rattle.mms_step.specs.declared.part.Part.TheVariants.{Clock, Client, Domains, Events, Programs, Semaphores, Variables}
 use Rattle.variable_services.specs.declared.tables.VariableTables.{VariableTables}
 use Rattle.parted_state.specs.Served.{change}
 use Rattle.cell_client.specs.Effects.{settled}
 use Rattle.program_inv.specs.Programs.{Rows as Invocations}
 use Rattle.serve_domains.specs.Tables.{DomainTables}
+use Rattle.serve_events.specs.declared.tables.EventTables.{EventTables}
 use Rattle.mms_time.specs.Semaphores.{Rows}
-use Rattle.mms_step.specs.Partition.{clock_or, domains_or, programs_or, semaphores_or, variables_or, on_client, on_clock, on_domains, on_programs, on_semaphores, on_variables}
+use Rattle.mms_step.specs.Partition.{clock_or, domains_or, events_or, programs_or, semaphores_or, variables_or, on_client, on_clock, on_domains, on_events, on_programs, on_semaphores, on_variables}
 
 pub changed_part : {P : Type 0} (f : P → P) (hand : List (Option P)) (i : ℕ) (x : P) → held_at hand i ≡ Some x
     → set (set hand i None) i (Some (f x)) ≡ change (option_map f) hand i
@@ -153,6 +154,22 @@ no_programs_held f part other = refl
 pub no_programs_shown : (now : Invocations) (part : Part) → ((was : Invocations) → part ≡ Programs was → ⊥) → programs_or now (Some part) ≡ now
 no_programs_shown now (Programs was) other = absurd (other was refl)
 no_programs_shown now part other = refl
+
+-- of which that has the event conditions and enrollments
+pub events_arm : (now : EventTables) (hand taken new : List (Option Part)) (place : ℕ) (part value : Part) (was after : EventTables)
+    → Some part ≡ held_at hand place → taken ≡ set hand place None → value ≡ part → value ≡ Events was → after ≡ now
+    → new ≡ set taken place (Some (Events after)) → new ≡ change (option_map (on_events (λ n. now))) hand place
+events_arm now hand taken new place part value was after held out same is done back =
+    part_changed (on_events (λ n. now)) hand taken new place part (Events after) held out (ap Events done ∙ ap (on_events (λ n. now)) (sym is ∙ same)) back
+
+-- a part that has none stays as it is
+pub no_events_held : (f : EventTables → EventTables) (part : Part) → ((now : EventTables) → part ≡ Events now → ⊥) → on_events f part ≡ part
+no_events_held f (Events now) other = absurd (other now refl)
+no_events_held f part other = refl
+
+pub no_events_shown : (now : EventTables) (part : Part) → ((was : EventTables) → part ≡ Events was → ⊥) → events_or now (Some part) ≡ now
+no_events_shown now (Events was) other = absurd (other was refl)
+no_events_shown now part other = refl
 
 -- of which that has the semaphores
 pub semaphores_arm : (now : Rows) (hand taken new : List (Option Part)) (place : ℕ) (part value : Part) (was after : Rows)

@@ -19,14 +19,14 @@ use Rattle.mms_step.specs.declared.part.Part.{Part}
 use Rattle.mms_step.specs.declared.part.Part.TheVariants.{Semaphores}
 use Rattle.mms_step.specs.declared.telling.Room.{Room}
 use Rattle.mms_step.proofs.Changed.{changed_part}
-use Rattle.mms_step.proofs.ServeLaws.{behind_clients, clients_kept, own_tables, rooms_kept, same_place, semaphores_rooms, shown_own, tabled_rooms, tabled_same, told_in_place, four_same}
+use Rattle.mms_step.proofs.ServeLaws.{behind_clients, clients_kept, own_tables, rooms_kept, same_place, semaphores_rooms, shown_own, tabled_rooms, tabled_same, told_in_place, five_same}
 use Rattle.mms_step.proofs.ToldLaws.{at_place, get_placed}
 
 semaphores_put : (rows : Rows) (last : ℕ) (room : ℕ → Room) (hand : List (Option Part))
     → with_semaphores rows (with_rooms last room hand) ≡ tabled (record (own_tables hand) { semaphores = rows }) (with_rooms last room (tabled (own_tables hand) hand))
 semaphores_put rows last room hand =
     semaphores_rooms rows last room hand
-    ∙ ap (λ (h : List (Option Part)). with_rooms last room (with_semaphores rows h)) (sym (four_same hand))
+    ∙ ap (λ (h : List (Option Part)). with_rooms last room (with_semaphores rows h)) (sym (five_same hand))
     ∙ sym (tabled_rooms (record (own_tables hand) { semaphores = rows }) last room hand)
     ∙ ap (λ (h : List (Option Part)). tabled (record (own_tables hand) { semaphores = rows }) (with_rooms last room h)) (sym (tabled_same hand))
 

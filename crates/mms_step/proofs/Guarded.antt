@@ -26,14 +26,14 @@ use Rattle.mms_time.specs.declared.taking.TakeDone.TheVariants as taken
 use Rattle.parted_state.specs.Served.{row_at}
 use Rattle.cell_client.specs.Association.{Verdict, Tells, Takes, Concludes, Cancels, Aborts, verdict, Came, Replies, Exhausts, keeps_open}
 use Rattle.cell_services.specs.Services.{effect, relinquish_outcome, take_outcome, area_of, effect_of, lacks_number, reply_in}
-use Rattle.cell_services.specs.Serving.{aborted, is_served, meanwhile, tables_cancelled, tables_heard, tables_lost, waiting_of, without_clients, is_served_in, keeps_upload, resolved}
+use Rattle.cell_services.specs.Serving.{is_served, lost_in, meanwhile, tables_cancelled, tables_heard, tables_lost, waiting_of, without_clients, is_served_in, keeps_upload, resolved}
 use Rattle.cell_services.specs.Tables.{Tables}
 use Rattle.mms_step.specs.Guarded.{IsWrittenByOwner}
 use Rattle.mms_step.specs.Partition.{cell}
 use Rattle.mms_step.specs.State.{State}
 use Rattle.mms_step.specs.Step.{step}
 
-abbrev cells_of : VariableTables → List (ℕ × Cell)
+abbrev pub cells_of : VariableTables → List (ℕ × Cell)
 cells_of v = v.vars.cells
 
 -- of the cells alone
@@ -42,7 +42,7 @@ at_cells number one other same = ap (λ (cells : List (ℕ × Cell)). lookup (na
 
 -- ---- what no write does
 
-lost_cells : (clients : List ℕ) (v : VariableTables) → cells_of (without_clients clients v) ≡ cells_of v
+pub lost_cells : (clients : List ℕ) (v : VariableTables) → cells_of (without_clients clients v) ≡ cells_of v
 lost_cells [] v = refl
 lost_cells (client ∷ clients) v = lost_cells clients (lost client v)
 
@@ -166,6 +166,6 @@ guarded_step s (Lost client) number was guard there is =
     inl (lost_one (cell.tables_of s) (row_at cell client s.clients) number was guard there is (row_at cell client s.clients).association (row_at cell client s.clients).client)
 guarded_step s (Tick ms) number was guard there is =
     inl (as_cells (cell.tables_of s) (row_at cell 0 s.clients) number was guard there is (step s (Tick ms)).variables
-    (lost_cells (aborted (meanwhile ms (cell.tables_of s)).happened) s.variables))
+    (lost_cells (lost_in (meanwhile ms (cell.tables_of s)).happened) s.variables))
 guarded_step s (Ends name) number was guard there is = inl there
 guarded_step s (Drain client) number was guard there is = inl there

@@ -16,21 +16,22 @@ use Rattle.cell_client.specs.Effects.{Effect, felt_all, settled, tell}
 use Rattle.cell_client.specs.declared.told.Told.{Told}
 use Rattle.cell_services.specs.Acts.{all_done, IsDoneIn}
 use Rattle.cell_services.specs.Serving.{hears}
-use Rattle.cell_services.specs.Tables.{Tables, own_domains, own_programs, own_semaphores, own_variables}
+use Rattle.cell_services.specs.Tables.{Tables, own_domains, own_events, own_programs, own_semaphores, own_variables}
 use Rattle.mms_step.specs.declared.part.Part.{Part}
-use Rattle.mms_step.specs.declared.part.Part.TheVariants.{Client, Domains, Programs, Semaphores, Variables}
+use Rattle.mms_step.specs.declared.part.Part.TheVariants.{Client, Domains, Events, Programs, Semaphores, Variables}
 use Rattle.program_inv.specs.Programs.{Rows as Invocations}
 use Rattle.serve_domains.specs.Tables.{DomainTables}
+use Rattle.serve_events.specs.declared.tables.EventTables.{EventTables}
 use Rattle.mms_step.specs.State.{State}
 use Rattle.mms_step.specs.Lifting.{varied, with_semaphores}
 use Rattle.mms_step.specs.Needs.{is_held}
-use Rattle.mms_step.specs.Partition.{cell, parts_of, client_in, client_part, client_place, clients_among, clock_in, domains_in, on_client, on_domains, on_programs, on_semaphores, on_variables, programs_in, row_in, semaphores_in, semaphores_place, variables_in, IsClient, IsDomains, IsPrograms, IsSemaphores, IsVariables}
+use Rattle.mms_step.specs.Partition.{cell, parts_of, client_in, client_part, client_place, clients_among, clock_in, domains_in, events_in, on_client, on_domains, on_events, on_programs, on_semaphores, on_variables, programs_in, row_in, semaphores_in, semaphores_place, variables_in, IsClient, IsDomains, IsEvents, IsPrograms, IsSemaphores, IsVariables}
 use Rattle.mms_step.specs.Rooms.{no_room, with_room}
 use Rattle.mms_step.specs.Tasks.{row_held, AreDone, AreMade, IsRoomless}
 use Rattle.mms_step.proofs.Changed.{client_arm}
 use Rattle.mms_step.proofs.Holding.{client_at, clients_counted, held_part}
-use Rattle.mms_step.proofs.ServeLaws.{behind_clients, change_as, first_of, part_settled, put_tables, shown_own, told_row_at, four_same, varied_same}
-use Rattle.mms_step.proofs.TakenOut.{both_changed, done_in_place, held_after_set, domains_done_in_place, invocations_done_in_place, programs_done_in_place, three_changed}
+use Rattle.mms_step.proofs.ServeLaws.{behind_clients, change_as, first_of, part_settled, put_tables, shown_own, told_row_at, five_same, varied_same}
+use Rattle.mms_step.proofs.TakenOut.{both_changed, done_in_place, events_done_in_place, held_after_set, domains_done_in_place, invocations_done_in_place, programs_done_in_place, three_changed}
 
 -- ---- a held part of a state has no room
 
@@ -54,6 +55,11 @@ module _ (t after : Tables) (client : ℕ) (v : Verdict) (row its : ClientRow) (
 pub programs_out : (hand out : List (Option Part)) (client : ℕ) (table : Part) → out ≡ set hand (client_place client) None → Some table ≡ held_at out 3 → Some table ≡ held_at hand 3
 programs_out hand out client table taken third =
     third ∙ ap (λ (l : List (Option Part)). held_at l 3) taken ∙ held_after_set hand (client_place client) 3 None (λ same. omega (arith, same))
+
+-- so is that of the events
+pub events_out : (hand out : List (Option Part)) (client : ℕ) (table : Part) → out ≡ set hand (client_place client) None → Some table ≡ held_at out 4 → Some table ≡ held_at hand 4
+events_out hand out client table taken fourth =
+    fourth ∙ ap (λ (l : List (Option Part)). held_at l 4) taken ∙ held_after_set hand (client_place client) 4 None (λ same. omega (arith, same))
 
 -- and while that of the domains is, too
 pub programs_left : (hand out less : List (Option Part)) (client : ℕ) → out ≡ set hand (client_place client) None → less ≡ set out 2 None → held_at less 3 ≡ held_at hand 3
@@ -98,7 +104,7 @@ module _ (s : State) (hand : List (Option Part)) (of : IsHandOf hand (parts_of s
       lowered =
           put_tables s hand of (record (tables_shown cell hand) { semaphores = rows })
           ∙ ap (λ (t : Tables). with_semaphores rows (first_of t hand)) (sym (shown_own hand))
-          ∙ ap (with_semaphores rows) (four_same hand)
+          ∙ ap (with_semaphores rows) (five_same hand)
 
   -- ---- once both parts are put back, all is in place that the request does
 
@@ -189,6 +195,61 @@ module _ (s : State) (hand : List (Option Part)) (of : IsHandOf hand (parts_of s
         shown =
             ap (λ (t : Tables). t.programs) (sym (shown_own hand))
             ∙ ap programs_in (sym (ap (λ (l : List (Option Part)). held_at l 3) taken ∙ held_after_set hand (client_place client) 3 None (λ same. omega (arith, same))))
+
+    -- event conditions and enrollments, at the moment that the clock shows
+    pub events_served : Some table ≡ held_at out 4 → IsEvents (held_at hand 4) → gone ≡ set out 4 None
+        → (moment : ℕ) → moment ≡ clock_in (held_at hand 0)
+        → ((t : Tables) → t.events ≡ events_in (Some table) → t.now ≡ moment → IsShown t → AreDone own_events Events t v part after now)
+        → IsShown (tables_shown cell hand)
+        → there ≡ set gone 4 (Some now) → new ≡ set there (client_place client) (Some after)
+        → new ≡ put_in_place cell (hears (tables_shown cell hand) (row_held hand client) client v) hand
+    events_served second there_is left moment dated served is_shown put back =
+        let before = ap (λ (l : List (Option Part)). held_at l 4) taken ∙ held_after_set hand (client_place client) 4 None (λ same. omega (arith, same)) in
+        let is_table : IsEvents (Some table) = subst IsEvents (sym (second ∙ before)) there_is in
+        let is = served (tables_shown cell hand) (shown ∙ ap events_in (sym second)) (at ∙ sym dated) is_shown in
+        let table_is : table ≡ Events (events_in (Some table)) = cc is_table in
+        both_changed (felt_all is.done.effects) (on_events (λ was. is.become)) hand out gone there new (client_place client) 4 part table is.before is.after (λ same. omega (arith, same))
+        own taken second left is.is_own is.done.is
+        (put ∙ ap (λ (p : Part). set gone 4 (Some p)) (is.is_now ∙ ap (on_events (λ was. is.become)) (sym table_is)))
+        (back ∙ ap (λ (p : Part). set there (client_place client) (Some p)) is.is_after)
+        ∙ events_done_in_place s hand of client is.done.effects is.become some few held
+        ∙ ap (λ (d : Done Tables Effect). put_in_place cell d hand)
+        (sym (heard_so (tables_shown cell hand) (record (tables_shown cell hand) { events = is.become }) client v (row_held hand client) is.before.row (own_row is.before is.is_own) number
+        is.done.effects is.done.done))
+      where
+        at : (tables_shown cell hand).now ≡ clock_in (held_at hand 0)
+        at = ap (λ (t : Tables). t.now) (sym (shown_own hand))
+
+        shown : (tables_shown cell hand).events ≡ events_in (held_at out 4)
+        shown =
+            ap (λ (t : Tables). t.events) (sym (shown_own hand))
+            ∙ ap events_in (sym (ap (λ (l : List (Option Part)). held_at l 4) taken ∙ held_after_set hand (client_place client) 4 None (λ same. omega (arith, same))))
+
+    -- what the events were is what is shown of them
+    pub events_shown : Some table ≡ held_at out 4 → {A : Type 0} (f : ℕ → EventTables → A)
+        → f (row_in (Some part)).client (events_in (Some table)) ≡ f client (tables_shown cell hand).events
+    events_shown second f =
+        ap (λ (k : ℕ). f k (events_in (Some table))) (ap (λ (r : ClientRow). r.client) (ap row_in own) ∙ number)
+        ∙ ap (f client) (sym (ap (λ (t : Tables). t.events) (sym (shown_own hand)) ∙ ap events_in (sym (events_out hand out client table taken second))))
+
+    -- what is left of a request by which clients are told of transitions
+    pub events_left : Some table ≡ held_at out 4 → (moment : ℕ) → moment ≡ clock_in (held_at hand 0)
+        → (become : ℕ → EventTables → EventTables) (told : List (ℕ × Told))
+        → ((t : Tables) → t.events ≡ events_in (Some table) → t.now ≡ moment → IsShown t
+        → hears t (row_in (Some part)) (row_in (Some part)).client v ≡ all_done (own_events.put (become (row_in (Some part)).client (events_in (Some table))) t) told)
+        → IsShown (tables_shown cell hand)
+        → hears (tables_shown cell hand) (row_held hand client) client v ≡ all_done (own_events.put (become client (tables_shown cell hand).events) (tables_shown cell hand)) told
+    events_left second moment dated become told is is_shown =
+        ap (λ (k : ℕ). hears (tables_shown cell hand) (row_held hand client) k v) (sym number)
+        ∙ ap (λ (r : ClientRow). hears (tables_shown cell hand) r r.client v) (sym (ap row_in own))
+        ∙ is (tables_shown cell hand) stood (at ∙ sym dated) is_shown
+        ∙ ap (λ (e : EventTables). all_done (own_events.put e (tables_shown cell hand)) told) (events_shown second become)
+      where
+        at : (tables_shown cell hand).now ≡ clock_in (held_at hand 0)
+        at = ap (λ (t : Tables). t.now) (sym (shown_own hand))
+
+        stood : (tables_shown cell hand).events ≡ events_in (Some table)
+        stood = ap (λ (t : Tables). t.events) (sym (shown_own hand)) ∙ ap events_in (sym (events_out hand out client table taken second))
 
     -- what makes or deletes a program invocation: the part of the domains is taken out before that of the program invocations, and put back after it
     pub invocations_served : (less without put : List (Option Part)) (more changed : Part) → Some table ≡ held_at out 2 → IsDomains (held_at hand 2) → less ≡ set out 2 None
@@ -318,6 +379,12 @@ module _ (s : State) (hand : List (Option Part)) (of : IsHandOf hand (parts_of s
   programs_beside client out p taken is =
       ap (λ (t : Tables). t.programs) (sym (shown_own hand))
       ∙ ap programs_in (sym (ap (λ (l : List (Option Part)). held_at l 3) taken ∙ held_after_set hand (client_place client) 3 None (λ same. omega (arith, same))))
+      ∙ sym is
+
+  pub events_beside : (client : ℕ) (out : List (Option Part)) (e : EventTables) → out ≡ set hand (client_place client) None → e ≡ events_in (held_at out 4) → (tables_shown cell hand).events ≡ e
+  events_beside client out e taken is =
+      ap (λ (t : Tables). t.events) (sym (shown_own hand))
+      ∙ ap events_in (sym (ap (λ (l : List (Option Part)). held_at l 4) taken ∙ held_after_set hand (client_place client) 4 None (λ same. omega (arith, same))))
       ∙ sym is
 
   pub semaphores_beside : (client n : ℕ) (out : List (Option Part)) (rows : Rows) → n ≡ clients_among (length hand) → client ≤ n → out ≡ set hand (client_place client) None

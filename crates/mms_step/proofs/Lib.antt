@@ -1,7 +1,11 @@
 pub mod AllParts
 pub mod Changed
+pub mod ConditionsKept
 pub mod DomainNames
 pub mod Enough
+pub mod EventFacts
+pub mod EventsKept
+pub mod EventsDone
 pub mod FinishLaws
 pub mod Guarded
 pub mod Holding
@@ -15,6 +19,7 @@ pub mod PartsAfter
 pub mod Rows
 pub mod Sound
 pub mod TokensKept
+pub mod TimeNeeds
 pub mod TwoTicks
 pub mod ToldLaws
 pub mod ServeLaws

@@ -1,6 +1,6 @@
 -- What clients are asked of the domains that they load, the uploads that are open, and the program invocations, are right in every state that the device reaches.
 use Rattle.std.specs.Prelude.{◌≡◌, ℕ, zero, suc, ◌+◌, Bool, true, false, Option, None, Some, List, [], ◌∷◌, ◌++◌, map, option_to_list, is_some, slice_get, unwrap_or, Result, if◌then◌else◌, refl}
-use Rattle.std.specs.List.{IsDistinct}
+use Rattle.std.specs.List.{IsDistinct, cons_option}
 use Rattle.std.specs.Option.{option_map_or}
 use Rattle.std.proofs.Common.{◌∙◌, ap, not, sym, subst, arith}
 use Rattle.mms_types.proofs.Conditions.{none_holds}
@@ -22,7 +22,6 @@ use Rattle.mms_time.specs.declared.taking.TakeDone.{TakeDone}
 use Rattle.mms_time.specs.declared.taking.TakeDone.TheVariants as taken
 use Rattle.sem_ticks.specs.Granted.{lost_granted, relinquish_granted}
 use Rattle.sem_ticks.specs.declared.granted.Granted.{Granted}
-use Rattle.sem_ticks.specs.declared.ticks.Happening.{Happening}
 use Rattle.sem_ticks.specs.declared.ticks.Happening.TheVariants as happens
 use Rattle.association.specs.Asked.{AreApart}
 use Rattle.association.specs.Client.{ClientRow, new_row}
@@ -53,10 +52,18 @@ use Rattle.serve_domains.specs.Tables as domains
 use Rattle.serve_programs.proofs.UsedLaws.{commands_keep, ends_keep, none_used, resume_keeps, start_keeps}
 use Rattle.serve_programs.specs.Programs.{with_domains}
 use Rattle.serve_programs.specs.Users.{AreUsed}
+use Rattle.mms_types.specs.declared.condition.Notice.{Notice}
+use Rattle.mms_types.specs.declared.condition.Turned.{Turned}
+use Rattle.event_enrol.specs.Enrolments.{Rows as Enrolments, notices}
+use Rattle.serve_events.specs.Events.{alter_condition, alter_turns, delete_turns, trigger_turns}
+use Rattle.serve_events.specs.Told.{notices_told, turns_told}
+use Rattle.cell_ticks.specs.declared.happening.DatedHappening.{DatedHappening}
+use Rattle.cell_ticks.specs.declared.happening.Happening.{Happening as DeviceHappening}
+use Rattle.cell_ticks.specs.declared.happening.Happening.TheVariants as device
 use Rattle.cell_services.specs.Requests.{among, told_in}
 use Rattle.cell_services.specs.Services.{area_of, cause, effect, grant_told, grants_told, lacks_number, relinquish_outcome, reply_in, take_outcome}
-use Rattle.cell_services.specs.Serving.{aborted, all_told, also_lost, also_served, also_told, domains_without, happening_told, is_served_in, keeps_upload, loss_also, meanwhile, own_told, resolved, served_told, tables_cancelled, tables_heard, tables_lost, tables_served, waiting_of, without_client}
-use Rattle.cell_services.specs.Tables.{Tables, moment_of, own_domains}
+use Rattle.cell_services.specs.Serving.{aborted_then, all_told, also_lost, also_served, also_told, domains_without, happened_told, happening_told, is_served_in, keeps_upload, lost_in, loss_also, meanwhile, own_told, resolved, served_told, tables_cancelled, tables_heard, tables_lost, tables_served, waiting_of, without_client}
+use Rattle.cell_services.specs.Tables.{Tables, moment_of, own_domains, own_events}
 use Rattle.mms_step.proofs.DomainNames.{HaveNames}
 use Rattle.mms_step.proofs.LoadsKept.{AreQuiet, AreRight, begun_right, both_quiet, closed_right, deleted_right, nobody_lost, quiet_right, replied_right, run_right, told_loads, unused_right, used_right}
 use Rattle.mms_step.proofs.Rows.{delivered_both, nobody_told}
@@ -69,6 +76,19 @@ use Rattle.mms_step.specs.Step.{step}
 grants_quiet : (grants : List Granted) → AreQuiet (grants_told grants)
 grants_quiet [] = tt
 grants_quiet (g ∷ grants) = both_quiet (grant_told g) (grants_told grants) (tt, (tt, tt)) (grants_quiet grants)
+
+-- what is told of transitions of event conditions
+notices_quiet : (turned : Turned) (list : List Notice) (rest : List (ℕ × Effect)) → AreQuiet rest → AreQuiet (notices_told turned list ++ rest)
+notices_quiet turned [] rest is = is
+notices_quiet turned (n ∷ ns) rest is = (tt, notices_quiet turned ns rest is)
+
+turns_quiet : (rows : Enrolments) (turns : List Turned) → AreQuiet (turns_told rows turns)
+turns_quiet rows [] = tt
+turns_quiet rows (turned ∷ turns) = notices_quiet turned (notices turned rows) (turns_told rows turns) (turns_quiet rows turns)
+
+notices_alone : (turned : Turned) (list : List Notice) → AreQuiet (notices_told turned list)
+notices_alone turned [] = tt
+notices_alone turned (n ∷ ns) = (tt, notices_alone turned ns)
 
 request_quiet : (client size invoke : ℕ) (why : Option ServiceError) (told : Option Answer) → AreQuiet (tell client (request_told size invoke why told))
 request_quiet client size invoke (Some refusal) told = (tt, tt)
@@ -99,6 +119,9 @@ right_both {programs} t own also rows right = subst (λ (l : List ClientRow). Ar
 -- ---- what is heard
 
 module _ (t : Tables) (row : ClientRow) (k : ℕ) (own : row.client ≡ suc k) where
+  turns_right : (rows : List ClientRow) → AreRight t.domains t.programs rows → (turns : List Turned) → AreRight t.domains t.programs (delivered cell (turns_told t.events.enrolments turns) rows)
+  turns_right rows right turns = quiet_right t.domains (turns_told t.events.enrolments turns) rows (turns_quiet t.events.enrolments turns) right
+
   request_right : (rows : List ClientRow) (invoke : ℕ) (asked : Request) → cause t row asked ≡ None → AreRight t.domains t.programs rows
       → AreRight (effect t row invoke asked).tables.domains (effect t row invoke asked).tables.programs (delivered cell (effect t row invoke asked).also rows)
   request_right rows invoke (request.InitiateDownloadSequence x) none right =
@@ -147,6 +170,10 @@ module _ (t : Tables) (row : ClientRow) (k : ℕ) (own : row.client ≡ suc k) w
       by_grant : (o : Option (Option Granted)) → AreRight (relinquish_outcome t row.client x o).tables.domains (relinquish_outcome t row.client x o).tables.programs (delivered cell (relinquish_outcome t row.client x o).also rows)
       by_grant None = right
       by_grant (Some grant) = quiet_right t.domains (grants_told (option_to_list grant)) rows (grants_quiet (option_to_list grant)) right
+  request_right rows invoke (request.DeleteEventCondition x) none right = turns_right rows right (delete_turns row.client (moment_of t) x t.events)
+  request_right rows invoke (request.AlterEventConditionMonitoring x) none right =
+      turns_right rows right (alter_turns row.client (moment_of t) (told_in own_events t row (alter_condition x)).truth x t.events)
+  request_right rows invoke (request.TriggerEvent x) none right = turns_right rows right (trigger_turns row.client (moment_of t) x.name t.events)
   request_right rows invoke asked none right = right
 
   served_right : (rows : List ClientRow) (invoke : ℕ) (asked : Request) → AreRight t.domains t.programs rows
@@ -311,18 +338,27 @@ aborts_right : {programs : ProgramRows} → (t : DomainTables) (rows : List Clie
 aborts_right t rows zero right = nobody_lost t rows right
 aborts_right t rows (suc k) right = closed_right t rows right abort_told k (λ r. refl)
 
-happened_right : {programs : ProgramRows} → (happened : List Happening) (t : DomainTables) (rows : List ClientRow) → AreRight t programs rows → AreRight (domains_without (aborted happened) t) programs (delivered cell (all_told happened) rows)
+happened_right : {programs : ProgramRows} → (happened : List DatedHappening) (t : DomainTables) (rows : List ClientRow) → AreRight t programs rows
+    → AreRight (domains_without (lost_in happened) t) programs (delivered cell (all_told happened) rows)
 happened_right [] t rows right = right
-happened_right (happens.WaitEnds client invoke ∷ rest) t rows right =
-    right_both (domains_without (aborted rest) t) (happening_told (happens.WaitEnds client invoke)) (all_told rest) rows
-    (happened_right rest t (delivered cell (happening_told (happens.WaitEnds client invoke)) rows)
-    (quiet_right t (happening_told (happens.WaitEnds client invoke)) rows (tt, (tt, tt)) right))
-happened_right (happens.Grants grant ∷ rest) t rows right =
-    right_both (domains_without (aborted rest) t) (grant_told grant) (all_told rest) rows
-    (happened_right rest t (delivered cell (grant_told grant) rows) (quiet_right t (grant_told grant) rows (tt, (tt, tt)) right))
-happened_right (happens.Aborts client ∷ rest) t rows right =
-    right_both (domains_without (aborted rest) (domains.lost client t)) (happening_told (happens.Aborts client)) (all_told rest) rows
-    (happened_right rest (domains.lost client t) (delivered cell (happening_told (happens.Aborts client)) rows) (aborts_right t rows client right))
+happened_right {programs} (x ∷ rest) t rows right = by_one x.happening (λ d told is. happened_right rest d told is)
+  where
+    by_one : (h : DeviceHappening) → ((d : DomainTables) (told : List ClientRow) → AreRight d programs told → AreRight (domains_without (lost_in rest) d) programs (delivered cell (all_told rest) told))
+        → AreRight (domains_without (cons_option (aborted_then h) (lost_in rest)) t) programs (delivered cell (happened_told h ++ all_told rest) rows)
+    by_one (device.Semaphores (happens.WaitEnds client invoke)) later =
+        right_both (domains_without (lost_in rest) t) (happening_told (happens.WaitEnds client invoke)) (all_told rest) rows
+        (later t (delivered cell (happening_told (happens.WaitEnds client invoke)) rows)
+        (quiet_right t (happening_told (happens.WaitEnds client invoke)) rows (tt, (tt, tt)) right))
+    by_one (device.Semaphores (happens.Grants grant)) later =
+        right_both (domains_without (lost_in rest) t) (grant_told grant) (all_told rest) rows
+        (later t (delivered cell (grant_told grant) rows) (quiet_right t (grant_told grant) rows (tt, (tt, tt)) right))
+    by_one (device.Semaphores (happens.Aborts client)) later =
+        right_both (domains_without (lost_in rest) (domains.lost client t)) (happening_told (happens.Aborts client)) (all_told rest) rows
+        (later (domains.lost client t) (delivered cell (happening_told (happens.Aborts client)) rows) (aborts_right t rows client right))
+    by_one (device.Turns told) later =
+        right_both (domains_without (lost_in rest) t) (notices_told told.turned told.notices) (all_told rest) rows
+        (later t (delivered cell (notices_told told.turned told.notices) rows)
+        (quiet_right t (notices_told told.turned told.notices) rows (notices_alone told.turned told.notices) right))
 
 -- ---- each event
 

@@ -18,14 +18,21 @@ use Rattle.association.specs.declared.negotiation.Negotiated.{Negotiated}
 use Rattle.sem_ticks.specs.declared.granted.Granted.{Granted}
 use Rattle.sem_ticks.specs.Granted.{lost_granted}
 use Rattle.sem_ticks.specs.Granted.{relinquish_granted}
-use Rattle.sem_ticks.specs.declared.ticks.Happening.{Happening}
+use Rattle.mms_types.specs.declared.moment.Moment.{Moment}
+use Rattle.mms_types.specs.declared.condition.Notice.{Notice}
+use Rattle.mms_types.specs.declared.condition.Turned.{Turned}
+use Rattle.serve_events.specs.Told.{notices_told}
+use Rattle.cell_ticks.specs.Ticks.{dated}
+use Rattle.cell_ticks.specs.declared.happening.DatedHappening.{DatedHappening}
+use Rattle.cell_ticks.specs.declared.happening.Happening.{Happening as DeviceHappening}
+use Rattle.cell_ticks.specs.declared.happening.Happening.TheVariants as device
 use Rattle.sem_ticks.specs.declared.ticks.Happening.TheVariants as happens
 use Rattle.parted_state.specs.Lists.{get_changed, get_change, length-change}
 use Rattle.parted_state.specs.Served.{change, delivered, reached, row_at}
 use Rattle.cell_client.specs.Association.{Verdict, Takes, Concludes, Aborts, loss_told, verdict, Exhausts}
 use Rattle.cell_client.specs.Effects.{Effect, Sends, Opens, Closes, Waits, Answers, Drains, felt, tell, Asks, Settles, asking_octets}
 use Rattle.cell_services.specs.Services.{effect, grant_told, grants_told, relinquish_outcome}
-use Rattle.cell_services.specs.Serving.{all_told, also_lost, also_told, happening_told, is_served, loss_also, meanwhile, own_told, resolved}
+use Rattle.cell_services.specs.Serving.{all_told, also_lost, also_told, dated_told, happened_told, is_served, loss_also, meanwhile, own_told, resolved}
 use Rattle.mms_step.specs.Partition.{cell}
 use Rattle.mms_step.specs.State.{State}
 use Rattle.mms_step.specs.Step.{outbox_in, step}
@@ -116,11 +123,20 @@ grants_stay : (grants : List Granted) → AllStay (grants_told grants)
 grants_stay [] = tt
 grants_stay (g ∷ grants) = both_stay (grant_told g) (grants_told grants) (tt, (tt, tt)) (grants_stay grants)
 
-happened_stay : (happened : List Happening) → AllStay (all_told happened)
+-- and what is told of transitions of event conditions
+notices_stay : (turned : Turned) (list : List Notice) (rest : List (ℕ × Effect)) → AllStay rest → AllStay (notices_told turned list ++ rest)
+notices_stay turned [] rest stay = stay
+notices_stay turned (n ∷ ns) rest stay = (tt, notices_stay turned ns rest stay)
+
+happened_stay : (happened : List DatedHappening) → AllStay (all_told happened)
 happened_stay [] = tt
-happened_stay (happens.WaitEnds client invoke ∷ rest) = both_stay (happening_told (happens.WaitEnds client invoke)) (all_told rest) (tt, (tt, tt)) (happened_stay rest)
-happened_stay (happens.Grants grant ∷ rest) = both_stay (grant_told grant) (all_told rest) (tt, (tt, tt)) (happened_stay rest)
-happened_stay (happens.Aborts client ∷ rest) = both_stay (happening_told (happens.Aborts client)) (all_told rest) (tt, (tt, tt)) (happened_stay rest)
+happened_stay (x ∷ rest) = by_one x.happening (happened_stay rest)
+  where
+    by_one : (h : DeviceHappening) → AllStay (all_told rest) → AllStay (happened_told h ++ all_told rest)
+    by_one (device.Semaphores (happens.WaitEnds client invoke)) later = (tt, (tt, later))
+    by_one (device.Semaphores (happens.Grants grant)) later = both_stay (grant_told grant) (all_told rest) (tt, (tt, tt)) later
+    by_one (device.Semaphores (happens.Aborts client)) later = (tt, (tt, later))
+    by_one (device.Turns told) later = notices_stay told.turned told.notices (all_told rest) later
 
 grant_there : (g : Granted) → Contains (grant_told g) (g.client, Sends (grant_answer g))
 grant_there g = (1, omega arith, refl)
@@ -133,13 +149,14 @@ grants_there (h ∷ grants) g (zero, low, e) =
 grants_there (h ∷ grants) g (suc j, low, e) =
     Contains-append_right (grant_told h) (grants_told grants) (g.client, Sends (grant_answer g)) (grants_there grants g (j, omega (arith, low), e))
 
-happened_there : (happened : List Happening) (g : Granted) → Contains happened (happens.Grants g) → Contains (all_told happened) (g.client, Sends (grant_answer g))
-happened_there [] g is = absurd (omega (arith, is.1))
-happened_there (x ∷ rest) g (zero, low, e) =
-    Contains-append_left (happening_told x) (all_told rest) (g.client, Sends (grant_answer g))
-    (subst (λ (y : Happening). Contains (happening_told y) (g.client, Sends (grant_answer g))) (sym e) (grant_there g))
-happened_there (x ∷ rest) g (suc j, low, e) =
-    Contains-append_right (happening_told x) (all_told rest) (g.client, Sends (grant_answer g)) (happened_there rest g (j, omega (arith, low), e))
+happened_there : (happened : List DatedHappening) (at : Moment) (g : Granted) → Contains happened (dated at (device.Semaphores (happens.Grants g)))
+    → Contains (all_told happened) (g.client, Sends (grant_answer g))
+happened_there [] at g is = absurd (omega (arith, is.1))
+happened_there (x ∷ rest) at g (zero, low, e) =
+    Contains-append_left (dated_told x) (all_told rest) (g.client, Sends (grant_answer g))
+    (subst (λ (y : DatedHappening). Contains (dated_told y) (g.client, Sends (grant_answer g))) (sym e) (grant_there g))
+happened_there (x ∷ rest) at g (suc j, low, e) =
+    Contains-append_right (dated_told x) (all_told rest) (g.client, Sends (grant_answer g)) (happened_there rest at g (j, omega (arith, low), e))
 
 -- ---- each event
 
@@ -216,8 +233,9 @@ lost_to s client g values is grant some there =
     told : also_lost (row_at cell client s.clients).association (row_at cell client s.clients).client (cell.tables_of s) ≡ loss_also (row_at cell client s.clients).client (cell.tables_of s)
     told = ap (λ (a : Association). also_lost a (row_at cell client s.clients).client (cell.tables_of s)) is
 
-pub ticked_to : (s : State) (ms : ℕ) (g : Granted) → Contains (meanwhile ms (cell.tables_of s)).happened (happens.Grants g) → IsAnswered (step s (Tick ms)) g
-ticked_to s ms g grant some there =
+pub ticked_to : (s : State) (ms : ℕ) (at : Moment) (g : Granted) → Contains (meanwhile ms (cell.tables_of s)).happened (dated at (device.Semaphores (happens.Grants g)))
+    → IsAnswered (step s (Tick ms)) g
+ticked_to s ms at g grant some there =
     let sized = step_sized s (Tick ms) in
     besides [] (all_told (meanwhile ms (cell.tables_of s)).happened) s g (happened_stay (meanwhile ms (cell.tables_of s)).happened)
-    (happened_there (meanwhile ms (cell.tables_of s)).happened g grant) some (omega (arith, sized, there))
+    (happened_there (meanwhile ms (cell.tables_of s)).happened at g grant) some (omega (arith, sized, there))

@@ -1,15 +1,17 @@
 -- What requests for domains ask: whether an object has one for its scope, and whether a number is left for what would be asked of their client.
-use Rattle.std.specs.Prelude.{◌≡◌, ℕ, Bool, true, Option, None, Some, is_some, List, [], ◌∷◌, ◌++◌, if◌then◌else◌, refl}
+use Rattle.std.specs.Prelude.{◌≡◌, ℕ, Bool, true, false, Option, None, Some, is_some, List, [], ◌∷◌, ◌++◌, if◌then◌else◌, refl}
 use Rattle.std.specs.List.{flat_map}
 use Rattle.std.specs.Option.{option_copied, option_map_or}
 use Rattle.std.proofs.Common.{Bor, ap, ap₂, sym, ◌∙◌}
-use Rattle.mms_types.specs.Areas.{domain_request, semaphore_request, variable_request}
+use Rattle.mms_types.specs.Areas.{domain_request, event_request, semaphore_request, variable_request}
 use Rattle.mms_types.specs.declared.area.DomainRequest.{DomainRequest}
 use Rattle.mms_types.specs.declared.area.DomainRequest.TheVariants as request
+use Rattle.mms_types.specs.declared.area.EventRequest.{EventRequest}
 use Rattle.mms_types.specs.declared.area.SemaphoreRequest.{SemaphoreRequest}
 use Rattle.mms_types.specs.declared.area.SemaphoreRequest.TheVariants as semaphores
 use Rattle.mms_types.specs.declared.area.VariableRequest.{VariableRequest}
 use Rattle.mms_types.specs.declared.area.VariableRequest.TheVariants as variables
+use Rattle.mms_types.specs.declared.variable.Spec.{Spec}
 use Rattle.association.specs.Client.{ClientRow}
 use Rattle.parted_state.specs.Area.{facts_told}
 use Rattle.cell_client.specs.Areas.{lacks_number_in}
@@ -17,14 +19,16 @@ use Rattle.cell_client.specs.Association.{Came, Aborts, Exhausts, Replies, Takes
 use Rattle.cell_client.specs.Facts.{Question, Live, Scoped, no_facts}
 use Rattle.serve_domains.specs.Domains.{replied, request_in}
 use Rattle.serve_domains.specs.Tables.{DomainTables}
+use Rattle.serve_events.specs.Events as of_events
 use Rattle.serve_semaphores.specs.Semaphores as of_semaphores
 use Rattle.serve_semaphores.specs.Semaphores.{at_its_moment}
 use Rattle.serve_variables.specs.Variables as of_variables
-use Rattle.cell_services.specs.Facts.{is_scope_used, scope_tables, tables_for, tells}
+use Rattle.cell_services.specs.AreaLaws.{in_events}
+use Rattle.cell_services.specs.Facts.{cell_tables, domain_tables, is_scope_used, scope_tables, tables_for, tells}
 use Rattle.cell_services.specs.Requests.{told_in}
 use Rattle.cell_services.specs.Services.{OfDomains, OfSemaphores, OfVariables, area_of, asks_of, lacks_number}
 use Rattle.cell_services.specs.Serving.{comes_of, hears}
-use Rattle.cell_services.specs.Tables.{Tables, own_domains, own_semaphores, own_variables}
+use Rattle.cell_services.specs.Tables.{Tables, clock_table, own_domains, own_events, own_semaphores, own_variables}
 
 -- a request for domains is one of their area
 pub area_of_domains : (asked : DomainRequest) → area_of (domain_request asked) ≡ OfDomains (request_in asked)
@@ -65,6 +69,26 @@ pub asks_of_semaphores : (asked : SemaphoreRequest) (named : Bool) (domain : Opt
     → asks_of (area_of (semaphore_request asked)) ≡ own_semaphores.numbers ++ flat_map tables_for (at_its_moment named domain)
 asks_of_semaphores asked named domain is =
     ap asks_of (area_of_semaphores asked) ∙ ap (λ (w : List Question). own_semaphores.numbers ++ flat_map tables_for w) is
+
+pub asks_of_events : (asked : EventRequest) → asks_of (area_of (event_request asked)) ≡ own_events.numbers ++ flat_map tables_for (of_events.request_in asked).words
+asks_of_events asked = ap asks_of (in_events asked)
+
+-- the moment is asked, a domain where one is written, and the variables where one is to be watched
+pub tables_of_events : (words : List Question) (named asked : Bool) (domain : Option (List ℕ)) (variable : Option Spec) → words ≡ of_events.at_its_moment named domain variable
+    → asked ≡ is_some variable → flat_map tables_for words ≡ clock_table ∷ (domain_tables named ++ cell_tables asked)
+tables_of_events words named asked domain variable is some =
+    ap (flat_map tables_for) is
+    ∙ ap (λ (l : List ℕ). clock_table ∷ (domain_tables named ++ l)) (none_behind (is_some variable))
+    ∙ ap (λ (b : Bool). clock_table ∷ (domain_tables named ++ cell_tables b)) (sym some)
+  where
+    none_behind : (b : Bool) → cell_tables b ++ [] ≡ cell_tables b
+    none_behind true = refl
+    none_behind false = refl
+
+-- what is borrowed is there where it is copied
+pub copied_some : {A : Type 0} (o : Option (Bor A)) → is_some (option_copied o) ≡ is_some o
+copied_some None = refl
+copied_some (Some x) = refl
 
 -- it is told nothing by what its own table shows
 no_more : (asked : DomainRequest) (t : DomainTables) (row : ClientRow) → (request_in asked).more t row ≡ []

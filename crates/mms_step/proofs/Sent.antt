@@ -35,6 +35,21 @@ use Rattle.domain_upload.specs.contracts.uploads.Uploads as Uploads
 use Rattle.program_inv.specs.contracts.invocation.Invocation as Invocation
 use Rattle.program_inv.specs.contracts.programs.Programs as Programs
 use Rattle.program_inv.specs.contracts.programs.Programs.TheInside as programs
+use Rattle.event_cond.specs.contracts.condition.Condition as Condition
+use Rattle.event_cond.specs.contracts.condition.ConditionClass as ConditionClass
+use Rattle.event_cond.specs.contracts.condition.Evaluation as Evaluation
+use Rattle.event_cond.specs.contracts.condition.Watch as Watch
+use Rattle.event_cond.specs.contracts.conditions.Conditions as Conditions
+use Rattle.event_cond.specs.contracts.conditions.Conditions.TheInside as conditions
+use Rattle.event_cond.specs.contracts.kept.Kept as Kept
+use Rattle.event_cond.specs.contracts.kept.Kept.TheInside as kept
+use Rattle.event_enrol.specs.contracts.enrolment.Enrolment as Enrolment
+use Rattle.event_enrol.specs.contracts.enrolments.Enrolments as Enrolments
+use Rattle.event_enrol.specs.contracts.enrolments.Enrolments.TheInside as enrolments
+use Rattle.event_enrol.specs.contracts.group.Group as Group
+use Rattle.event_enrol.specs.contracts.group.Group.TheInside as group
+use Rattle.event_enrol.specs.contracts.group.Member as Member
+use Rattle.serve_events.specs.contracts.tables.EventTables as EventTables
 use Rattle.serve_domains.specs.contracts.tables.DomainTables as DomainTables
 use Rattle.serve_domains.specs.contracts.tables.DomainTables.TheInside as tables
 use Rattle.mms_step.specs.contracts.part.Part as Part
@@ -96,5 +111,52 @@ programs_inside = declared_send programs.the_type (let a = invocation_send in se
 pub programs_send : IsSend Programs.the_row
 programs_send = let a = programs_inside in search sendable
 
+-- event conditions
+evaluation_send : IsSend Evaluation.the_row
+evaluation_send = search (crosses, sendable) depth 20
+
+watch_send : IsSend Watch.the_row
+watch_send = declared_send Watch.the_type (search (crosses, sendable) depth 20, (search (crosses, sendable) depth 20, (search (crosses, sendable) depth 20, (let a = evaluation_send in search (crosses, sendable) depth 20, tt))))
+
+class_send : IsSend ConditionClass.the_row
+class_send = variants_send ConditionClass.enum (tt, ((watch_send, tt), tt))
+
+condition_send : IsSend Condition.the_row
+condition_send = declared_send Condition.the_type (search (crosses, sendable) depth 20, (search (crosses, sendable) depth 20, (class_send, (search (crosses, sendable) depth 20, (search (crosses, sendable) depth 20, tt)))))
+
+kept_inside : IsSend kept.the_row
+kept_inside = declared_send kept.the_type (condition_send, tt)
+
+kept_send : IsSend Kept.the_row
+kept_send = let a = kept_inside in search sendable
+
+conditions_inside : IsSend conditions.the_row
+conditions_inside = declared_send conditions.the_type (named.the_send Kept.the_row kept_send, tt)
+
+conditions_send : IsSend Conditions.the_row
+conditions_send = let a = conditions_inside in search sendable
+
+-- and the enrollments on them
+enrolment_send : IsSend Enrolment.the_row
+enrolment_send = declared_send Enrolment.the_type (search (crosses, sendable) depth 20, (search (crosses, sendable, identifier.the_send) depth 20, (search (crosses, sendable) depth 20, (search (crosses, sendable) depth 20, tt))))
+
+member_send : IsSend Member.the_row
+member_send = declared_send Member.the_type (search (crosses, sendable, identifier.the_send) depth 20, (search (crosses, sendable) depth 20, (search (crosses, sendable) depth 20, tt)))
+
+group_inside : IsSend group.the_row
+group_inside = declared_send group.the_type (let a = member_send in search (crosses, sendable) depth 20, tt)
+
+group_send : IsSend Group.the_row
+group_send = let a = group_inside in search sendable
+
+enrolments_inside : IsSend enrolments.the_row
+enrolments_inside = declared_send enrolments.the_type (let a = enrolment_send in search (crosses, sendable, identifier.the_send) depth 20, (let a = group_send in search (crosses, sendable, identifier.the_send) depth 20, tt))
+
+enrolments_send : IsSend Enrolments.the_row
+enrolments_send = let a = enrolments_inside in search sendable
+
+pub events_send : IsSend EventTables.the_row
+events_send = declared_send EventTables.the_type (conditions_send, (enrolments_send, tt))
+
 pub part_send : IsSend Part.the_row
-part_send = variants_send Part.enum ((clock.the_send, tt), ((variables_send, tt), ((tables_send, tt), ((programs_send, tt), (tt, (tt, ((client.the_send, tt), ((semaphores_send, tt), tt))))))))
+part_send = variants_send Part.enum ((clock.the_send, tt), ((variables_send, tt), ((tables_send, tt), ((programs_send, tt), ((events_send, tt), (tt, ((client.the_send, tt), ((semaphores_send, tt), tt))))))))

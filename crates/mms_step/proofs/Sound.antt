@@ -73,18 +73,29 @@ use Rattle.mms_types.specs.declared.moment.Moment.{Moment}
 use Rattle.std.specs.List.{All}
 use Rattle.mms_time.specs.Deadlines.{NamedDeadline, all_deadlines}
 use Rattle.sem_ticks.specs.Sound.{LieAhead}
-use Rattle.sem_ticks.specs.declared.ticks.Happening.{Happening}
 use Rattle.sem_ticks.specs.declared.ticks.Happening.TheVariants as happens
 use Rattle.mms_types.specs.declared.pdu.Request.TheVariants as request
 use Rattle.mms_step.specs.State.{State, start, device_of, HaveMadeAtMost, IsSound, IsSoundRow, AreNumbered}
 use Rattle.cell_client.specs.Effects.{Effect, Sends, Opens, Closes, Waits, Answers, Drains, felt, felt_all, tell, Asks, Settles}
 use Rattle.cell_client.specs.Association.{Verdict, other_error, Tells, Takes, Concludes, Cancels, Aborts, verdict, verdict_by, idle_verdict, open_verdict, admitted, requested, concluded, cancelled, negotiated, refused, loss_told, Came, Replies, Exhausts, answered_by, failed_by, heard_response, heard_error, heard_reject, rejected, keeps_open}
-use Rattle.cell_services.specs.Tables.{Tables, moment_after, moment_of}
+use Rattle.cell_services.specs.Tables.{Tables, moment_after, moment_of, own_events}
 use Rattle.mms_step.specs.Partition.{cell}
 use Rattle.cell_services.specs.Services.{cause, effect, grant_told, grants_told, relinquish_outcome, take_outcome, area_of, reply_in, cause_of, effect_of, lacks_number}
 use Rattle.cell_client.specs.Requests.{fits, refuses, request_told, answer_told, size_of}
-use Rattle.cell_services.specs.Serving.{all_told, also_lost, also_told, happening_told, is_served, meanwhile, own_told, is_served_in, keeps_upload, resolved}
+use Rattle.cell_services.specs.Serving.{all_told, also_lost, also_told, happened_told, is_served, meanwhile, own_told, is_served_in, keeps_upload, resolved, saying}
 use Rattle.mms_step.specs.Step.{step, replay}
+use Rattle.mms_types.specs.declared.condition.Notice.{Notice}
+use Rattle.mms_types.specs.declared.condition.Turned.{Turned}
+use Rattle.event_enrol.specs.Enrolments.{Rows as Enrolments, notices}
+use Rattle.serve_events.specs.Told.{notices_told, turns_told}
+use Rattle.serve_events.specs.Events.{alter_condition, alter_turns, delete_turns, trigger_turns}
+use Rattle.cell_services.specs.Requests.{told_in}
+use Rattle.cell_ticks.specs.declared.happening.DatedHappening.{DatedHappening}
+use Rattle.cell_ticks.specs.declared.happening.Happening.{Happening as DeviceHappening}
+use Rattle.cell_ticks.specs.declared.happening.Happening.TheVariants as device
+use Rattle.event_ticks.specs.Sound as events_sound
+use Rattle.mms_step.proofs.EventsKept.{well_after, well_before}
+use Rattle.mms_step.proofs.ConditionsKept.{AreWell, awaited_of, none_well, sound_of}
 use Rattle.mms_step.proofs.PartsAfter.{length-start, length-clients_to, now_lost, step_sized, step_still, told_one}
 use Rattle.mms_step.proofs.TokensKept.{AreKept, kept_heard, kept_later, kept_lost, kept_ticked, waits_numbered}
 
@@ -420,13 +431,24 @@ grants_steady : (count : ℕ) (grants : List Granted) → AreSteady count (grant
 grants_steady count [] = tt
 grants_steady count (g ∷ grants) = both_steady count (grant_told g) (grants_told grants) (tt, (tt, tt)) (grants_steady count grants)
 
-happened_steady : (count : ℕ) (happened : List Happening) → AreSteady count (all_told happened)
+-- and what is told of transitions of event conditions
+notices_steady : (count : ℕ) (turned : Turned) (list : List Notice) (rest : List (ℕ × Effect)) → AreSteady count rest → AreSteady count (notices_told turned list ++ rest)
+notices_steady count turned [] rest is = is
+notices_steady count turned (n ∷ ns) rest is = (tt, notices_steady count turned ns rest is)
+
+turns_steady : (count : ℕ) (rows : Enrolments) (turns : List Turned) → AreSteady count (turns_told rows turns)
+turns_steady count rows [] = tt
+turns_steady count rows (turned ∷ turns) = notices_steady count turned (notices turned rows) (turns_told rows turns) (turns_steady count rows turns)
+
+happened_steady : (count : ℕ) (happened : List DatedHappening) → AreSteady count (all_told happened)
 happened_steady count [] = tt
-happened_steady count (happens.WaitEnds client invoke ∷ rest) =
-    both_steady count (happening_told (happens.WaitEnds client invoke)) (all_told rest) (tt, (tt, tt)) (happened_steady count rest)
-happened_steady count (happens.Grants grant ∷ rest) = both_steady count (grant_told grant) (all_told rest) (tt, (tt, tt)) (happened_steady count rest)
-happened_steady count (happens.Aborts client ∷ rest) =
-    both_steady count (happening_told (happens.Aborts client)) (all_told rest) (tt, (tt, tt)) (happened_steady count rest)
+happened_steady count (x ∷ rest) = by_one x.happening (happened_steady count rest)
+  where
+    by_one : (h : DeviceHappening) → AreSteady count (all_told rest) → AreSteady count (happened_told h ++ all_told rest)
+    by_one (device.Semaphores (happens.WaitEnds client invoke)) later = (tt, (tt, later))
+    by_one (device.Semaphores (happens.Grants grant)) later = both_steady count (grant_told grant) (all_told rest) (tt, (tt, tt)) later
+    by_one (device.Semaphores (happens.Aborts client)) later = (tt, (tt, later))
+    by_one (device.Turns told) later = notices_steady count told.turned told.notices (all_told rest) later
 
 module _ (count : ℕ) (t : Tables) (made : HaveMadeAtMost count t.semaphores) where
   effect_steady : (row : ClientRow) (invoke : ℕ) (asked : Request) → AreSteady (suc count) (effect t row invoke asked).also
@@ -442,6 +464,10 @@ module _ (count : ℕ) (t : Tables) (made : HaveMadeAtMost count t.semaphores) w
       by_grant None = tt
       by_grant (Some grant) = grants_steady (suc count) (option_to_list grant)
   effect_steady row invoke (request.InitiateDownloadSequence x) = (tt, tt)
+  effect_steady row invoke (request.DeleteEventCondition x) = turns_steady (suc count) t.events.enrolments (delete_turns row.client (moment_of t) x t.events)
+  effect_steady row invoke (request.AlterEventConditionMonitoring x) =
+      turns_steady (suc count) t.events.enrolments (alter_turns row.client (moment_of t) (told_in own_events t row (alter_condition x)).truth x t.events)
+  effect_steady row invoke (request.TriggerEvent x) = turns_steady (suc count) t.events.enrolments (trigger_turns row.client (moment_of t) x.name t.events)
   effect_steady row invoke asked = tt
 
   reply_steady : (client number : ℕ) (came : Came) (o : Option (Asked × List ℕ)) → AreSteady (suc count) (replied_to client number came o t.domains).also
@@ -493,19 +519,20 @@ rows_after count s (Drain client) made sound = told_sound (suc count) client (λ
 
 -- ---- semaphores
 
-semaphores_after : (count : ℕ) (s : State) (event : CellEvent) → AreKept count (record { 0 = s.now }) s.semaphores
+semaphores_after : (count : ℕ) (s : State) (event : CellEvent) → events_sound.AreSound s.events.conditions → AreKept count (record { 0 = s.now }) s.semaphores
     → AreKept (suc count) (record { 0 = (step s event).now }) (step s event).semaphores
-semaphores_after count s (Heard client octets) are =
+semaphores_after count s (Heard client octets) sound are =
     subst (λ (now : ℕ). AreKept (suc count) (record { 0 = now }) (step s (Heard client octets)).semaphores) (sym (step_still s client octets))
     (kept_heard count (cell.tables_of s) (row_at cell client s.clients)
     (resolved (cell.tables_of s) (row_at cell client s.clients) (verdict (row_at cell client s.clients) octets)) are)
-semaphores_after count s (Lost client) are =
+semaphores_after count s (Lost client) sound are =
     subst (λ (now : ℕ). AreKept (suc count) (record { 0 = now }) (step s (Lost client)).semaphores)
     (sym (now_lost (row_at cell client s.clients).association (row_at cell client s.clients).client (cell.tables_of s)))
     (kept_lost count (cell.tables_of s) (row_at cell client s.clients).association (row_at cell client s.clients).client are)
-semaphores_after count s (Tick ms) are = kept_ticked count (record { 0 = s.now }) (moment_after ms (cell.tables_of s)) s.semaphores are
-semaphores_after count s (Ends name) are = kept_later count (record { 0 = s.now }) s.semaphores are
-semaphores_after count s (Drain client) are = kept_later count (record { 0 = s.now }) s.semaphores are
+semaphores_after count s (Tick ms) sound are =
+    kept_ticked count (record { 0 = s.now }) (moment_after ms (cell.tables_of s)) (saying s.variables) s.semaphores s.events.conditions s.events.enrolments sound are
+semaphores_after count s (Ends name) sound are = kept_later count (record { 0 = s.now }) s.semaphores are
+semaphores_after count s (Drain client) sound are = kept_later count (record { 0 = s.now }) s.semaphores are
 
 -- ---- states
 
@@ -514,7 +541,9 @@ step_sound count s event sound =
     let same = step_sized s event in
     let next : suc count ≡ count + 1 = omega arith in
     let kept : AreKept (suc count) (record { 0 = (step s event).now }) (step s event).semaphores =
-    semaphores_after count s event (record { sound = sound.semaphores; made = sound.made; ahead = sound.ahead }) in
+    semaphores_after count s event sound.conditions (record { sound = sound.semaphores; made = sound.made; ahead = sound.ahead }) in
+    let well : AreWell (record { 0 = (step s event).now }) (step s event).events.conditions =
+    well_after s event sound.semaphores (well_before count s sound) in
     record {
       some = omega (arith, same, sound.some);
       few = omega (arith, same, sound.few);
@@ -523,6 +552,8 @@ step_sound count s event sound =
       semaphores = kept.sound;
       made = subst (λ (m : ℕ). HaveMadeAtMost m (step s event).semaphores) next kept.made;
       ahead = kept.ahead;
+      conditions = sound_of (record { 0 = (step s event).now }) (step s event).events.conditions well;
+      awaited = awaited_of (record { 0 = (step s event).now }) (step s event).events.conditions well;
       names = names_after count s event sound;
       loads = loads_after count s event sound;
       uploads = uploads_after count s event sound;
@@ -591,6 +622,8 @@ start_sound config is =
       semaphores = record { names = pools_apart config.pools (pools_apart_in config is).names; each = each_sound config.pools (pools_apart_in config is).each };
       made = none_made config.pools;
       ahead = pools_ahead (record { 0 = config.start.0 }) config.pools;
+      conditions = sound_of config.start [] (none_well config.start);
+      awaited = awaited_of config.start [] (none_well config.start);
       names = first_names;
       loads = first_loads config;
       uploads = first_uploads;

@@ -42,6 +42,12 @@ use Rattle.mms_time.specs.declared.taking.TakeDone.{TakeDone}
 use Rattle.mms_time.specs.declared.taking.TakeDone.TheVariants.{Answered, Waits}
 use Rattle.sem_ticks.specs.Sound.{AreSound, LieAhead}
 use Rattle.sem_ticks.specs.Ticks.{Ticking, after_abort, entries_left, met, met_as, next_met, ticked_on}
+use Rattle.event_cond.specs.Conditions.{Rows as Conditions}
+use Rattle.event_cond.specs.Skips.{Saying}
+use Rattle.event_enrol.specs.Enrolments.{Rows as Enrolments}
+use Rattle.event_ticks.specs.Sound as events
+use Rattle.cell_ticks.specs.Ticks as device
+use Rattle.cell_ticks.proofs.Ticked.{both_parts}
 use Rattle.sem_ticks.proofs.Ahead.{ahead}
 use Rattle.sem_ticks.proofs.Kept.{keeps_lost, keeps_ticked}
 use Rattle.sem_ticks.proofs.Later.{ahead_cancelled, ahead_defined, ahead_deleted, ahead_lost, ahead_relinquished, ahead_taken}
@@ -348,13 +354,17 @@ kept_lost count t a client are = record {
   ahead = lost_kept (LieAhead (moment_of t)) (LieAhead (moment_of t)) t (ahead_kept (moment_of t)) are.ahead a client;
 }
 
-pub kept_ticked : (count : ℕ) (now until : Moment) (rows : Rows) → AreKept count now rows
-    → AreKept (suc count) until (ticked_on until (record { rows = rows; happened = [] })).rows
-kept_ticked count now until rows are = record {
-  sound = keeps_ticked until (record { rows = rows; happened = [] }) are.sound;
-  made = made_more count _ (made_ticked count until (record { rows = rows; happened = [] }) are.made);
-  ahead = ahead until (record { rows = rows; happened = [] }) are.sound;
-}
+-- beside event conditions that are sound it is the same
+pub kept_ticked : (count : ℕ) (now until : Moment) (cells : Saying) (rows : Rows) (conditions : Conditions) (enrolments : Enrolments) → events.AreSound conditions
+    → AreKept count now rows → AreKept (suc count) until (device.ticked cells until rows conditions enrolments).semaphores
+kept_ticked count now until cells rows conditions enrolments sound are =
+    subst (λ (t : device.Ticking). AreKept (suc count) until t.semaphores)
+    (sym (both_parts cells until rows conditions enrolments (record { semaphores = are.sound; conditions = sound })))
+    (record {
+      sound = keeps_ticked until (record { rows = rows; happened = [] }) are.sound;
+      made = made_more count _ (made_ticked count until (record { rows = rows; happened = [] }) are.made);
+      ahead = ahead until (record { rows = rows; happened = [] }) are.sound;
+    })
 
 -- ---- an entry that is made has the number of an event
 

@@ -1,27 +1,37 @@
 -- Two ticks are one.
-use Rattle.std.specs.Prelude.{◌≡◌, ℕ, zero, suc, ◌+◌, ◌≤◌, Option, None, Some, List, [], ◌∷◌, ◌++◌, option_and_then, option_map, refl}
-use Rattle.std.proofs.Common.{ap, ap₂, sym, ◌∙◌, append_assoc, arith}
+use Rattle.std.specs.Prelude.{◌≡◌, ℕ, zero, suc, ◌+◌, ◌≤◌, ◌==◌, nat_eq, Bool, true, false, Option, None, Some, List, [], ◌∷◌, ◌++◌, map, option_and_then, option_map, if◌then◌else◌, refl}
+use Rattle.std.specs.Map.{lookup}
+use Rattle.std.specs.Option.{unwrap_or}
+use Rattle.std.proofs.Common.{ap, sym, ◌∙◌, append_assoc, append-nil, arith}
 use Rattle.mms_types.specs.declared.event.CellEvent.TheVariants.{Tick}
 use Rattle.mms_types.specs.declared.moment.Moment.{Moment}
 use Rattle.association.specs.Client.{ClientRow}
 use Rattle.parted_state.specs.Served.{delivered}
-use Rattle.token_sem.specs.declared.entry.Expired.{Expired}
+use Rattle.variables.specs.Truth.{truth_of}
+use Rattle.variables.specs.declared.rows.Cell.{Cell}
 use Rattle.variable_services.specs.declared.tables.VariableTables.{VariableTables}
-use Rattle.mms_time.specs.Deadlines.{NamedDeadline, expire_after, expired, next_due}
-use Rattle.mms_time.specs.Semaphores.{Rows}
-use Rattle.sem_ticks.specs.Settling.{settle}
-use Rattle.sem_ticks.specs.Ticks.{Ticking, abort_told, entries_left, expiry_told, met, met_as, next_met, ticked, ticked_on}
-use Rattle.sem_ticks.specs.declared.ticks.Happening.{Happening}
-use Rattle.sem_ticks.specs.declared.ticks.Happening.TheVariants as happens
-use Rattle.sem_ticks.proofs.Settling.{settle_by}
-use Rattle.sem_ticks.proofs.Twice.{twice}
+use Rattle.mms_time.specs.Deadlines.{NamedDeadline}
+use Rattle.sem_ticks.specs.Sound as semaphores
+use Rattle.sem_ticks.specs.Ticks as sem
+use Rattle.event_cond.specs.Skips.{Saying}
+use Rattle.event_ticks.specs.Settling.{settle}
+use Rattle.event_ticks.specs.Sound as events
+use Rattle.event_ticks.specs.Ticks as event_ticks
+use Rattle.event_ticks.proofs.Settling.{settle_by}
+use Rattle.cell_ticks.specs.Deadlines.{evaluation, next_due}
+use Rattle.cell_ticks.specs.Ticks.{Ticking, begun, dated, evaluated, met, most_left, next_met, semaphore_met, ticked, ticked_on, with_semaphores}
+use Rattle.cell_ticks.specs.declared.happening.DatedHappening.{DatedHappening}
+use Rattle.cell_ticks.specs.declared.happening.Happening.TheVariants.{Semaphores, Turns}
+use Rattle.cell_ticks.proofs.Ticked.{twice}
 use Rattle.cell_client.specs.Effects.{Effect}
-use Rattle.cell_services.specs.Serving.{aborted, all_told, happening_told, without_clients, domains_without}
+use Rattle.cell_services.specs.Serving.{all_told, domains_without, lost_in, saying, without_clients}
 use Rattle.mms_step.specs.Partition.{cell}
 use Rattle.serve_domains.specs.Tables.{DomainTables}
 use Rattle.mms_step.specs.State.{State}
 use Rattle.mms_step.specs.Step.{step}
-use Rattle.mms_step.proofs.Sound.{delivered_both}
+use Rattle.mms_step.specs.TimeLaws.{lost_both, told_both}
+use Rattle.mms_step.proofs.Guarded.{cells_of, lost_cells}
+use Rattle.mms_step.proofs.Rows.{delivered_both}
 
 -- ---- what happened before stands in front of what happens
 
@@ -33,51 +43,41 @@ settle_mapped {S} next f same (suc n) s = ap (settle_by next n (f s)) (same s) �
     by_next None rest = refl
     by_next (Some t) rest = rest t
 
-abbrev behind : List Happening → Ticking → Ticking
-behind before s = record { rows = s.rows; happened = before ++ s.happened }
+abbrev behind : List DatedHappening → Ticking → Ticking
+behind before s = record { semaphores = s.semaphores; conditions = s.conditions; enrolments = s.enrolments; happened = before ++ s.happened }
 
-next_behind : (until : Moment) (before : List Happening) (s : Ticking) → next_met until (behind before s) ≡ option_map (behind before) (next_met until s)
-next_behind until before s = by_due (next_due until s.rows)
-  where
-    by_expired : (d : NamedDeadline) (o : Option Expired) → option_map (met_as (behind before s) d) o ≡ option_map (behind before) (option_map (met_as s d) o)
-    by_expired d None = refl
-    by_expired d (Some x) =
-        ap (λ (l : List Happening). Some (of l))
-        (append_assoc before s.happened (expiry_told (expire_after d.key d.entry d.at s.rows) d.key x ++ abort_told x.abort x.client d.at (expire_after d.key d.entry d.at s.rows)))
-      where
-        of : List Happening → Ticking
-        of l = record { rows = (met_as s d x).rows; happened = l }
+module _ (cells : Saying) (until : Moment) (before : List DatedHappening) where
+  by_semaphore : (s : Ticking) (d : NamedDeadline) → semaphore_met (behind before s) d ≡ option_map (behind before) (semaphore_met s d)
+  by_semaphore s d = by_met (sem.met (record { rows = s.semaphores; happened = [] }) d)
+    where
+      by_met : (o : Option sem.Ticking) → option_map (with_semaphores (behind before s) d.at) o ≡ option_map (behind before) (option_map (with_semaphores s d.at) o)
+      by_met None = refl
+      by_met (Some u) =
+          ap (λ (l : List DatedHappening). Some (record (with_semaphores s d.at u) { happened = l }))
+          (append_assoc before s.happened (map (λ h. dated d.at (Semaphores h)) u.happened))
 
-    by_due : (o : Option NamedDeadline) → option_and_then (met (behind before s)) o ≡ option_map (behind before) (option_and_then (met s) o)
-    by_due None = refl
-    by_due (Some d) = by_expired d (expired d.key d.entry s.rows)
+  by_evaluation : (s : Ticking) (d : NamedDeadline) → evaluated cells (behind before s) d ≡ behind before (evaluated cells s d)
+  by_evaluation s d =
+      let t = event_ticks.evaluated cells (event_ticks.begun s.conditions s.enrolments []) (d.at, d.key) in
+      ap (λ (l : List DatedHappening). record { semaphores = s.semaphores; conditions = t.conditions; enrolments = s.enrolments; happened = l })
+      (append_assoc before s.happened (map (λ told. dated d.at (Turns told)) t.told))
 
-ticked_behind : (until : Moment) (before : List Happening) (s : Ticking) → ticked_on until (behind before s) ≡ behind before (ticked_on until s)
-ticked_behind until before s = settle_mapped (next_met until) (behind before) (next_behind until before) (entries_left s.rows) s
+  next_behind : (s : Ticking) → next_met cells until (behind before s) ≡ option_map (behind before) (next_met cells until s)
+  next_behind s = by_due (next_due until s.semaphores s.conditions)
+    where
+      by_kind : (d : NamedDeadline) (b : Bool) → (if b then Some (evaluated cells (behind before s) d) else semaphore_met (behind before s) d)
+          ≡ option_map (behind before) (if b then Some (evaluated cells s d) else semaphore_met s d)
+      by_kind d true = ap Some (by_evaluation s d)
+      by_kind d false = by_semaphore s d
 
--- one tick on, and then another
-ticked_twice : (first later : Moment) (rows : Rows) → first.0 ≤ later.0
-    → behind (ticked first rows).happened (ticked later (ticked first rows).rows) ≡ ticked later rows
-ticked_twice first later rows le =
-    sym (ticked_behind later (ticked first rows).happened (record { rows = (ticked first rows).rows; happened = [] }))
-    ∙ ap (λ (l : List Happening). ticked_on later (record { rows = (ticked first rows).rows; happened = l })) (append_none (ticked first rows).happened)
-    ∙ twice first later (record { rows = rows; happened = [] }) le
-  where
-    append_none : (xs : List Happening) → xs ++ [] ≡ xs
-    append_none [] = refl
-    append_none (x ∷ xs) = ap (λ (l : List Happening). x ∷ l) (append_none xs)
+      by_due : (o : Option NamedDeadline) → option_and_then (met cells (behind before s)) o ≡ option_map (behind before) (option_and_then (met cells s) o)
+      by_due None = refl
+      by_due (Some d) = by_kind d (d.kind == evaluation)
 
--- ---- what is told of it, and who is lost
+  ticked_behind : (s : Ticking) → ticked_on cells until (behind before s) ≡ behind before (ticked_on cells until s)
+  ticked_behind s = settle_mapped (next_met cells until) (behind before) next_behind (most_left until s) s
 
-told_both : (xs ys : List Happening) → all_told (xs ++ ys) ≡ all_told xs ++ all_told ys
-told_both [] ys = refl
-told_both (x ∷ xs) ys = ap (λ (l : List (ℕ × Effect)). happening_told x ++ l) (told_both xs ys) ∙ sym (append_assoc (happening_told x) (all_told xs) (all_told ys))
-
-aborted_both : (xs ys : List Happening) → aborted (xs ++ ys) ≡ aborted xs ++ aborted ys
-aborted_both [] ys = refl
-aborted_both (happens.WaitEnds client invoke ∷ xs) ys = aborted_both xs ys
-aborted_both (happens.Grants grant ∷ xs) ys = aborted_both xs ys
-aborted_both (happens.Aborts client ∷ xs) ys = ap (λ (l : List ℕ). client ∷ l) (aborted_both xs ys)
+-- ---- who is lost by it, and what the cells say then
 
 without_both : (xs ys : List ℕ) (v : VariableTables) → without_clients (xs ++ ys) v ≡ without_clients ys (without_clients xs v)
 without_both [] ys v = refl
@@ -87,40 +87,81 @@ domains_both : (xs ys : List ℕ) (d : DomainTables) → domains_without (xs ++ 
 domains_both [] ys d = refl
 domains_both (x ∷ xs) ys d = domains_both xs ys (domains_without (x ∷ []) d)
 
+says_so : List (ℕ × Cell) → Saying
+says_so cells number = unwrap_or (option_and_then (λ (c : Cell). truth_of c.value) (lookup (nat_eq number) cells)) false
+
+still_saying : (clients : List ℕ) (v : VariableTables) → saying (without_clients clients v) ≡ saying v
+unfolding says_so
+still_saying clients v = ap says_so (lost_cells clients v)
+
 -- ---- the state after two ticks
 
-pub two_ticks : (s : State) (a b : ℕ) → step (step s (Tick a)) (Tick b) ≡ step s (Tick (a + b))
-two_ticks s a b =
-    let same : s.now + a + b ≡ s.now + (a + b) = omega arith in
-    ap₂ (λ (v : VariableTables) (rows : List ClientRow).
-    at (s.now + a + b) v (domains_without (aborted two) (domains_without (aborted one) s.domains)) (ticked later (ticked first s.semaphores).rows).rows rows)
-    (sym (without_both (aborted one) (aborted two) s.variables) ∙ ap (λ (l : List ℕ). without_clients l s.variables) (sym (aborted_both one two)))
-    (sym (delivered_both (all_told one) (all_told two) s.clients) ∙ ap (λ (l : List (ℕ × Effect)). delivered cell l s.clients) (sym (told_both one two)))
-    ∙ ap (λ (d : DomainTables). at (s.now + a + b) (without_clients (aborted (one ++ two)) s.variables) d (ticked later (ticked first s.semaphores).rows).rows
-    (delivered cell (all_told (one ++ two)) s.clients))
-    (sym (domains_both (aborted one) (aborted two) s.domains) ∙ ap (λ (l : List ℕ). domains_without l s.domains) (sym (aborted_both one two)))
-    ∙ ap (λ (t : Ticking). at (s.now + a + b) (without_clients (aborted t.happened) s.variables) (domains_without (aborted t.happened) s.domains) t.rows
-    (delivered cell (all_told t.happened) s.clients))
-    (ticked_twice first later s.semaphores (omega arith))
-    ∙ ap (λ (m : ℕ). of m) same
-  where
-    first : Moment
-    first = record { 0 = s.now + a }
+module _ (s : State) (sound : semaphores.AreSound s.semaphores) (timed : events.AreSound s.events.conditions) (a b : ℕ) where
+  abbrev first : Moment
+  first = record { 0 = s.now + a }
 
-    later : Moment
-    later = record { 0 = s.now + a + b }
+  abbrev later : Moment
+  later = record { 0 = s.now + a + b }
 
-    one : List Happening
-    one = (ticked first s.semaphores).happened
+  abbrev cells : Saying
+  cells = saying s.variables
 
-    two : List Happening
-    two = (ticked later (ticked first s.semaphores).rows).happened
+  abbrev one : Ticking
+  one = ticked cells first s.semaphores s.events.conditions s.events.enrolments
 
-    at : ℕ → VariableTables → DomainTables → Rows → List ClientRow → State
-    at now variables domains semaphores clients = record { now = now; variables = variables; domains = domains; programs = s.programs; semaphores = semaphores; clients = clients }
+  abbrev second : Saying → Ticking
+  second says = ticked says later one.semaphores one.conditions one.enrolments
 
-    of : ℕ → State
-    of m =
-        at m (without_clients (aborted (ticked (record { 0 = m }) s.semaphores).happened) s.variables)
-        (domains_without (aborted (ticked (record { 0 = m }) s.semaphores).happened) s.domains) (ticked (record { 0 = m }) s.semaphores).rows
-        (delivered cell (all_told (ticked (record { 0 = m }) s.semaphores).happened) s.clients)
+  -- one tick on, and then another
+  both_ticks : behind one.happened (second cells) ≡ ticked cells later s.semaphores s.events.conditions s.events.enrolments
+  both_ticks =
+      sym (ticked_behind cells later one.happened (begun one.semaphores one.conditions one.enrolments))
+      ∙ ap (λ (l : List DatedHappening). ticked_on cells later (record { semaphores = one.semaphores; conditions = one.conditions; enrolments = one.enrolments; happened = l })) (append-nil one.happened)
+      ∙ twice cells first later (omega arith) (begun s.semaphores s.events.conditions s.events.enrolments) (record { semaphores = sound; conditions = timed })
+
+  -- the state at a moment, after such a tick
+  abbrev at : ℕ → Ticking → State
+  at now t = record {
+    now = now;
+    variables = without_clients (lost_in t.happened) s.variables;
+    domains = domains_without (lost_in t.happened) s.domains;
+    programs = s.programs;
+    events = record { conditions = t.conditions; enrolments = t.enrolments };
+    semaphores = t.semaphores;
+    clients = delivered cell (all_told t.happened) s.clients;
+  }
+
+  -- and after a tick behind the first one
+  abbrev after : Ticking → State
+  after t = record {
+    now = s.now + a + b;
+    variables = without_clients (lost_in t.happened) (without_clients (lost_in one.happened) s.variables);
+    domains = domains_without (lost_in t.happened) (domains_without (lost_in one.happened) s.domains);
+    programs = s.programs;
+    events = record { conditions = t.conditions; enrolments = t.enrolments };
+    semaphores = t.semaphores;
+    clients = delivered cell (all_told t.happened) (delivered cell (all_told one.happened) s.clients);
+  }
+
+  in_one : (t : Ticking) → after t ≡ at (s.now + a + b) (behind one.happened t)
+  in_one t =
+      let variables = sym (without_both (lost_in one.happened) (lost_in t.happened) s.variables) ∙ ap (λ (l : List ℕ). without_clients l s.variables) (sym (lost_both one.happened t.happened)) in
+      let domains = sym (domains_both (lost_in one.happened) (lost_in t.happened) s.domains) ∙ ap (λ (l : List ℕ). domains_without l s.domains) (sym (lost_both one.happened t.happened)) in
+      let clients = sym (delivered_both (all_told one.happened) (all_told t.happened) s.clients) ∙ ap (λ (l : List (ℕ × Effect)). delivered cell l s.clients) (sym (told_both one.happened t.happened)) in
+      λ i. record {
+        now = s.now + a + b;
+        variables = variables i;
+        domains = domains i;
+        programs = s.programs;
+        events = record { conditions = t.conditions; enrolments = t.enrolments };
+        semaphores = t.semaphores;
+        clients = clients i;
+      }
+
+  pub two_ticks : step (step s (Tick a)) (Tick b) ≡ step s (Tick (a + b))
+  two_ticks =
+      let same : s.now + a + b ≡ s.now + (a + b) = omega arith in
+      ap (λ (says : Saying). after (second says)) (still_saying (lost_in one.happened) s.variables)
+      ∙ in_one (second cells)
+      ∙ ap (at (s.now + a + b)) both_ticks
+      ∙ ap (λ (m : ℕ). at m (ticked cells (record { 0 = m }) s.semaphores s.events.conditions s.events.enrolments)) same

@@ -48,13 +48,22 @@ use Rattle.mms_time.specs.declared.taking.TakeDone.{TakeDone}
 use Rattle.mms_time.specs.declared.taking.TakeDone.TheVariants as taken
 use Rattle.sem_ticks.specs.declared.ticks.Happening.{Happening}
 use Rattle.sem_ticks.specs.declared.ticks.Happening.TheVariants as happens
+use Rattle.mms_types.specs.declared.condition.Notice.{Notice}
+use Rattle.mms_types.specs.declared.condition.Turned.{Turned}
+use Rattle.serve_events.specs.Told.{notices_told, turns_told}
+use Rattle.event_enrol.specs.Enrolments.{Rows as Enrolments, notices}
+use Rattle.serve_events.specs.Events.{alter_condition, alter_turns, delete_turns, trigger_turns}
+use Rattle.cell_services.specs.Requests.{told_in}
+use Rattle.cell_ticks.specs.declared.happening.DatedHappening.{DatedHappening}
+use Rattle.cell_ticks.specs.declared.happening.Happening.{Happening as DeviceHappening}
+use Rattle.cell_ticks.specs.declared.happening.Happening.TheVariants as device
 use Rattle.parted_state.specs.Served.{done_of, row_of}
 use Rattle.cell_client.specs.Association.{Verdict, Tells, Takes, Concludes, Cancels, Aborts, admitted, cancel_error, cancelled, concluded, confirmed_error, idle_verdict, loss_told, negotiated, open_verdict, other_error, sends, refused, requested, timeout_error, verdict, verdict_by, Came, Replies, Exhausts, answered_by, failed_by, heard_response, heard_error, heard_reject, rejected, keeps_open}
 use Rattle.cell_client.specs.Effects.{Effect, Sends, Opens, Closes, Waits, Answers, Drains, tell, Asks, Settles}
 use Rattle.cell_services.specs.Services.{cause, effect, grant_told, grants_told, relinquish_outcome, take_outcome, area_of, reply_in, cause_of, effect_of, lacks_number}
 use Rattle.cell_client.specs.Requests.{answer_told, fits, refuses, request_told, size_of}
-use Rattle.cell_services.specs.Serving.{all_told, also_lost, also_told, happening_told, is_served, meanwhile, own_told, services, is_served_in, keeps_upload, resolved}
-use Rattle.cell_services.specs.Tables.{Tables, moment_of}
+use Rattle.cell_services.specs.Serving.{all_told, also_lost, also_told, dated_told, happened_told, happening_told, is_served, meanwhile, own_told, services, is_served_in, keeps_upload, resolved}
+use Rattle.cell_services.specs.Tables.{Tables, moment_of, own_events}
 use Rattle.mms_step.specs.Answered.{AreAnswered, IsAnswerTo, grant_answer}
 use Rattle.mms_step.specs.Partition.{cell}
 use Rattle.mms_step.specs.State.{State}
@@ -132,9 +141,29 @@ happening_answered (happens.WaitEnds client invoke) =
 happening_answered (happens.Grants grant) = grant_answered grant
 happening_answered (happens.Aborts client) = plain_answered (happening_told (happens.Aborts client)) (tt, (tt, tt))
 
-happened_answered : (happened : List Happening) → AreAnswered (all_told happened)
+-- what is told of transitions of event conditions
+notices_plain : (turned : Turned) (list : List Notice) (rest : List (ℕ × Effect)) → ArePlain rest → ArePlain (notices_told turned list ++ rest)
+notices_plain turned [] rest plain = plain
+notices_plain turned (n ∷ ns) rest plain = (tt, notices_plain turned ns rest plain)
+
+notices_alone : (turned : Turned) (list : List Notice) → ArePlain (notices_told turned list)
+notices_alone turned [] = tt
+notices_alone turned (n ∷ ns) = (tt, notices_alone turned ns)
+
+turns_plain : (rows : Enrolments) (turns : List Turned) → ArePlain (turns_told rows turns)
+turns_plain rows [] = tt
+turns_plain rows (turned ∷ turns) = notices_plain turned (notices turned rows) (turns_told rows turns) (turns_plain rows turns)
+
+turns_answered : (rows : Enrolments) (turns : List Turned) → AreAnswered (turns_told rows turns)
+turns_answered rows turns = plain_answered (turns_told rows turns) (turns_plain rows turns)
+
+one_answered : (h : DeviceHappening) → AreAnswered (happened_told h)
+one_answered (device.Semaphores happening) = happening_answered happening
+one_answered (device.Turns told) = plain_answered (notices_told told.turned told.notices) (notices_alone told.turned told.notices)
+
+happened_answered : (happened : List DatedHappening) → AreAnswered (all_told happened)
 happened_answered [] = plain_answered [] tt
-happened_answered (x ∷ rest) = both_answered (happening_told x) (all_told rest) (happening_answered x) (happened_answered rest)
+happened_answered (x ∷ rest) = both_answered (dated_told x) (all_told rest) (one_answered x.happening) (happened_answered rest)
 
 -- ---- what a client is told by what it sends
 
@@ -272,6 +301,10 @@ effect_answered t row invoke (request.RelinquishControl x) = by_grant (relinquis
     by_grant : (o : Option (Option Granted)) → AreAnswered (relinquish_outcome t row.client x o).also
     by_grant None = plain_answered [] tt
     by_grant (Some grant) = grants_answered (option_to_list grant)
+effect_answered t row invoke (request.DeleteEventCondition x) = turns_answered t.events.enrolments (delete_turns row.client (moment_of t) x t.events)
+effect_answered t row invoke (request.AlterEventConditionMonitoring x) =
+    turns_answered t.events.enrolments (alter_turns row.client (moment_of t) (told_in own_events t row (alter_condition x)).truth x t.events)
+effect_answered t row invoke (request.TriggerEvent x) = turns_answered t.events.enrolments (trigger_turns row.client (moment_of t) x.name t.events)
 effect_answered t row invoke (request.InitiateDownloadSequence x) = plain_answered (effect t row invoke (request.InitiateDownloadSequence x)).also (tt, tt)
 effect_answered t row invoke asked = plain_answered [] tt
 

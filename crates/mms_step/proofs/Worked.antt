@@ -3,6 +3,9 @@
 use Rattle.std.specs.Prelude.{◌≡◌, ℕ, suc, nat_eq, List, [], ◌∷◌, map, filter, codes, Option, Some, None, false, true, if◌then◌else◌}
 use Rattle.std.specs.List.{list_any, range_with_len}
 use Rattle.std.proofs.Common.{refl}
+use Rattle.mms_types.specs.Order.{key_of}
+use Rattle.mms_types.specs.declared.condition.DeleteEventEnrollment.TheVariants as deleted
+use Rattle.event_cond.specs.declared.condition.ConditionClass.TheVariants.{Monitored}
 use Rattle.mms_types.specs.declared.event.CellEvent.TheVariants.{Heard, Lost, Tick, Ends, Drain}
 use Rattle.mms_types.specs.declared.key.Scope.TheVariants as scope
 use Rattle.mms_types.specs.declared.moment.Moment.{Moment}
@@ -19,6 +22,7 @@ use Rattle.token_sem.specs.declared.entry.SemState.TheVariants.{Owner, Queued}
 use Rattle.mms_time.specs.declared.row.Semaphore.TheVariants.{Token}
 use Rattle.variable_services.specs.Services.{no_variables}
 use Rattle.serve_domains.specs.Tables.{no_domains}
+use Rattle.serve_events.specs.Tables.{no_events}
 use Rattle.cell_client.specs.Association.{Verdict, Tells, Takes, Concludes, Cancels, Aborts}
 use Rattle.mms_step.specs.declared.part.Part.{Part}
 use Rattle.mms_step.specs.State.{State}
@@ -53,6 +57,7 @@ device = record {
   variables = no_variables;
   domains = no_domains;
   programs = [];
+  events = no_events;
   semaphores = (
     record { scope = scope.Vmd; item = codes "S" },
     record {
@@ -93,6 +98,37 @@ events_want : Answers (λ event. among (wanted event device)) (
     [])
 events_want = refl
 
+-- The condition M is active and is evaluated at moment 10, where its cell isn't TRUE; client 1 is enrolled on it.
+abbrev watching : State
+watching = record device {
+  semaphores = [];
+  events = record {
+    conditions = (
+      key_of 1 (name.Vmd (codes "M")),
+      record {
+        priority = 64;
+        severity = 64;
+        class = Monitored (record { cell = 1; interval = 10; defined = record { 0 = 0 }; evaluation = Some (record { is_active = true; next = record { 0 = 10 } }) });
+        to_active = None;
+        to_idle = None;
+      },
+    ) ∷ [];
+    enrolments = (
+      key_of 1 (name.Vmd (codes "N")),
+      record {
+        client = 1;
+        condition = key_of 1 (name.Vmd (codes "M"));
+        transitions = record { octets = 0xFE ∷ [] };
+        rule = 0;
+      },
+    ) ∷ [];
+  };
+}
+
+-- until then a tick wants no cell, and tells nobody anything
+evaluations_want : Answers (λ event. among (wanted event watching)) ((Tick 9, 0 ∷ 4 ∷ 8 ∷ []) ∷ (Tick 10, 0 ∷ 1 ∷ 4 ∷ 6 ∷ 8 ∷ []) ∷ [])
+evaluations_want = refl
+
 -- what is needed of client 1's verdict where these parts are held
 abbrev needed : List ℕ → Verdict → List ℕ
 needed places v = verdict_need 2 (hold places 0 (parts_of device)) (open_row 1) v
@@ -112,6 +148,17 @@ octets_need : Answers (λ v. among (needed (6 ∷ []) v)) (
     (Takes 1 (request.CreateProgramInvocation (record { name = codes "P"; domains = codes "D" ∷ []; reusable = true })), 2 ∷ 3 ∷ []) ∷
     (Takes 1 (request.DeleteProgramInvocation (codes "P")), 2 ∷ 3 ∷ []) ∷
     (Takes 1 (request.Stop (codes "P")), 3 ∷ []) ∷
+    (Takes 1 (request.TriggerEvent (record { name = name.Vmd (codes "E"); priority = None })), 0 ∷ 4 ∷ []) ∷
+    (Takes 1 (request.DeleteEventEnrollment (deleted.Condition (name.Domain (codes "D") (codes "E")))), 0 ∷ 2 ∷ 4 ∷ []) ∷ (
+      Takes 1 (request.DefineEventCondition (record {
+        name = name.Vmd (codes "E");
+        priority = 64;
+        severity = 64;
+        summary = None;
+        monitored = Some (record { variable = spec.Name (name.Vmd (codes "V")); interval = 10 });
+      })),
+      0 ∷ 1 ∷ 4 ∷ [],
+    ) ∷
     (Takes 1 (request.DeleteDomain (codes "D")), 1 ∷ 2 ∷ 4 ∷ 5 ∷ 8 ∷ []) ∷
     [])
 octets_need = refl

@@ -26,25 +26,30 @@ use Rattle.parted_state.specs.Served.{Done, IsDevice, IsServed}
 use Rattle.parted_state.specs.Served as parted
 use Rattle.parted_state.specs.ServedLaws as served
 use Rattle.mms_step.specs.declared.part.Part.{Part}
-use Rattle.mms_step.specs.declared.part.Part.TheVariants.{Clock, Domains, Programs, Semaphores, Variables}
+use Rattle.mms_step.specs.declared.part.Part.TheVariants.{Clock, Domains, Events, Programs, Semaphores, Variables}
 use Rattle.mms_step.specs.State.{State}
-use Rattle.cell_services.specs.Tables.{Tables, clock_table, variables_table, domains_table, programs_table, semaphores_table, loss_tables, own_clock, own_variables, own_domains, own_invocations, own_programs, own_semaphores}
+use Rattle.cell_services.specs.Tables.{Tables, clock_table, variables_table, domains_table, programs_table, conditions_table, semaphores_table, loss_tables, moment_after, own_clock, own_variables, own_domains, own_invocations, own_programs, own_events, own_semaphores}
 use Rattle.program_inv.specs.Programs as program
 use Rattle.domain_upload.specs.Uploads.{has_upload}
 use Rattle.cell_client.specs.Areas.{lacks_number_in}
 use Rattle.cell_client.specs.Facts.{no_facts}
 use Rattle.cell_client.specs.Effects.{Effect, tell}
 use Rattle.cell_client.specs.Association.{Verdict, Tells, Takes, Replies, Exhausts, Concludes, Cancels, Aborts, verdict, cancel_told, keeps_open, loss_told}
-use Rattle.cell_services.specs.Facts.{Question, Now, Live, Owned, Scoped, Names, Facts, domains_listed, guard_tables, programs_listed, is_domain_live, tables_for, noted, tells}
+use Rattle.cell_services.specs.Facts.{Question, Now, Live, Owned, Scoped, Names, Cell, Truth, Facts, cell_of, domains_listed, guard_tables, programs_listed, is_domain_live, is_true, tables_for, noted, tells}
 use Rattle.serve_domains.specs.Tables.{DomainTables}
+use Rattle.serve_events.specs.declared.tables.EventTables.{EventTables}
+use Rattle.event_cond.specs.Skips.{any_due}
+use Rattle.cell_ticks.specs.Ticks.{Ticking, begun, most_left}
+use Rattle.variable_services.specs.Services.{no_variables}
 use Rattle.cell_services.specs.Requests.{OutcomeIn, RequestIn, asks_in, more_in, told_in, cause_in, effect_in}
-use Rattle.cell_services.specs.Services.{InArea, OfDevice, OfVariables, OfDomains, OfInvocations, OfPrograms, OfSemaphores, area_of, reply_in, asks_of, more_of, cause_of, effect_of, lacks_number}
+use Rattle.cell_services.specs.Services.{InArea, OfDevice, OfVariables, OfDomains, OfInvocations, OfPrograms, OfEvents, OfSemaphores, area_of, reply_in, asks_of, more_of, cause_of, effect_of, lacks_number}
 use Rattle.cell_client.specs.Requests.{is_done, request_told, size_of}
-use Rattle.cell_services.specs.Serving.{tables_cancelled, tables_lost, waiting_of, without_clients, also_lost, all_told, comes_of, domains_without, hears, keeps_upload, more_of_verdict, resolved, heard_asks, heard_more, loss_asks, meanwhile, abort_asks, aborted, passes, time_asks, services, words}
-use Rattle.mms_step.specs.Partition.{cell, clock_in, domains_in, programs_in, semaphores_in, variables_in, parts_of}
+use Rattle.cell_services.specs.Serving.{tables_cancelled, tables_lost, waiting_of, without_clients, also_lost, all_told, comes_of, domains_without, hears, keeps_upload, more_of_verdict, resolved, heard_asks, heard_more, loss_asks, lost_in, meanwhile, abort_asks, aborted_meanwhile, evaluation_asks, passes, saying, time_asks, services, words}
+use Rattle.mms_step.specs.Partition.{cell, clock_in, domains_in, events_in, programs_in, semaphores_in, variables_in, parts_of}
 use Rattle.mms_step.specs.Step.{step}
 use Rattle.mms_step.specs.Needs.{need, wants}
 use Rattle.mms_step.specs.After.{after, parts_after}
+use Rattle.mms_step.specs.TimeLaws.{none_lost, same_saying}
 
 -- ---- the device is one of tables and clients
 
@@ -54,7 +59,7 @@ by_place one other zero same = ap (λ (o : Option Part). Some (Clock (clock_in o
 by_place one other (suc zero) same = ap (λ (o : Option Part). Some (Variables (variables_in o))) same
 by_place one other (suc (suc zero)) same = ap (λ (o : Option Part). Some (Domains (domains_in o))) same
 by_place one other (suc (suc (suc zero))) same = ap (λ (o : Option Part). Some (Programs (programs_in o))) same
-by_place one other (suc (suc (suc (suc zero)))) same = refl
+by_place one other (suc (suc (suc (suc zero)))) same = ap (λ (o : Option Part). Some (Events (events_in o))) same
 by_place one other (suc (suc (suc (suc (suc zero))))) same = refl
 by_place one other (suc (suc (suc (suc (suc (suc zero)))))) same = ap (λ (o : Option Part). Some (Semaphores (semaphores_in o))) same
 by_place one other (suc (suc (suc (suc (suc (suc (suc table))))))) same = refl
@@ -93,6 +98,9 @@ is_domains = record { number = domains_table; part = Domains; part_in = domains_
 abbrev is_programs : IsTable cell own_programs
 is_programs = record { number = programs_table; part = Programs; part_in = programs_in; one = refl; shown = λ hand. refl; puts = λ new t. refl }
 
+abbrev is_events : IsTable cell own_events
+is_events = record { number = conditions_table; part = Events; part_in = events_in; one = refl; shown = λ hand. refl; puts = λ new t. refl }
+
 abbrev is_semaphores : IsTable cell own_semaphores
 is_semaphores = record { number = semaphores_table; part = Semaphores; part_in = semaphores_in; one = refl; shown = λ hand. refl; puts = λ new t. refl }
 
@@ -103,8 +111,10 @@ none_owned client rows other [] none = refl
 none_owned client rows other (None ∷ guards) none = ap (λ (owned : List Bool). false ∷ owned) (none_owned client rows other guards none)
 none_owned client rows other (Some guard ∷ guards) none = absurd (cc none)
 
-abbrev scope_used : List ℕ → VariableTables → Rows → Bool
-scope_used domain v rows = has_any_of (Domain domain) v.vars.variables || has_any_of (Domain domain) v.lists || has_any_of (Domain domain) rows
+abbrev scope_used : List ℕ → VariableTables → EventTables → Rows → Bool
+scope_used domain v e rows =
+    has_any_of (Domain domain) v.vars.variables || has_any_of (Domain domain) v.lists || has_any_of (Domain domain) e.conditions || has_any_of (Domain domain) e.enrolments
+    || has_any_of (Domain domain) rows
 
 told_same : (k : Question) (facts : Facts) (us : List ℕ) (t : Tables) → AllIn cell (tables_for k) us → noted k (alone us t) facts ≡ noted k t facts
 told_same Now facts us t all =
@@ -113,9 +123,11 @@ told_same (Live true domain) facts us t all =
     ap (λ (d : DomainTables). record facts { live = is_domain_live domain d }) (table_same cell is_device own_domains is_domains us t (all domains_table refl))
 told_same (Live false domain) facts us t all = refl
 told_same (Scoped domain) facts us t all =
-    ap₂ (λ (v : VariableTables) (rows : Rows). record facts { scoped = scope_used domain v rows })
+    ap₂ (λ (v : VariableTables) (rows : Rows). record facts { scoped = scope_used domain v (alone us t).events rows })
     (table_same cell is_device own_variables is_variables us t (all variables_table refl))
     (table_same cell is_device own_semaphores is_semaphores us t (all semaphores_table refl))
+    ∙ ap (λ (e : EventTables). record facts { scoped = scope_used domain t.variables e t.semaphores })
+    (table_same cell is_device own_events is_events us t (all conditions_table refl))
 told_same (Owned client guards) facts us t all = by_guards (list_any is_some guards) refl all
   where
     by_guards : (b : Bool) → list_any is_some guards ≡ b → AllIn cell (guard_tables b) us
@@ -124,6 +136,14 @@ told_same (Owned client guards) facts us t all = by_guards (list_any is_some gua
         ap (λ (rows : Rows). record facts { owned = flags_of (λ guard. owns_guard client guard rows) guards })
         (table_same cell is_device own_semaphores is_semaphores us t (all semaphores_table refl))
     by_guards false e all = ap (λ (owned : List Bool). record facts { owned = owned }) (none_owned client (alone us t).semaphores t.semaphores guards e)
+told_same (Cell None) facts us t all = refl
+told_same (Cell (Some variable)) facts us t all =
+    ap (λ (v : VariableTables). record facts { cell = cell_of (Some variable) v.vars })
+    (table_same cell is_device own_variables is_variables us t (all variables_table refl))
+told_same (Truth None) facts us t all = refl
+told_same (Truth (Some number)) facts us t all =
+    ap (λ (v : VariableTables). record facts { truth = is_true (Some number) v.vars })
+    (table_same cell is_device own_variables is_variables us t (all variables_table refl))
 told_same (Names class.NamedVariable) facts us t all =
     ap (λ (v : VariableTables). record facts { names = λ s after. names_after s after v.vars.variables })
     (table_same cell is_device own_variables is_variables us t (all variables_table refl))
@@ -133,6 +153,12 @@ told_same (Names class.NamedVariableList) facts us t all =
 told_same (Names class.Semaphore) facts us t all =
     ap (λ (rows : Rows). record facts { names = λ s after. names_after s after rows })
     (table_same cell is_device own_semaphores is_semaphores us t (all semaphores_table refl))
+told_same (Names class.EventCondition) facts us t all =
+    ap (λ (e : EventTables). record facts { names = λ s after. names_after s after e.conditions })
+    (table_same cell is_device own_events is_events us t (all conditions_table refl))
+told_same (Names class.EventEnrollment) facts us t all =
+    ap (λ (e : EventTables). record facts { names = λ s after. names_after s after e.enrolments })
+    (table_same cell is_device own_events is_events us t (all conditions_table refl))
 told_same (Names class.Domain) facts us t all =
     ap (λ (d : DomainTables). record facts { names = λ s after. domains_listed d s after })
     (table_same cell is_device own_domains is_domains us t (all domains_table refl))
@@ -206,6 +232,9 @@ programs_own = table_own cell is_device own_programs is_programs
 invocations_own : IsOwn cell own_invocations
 invocations_own = both_own cell is_device own_domains own_programs domains_own programs_own
 
+events_own : IsOwn cell own_events
+events_own = table_own cell is_device own_events is_events
+
 semaphores_own : IsOwn cell own_semaphores
 semaphores_own = table_own cell is_device own_semaphores is_semaphores
 
@@ -217,6 +246,7 @@ more_law t row (OfVariables r) = (is_plan own_variables variables_own (λ u. ref
 more_law t row (OfDomains r) = (is_plan own_domains domains_own (λ u. refl) row 0 0 r).more_same t
 more_law t row (OfInvocations r) = (is_plan own_invocations invocations_own (λ u. refl) row 0 0 r).more_same t
 more_law t row (OfPrograms r) = (is_plan own_programs programs_own (λ u. refl) row 0 0 r).more_same t
+more_law t row (OfEvents r) = (is_plan own_events events_own (λ u. refl) row 0 0 r).more_same t
 more_law t row (OfSemaphores r) = (is_plan own_semaphores semaphores_own (λ u. refl) row 0 0 r).more_same t
 
 abbrev area_uses : Tables → ClientRow → InArea → List ℕ
@@ -232,6 +262,7 @@ takes_law t row client invoke (OfVariables r) = taken_within own_variables varia
 takes_law t row client invoke (OfDomains r) = taken_within own_domains domains_own (λ u. refl) row client invoke r t
 takes_law t row client invoke (OfInvocations r) = taken_within own_invocations invocations_own (λ u. refl) row client invoke r t
 takes_law t row client invoke (OfPrograms r) = taken_within own_programs programs_own (λ u. refl) row client invoke r t
+takes_law t row client invoke (OfEvents r) = taken_within own_events events_own (λ u. refl) row client invoke r t
 takes_law t row client invoke (OfSemaphores r) = taken_within own_semaphores semaphores_own (λ u. refl) row client invoke r t
 
 -- ---- what is done with all tables in which a client may have anything
@@ -241,8 +272,10 @@ all_shown : (us : List ℕ) (t : Tables) → AllIn cell loss_tables us → alone
 all_shown us t all =
     ap₂ (λ (n : ℕ) (v : VariableTables). record (alone us t) { now = n; variables = v })
     (table_same cell is_device own_clock is_clock us t (all clock_table refl)) (table_same cell is_device own_variables is_variables us t (all variables_table refl))
-    ∙ ap₂ (λ (d : DomainTables) (rows : Rows). record t { domains = d; programs = (alone us t).programs; semaphores = rows })
+    ∙ ap₂ (λ (d : DomainTables) (rows : Rows). record t { domains = d; programs = (alone us t).programs; events = (alone us t).events; semaphores = rows })
     (table_same cell is_device own_domains is_domains us t (all domains_table refl)) (table_same cell is_device own_semaphores is_semaphores us t (all semaphores_table refl))
+    ∙ ap (λ (e : EventTables). record t { programs = (alone us t).programs; events = e })
+    (table_same cell is_device own_events is_events us t (all conditions_table refl))
 
 abbrev with_programs : program.Rows → Done Tables Effect → Done Tables Effect
 with_programs p done = record { tables = record done.tables { programs = p }; told = done.told }
@@ -272,7 +305,7 @@ module _ (us : List ℕ) (f : Tables → Done Tables Effect) (t : Tables) (all :
   others (suc zero) off = out 1 refl off
   others (suc (suc zero)) off = out 2 refl off
   others (suc (suc (suc zero))) off = ap (λ (p : program.Rows). Some (Programs p)) keeps
-  others (suc (suc (suc (suc zero)))) off = refl
+  others (suc (suc (suc (suc zero)))) off = out 4 refl off
   others (suc (suc (suc (suc (suc zero))))) off = refl
   others (suc (suc (suc (suc (suc (suc zero)))))) off = out 6 refl off
   others (suc (suc (suc (suc (suc (suc (suc k))))))) off = refl
@@ -294,6 +327,7 @@ lacks_law us t row invoke (OfDevice r) all = refl
 lacks_law us t row invoke (OfVariables r) all = refl
 lacks_law us t row invoke (OfInvocations r) all = refl
 lacks_law us t row invoke (OfPrograms r) all = refl
+lacks_law us t row invoke (OfEvents r) all = refl
 lacks_law us t row invoke (OfSemaphores r) all = refl
 lacks_law us t row invoke (OfDomains r) all =
     ap (λ (d : DomainTables). lacks_number_in r no_facts row invoke d) (table_same cell is_device own_domains is_domains us t (all domains_table refl))
@@ -422,33 +456,36 @@ lost_law : (t : Tables) (number client : ℕ) (a : Association)
 lost_law t number client Idle = served.unchanged cell is_device [] t []
 lost_law t number client (Open values) = refl
 
--- time goes by: whatever a client has that is lost meanwhile is used besides
+-- time goes by: where no client is lost by what happens to semaphores none is, and what the cells say is used where a condition is evaluated
 time_law : (ms : ℕ) (t : Tables)
     → passes ms t ≡ parted.done_within cell (words (Tick ms) ++ (time_asks ms t ++ [])) t (passes ms (alone (words (Tick ms) ++ (time_asks ms t ++ [])) t))
-time_law ms t = by_clients (aborted (meanwhile ms t).happened) refl
+time_law ms t = by_both (any_due (moment_after ms t) t.events.conditions) refl (aborted_meanwhile ms t) refl
   where
-    us : List ℕ → List ℕ
-    us clients = words (Tick ms) ++ (abort_asks clients ++ [])
+    us : Bool → List ℕ → List ℕ
+    us due clients = words (Tick ms) ++ ((evaluation_asks due ++ abort_asks clients) ++ [])
 
-    at : List ℕ → Tables → Done Tables Effect
-    at clients u = record {
-      tables = record {
-        now = t.now + ms;
-        variables = without_clients clients u.variables;
-        domains = domains_without clients u.domains;
-        programs = u.programs;
-        semaphores = (meanwhile ms t).rows;
-      };
-      told = all_told (meanwhile ms t).happened;
+    begins : Ticking
+    begins = begun t.semaphores t.events.conditions t.events.enrolments
+
+    with_clients : VariableTables → DomainTables → Ticking → Done Tables Effect
+    with_clients v d s = record {
+      tables = record { now = t.now + ms; variables = v; domains = d; programs = t.programs; events = record { conditions = s.conditions; enrolments = s.enrolments }; semaphores = s.semaphores };
+      told = all_told s.happened;
     }
 
-    by_clients : (clients : List ℕ) → aborted (meanwhile ms t).happened ≡ clients → passes ms t ≡ parted.done_within cell (us clients) t (passes ms (alone (us clients) t))
-    by_clients [] is =
-        ap (λ (l : List ℕ). at l t) is
-        ∙ ap (λ (l : List ℕ). parted.done_within cell (us []) t (at l (alone (us []) t))) (sym is)
-    by_clients (client ∷ clients) is =
-        ap (λ (l : List ℕ). at l t) is
-        ∙ ap (λ (l : List ℕ). parted.done_within cell (us (client ∷ clients)) t (at l (alone (us (client ∷ clients)) t))) (sym is)
+    none : aborted_meanwhile ms t ≡ [] → lost_in (meanwhile ms t).happened ≡ []
+    none is = none_lost (saying t.variables) (moment_after ms t) (most_left (moment_after ms t) begins) begins is
+
+    by_both : (due : Bool) → any_due (moment_after ms t) t.events.conditions ≡ due → (clients : List ℕ) → aborted_meanwhile ms t ≡ clients
+        → passes ms t ≡ parted.done_within cell (us due clients) t (passes ms (alone (us due clients) t))
+    by_both true due (client ∷ clients) is = refl
+    by_both false due (client ∷ clients) is = refl
+    by_both true due [] is =
+        ap (λ (l : List ℕ). with_clients (without_clients (lost_in (meanwhile ms t).happened) t.variables) (domains_without l t.domains) (meanwhile ms t)) (none is)
+    by_both false due [] is =
+        ap (λ (l : List ℕ). with_clients (without_clients l t.variables) (domains_without l t.domains) (meanwhile ms t)) (none is)
+        ∙ ap (with_clients t.variables t.domains)
+        (same_saying (saying t.variables) (saying no_variables) (moment_after ms t) (most_left (moment_after ms t) begins) begins due)
 
 pub each_served : (event : CellEvent) → IsServed cell services event
 each_served (Heard client octets) = record {

@@ -9,3 +9,4 @@ pub mod Rooms
 pub mod State
 pub mod Step
 pub mod Tasks
+pub mod TimeLaws

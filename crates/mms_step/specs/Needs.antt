@@ -10,8 +10,7 @@ use Rattle.mms_step.specs.declared.part.Part.{Part}
 use Rattle.mms_step.specs.State.{State}
 use Rattle.association.specs.Client.{ClientRow}
 use Rattle.cell_client.specs.Association.{Verdict, Tells, Takes, verdict}
-use Rattle.cell_services.specs.Serving.{services, abort_asks, aborted, all_told, also_lost, also_told, heard_asks, heard_more, loss_asks, meanwhile, resolved}
-use Rattle.sem_ticks.specs.declared.ticks.Happening.{Happening}
+use Rattle.cell_services.specs.Serving.{services, all_told, also_lost, also_told, heard_asks, heard_more, loss_asks, meanwhile, resolved, time_asks}
 use Rattle.mms_step.specs.Partition.{cell, client_place, parts_of, state_in}
 
 abbrev pub is_held : List (Option Part) → ℕ → Bool
@@ -75,12 +74,11 @@ abbrev pub lost_need : ℕ → List (Option Part) → ClientRow → List ℕ
 lost_need n hand row =
     two_stages hand (placed n (loss_asks row.association)) (parted.told_places cell (also_lost row.association row.client (tables_shown cell hand)) n)
 
--- what time that goes by needs, once the clock and the semaphores are held: by what happens meanwhile
-abbrev pub happened_need : ℕ → List (Option Part) → List Happening → List ℕ
-happened_need n hand happened = two_stages hand (placed n (abort_asks (aborted happened))) (parted.told_places cell (all_told happened) n)
-
+-- what time that goes by needs, once the clock, the event conditions and the semaphores are held: the variables where a condition is evaluated, and whatever a client
+-- may have anything in where one is lost; and then the parts of those that are told of what happens meanwhile
 abbrev pub time_need : ℕ → List (Option Part) → ℕ → List ℕ
-time_need n hand ms = happened_need n hand (meanwhile ms (tables_shown cell hand)).happened
+time_need n hand ms =
+    two_stages hand (placed n (time_asks ms (tables_shown cell hand))) (parted.told_places cell (all_told (meanwhile ms (tables_shown cell hand)).happened) n)
 
 -- what is shown and isn't held
 abbrev pub need : CellEvent → List (Option Part) → List ℕ

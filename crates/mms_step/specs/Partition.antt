@@ -8,13 +8,15 @@ use Rattle.part_table.specs.Held.{held_at}
 use Rattle.parted_state.specs.Served.{Device}
 use Rattle.parted_state.specs.Served as parted
 use Rattle.mms_step.specs.declared.part.Part.{Part}
-use Rattle.mms_step.specs.declared.part.Part.TheVariants.{Clock, Variables, Domains, Programs, Conditions, Journals, Client, Semaphores}
+use Rattle.mms_step.specs.declared.part.Part.TheVariants.{Clock, Variables, Domains, Programs, Events, Journals, Client, Semaphores}
 use Rattle.mms_step.specs.State.{State}
 use Rattle.mms_time.specs.Semaphores.{Rows}
 use Rattle.cell_client.specs.Effects.{Effect, felt, settled}
 use Rattle.cell_services.specs.Tables.{Tables}
 use Rattle.program_inv.specs.Programs as program
 use Rattle.serve_domains.specs.Tables.{DomainTables, no_domains}
+use Rattle.serve_events.specs.Tables.{no_events}
+use Rattle.serve_events.specs.declared.tables.EventTables.{EventTables}
 use Rattle.variable_services.specs.declared.tables.VariableTables.{VariableTables}
 use Rattle.variable_services.specs.Services.{no_variables}
 
@@ -43,7 +45,7 @@ client_part row = Client (settled row)
 
 -- the parts of a state
 abbrev pub parts_of : State → List Part
-parts_of s = Clock s.now ∷ Variables s.variables ∷ Domains s.domains ∷ Programs s.programs ∷ Conditions ∷ Journals ∷ (map client_part s.clients ++ Semaphores s.semaphores ∷ [])
+parts_of s = Clock s.now ∷ Variables s.variables ∷ Domains s.domains ∷ Programs s.programs ∷ Events s.events ∷ Journals ∷ (map client_part s.clients ++ Semaphores s.semaphores ∷ [])
 
 -- ---- what held parts show
 
@@ -79,6 +81,14 @@ programs_or programs other = programs
 abbrev pub programs_in : Option Part → program.Rows
 programs_in part = programs_or [] part
 
+-- the event conditions and enrollments, where they are held, and else these
+abbrev pub events_or : EventTables → Option Part → EventTables
+events_or events (Some (Events held)) = held
+events_or events other = events
+
+abbrev pub events_in : Option Part → EventTables
+events_in part = events_or no_events part
+
 -- the semaphores, where they are held, and else these
 abbrev pub semaphores_or : Rows → Option Part → Rows
 semaphores_or semaphores (Some (Semaphores held)) = held
@@ -109,7 +119,7 @@ abbrev pub client_in : Option Part → RoomyRow
 client_in (Some (Client client)) = client
 client_in other = settled no_client
 
--- the part of a client with its row changed, the clock with its moment changed, and variables, domains, program invocations and semaphores that are changed
+-- the part of a client with its row changed, the clock with its moment changed, and variables, domains, program invocations, event conditions and semaphores that are changed
 abbrev pub on_client : (ClientRow → ClientRow) → Part → Part
 on_client f (Client client) = client_part (f client.row)
 on_client f other = other
@@ -130,6 +140,10 @@ abbrev pub on_programs : (program.Rows → program.Rows) → Part → Part
 on_programs f (Programs programs) = Programs (f programs)
 on_programs f other = other
 
+abbrev pub on_events : (EventTables → EventTables) → Part → Part
+on_events f (Events events) = Events (f events)
+on_events f other = other
+
 abbrev pub on_semaphores : (Rows → Rows) → Part → Part
 on_semaphores f (Semaphores semaphores) = Semaphores (f semaphores)
 on_semaphores f other = other
@@ -138,7 +152,7 @@ on_semaphores f other = other
 abbrev pub IsClient : Option Part → Type 0
 IsClient part = part ≡ Some (Client (client_in part))
 
--- the variables are, the domains, the program invocations, and the semaphores
+-- the variables are, the domains, the program invocations, the event conditions, and the semaphores
 abbrev pub IsVariables : Option Part → Type 0
 IsVariables part = part ≡ Some (Variables (variables_in part))
 
@@ -148,6 +162,9 @@ IsDomains part = part ≡ Some (Domains (domains_in part))
 abbrev pub IsPrograms : Option Part → Type 0
 IsPrograms part = part ≡ Some (Programs (programs_in part))
 
+abbrev pub IsEvents : Option Part → Type 0
+IsEvents part = part ≡ Some (Events (events_in part))
+
 abbrev pub IsSemaphores : Option Part → Type 0
 IsSemaphores part = part ≡ Some (Semaphores (semaphores_in part))
 
@@ -156,10 +173,10 @@ IsSemaphores part = part ≡ Some (Semaphores (semaphores_in part))
 -- Where a part isn't held, its table is empty in what is shown.
 abbrev pub cell : Device State Tables ClientRow Effect Part
 cell = record {
-  tables_of = λ s. record { now = s.now; variables = s.variables; domains = s.domains; programs = s.programs; semaphores = s.semaphores };
+  tables_of = λ s. record { now = s.now; variables = s.variables; domains = s.domains; programs = s.programs; events = s.events; semaphores = s.semaphores };
   clients_of = λ s. s.clients;
-  state_of = λ t rows. record { now = t.now; variables = t.variables; domains = t.domains; programs = t.programs; semaphores = t.semaphores; clients = rows };
-  table_parts = λ t. Clock t.now ∷ Variables t.variables ∷ Domains t.domains ∷ Programs t.programs ∷ Conditions ∷ Journals ∷ Semaphores t.semaphores ∷ [];
+  state_of = λ t rows. record { now = t.now; variables = t.variables; domains = t.domains; programs = t.programs; events = t.events; semaphores = t.semaphores; clients = rows };
+  table_parts = λ t. Clock t.now ∷ Variables t.variables ∷ Domains t.domains ∷ Programs t.programs ∷ Events t.events ∷ Journals ∷ Semaphores t.semaphores ∷ [];
   tables = tables_many;
   last = 5;
   client_part = client_part;
@@ -168,6 +185,7 @@ cell = record {
     variables = variables_in (held_at hand 1);
     domains = domains_in (held_at hand 2);
     programs = programs_in (held_at hand 3);
+    events = events_in (held_at hand 4);
     semaphores = semaphores_in (held_at hand 6);
   };
   row_in = row_in;
@@ -175,6 +193,6 @@ cell = record {
   felt = felt;
 }
 
--- the state that held parts show: the moment, the variables, the domains, the program invocations, the semaphores, and the rows of the clients
+-- the state that held parts show: the moment, the variables, the domains, the program invocations, the event conditions and enrollments, the semaphores, and the rows of the clients
 abbrev pub state_in : List (Option Part) → State
 state_in hand = parted.state_in cell hand

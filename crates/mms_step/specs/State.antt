@@ -1,5 +1,5 @@
 -- The state of the device: plain lists of rows and the moment (ISO 9506-1, the virtual manufacturing device).
-use Rattle.std.specs.Prelude.{◌≡◌, ℕ, ◌+◌, ◌≤◌, List, [], ◌∷◌, Some, map, length, slice_get}
+use Rattle.std.specs.Prelude.{◌≡◌, ℕ, ◌+◌, ◌<◌, ◌≤◌, List, [], ◌∷◌, IfSome, Some, map, length, slice_get}
 use Rattle.std.specs.List.{All, IsDistinct}
 use Rattle.std.specs.Map.{keys_of, values_of}
 use Rattle.mms_types.specs.Actors.{clients_to}
@@ -11,9 +11,16 @@ use Rattle.association.specs.declared.waiting.Waiting.{Waiting}
 use Rattle.cell_config.specs.declared.config.Config.{Config}
 use Rattle.domain_load.specs.Domains.{name_eq}
 use Rattle.domain_upload.specs.Uploads.{AreOf}
+use Rattle.event_cond.specs.Conditions.{Rows as Conditions}
+use Rattle.event_cond.specs.declared.condition.ConditionClass.{ConditionClass}
+use Rattle.event_cond.specs.declared.condition.ConditionClass.TheVariants.{NetworkTriggered, Monitored}
+use Rattle.event_cond.specs.declared.condition.Watch.{Watch}
+use Rattle.event_ticks.specs.Sound as events
 use Rattle.program_inv.specs.Programs.{Rows as Programs}
 use Rattle.serve_domains.specs.Loads.{AreLoads}
 use Rattle.serve_domains.specs.Tables.{DomainTables, no_domains}
+use Rattle.serve_events.specs.Tables.{no_events}
+use Rattle.serve_events.specs.declared.tables.EventTables.{EventTables}
 use Rattle.serve_programs.specs.Users.{AreUsed}
 use Rattle.variable_services.specs.declared.tables.VariableTables.{VariableTables}
 use Rattle.variable_services.specs.Services.{configured}
@@ -31,6 +38,8 @@ pub record State : Type 0 where
   pub domains : DomainTables
   -- program invocations
   pub programs : Programs
+  -- event conditions and the enrollments on them
+  pub events : EventTables
   -- semaphores
   pub semaphores : Rows
   -- the rows of clients 1 to n, in this order
@@ -44,7 +53,7 @@ device_of config = record { edition = config.edition; vendor = config.vendor; mo
 abbrev pub first_rows : Config → ℕ → List ClientRow
 first_rows config n = map (λ c. new_row c (device_of config)) (clients_to n)
 
--- the start: it is the configured moment, there are the configured cells, variables and pools, no domains, no program invocations, and as
+-- the start: it is the configured moment, there are the configured cells, variables and pools, no domains, no program invocations, no event conditions, and as
 -- many clients as are configured
 abbrev pub start : Config → State
 start config = record {
@@ -52,6 +61,7 @@ start config = record {
   variables = configured config.cells config.variables;
   domains = no_domains;
   programs = [];
+  events = no_events;
   semaphores = pools.configured config.pools;
   clients = first_rows config config.clients;
 }
@@ -74,9 +84,22 @@ pub record IsSoundRow (count client : ℕ) (row : ClientRow) : Type 0 where
 abbrev pub HaveMadeAtMost : ℕ → Rows → Type 0
 HaveMadeAtMost count semaphores = All (λ row. made_in row.semaphore ≤ count) (values_of semaphores)
 
+-- a monitored condition was defined by that moment, and its next evaluation, where it has one, lies after it
+pub record IsAwaited (now : ℕ) (w : Watch) : Type 0 where
+  pub defined : w.defined.0 ≤ now
+  pub next : IfSome w.evaluation (λ e. now < e.next.0)
+
+abbrev pub IsAwaitedClass : ℕ → ConditionClass → Type 0
+IsAwaitedClass now NetworkTriggered = Unit {0}
+IsAwaitedClass now (Monitored w) = IsAwaited now w
+
+-- each event condition that is monitored was
+abbrev pub AreAwaited : ℕ → Conditions → Type 0
+AreAwaited now rows = All (λ row. IsAwaitedClass now row.1.class) rows
+
 -- What holds of each state of the device after so many events: it has 1 to 64 clients, in the order of their numbers, and their rows are sound; no token of its
--- semaphores is owned twice, and no free one is waited for; each semaphore has made no more entries than there were events; each deadline lies ahead; no two domains
--- have one name; of each client the server's unanswered requests of a load are of the domains that it loads, one of each; the domain of each open upload is there,
+-- semaphores is owned twice, and no free one is waited for; each semaphore has made no more entries than there were events; each deadline lies ahead; its event
+-- conditions are evaluated at multiples of their intervals, and each evaluation lies ahead; no two domains have one name; of each client the server's unanswered requests of a load are of the domains that it loads, one of each; the domain of each open upload is there,
 -- and isn't LOADING; and the domains that program invocations name are there for them, and for no others.
 pub record IsSound (count : ℕ) (s : State) : Type 0 where
   pub some : 1 ≤ length s.clients
@@ -85,6 +108,8 @@ pub record IsSound (count : ℕ) (s : State) : Type 0 where
   pub semaphores : AreSound s.semaphores
   pub made : HaveMadeAtMost count s.semaphores
   pub ahead : LieAhead (record { 0 = s.now }) s.semaphores
+  pub conditions : events.AreSound s.events.conditions
+  pub awaited : AreAwaited s.now s.events.conditions
   pub names : IsDistinct name_eq (keys_of s.domains.domains)
   pub loads : (i : ℕ) (row : ClientRow) → slice_get s.clients i ≡ Some row → AreLoads (i + 1) row.asked s.domains.domains
   pub uploads : AreOf s.domains.uploads s.domains.domains

@@ -15,23 +15,27 @@ ghost use Rattle.serve_semaphores.specs.Semaphores as of_semaphores;
 ghost use Rattle.serve_semaphores.specs.Tokens.{told_after};
 ghost use Rattle.serve_variables.specs.Variables as of_variables;
 ghost use Rattle.cell_services.specs.Facts.{is_domain_live};
+ghost use Rattle.cell_services.specs.Looked.{IsLookedAt};
 ghost use Rattle.mms_step.specs.State.{State};
-ghost use Rattle.mms_step.specs.Partition.{cell, parts_of, clients_among, clock_in, client_in, client_place, row_in, semaphores_in, semaphores_place, variables_in, domains_in, programs_in, IsClient, IsSemaphores, IsVariables};
+ghost use Rattle.mms_step.specs.Partition.{cell, parts_of, clients_among, clock_in, client_in, client_place, row_in, semaphores_in, semaphores_place, variables_in, domains_in, events_in, programs_in, IsClient, IsSemaphores, IsVariables};
 ghost use Rattle.mms_step.specs.Tasks.{row_held, AreDone, IsRoomless};
 
 use crate::applying::{put_client, take_client};
 use crate::domains::{domains_held, live_held};
+use crate::events::events_held;
 use crate::needs::{now_held, semaphores_held, variables_held};
 use crate::programs::programs_held;
 use crate::tables::{VARIABLES, semaphores as semaphores_part};
 use crate::telling::{make_rooms, tell_all};
 use crate::{Cell, Part};
 use cell_client::Told;
+use cell_services::NameTables;
 use mms_time::Semaphores;
 use mms_types::{DeviceRequest, Memory, Moment, SemaphoreRequest, VariableRequest};
 use part_table::Hand;
 use program_inv::Programs;
 use serve_domains::DomainTables;
+use serve_events::EventTables;
 use std::alloc::Global;
 use variable_services::VariableTables;
 
@@ -346,66 +350,25 @@ pub(crate) fn cancel(
 fn device_in_part(
     alloc: Global,
     part: &mut Part,
-    variables: &VariableTables,
-    domains: &DomainTables,
-    programs: &Programs,
-    semaphores: &Semaphores,
+    tables: NameTables<'_>,
     invoke: u32,
     asked: DeviceRequest<'_>,
 ) -> Result<(), Memory>
     requires client { IsClient (Some part.old) }
     requires tables { plain_answer (row_in (Some part.old)) (device_request asked) ≡ None }
-    ensures served { OnOk result ((t : Tables) → t.variables ≡ variables.now
-        → t.domains ≡ domains.now → t.programs ≡ programs.now → t.semaphores ≡ semaphores.now
+    ensures served { OnOk result ((t : Tables) → IsLookedAt tables.entry t
         → IsDoneIn no_table t (row_in (Some part.old)) tt
         (client_in (Some part.new)) (Takes invoke (device_request asked.entry))) }
     ensures client { IsClient (Some part.new) }
     ensures kept { OnErr result (part.new ≡ part.old) }
 {
     match part {
-        Part::Client(own) => {
-            cell_services::serve_device(
-                alloc, own, variables, domains, programs, semaphores, invoke, asked,
-            )
-        }
+        Part::Client(own) => cell_services::serve_device(alloc, own, tables, invoke, asked),
         _ => unreachable!(),
     }
 }
 
-/// The same, where the domains, the program invocations and the semaphores are those that are held.
-fn device_beside(
-    alloc: Global,
-    held: &Hand<Cell>,
-    clients: u32,
-    part: &mut Part,
-    variables: &VariableTables,
-    invoke: u32,
-    asked: DeviceRequest<'_>,
-) -> Result<(), Memory>
-    requires few { clients ≤ 64 }
-    requires client { IsClient (Some part.old) }
-    requires tables { plain_answer (row_in (Some part.old)) (device_request asked) ≡ None }
-    ensures served { OnOk result ((t : Tables) → t.variables ≡ variables.now
-        → t.domains ≡ domains_in (held_at held.now 2)
-        → t.programs ≡ programs_in (held_at held.now 3) → t.semaphores
-        ≡ semaphores_in (held_at held.now (semaphores_place clients)) → IsDoneIn no_table t
-        (row_in (Some part.old)) tt (client_in (Some part.new))
-        (Takes invoke (device_request asked.entry))) }
-    ensures client { IsClient (Some part.new) }
-    ensures kept { OnErr result (part.new ≡ part.old) }
-{
-    let none = Semaphores::new(alloc);
-    let semaphores = semaphores_held(held, clients, &none);
-    let no_domains = DomainTables::empty(alloc);
-    let domains = domains_held(held, &no_domains);
-    let no_programs = Programs::new(alloc);
-    let programs = programs_held(held, &no_programs);
-    device_in_part(
-        alloc, part, variables, domains, programs, semaphores, invoke, asked,
-    )
-}
-
-/// The same, where the variables are those that are held, too.
+/// The same, where the tables are those that are held.
 fn device_on(
     alloc: Global,
     held: &Hand<Cell>,
@@ -420,15 +383,26 @@ fn device_on(
     ensures served { OnOk result ((t : Tables) → t.variables ≡ variables_in (held_at held.now 1)
         → t.domains ≡ domains_in (held_at held.now 2)
         → t.programs ≡ programs_in (held_at held.now 3)
+        → t.events ≡ events_in (held_at held.now 4)
         → t.semaphores ≡ semaphores_in (held_at held.now (semaphores_place clients))
         → IsDoneIn no_table t (row_in (Some part.old)) tt (client_in (Some part.new))
         (Takes invoke (device_request asked.entry))) }
     ensures client { IsClient (Some part.new) }
     ensures kept { OnErr result (part.new ≡ part.old) }
 {
-    let none = VariableTables::empty(alloc);
-    let variables = variables_held(held, &none);
-    device_beside(alloc, held, clients, part, variables, invoke, asked)
+    let no_variables = VariableTables::empty(alloc);
+    let no_domains = DomainTables::empty(alloc);
+    let no_programs = Programs::new(alloc);
+    let no_events = EventTables::empty(alloc);
+    let no_semaphores = Semaphores::new(alloc);
+    let tables = NameTables {
+        variables: variables_held(held, &no_variables),
+        domains: domains_held(held, &no_domains),
+        programs: programs_held(held, &no_programs),
+        events: events_held(held, &no_events),
+        semaphores: semaphores_held(held, clients, &no_semaphores),
+    };
+    device_in_part(alloc, part, tables, invoke, asked)
 }
 
 /// Serves a client's request to the device itself, which the tables tell that are held.

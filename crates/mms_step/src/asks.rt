@@ -7,21 +7,26 @@ ghost use Rattle.association.specs.Client.{ClientRow};
 ghost use Rattle.part_table.specs.Held.{held_at};
 ghost use Rattle.parted_state.specs.Lifted.{tables_shown};
 ghost use Rattle.serve_variables.specs.Variables.{guards_asked};
+ghost use Rattle.serve_events.specs.Events.{request_in};
 ghost use Rattle.mms_step.specs.Needs.{placed};
-ghost use Rattle.mms_step.specs.Partition.{cell, variables_in};
+ghost use Rattle.mms_step.specs.Partition.{cell, events_in, variables_in};
 ghost use Rattle.cell_services.specs.Device.{domain_of, is_domain};
-ghost use Rattle.cell_services.specs.Facts.{Live, Names, guard_tables, scope_tables, tables_for};
+ghost use Rattle.cell_services.specs.Facts.{Live, Names, cell_tables, domain_tables, guard_tables, scope_tables, tables_for};
 ghost use Rattle.serve_semaphores.specs.Semaphores.{at_its_moment};
 ghost use Rattle.cell_services.specs.Services.{area_of, more_of, request_asks};
-ghost use Rattle.cell_services.specs.Tables.{own_domains, own_semaphores, own_variables};
+ghost use Rattle.cell_services.specs.Tables.{clock_table, own_domains, own_events, own_semaphores, own_variables};
 
 use crate::Cell;
+use crate::events::events_held;
 use crate::needs::variables_held;
-use crate::tables::{CLOCK, CONDITIONS, DOMAINS, JOURNALS, PROGRAMS, VARIABLES, semaphores};
-use mms_types::{AreaRequest, DeviceRequest, ObjectClass, ObjectScope, Request, VariableRequest};
+use crate::tables::{CLOCK, DOMAINS, EVENTS, JOURNALS, PROGRAMS, VARIABLES, semaphores};
+use mms_types::{
+    AreaRequest, DeviceRequest, EventRequest, ObjectClass, ObjectScope, Request, VariableRequest,
+};
 use part_table::Hand;
 use parted_state::Parts;
 use serve_domains::scope_asked;
+use serve_events::{EventTables, cell_watched};
 use serve_variables::is_guarded;
 use std::alloc::Global;
 use variable_services::VariableTables;
@@ -35,7 +40,7 @@ fn class_part(clients: u32, class: ObjectClass) -> Option<u8>
     match class {
         ObjectClass::NamedVariable | ObjectClass::NamedVariableList => Some(VARIABLES),
         ObjectClass::Semaphore => Some(semaphores(clients)),
-        ObjectClass::EventCondition | ObjectClass::EventEnrollment => Some(CONDITIONS),
+        ObjectClass::EventCondition | ObjectClass::EventEnrollment => Some(EVENTS),
         ObjectClass::Journal => Some(JOURNALS),
         ObjectClass::Domain => Some(DOMAINS),
         ObjectClass::ProgramInvocation => Some(PROGRAMS),
@@ -94,16 +99,35 @@ fn domain_asks(scoped: bool, clients: u32) -> Parts
         (own_domains.numbers ++ (if scoped then scope_tables else []))) }
 {
     if scoped {
-        Parts::of(&[
-            DOMAINS,
-            VARIABLES,
-            CONDITIONS,
-            JOURNALS,
-            semaphores(clients),
-        ])
+        Parts::of(&[DOMAINS, VARIABLES, EVENTS, JOURNALS, semaphores(clients)])
     } else {
         Parts::of(&[DOMAINS])
     }
+}
+
+/// The parts of the event conditions and of the clock, that of the domains where one is written in the request, and that
+/// of the variables where one is to be watched.
+fn event_parts(of_domain: bool, of_variable: bool, clients: u32) -> Parts
+    ensures { IsSetOf result (placed clients (own_events.numbers
+        ++ clock_table ∷ (domain_tables of_domain ++ cell_tables of_variable))) }
+{
+    let _clients = clients;
+    match (of_domain, of_variable) {
+        (false, false) => Parts::of(&[EVENTS, CLOCK]),
+        (true, false) => Parts::of(&[EVENTS, CLOCK, DOMAINS]),
+        (false, true) => Parts::of(&[EVENTS, CLOCK, VARIABLES]),
+        (true, true) => Parts::of(&[EVENTS, CLOCK, DOMAINS, VARIABLES]),
+    }
+}
+
+/// The parts of the tables that a request for event conditions and enrollments uses, by its words.
+fn event_asks(asked: EventRequest<'_>, clients: u32) -> Parts
+    ensures { IsSetOf result (placed clients
+        (own_events.numbers ++ flat_map tables_for (request_in asked.entry).words)) }
+{
+    let of_domain = serve_events::names_domain(asked);
+    let of_variable = serve_events::variable_asked(asked).is_some();
+    event_parts(of_domain, of_variable, clients)
 }
 
 /// The parts of the tables that a request uses, by its words, with so many clients.
@@ -125,6 +149,7 @@ pub(crate) fn request_asks(asked: &Request, clients: u32) -> Parts
         AreaRequest::Domains(asked) => domain_asks(scope_asked(asked).is_some(), clients),
         AreaRequest::Invocations(_) => Parts::of(&[DOMAINS, PROGRAMS]),
         AreaRequest::Programs(_) => Parts::of(&[PROGRAMS]),
+        AreaRequest::Events(asked) => event_asks(asked, clients),
     }
 }
 
@@ -148,6 +173,34 @@ fn guards_asked(
     }
 }
 
+/// The part of the variables, where a cell is asked for.
+fn cell_parts(asked: bool, clients: u32) -> Parts
+    ensures { IsSetOf result (placed clients (cell_tables asked)) }
+{
+    let _clients = clients;
+    if asked {
+        Parts::of(&[VARIABLES])
+    } else {
+        Parts::new()
+    }
+}
+
+/// The same, where a request names an event condition that is there and is monitored.
+fn cell_asked(
+    alloc: Global,
+    held: &Hand<Cell>,
+    client: u32,
+    asked: EventRequest<'_>,
+    clients: u32,
+) -> Parts
+    ensures { (row : ClientRow) → row.client ≡ client → IsSetOf result (placed clients
+        (flat_map tables_for ((request_in asked.entry).more (events_in (held_at held.now 4)) row))) }
+{
+    let none = EventTables::empty(alloc);
+    let cell = cell_watched(events_held(held, &none), client, asked);
+    cell_parts(cell.is_some(), clients)
+}
+
 /// The parts of the tables that a request of a client uses beside those, by what they show.
 pub(crate) fn request_more(
     alloc: Global,
@@ -162,6 +215,7 @@ pub(crate) fn request_more(
 {
     match asked.area() {
         AreaRequest::Variables(asked) => guards_asked(alloc, held, client, asked, clients),
+        AreaRequest::Events(asked) => cell_asked(alloc, held, client, asked, clients),
         AreaRequest::Device(_)
         | AreaRequest::Semaphores(_)
         | AreaRequest::Domains(_)

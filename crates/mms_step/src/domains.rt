@@ -23,6 +23,7 @@ ghost use Rattle.mms_step.specs.Partition.{cell, parts_of, clients_among, client
 ghost use Rattle.mms_step.specs.Tasks.{row_held, AreDone, IsRoomless};
 
 use crate::applying::{put_client, take_client};
+use crate::events::events_held;
 use crate::needs::{client_held, semaphores_held, variables_held};
 use crate::serving::{Task, serve};
 use crate::tables::DOMAINS;
@@ -33,6 +34,7 @@ use mms_time::Semaphores;
 use mms_types::{DomainRequest, Identifier, Memory};
 use part_table::Hand;
 use serve_domains::{DomainTables, lacks_number, reply_lacks_number, scope_asked};
+use serve_events::EventTables;
 use std::alloc::Global;
 use variable_services::VariableTables;
 
@@ -98,10 +100,12 @@ fn scope_held(
         return Ok(true);
     };
     let no_variables = VariableTables::empty(alloc);
+    let no_events = EventTables::empty(alloc);
     let no_semaphores = Semaphores::new(alloc);
     let variables = variables_held(held, &no_variables);
+    let events = events_held(held, &no_events);
     let semaphores = semaphores_held(held, clients, &no_semaphores);
-    is_scope_used(alloc, variables, semaphores, domain)
+    is_scope_used(alloc, variables, events, semaphores, domain)
 }
 
 /// Whether something would be asked of a client by its request, and no number is left for that.

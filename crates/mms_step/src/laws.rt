@@ -16,6 +16,12 @@ ghost use Rattle.pool_sem.specs.Pools.{Pool as NamedTokens, has, is_free, wants}
 ghost use Rattle.variables.specs.Rows.{cell_at};
 ghost use Rattle.variables.specs.declared.rows.Cell.{Cell};
 ghost use Rattle.mms_step.specs.Guarded.{IsWrittenByOwner};
+ghost use Rattle.event_cond.specs.Evaluations.{evaluations};
+ghost use Rattle.event_ticks.specs.Sound as events;
+ghost use Rattle.cell_ticks.specs.Ticks.{dated};
+ghost use Rattle.cell_ticks.specs.declared.happening.Happening.TheVariants.{Semaphores};
+ghost use Rattle.mms_types.specs.declared.moment.Moment.{Moment};
+ghost use Rattle.sem_ticks.specs.Sound as semaphores;
 ghost use Rattle.sem_ticks.specs.declared.granted.Granted.{Granted};
 ghost use Rattle.mms_time.specs.Deadlines.{all_deadlines};
 ghost use Rattle.sem_ticks.specs.Granted.{lost_granted};
@@ -63,9 +69,9 @@ pub fn a_step_is_of_the_held_parts()
 
 /// Every state is sound that the device reaches from its start: its clients are as many as they were, each in its
 /// place, and no more requests of one wait than it may have, each with the number of one of the events; its semaphores
-/// are sound, and each deadline lies ahead; no two domains have one name; of the requests of a load that a client hasn't
-/// answered there is one for each domain that it loads, and no other; and the domain of each open upload is there, and
-/// isn't LOADING. Where the events are some that may come, its moment is one that six octets name.
+/// are sound, and each deadline lies ahead; its event conditions are sound, and each evaluation lies ahead; no two domains
+/// have one name; of the requests of a load that a client hasn't answered there is one for each domain that it loads, and
+/// no other; and the domain of each open upload is there, and isn't LOADING. Where the events are some that may come, its moment is one that six octets name.
 pub fn each_state_is_sound()
     ensures sound { (config : Config) (history : List CellEvent) → IsConfig config
         → IsSound (length history) (replay config history) }
@@ -115,16 +121,21 @@ pub fn a_guarded_cell_is_written_by_an_owner()
         ⊎ IsWrittenByOwner guard s event }
 {}
 
-/// Every deadline of a semaphore lies ahead, after any history.
+/// Every deadline of a semaphore lies ahead, after any history, and so does every evaluation of an event condition.
 pub fn every_deadline_lies_ahead()
-    ensures { (config : Config) (history : List CellEvent) → IsConfig config
+    ensures deadlines { (config : Config) (history : List CellEvent) → IsConfig config
         → All (λ d. (replay config history).now < d.at.0)
         (all_deadlines (replay config history).semaphores) }
+    ensures awaited { (config : Config) (history : List CellEvent) → IsConfig config
+        → All (λ e. (replay config history).now < e.0.0)
+        (evaluations (replay config history).events.conditions) }
 {}
 
-/// Two ticks are one: the state after both is that after one of both, what is to be sent included.
+/// Two ticks are one: the state after both is that after one of both, what is to be sent included. The state is any whose
+/// semaphores and event conditions are sound, and so each that the device reaches.
 pub fn two_ticks_are_one()
     ensures { (s : State) (first second : ℕ)
+        → semaphores.AreSound s.semaphores → events.AreSound s.events.conditions
         → step (step s (Tick first)) (Tick second) ≡ step s (Tick (first + second)) }
 {}
 
@@ -152,8 +163,8 @@ pub fn a_grant_is_answered_at_once()
         → Contains
         (lost_granted (row_at cell client s.clients).client (record { 0 = s.now }) s.semaphores) g
         → IsAnswered (step s (Lost client)) g }
-    ensures ticked { (s : State) (ms : ℕ) (g : Granted)
-        → Contains (meanwhile ms (cell.tables_of s)).happened (Grants g)
+    ensures ticked { (s : State) (ms : ℕ) (at : Moment) (g : Granted)
+        → Contains (meanwhile ms (cell.tables_of s)).happened (dated at (Semaphores (Grants g)))
         → IsAnswered (step s (Tick ms)) g }
 {}
 

@@ -7,6 +7,7 @@ mod areas;
 mod asks;
 mod cell;
 mod domains;
+mod events;
 pub mod laws;
 mod lifted;
 mod needs;

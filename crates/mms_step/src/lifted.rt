@@ -2,9 +2,9 @@
 
 ghost use Rattle.std.specs.Prelude.{◌≡◌, ◌≤◌, length};
 ghost use Rattle.part_table.specs.Held.{held_at};
-ghost use Rattle.mms_step.specs.Lifting.{clocked, domained, tabled, varied, with_programs, with_semaphores};
+ghost use Rattle.mms_step.specs.Lifting.{clocked, domained, tabled, varied, with_events, with_programs, with_semaphores};
 ghost use Rattle.cell_services.specs.Meant.{no_tables};
-ghost use Rattle.mms_step.specs.Partition.{clients_among, clock_in, clock_or, domains_in, domains_or, programs_in, programs_or, semaphores_in, semaphores_or, semaphores_place, variables_in, variables_or};
+ghost use Rattle.mms_step.specs.Partition.{clients_among, clock_in, clock_or, domains_in, domains_or, events_in, events_or, programs_in, programs_or, semaphores_in, semaphores_or, semaphores_place, variables_in, variables_or};
 
 use crate::tables::semaphores as semaphores_part;
 use crate::{Cell, Part};
@@ -13,6 +13,7 @@ use mms_time::Semaphores;
 use part_table::Hand;
 use program_inv::Programs;
 use serve_domains::DomainTables;
+use serve_events::EventTables;
 use std::alloc::Global;
 use std::mem;
 use variable_services::VariableTables;
@@ -81,6 +82,22 @@ fn exchange_programs(held: &mut Hand<Cell>, programs: &mut Programs)
     held.put(3, part);
 }
 
+/// Exchanges the event conditions and enrollments with those of the part, where they are held.
+fn exchange_events(held: &mut Hand<Cell>, events: &mut EventTables)
+    ensures part { held.new ≡ with_events events.old held.old }
+    ensures events { events.new ≡ events_or events.old (held_at held.old 4) }
+{
+    let Some(mut part) = held.take(4) else {
+        return;
+    };
+    if let Part::Events(own) = &mut *part {
+        mem::swap(own, events);
+        held.put(4, part);
+        return;
+    }
+    held.put(4, part);
+}
+
 /// Exchanges the semaphores with those of the part, where they are held, with so many clients.
 fn exchange_semaphores(held: &mut Hand<Cell>, clients: u32, semaphores: &mut Semaphores)
     requires many { clients ≡ clients_among (length held.old) }
@@ -110,6 +127,7 @@ pub(crate) fn lift(alloc: Global, held: &mut Hand<Cell>, clients: u32) -> Tables
       variables = variables_in (held_at held.old 1);
       domains = domains_in (held_at held.old 2);
       programs = programs_in (held_at held.old 3);
+      events = events_in (held_at held.old 4);
       semaphores = semaphores_in (held_at held.old (semaphores_place clients));
     } }
     ensures left { held.new ≡ tabled no_tables held.old }
@@ -119,6 +137,7 @@ pub(crate) fn lift(alloc: Global, held: &mut Hand<Cell>, clients: u32) -> Tables
     exchange_variables(held, &mut tables.variables);
     exchange_domains(held, &mut tables.domains);
     exchange_programs(held, &mut tables.programs);
+    exchange_events(held, &mut tables.events);
     exchange_semaphores(held, clients, &mut tables.semaphores);
     tables
 }
@@ -134,5 +153,6 @@ pub(crate) fn lower(held: &mut Hand<Cell>, clients: u32, tables: Tables)
     exchange_variables(held, &mut tables.variables);
     exchange_domains(held, &mut tables.domains);
     exchange_programs(held, &mut tables.programs);
+    exchange_events(held, &mut tables.events);
     exchange_semaphores(held, clients, &mut tables.semaphores);
 }

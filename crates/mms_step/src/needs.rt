@@ -1,13 +1,17 @@
 //! Which parts an event needs.
 
-ghost use Rattle.std.specs.Prelude.{◌≡◌, ℕ, ◌+◌, ◌<◌, ◌≤◌, [], true, Some, length, IfOk, IfNone, IfSome};
+ghost use Rattle.std.specs.Prelude.{◌≡◌, ℕ, ◌+◌, ◌<◌, ◌≤◌, ◌==◌, ◌++◌, [], true, Some, length, IfOk, IfNone, IfSome};
+ghost use Rattle.std.specs.List.{list_any};
 ghost use Rattle.mms_types.specs.Actors.{IsAmong};
 ghost use Rattle.part_table.specs.Held.{held_at, IsHandOf};
 ghost use Rattle.cell_client.specs.Meant.{came, meant};
 ghost use Rattle.variable_services.specs.Services.{no_variables};
 ghost use Rattle.parted_state.specs.Lifted.{tables_shown};
 ghost use Rattle.mms_step.specs.State.{State, IsSound};
-ghost use Rattle.cell_services.specs.Serving.{abort_asks, aborted, heard_asks, heard_more, loss_asks};
+ghost use Rattle.cell_services.specs.Serving.{abort_asks, all_told, evaluation_asks, heard_asks, heard_more, loss_asks, saying};
+ghost use Rattle.cell_ticks.specs.Ticks as device;
+ghost use Rattle.cell_ticks.specs.Ticks.{aborted};
+ghost use Rattle.parted_state.specs.Served.{is_told};
 ghost use Rattle.cell_services.specs.Tables.{last_moment, loss_tables};
 ghost use Rattle.mms_types.specs.Moments.{IsDated};
 ghost use Rattle.sem_ticks.specs.Ticks.{ticked};
@@ -16,21 +20,24 @@ ghost use Rattle.parted_state.specs.Sets.{IsSetOf};
 ghost use Rattle.mms_step.specs.Partition.{cell, parts_of, client_place, clients_among, clock_in, semaphores_in, semaphores_place, variables_in, IsClient};
 ghost use Rattle.cell_client.specs.Association.{verdict, verdict_by, Concludes, Replies, Takes};
 ghost use Rattle.cell_services.specs.Services.{area_of, lacks_number};
-ghost use Rattle.mms_step.specs.Needs.{also_parts, client_parts, footprint, happened_need, heard_need, is_held, is_own, lost_need, need, placed, time_need, verdict_need};
+ghost use Rattle.mms_step.specs.Needs.{also_parts, client_parts, footprint, heard_need, is_held, is_own, lost_need, need, placed, time_need, verdict_need};
 ghost use Rattle.mms_step.specs.Step.{IsInTime};
 ghost use Rattle.mms_step.specs.Tasks.{IsFoundOf, IsFoundWhereRead};
 ghost use Rattle.cell_client.specs.Reads.{pdu_read, IsDeep, IsReadingOf};
 
 use crate::asks::{request_asks, request_more};
 use crate::domains::domains_held;
+use crate::events::events_held;
 use crate::tables::{
-    BEFORE_CLIENTS, CLOCK, CONDITIONS, DOMAINS, JOURNALS, PROGRAMS, VARIABLES, clients_of,
-    semaphores,
+    BEFORE_CLIENTS, CLOCK, DOMAINS, EVENTS, JOURNALS, PROGRAMS, VARIABLES, clients_of, semaphores,
 };
 use crate::{Cell, Part};
 use association::ClientPart;
 use cell_client::{Came, Found, Reading, read, verdict_of};
-use cell_services::{also_told, happened_to, is_lossy, loss_told};
+use cell_services::{
+    CellsOf, ToldTables, also_told, happened_to, is_lossy, loss_told, told_meanwhile,
+};
+use cell_ticks::tick_told;
 use mms_pdu::{Read, Refusal};
 use mms_time::Semaphores;
 use mms_types::{AreaRequest, CellEvent, Memory, Moment, Request};
@@ -38,6 +45,7 @@ use part_table::Hand;
 use parted_state::Parts;
 use sem_ticks::{Happening, tick};
 use serve_domains::{DomainTables, lacks_number, reply_lacks_number};
+use serve_events::EventTables;
 use std::alloc::Global;
 use variable_services::VariableTables;
 
@@ -52,7 +60,7 @@ pub fn footprint(event: &CellEvent, clients: u32) -> Parts
         CellEvent::Heard { client, .. }
         | CellEvent::Lost { client }
         | CellEvent::Drain { client } => Parts::of(&[(BEFORE_CLIENTS + *client) as u8]),
-        CellEvent::Tick { .. } => Parts::of(&[CLOCK, CONDITIONS, semaphores(clients)]),
+        CellEvent::Tick { .. } => Parts::of(&[CLOCK, EVENTS, semaphores(clients)]),
         CellEvent::Ends { .. } => Parts::of(&[PROGRAMS]),
     }
 }
@@ -66,7 +74,7 @@ fn loss_parts(clients: u32) -> Parts
         CLOCK,
         VARIABLES,
         DOMAINS,
-        CONDITIONS,
+        EVENTS,
         JOURNALS,
         semaphores(clients),
     ])
@@ -106,7 +114,8 @@ fn request_lacks(
         | AreaRequest::Variables(_)
         | AreaRequest::Semaphores(_)
         | AreaRequest::Invocations(_)
-        | AreaRequest::Programs(_) => Ok(false),
+        | AreaRequest::Programs(_)
+        | AreaRequest::Events(_) => Ok(false),
     }
 }
 
@@ -306,11 +315,18 @@ fn also_need(
     ensures { IfOk result (λ parts. IsSetOf parts
         (missing held.now (also_parts clients held.now part.now.row (meant found.now)))) }
 {
-    let none = Semaphores::new(alloc);
-    let semaphores = semaphores_held(held, clients, &none);
+    let no_variables = VariableTables::empty(alloc);
     let no_domains = DomainTables::empty(alloc);
-    let domains = domains_held(held, &no_domains);
-    let told = also_told(alloc, domains, semaphores, now_held(held), part, found)?;
+    let no_events = EventTables::empty(alloc);
+    let no_semaphores = Semaphores::new(alloc);
+    let tables = ToldTables {
+        now: now_held(held),
+        variables: variables_held(held, &no_variables),
+        domains: domains_held(held, &no_domains),
+        events: events_held(held, &no_events),
+        semaphores: semaphores_held(held, clients, &no_semaphores),
+    };
+    let told = also_told(alloc, tables, part, found)?;
     Ok(untold(&told, clients, held))
 }
 
@@ -433,36 +449,76 @@ fn need_lost(
     Ok(untold(&told, clients, held))
 }
 
-/// The parts of further tables that are used where a client is lost by what happened.
-fn abort_asks(happened: &[Happening], clients: u32) -> Parts
+/// The parts of further tables that time uses: those of a client that is lost by what happened to semaphores, and the
+/// variables where a condition is evaluated.
+fn time_asks(happened: &[Happening], is_due: bool, clients: u32) -> Parts
     requires few { clients ≤ 64 }
-    ensures { IsSetOf result (placed clients (abort_asks (aborted happened.now))) }
+    ensures { IsSetOf result (placed clients
+        (evaluation_asks is_due ++ abort_asks (aborted happened.now))) }
 {
     let _clients = clients;
     if is_lossy(happened) {
         Parts::of(&[VARIABLES, DOMAINS, JOURNALS])
+    } else if is_due {
+        Parts::of(&[VARIABLES])
     } else {
         Parts::new()
     }
 }
 
-/// What is needed by time that goes by, of which something comes, once the clock and the semaphores are held.
-fn need_happened(
-    clients: u32,
-    held: &Hand<Cell>,
+/// The clients that are told of what happens until a moment, where conditions are evaluated.
+fn told_until(
     alloc: Global,
-    happened: &[Happening],
-) -> Result<Parts, Memory>
-    requires few { clients ≤ 64 }
-    ensures { IfOk result (λ parts. IsSetOf parts
-        (happened_need clients held.now happened.now)) }
+    held: &Hand<Cell>,
+    semaphores: &Semaphores,
+    events: &EventTables,
+    until: Moment,
+) -> Result<Vec<u32>, Memory>
+    requires { IsDated until }
+    ensures { IfOk result (λ clients. (k : ℕ) → is_told (all_told
+        (device.ticked (saying (variables_in (held_at held.now 1))) until semaphores.now
+        events.now.conditions events.now.enrolments).happened) k
+        ≡ list_any (λ c. c == k) clients.items) }
 {
-    let missing = unheld(&abort_asks(happened, clients), held);
-    if !missing.is_empty() {
-        return Ok(missing);
+    let none = VariableTables::empty(alloc);
+    let cells = CellsOf {
+        variables: variables_held(held, &none),
+    };
+    match tick_told(
+        alloc,
+        semaphores,
+        &events.conditions,
+        &events.enrolments,
+        &cells,
+        until,
+    )? {
+        None => Ok(Vec::new(alloc)),
+        Some(ticked) => told_meanwhile(alloc, &ticked.happened),
     }
-    let told = happened_to(alloc, happened)?;
-    Ok(untold(&told, clients, held))
+}
+
+/// The same with what happened to semaphores, where it is known whether any condition is evaluated: if none is, nobody
+/// else is told anything.
+fn told_by(
+    alloc: Global,
+    held: &Hand<Cell>,
+    semaphores: &Semaphores,
+    events: &EventTables,
+    until: Moment,
+    happened: &[Happening],
+) -> Result<Vec<u32>, Memory>
+    requires dated { IsDated until }
+    requires happened { happened.now ≡ (ticked until semaphores.now).happened }
+    ensures { IfOk result (λ clients. (k : ℕ) → is_told (all_told
+        (device.ticked (saying (variables_in (held_at held.now 1))) until semaphores.now
+        events.now.conditions events.now.enrolments).happened) k
+        ≡ list_any (λ c. c == k) clients.items) }
+{
+    if events.conditions.is_due(until) {
+        told_until(alloc, held, semaphores, events, until)
+    } else {
+        happened_to(alloc, happened)
+    }
 }
 
 /// What happens until a moment. Where no deadline is due, no semaphore is copied.
@@ -481,7 +537,7 @@ fn happening_until(
     }
 }
 
-/// What is needed by so many milliseconds that go by, once the clock and the semaphores are held.
+/// What is needed by so many milliseconds that go by, once the clock, the event conditions and the semaphores are held.
 fn need_time(alloc: Global, clients: u32, held: &Hand<Cell>, ms: u32) -> Result<Parts, Memory>
     requires many { clients ≡ clients_among (length held.now) }
     requires few { clients ≤ 64 }
@@ -490,9 +546,17 @@ fn need_time(alloc: Global, clients: u32, held: &Hand<Cell>, ms: u32) -> Result<
 {
     let none = Semaphores::new(alloc);
     let semaphores = semaphores_held(held, clients, &none);
+    let no_events = EventTables::empty(alloc);
+    let events = events_held(held, &no_events);
     let until = Moment(now_held(held).0 + u64::from(ms));
+    let is_due = events.conditions.is_due(until);
     let happened = happening_until(alloc, semaphores, until)?;
-    need_happened(clients, held, alloc, &happened)
+    let missing = unheld(&time_asks(&happened, is_due, clients), held);
+    if !missing.is_empty() {
+        return Ok(missing);
+    }
+    let told = told_by(alloc, held, semaphores, events, until, &happened)?;
+    Ok(untold(&told, clients, held))
 }
 
 /// What the words of an event, once the parts are held that they tell, and these parts need.

@@ -17,6 +17,7 @@ use mms_time::Semaphores;
 use mms_types::Memory;
 use program_inv::Programs;
 use serve_domains::DomainTables;
+use serve_events::EventTables;
 use std::alloc::Global;
 use variable_services::VariableTables;
 
@@ -76,7 +77,7 @@ pub fn start_parts(alloc: Global, config: &Config) -> Result<Vec<Box<Part>>, Mem
     )?;
     put(alloc, &mut parts, Part::Domains(DomainTables::empty(alloc)))?;
     put(alloc, &mut parts, Part::Programs(Programs::new(alloc)))?;
-    put(alloc, &mut parts, Part::Conditions)?;
+    put(alloc, &mut parts, Part::Events(EventTables::empty(alloc)))?;
     put(alloc, &mut parts, Part::Journals)?;
     for client in 0..config.clients {
         let device = device(alloc, config)?;

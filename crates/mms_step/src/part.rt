@@ -5,6 +5,7 @@ use cell_services::Clock;
 use mms_time::Semaphores;
 use program_inv::Programs;
 use serve_domains::DomainTables;
+use serve_events::EventTables;
 use variable_services::VariableTables;
 
 /// A part of the device. With n clients there are n + 7 of them, in this order, with a part for each client.
@@ -17,8 +18,8 @@ pub enum Part {
     Domains(DomainTables),
     /// Part 3: program invocations.
     Programs(Programs),
-    /// Part 4: event conditions and enrolments. There are none yet.
-    Conditions,
+    /// Part 4: event conditions and the enrollments on them.
+    Events(EventTables),
     /// Part 5: journals. There are none yet.
     Journals,
     /// Part 5 + c, of client c.
@@ -34,7 +35,7 @@ impl Drop for Part {
             Part::Variables(_variables) => {}
             Part::Domains(_domains) => {}
             Part::Programs(_programs) => {}
-            Part::Conditions => {}
+            Part::Events(_events) => {}
             Part::Journals => {}
             Part::Client(_client) => {}
             Part::Semaphores(_semaphores) => {}

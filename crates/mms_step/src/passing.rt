@@ -4,16 +4,18 @@ ghost use Rattle.std.specs.Prelude.{◌≡◌, ◌+◌, ◌≤◌, [], false, is
 ghost use Rattle.part_table.specs.Held.{held_at, IsHandOf};
 ghost use Rattle.parted_state.specs.Lifted.{put_in_place, tables_shown};
 ghost use Rattle.mms_time.specs.Deadlines.{next_due};
+ghost use Rattle.event_cond.specs.Skips.{any_due};
+ghost use Rattle.cell_ticks.specs.Deadlines as device;
 ghost use Rattle.cell_services.specs.Serving.{passes};
 ghost use Rattle.cell_services.specs.Tables.{last_moment};
 ghost use Rattle.mms_step.specs.Lifting.{clocked};
-ghost use Rattle.mms_step.specs.Partition.{cell, clients_among, clock_in, parts_of, semaphores_in, semaphores_place, IsSemaphores};
+ghost use Rattle.mms_step.specs.Partition.{cell, clients_among, clock_in, events_in, parts_of, semaphores_in, semaphores_place, IsSemaphores};
 ghost use Rattle.mms_step.specs.State.{State};
 ghost use Rattle.mms_step.specs.Tasks.{is_clock};
 
 use crate::areas::{put_semaphores, take_semaphores};
 use crate::serving::{Task, serve};
-use crate::tables::semaphores;
+use crate::tables::{EVENTS, semaphores};
 use crate::{Cell, Part};
 use mms_types::{Memory, Moment};
 use part_table::Hand;
@@ -59,21 +61,35 @@ fn comes_due(held: &mut Hand<Cell>, clients: u32, until: Moment) -> bool
     due
 }
 
-/// Whether the clock is held, and no deadline of the semaphores that are held is due once so many milliseconds have gone
-/// by. The parts stay as they are. It takes no memory.
+/// Whether an event condition that is held is to be evaluated by then. It takes no memory.
+fn evaluates(held: &Hand<Cell>, until: Moment) -> bool
+    ensures { result ≡ any_due until (events_in (held_at held.now 4)).conditions }
+{
+    match held.get(u32::from(EVENTS)) {
+        Some(Part::Events(events)) => events.conditions.is_due(until),
+        _ => false,
+    }
+}
+
+/// Whether the clock is held, and no deadline of the semaphores and the event conditions that are held is due once so
+/// many milliseconds have gone by. The parts stay as they are. It takes no memory.
 fn is_quiet(held: &mut Hand<Cell>, clients: u32, ms: u32) -> bool
     requires few { clients ≤ 64 }
     requires time { clock_in (held_at held.old 0) + ms ≤ last_moment }
     ensures clock { result ≡ true → is_clock (held_at held.old 0) ≡ true }
     ensures due { result ≡ true
-        → next_due (record { 0 = clock_in (held_at held.old 0) + ms })
-        (semaphores_in (held_at held.old (semaphores_place clients))) ≡ None }
+        → device.next_due (record { 0 = clock_in (held_at held.old 0) + ms })
+        (semaphores_in (held_at held.old (semaphores_place clients)))
+        (events_in (held_at held.old 4)).conditions ≡ None }
     ensures same { held.new ≡ held.old }
 {
     let Some(Part::Clock(clock)) = held.get(0) else {
         return false;
     };
     let until = Moment(clock.now().0 + u64::from(ms));
+    if evaluates(held, until) {
+        return false;
+    }
     if !are_held(held, clients) {
         return true;
     }

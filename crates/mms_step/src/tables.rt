@@ -29,8 +29,8 @@ pub(crate) const DOMAINS: u8 = 2;
 /// Program invocations.
 pub(crate) const PROGRAMS: u8 = 3;
 
-/// Event conditions and enrolments.
-pub(crate) const CONDITIONS: u8 = 4;
+/// Event conditions and the enrollments on them.
+pub(crate) const EVENTS: u8 = 4;
 
 /// Journals.
 pub(crate) const JOURNALS: u8 = 5;

@@ -4,7 +4,6 @@ use Rattle.cell_services.proofs.others.also_told.Goals as goal
 
 pub returns-in-Aborts : goal.returns-in-Aborts
 returns-in-Aborts c =
-    IfOk-weaker c.lost_told.result _ _ (λ clients reach t domains same at.
-    aborts_lost t c.args.part.now.row c.args.found.now clients.items c.in-Aborts.is
-    (own_loss c.args.semaphores.now c.args.now c.args.part.now.row.client _ clients.items c.client.ensures reach t same at))
-    c.lost_told.ensures
+    IfOk-weaker c.lost.result _ _ (λ clients reach t shown.
+    aborts_lost t c.args.part.now.row c.args.found.now clients.items c.in-Aborts.is (own_loss t c.args.part.now.row.client _ clients.items c.client.ensures (reach t shown)))
+    c.lost.ensures

@@ -7,7 +7,7 @@ use Rattle.cell_services.specs.Facts.{scope_tables}
 use Rattle.cell_services.specs.Services.{area_of, asks_of}
 use Rattle.cell_services.specs.Tables.{own_domains}
 use Rattle.mms_step.specs.Needs.{placed}
-use Rattle.mms_step.proofs.Scoping.{asks_of_domains, asks_of_semaphores, asks_of_variables}
+use Rattle.mms_step.proofs.Scoping.{asks_of_domains, asks_of_events, asks_of_semaphores, asks_of_variables}
 use Rattle.mms_step.proofs.asks.request_asks.Goals as goal
 
 pub returns-in-Variables : goal.returns-in-Variables
@@ -31,3 +31,9 @@ returns-in-Domains c =
     ∙ ap (placed c.args.clients) (sym (asks_of_domains c.in-Domains.asked c.scope_asked.result c.scope_asked.ensures))
     ∙ ap (λ (r : Request). placed c.args.clients (asks_of (area_of r))) c.in-Domains.ensures)
     c.domain_asks.ensures
+
+pub returns-in-Events : goal.returns-in-Events
+returns-in-Events c =
+    subst (IsSetOf c.event_asks.result)
+    (ap (placed c.args.clients) (sym (asks_of_events c.in-Events.asked)) ∙ ap (λ (r : Request). placed c.args.clients (asks_of (area_of r))) c.in-Events.ensures)
+    c.event_asks.ensures

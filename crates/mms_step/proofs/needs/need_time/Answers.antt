@@ -1,23 +1,21 @@
-use Rattle.std.proofs.Common.{◌≡◌, ◌+◌, ℕ, ap, ap₂, ◌∙◌, subst, List}
-use Rattle.std.proofs.lemmas.Result.{IfOk-weaker}
-use Rattle.parted_state.specs.Lifted.{tables_shown}
+use Rattle.std.proofs.Common.{◌+◌, ℕ, List, ap₂, ◌∙◌, subst, sym}
+use Rattle.parted_state.specs.Cut.{missing}
 use Rattle.parted_state.specs.Sets.{IsSetOf}
-use Rattle.sem_ticks.specs.Ticks.{Ticking}
-use Rattle.sem_ticks.specs.declared.ticks.Happening.{Happening}
-use Rattle.cell_services.specs.Serving.{meanwhile}
-use Rattle.mms_step.specs.Needs.{happened_need, time_need}
-use Rattle.mms_step.specs.Partition.{cell}
-use Rattle.mms_step.proofs.Asked.{meanwhile_shown}
+use Rattle.mms_step.specs.Needs.{client_parts}
+use Rattle.mms_step.proofs.TimeNeeds.{time_first, time_next}
 use Rattle.mms_step.proofs.needs.need_time.Goals as goal
+
+pub returns-then-not-is_empty : goal.returns-then-not-is_empty
+returns-then-not-is_empty c =
+    time_first c.args.held.now c.args.clients c.args.ms (record { 0 = c.now_held.result.0 + c.from.result }) c.semaphores_held-semaphores.result.now c.events_held-events.result.now
+    c.requires.many (ap₂ (λ (a b : ℕ). a + b) c.now_held.ensures.moment c.from.ensures) c.semaphores_held-semaphores.ensures c.events_held-events.ensures c.is_due-is_due.result
+    c.deref.result.now c.is_due-is_due.ensures (c.deref.ensures.value ∙ c.in_ok-happened.ensures) c.time_asks.result c.unheld-missing.result c.time_asks.ensures
+    c.unheld-missing.ensures (sym c.is_empty.ensures ∙ c.if-not-is_empty.true)
 
 pub returns : goal.returns
 returns c =
-    let same : c.deref.result.now ≡ (meanwhile c.args.ms (tables_shown cell c.args.held.now)).happened =
-    c.deref.ensures.value
-    ∙ c.in_ok-happened.ensures
-    ∙ ap (λ (t : Ticking). t.happened) (meanwhile_shown c.args.held.now c.args.clients c.args.ms (record { 0 = c.now_held.result.0 + c.from.result }) c.semaphores_held-semaphores.result.now c.requires.many
-    c.semaphores_held-semaphores.ensures (ap₂ (λ (a b : ℕ). a + b) c.now_held.ensures.moment c.from.ensures)) in
-    IfOk-weaker c.need_happened.result (λ parts. IsSetOf parts (happened_need c.args.clients c.args.held.now c.deref.result.now))
-    (λ parts. IsSetOf parts (time_need c.args.clients c.args.held.now c.args.ms))
-    (λ parts is. subst (λ (l : List Happening). IsSetOf parts (happened_need c.args.clients c.args.held.now l)) same is)
-    c.need_happened.ensures
+    time_next c.args.held.now c.args.clients c.args.ms (record { 0 = c.now_held.result.0 + c.from.result }) c.semaphores_held-semaphores.result.now c.events_held-events.result.now
+    c.requires.many (ap₂ (λ (a b : ℕ). a + b) c.now_held.ensures.moment c.from.ensures) c.semaphores_held-semaphores.ensures c.events_held-events.ensures c.is_due-is_due.result
+    c.deref.result.now c.is_due-is_due.ensures (c.deref.ensures.value ∙ c.in_ok-happened.ensures) c.time_asks.result c.unheld-missing.result c.time_asks.ensures
+    c.unheld-missing.ensures (sym c.is_empty.ensures ∙ c.if-not-is_empty.false) c.in_ok-told.told.items c.untold.result c.in_ok-told.ensures
+    (subst (λ (l : List ℕ). IsSetOf c.untold.result (missing c.args.held.now (client_parts c.args.clients l))) c.deref-3.ensures.value c.untold.ensures)
