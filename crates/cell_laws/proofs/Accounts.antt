@@ -19,7 +19,8 @@ use Rattle.cell_config.specs.Said.{IsConfig}
 use Rattle.parted_state.specs.Served.{row_at, reached, delivered}
 use Rattle.cell_client.specs.Association.{Verdict, Tells, Takes, Replies, Exhausts, Concludes, Cancels, Aborts, sends, verdict}
 use Rattle.cell_client.specs.Effects.{Effect, Sends, Opens, Drains, tell}
-use Rattle.cell_services.specs.Serving.{all_told, also_told, meanwhile, own_told, resolved, waiting_of}
+use Rattle.cell_ticks.specs.Ticks.{begun}
+use Rattle.cell_services.specs.Serving.{all_told, also_told, meanwhile, own_told, resolved, saying, waiting_of}
 use Rattle.cell_services.specs.Tables.{Tables, moment_after}
 use Rattle.mms_step.specs.Partition.{cell}
 use Rattle.mms_step.specs.State.{State, IsSound, start}
@@ -202,7 +203,7 @@ module _ (count : ℕ) (s : State) (sound : IsSound count s) (bound : Bound (ask
   event-kept (Lost client) = kept-more c _ s.clients taken sent [] none_taken (λ i. refl) (loses-fair count s sound bound client c (row_at cell client s.clients).association refl) kept
   event-kept (Tick ms) =
       kept-more c (all_told (meanwhile ms (cell.tables_of s)).happened) s.clients taken sent [] none_taken (λ i. refl) (
-        (fair-ticked c s.clients (moment_after ms (cell.tables_of s)) (record { rows = s.semaphores; happened = [] })
+        (fair-ticked c s.clients (saying s.variables) (moment_after ms (cell.tables_of s)) (begun s.semaphores s.events.conditions s.events.enrolments)
             (record { link = record { bound = bound; sound = sound.semaphores }; fair = inl (record { pdus = []; spelled = refl; balance = λ i. refl }) })).fair,
         told-unopening (meanwhile ms (cell.tables_of s)).happened,
       ) kept

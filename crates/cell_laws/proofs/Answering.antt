@@ -57,6 +57,7 @@ use Rattle.cell_laws.proofs.Events.{fair-grants, unopening-grants}
 use Rattle.cell_laws.proofs.Fair.{Fair, IsAnswerTo, Outcome, bit, waits, Unopening, join, none_taken, one_of, piece-abort, piece-asks, piece-closes, piece-own, piece-settles, piece-waits}
 use Rattle.cell_laws.proofs.Hears.{IsAdmitted, admitted-open, reached-answered, reached-closed, reached-still, waits_in}
 use Rattle.cell_laws.proofs.Linking.{numbered-client}
+use Rattle.cell_laws.proofs.Notices.{AreNotices, alteration-notices, deletion-notices, notices-fair, notices-unopening, trigger-notices}
 use Rattle.cell_laws.proofs.Once.{AnswerApart, lost-apart, lost-waits}
 use Rattle.cell_laws.proofs.Queues.{asker_in, rise}
 
@@ -174,11 +175,30 @@ module _ (count : ℕ) (s : State) (sound : IsSound count s) (bound : Bound (ask
       own : Pdu
       own = pdu.ConfirmedResponse invoke answer.InitiateDownloadSequence
 
+  -- a request is answered, and transitions of conditions are told
+  turning : (invoke : ℕ) (o : Option Answer) (also : List (ℕ × Effect)) → is_some o ≡ true → AreNotices also → Answered (tell client (answer_told invoke o) ++ also) (one_of client invoke c)
+  turning invoke None also there are = absurd (cc there)
+  turning invoke (Some a) also there are = (
+    retake c ((client, sends own) ∷ also) s.clients (λ i. one_of client invoke c i + none_taken i) (one_of client invoke c) (λ i. omega arith)
+        (join c ((client, sends own) ∷ []) also s.clients (one_of client invoke c) none_taken (notices-unopening also are)
+        (inl (piece-own c client invoke own s.clients (λ i. refl))) (notices-fair c also (reached cell client (sends own) s.clients) are)),
+    (refl, notices-unopening also are),
+  )
+    where
+      own : Pdu
+      own = pdu.ConfirmedResponse invoke a
+
   doing : (invoke : ℕ) (asked : Request) → IsAdmitted invoke its → its.client ≡ client → cause old its asked ≡ None
       → Answered (tell client (answer_told invoke (effect old its invoke asked).answer) ++ (effect old its invoke asked).also) (one_of client invoke c)
   doing invoke (request.TakeControl x) may is none = taking invoke x may is (take_told its.client x s.semaphores) refl none
   doing invoke (request.RelinquishControl x) may is none = giving invoke x (relinquish_granted its.client x s.semaphores) refl none
   doing invoke (request.InitiateDownloadSequence x) may is none = downloading invoke x.domain
+  doing invoke (request.DeleteEventCondition x) may is none =
+      let does : OutcomeIn Tables = effect old its invoke (request.DeleteEventCondition x) in turning invoke does.answer does.also refl (deletion-notices old its invoke x)
+  doing invoke (request.AlterEventConditionMonitoring x) may is none =
+      let does : OutcomeIn Tables = effect old its invoke (request.AlterEventConditionMonitoring x) in turning invoke does.answer does.also refl (alteration-notices old its invoke x)
+  doing invoke (request.TriggerEvent x) may is none =
+      let does : OutcomeIn Tables = effect old its invoke (request.TriggerEvent x) in turning invoke does.answer does.also refl (trigger-notices old its invoke x)
   doing invoke asked may is none =
       plain invoke (effect old its invoke asked).answer (effect old its invoke asked).also
       (answer-there its.client invoke (effect old its invoke asked) (settled old its invoke sound.uploads asked none) refl) refl

@@ -174,7 +174,14 @@ other-few n v none =
     (either (n == 42) _ _ (record { few = tt })
     (either (n == 43) _ _ (record { few = tt })
     (either (n == 44) _ _ (record { few = tt })
-    (either (n == 45) _ _ (record { few = tt }) (record { few = tt }))))))))))))))))))))))))))))))))
+    (either (n == 45) _ _ (record { few = tt })
+    (either (n == 47) _ _ (record { few = tt })
+    (either (n == 48) _ _ (record { few = tt })
+    (either (n == 50) _ _ (record { few = tt })
+    (either (n == 51) _ _ (record { few = tt })
+    (either (n == 52) _ _ (record { few = tt })
+    (either (n == 57) _ _ (record { few = tt })
+    (either (n == 58) _ _ (record { few = tt }) (record { few = tt })))))))))))))))))))))))))))))))))))))))
 
 abbrev members : Form → Components
 members (sequence cs) = cs

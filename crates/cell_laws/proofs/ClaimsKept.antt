@@ -45,7 +45,7 @@ use Rattle.sem_ticks.proofs.Kept.{row_found}
 use Rattle.sem_ticks.proofs.Settling.{settle-keeps}
 use Rattle.cell_client.specs.Association.{Verdict, Tells, Takes, Replies, Exhausts, Concludes, Cancels, Aborts, verdict}
 use Rattle.cell_services.specs.Services.{effect, effect_of, relinquish_outcome, reply_in, take_outcome}
-use Rattle.cell_services.specs.Serving.{all_told, is_served, is_served_in, resolved, tables_cancelled, tables_heard, tables_lost, waiting_of}
+use Rattle.cell_services.specs.Serving.{is_served, is_served_in, resolved, tables_cancelled, tables_heard, tables_lost, waiting_of}
 use Rattle.cell_services.specs.Tables.{Tables, moment_after, moment_of}
 use Rattle.mms_step.specs.Partition.{cell}
 use Rattle.mms_step.specs.State.{State, IsSound as IsSoundState, start}
@@ -53,6 +53,7 @@ use Rattle.mms_step.specs.Step.{replay, step}
 use Rattle.mms_step.proofs.Sound.{start_sound, step_sound}
 use Rattle.cell_laws.proofs.Bound.{key-same}
 use Rattle.cell_laws.proofs.Claims.{Single, single-expired, single-filter, single-given, single-lost, single-taken}
+use Rattle.cell_laws.proofs.Happened.{rows-then, sem_told}
 use Rattle.cell_laws.proofs.Hears.{waits_in}
 use Rattle.cell_laws.proofs.Linking.{Linked, Meanwhile, linked_step, next-keeps}
 use Rattle.cell_laws.proofs.Meetings.{sound-met}
@@ -237,7 +238,7 @@ next-single clients until u v same are = (next-keeps clients until u v same are.
     by_abort : (d : NamedDeadline) (b : Bool) (client : ℕ) → AreSingle (after_abort b client d.at (expire_after d.key d.entry d.at u.rows))
     by_abort d true client =
         lost-single client d.at (expire_after d.key d.entry d.at u.rows)
-        (sound-met u.rows (waits_in (delivered cell (all_told u.happened) clients)) (waits_in (delivered cell (all_told u.happened) clients)) are.0.bound are.0.sound d.key d.entry d.at)
+        (sound-met u.rows (waits_in (delivered cell (sem_told u.happened) clients)) (waits_in (delivered cell (sem_told u.happened) clients)) are.0.bound are.0.sound d.key d.entry d.at)
         (expired-single d.key d.entry d.at u.rows are.0.sound are.1)
     by_abort d false client = expired-single d.key d.entry d.at u.rows are.0.sound are.1
 
@@ -258,6 +259,7 @@ single-step count s (Heard client octets) sound linked single =
 single-step count s (Lost client) sound linked single =
     loss-single (cell.tables_of s) (row_at cell client s.clients) sound.semaphores single (row_at cell client s.clients).association
 single-step count s (Tick ms) sound linked single =
+    subst AreSingle (sym (rows-then count s sound ms))
     (settle-keeps (next_met (moment_after ms (cell.tables_of s))) (SingleMeanwhile s.clients) (next-single s.clients (moment_after ms (cell.tables_of s)))
     (entries_left s.semaphores) (record { rows = s.semaphores; happened = [] }) (record { bound = linked.bound; sound = sound.semaphores }, single)).1
 single-step count s (Ends name) sound linked single = single

@@ -18,7 +18,7 @@ Each P [] = Unit {0}
 Each P (row ∷ rows) = P row.0 × Each P rows
 
 module _ {T : Type 0} (P : Key → Type 0) where
-  each_kept : (p : Key × T → Bool) (rows : List (Key × T)) → Each P rows → Each P (filter p rows)
+  pub each_kept : (p : Key × T → Bool) (rows : List (Key × T)) → Each P rows → Each P (filter p rows)
   each_kept p [] all = tt
   each_kept p (row ∷ rows) all = by_test (p row) (each_kept p rows all.1)
     where

@@ -48,6 +48,7 @@ use Rattle.cell_laws.proofs.Bound.{Bound, both-true, nat-same, nat-test}
 use Rattle.cell_laws.proofs.ClaimsKept.{AreSingle, SingleIn, replay_single}
 use Rattle.cell_laws.proofs.Freeing.{Found, found-changed, numbered-found}
 use Rattle.cell_laws.proofs.Gone.{back-gone, gone-expired, gone-lost, none-expired, none-lost, scope-gone, take-gone}
+use Rattle.cell_laws.proofs.Happened.{rows-then}
 use Rattle.cell_laws.proofs.Hears.{waits_in}
 use Rattle.cell_laws.proofs.Holding.{Holder, due-cases, held-there, holder, lost-cases, named-there, sound-expired}
 use Rattle.cell_laws.proofs.Left.{leaves}
@@ -252,7 +253,8 @@ module _ (count : ℕ) (s : State) (sound : IsSoundState count s) (bound : Bound
   -- none is there at the end, if none is there then
   none-end : (key : Key) (n : ℕ) → entry_in key n (after_abort (is_owner entry && aborts entry.abort) entry.client due.at due_rows) ≡ None → entry_in key n (step s (Tick ms)).semaphores ≡ None
   none-end key n h =
-      ap (λ (t : Ticking). entry_in key n t.rows) (then_on count s sound bound ms point due entry times)
+      ap (entry_in key n) (rows-then count s sound ms)
+      ∙ ap (λ (t : Ticking). entry_in key n t.rows) (then_on count s sound bound ms point due entry times)
       ∙ none-ticked until key n (met_as point due its_expiry) h
 
   timed-gone : entry_in due.key entry.number (step s (Tick ms)).semaphores ≡ None

@@ -2,6 +2,7 @@
 use Rattle.std.proofs.Common.{◌≡◌, ℕ, zero, suc, ◌≤◌, inl, Bool, true, false, cond, ◌==◌, ◌&&◌, List, [], ◌∷◌, ◌++◌, length, slice_get, unwrap_or, Option, None, Some, is_some, refl, sym, ◌∙◌, ap, subst, arith}
 use Rattle.std.specs.List.{Contains}
 use Rattle.mms_types.specs.declared.key.Key.{Key}
+use Rattle.mms_types.specs.declared.moment.Moment.{Moment}
 use Rattle.association.specs.declared.waiting.Waiting.{Waiting}
 use Rattle.association.specs.Client.{ClientRow}
 use Rattle.token_sem.specs.declared.entry.SemEntry.{SemEntry}
@@ -17,7 +18,12 @@ use Rattle.sem_ticks.specs.declared.ticks.Happening.{Happening}
 use Rattle.sem_ticks.specs.declared.ticks.Happening.TheVariants as happens
 use Rattle.cell_client.specs.Effects.{Effect}
 use Rattle.cell_services.specs.Services.{grants_told}
-use Rattle.cell_services.specs.Serving.{all_told, happening_told, waiting_of}
+use Rattle.cell_ticks.specs.Ticks.{dated}
+use Rattle.cell_ticks.specs.declared.happening.DatedHappening.{DatedHappening}
+use Rattle.cell_ticks.specs.declared.happening.Happening.{Happening as DeviceHappening}
+use Rattle.cell_ticks.specs.declared.happening.Happening.TheVariants as device
+use Rattle.serve_events.specs.Told.{notices_told}
+use Rattle.cell_services.specs.Serving.{all_told, dated_told, happened_told, happening_told, waiting_of}
 use Rattle.mms_step.specs.Answered.{IsAnswered}
 use Rattle.mms_step.specs.Partition.{cell, no_client}
 use Rattle.mms_step.specs.State.{State}
@@ -28,7 +34,8 @@ use Rattle.cell_laws.proofs.Accounts.{waits-is}
 use Rattle.cell_laws.proofs.Bound.{Bound, both-true, nat-test}
 use Rattle.cell_laws.proofs.Entries.{queued-asks, rises-in}
 use Rattle.cell_laws.proofs.Freeing.{Found, IsTold, next_of, numbered-found, wants-queued}
-use Rattle.cell_laws.proofs.Hears.{granted-left, reached-answered, reached-closed, reached-still, waits_in}
+use Rattle.cell_laws.proofs.Hears.{all-still, granted-left, reached-answered, reached-closed, reached-still, waits_in}
+use Rattle.cell_laws.proofs.Notices.{notices-still, told-notices}
 use Rattle.cell_laws.proofs.Queues.{stands-any}
 
 -- ---- whose request waits is a client
@@ -68,28 +75,34 @@ both-none true o h = refl
 both-none false o h = h
 
 -- nothing that happens makes a request wait
-stays-none : (happened : List Happening) (clients : List ClientRow) (c i : ℕ) → waits_in clients c i ≡ None → waits_in (delivered cell (all_told happened) clients) c i ≡ None
-stays-none [] clients c i none = none
-stays-none (happens.WaitEnds client invoke ∷ rest) clients c i none =
-    stays-none rest (delivered cell (happening_told (happens.WaitEnds client invoke)) clients) c i
-    (reached-still _ tt client _ c i ∙ reached-answered invoke client clients c i ∙ both-none (c == client && i == invoke) (waits_in clients c i) none)
-stays-none (happens.Grants g ∷ rest) clients c i none =
-    stays-none rest (delivered cell (happening_told (happens.Grants g)) clients) c i
-    (reached-still _ tt g.client _ c i ∙ reached-answered g.invoke g.client clients c i ∙ both-none (c == g.client && i == g.invoke) (waits_in clients c i) none)
-stays-none (happens.Aborts client ∷ rest) clients c i none =
-    stays-none rest (delivered cell (happening_told (happens.Aborts client)) clients) c i
-    (reached-closed client _ c i ∙ both-none (c == client) _ (reached-still _ tt client clients c i ∙ none))
+stays-one : (happening : Happening) (clients : List ClientRow) (c i : ℕ) → waits_in clients c i ≡ None → waits_in (delivered cell (happening_told happening) clients) c i ≡ None
+stays-one (happens.WaitEnds client invoke) clients c i none =
+    reached-still _ tt client _ c i ∙ reached-answered invoke client clients c i ∙ both-none (c == client && i == invoke) (waits_in clients c i) none
+stays-one (happens.Grants g) clients c i none =
+    reached-still _ tt g.client _ c i ∙ reached-answered g.invoke g.client clients c i ∙ both-none (c == g.client && i == g.invoke) (waits_in clients c i) none
+stays-one (happens.Aborts client) clients c i none = reached-closed client _ c i ∙ both-none (c == client) _ (reached-still _ tt client clients c i ∙ none)
 
-pub happened-none : (happened : List Happening) (clients : List ClientRow) (g : Granted) → Contains happened (happens.Grants g)
+stays-then : (happening : DeviceHappening) (clients : List ClientRow) (c i : ℕ) → waits_in clients c i ≡ None → waits_in (delivered cell (happened_told happening) clients) c i ≡ None
+stays-then (device.Semaphores happening) clients c i none = stays-one happening clients c i none
+stays-then (device.Turns told) clients c i none =
+    all-still (notices_told told.turned told.notices) clients (notices-still (notices_told told.turned told.notices) (told-notices told.turned told.notices)) c i ∙ none
+
+stays-none : (happened : List DatedHappening) (clients : List ClientRow) (c i : ℕ) → waits_in clients c i ≡ None → waits_in (delivered cell (all_told happened) clients) c i ≡ None
+stays-none [] clients c i none = none
+stays-none (x ∷ rest) clients c i none =
+    ap (λ (rows : List ClientRow). waits_in rows c i) (delivered_both (dated_told x) (all_told rest) clients)
+    ∙ stays-none rest (delivered cell (dated_told x) clients) c i (stays-then x.happening clients c i none)
+
+pub happened-none : (happened : List DatedHappening) (clients : List ClientRow) (at : Moment) (g : Granted) → Contains happened (dated at (device.Semaphores (happens.Grants g)))
     → waits_in (delivered cell (all_told happened) clients) g.client g.invoke ≡ None
-happened-none [] clients g is = let low = is.1 in absurd (omega (arith, low))
-happened-none (x ∷ rest) clients g (zero, low, same) =
-    ap (λ (rows : List ClientRow). waits_in rows g.client g.invoke) (delivered_both (happening_told x) (all_told rest) clients)
-    ∙ stays-none rest (delivered cell (happening_told x) clients) g.client g.invoke
-    (subst (λ (y : Happening). waits_in (delivered cell (happening_told y) clients) g.client g.invoke ≡ None) (sym same) (answered-none [] (g ∷ []) clients g (inl refl)))
-happened-none (x ∷ rest) clients g (suc k, low, same) =
-    ap (λ (rows : List ClientRow). waits_in rows g.client g.invoke) (delivered_both (happening_told x) (all_told rest) clients)
-    ∙ happened-none rest (delivered cell (happening_told x) clients) g (k, omega (arith, low), same)
+happened-none [] clients at g is = let low = is.1 in absurd (omega (arith, low))
+happened-none (x ∷ rest) clients at g (zero, low, same) =
+    ap (λ (rows : List ClientRow). waits_in rows g.client g.invoke) (delivered_both (dated_told x) (all_told rest) clients)
+    ∙ stays-none rest (delivered cell (dated_told x) clients) g.client g.invoke
+    (subst (λ (y : DatedHappening). waits_in (delivered cell (dated_told y) clients) g.client g.invoke ≡ None) (sym same) (answered-none [] (g ∷ []) clients g (inl refl)))
+happened-none (x ∷ rest) clients at g (suc k, low, same) =
+    ap (λ (rows : List ClientRow). waits_in rows g.client g.invoke) (delivered_both (dated_told x) (all_told rest) clients)
+    ∙ happened-none rest (delivered cell (dated_told x) clients) at g (k, omega (arith, low), same)
 
 -- ---- what it is told
 

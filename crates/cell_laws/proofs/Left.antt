@@ -42,7 +42,7 @@ use Rattle.sem_ticks.proofs.Kept.{row_found}
 use Rattle.cell_client.specs.Association.{Verdict, Concludes, Aborts, Exhausts, loss_told, verdict}
 use Rattle.cell_client.specs.Effects.{Effect, tell}
 use Rattle.cell_services.specs.Services.{grants_told}
-use Rattle.cell_services.specs.Serving.{all_told, also_lost, also_told, own_told, resolved, tables_heard, tables_lost}
+use Rattle.cell_services.specs.Serving.{also_lost, also_told, own_told, resolved, tables_heard, tables_lost}
 use Rattle.mms_step.specs.Answered.{EndsIt, IsAnswered}
 use Rattle.mms_step.specs.Partition.{cell}
 use Rattle.mms_step.specs.State.{State, IsSound as IsSoundState}
@@ -58,6 +58,7 @@ use Rattle.cell_laws.proofs.ClaimsKept.{AreSingle, SingleIn, SingleMeanwhile, ex
 use Rattle.cell_laws.proofs.Entries.{leaving}
 use Rattle.cell_laws.proofs.Freeing.{Found, IsTold, freed, gone, next_of, passes-on, stands-contains}
 use Rattle.cell_laws.proofs.Granted.{answered-none, in-range, told-of}
+use Rattle.cell_laws.proofs.Happened.{sem_told}
 use Rattle.cell_laws.proofs.Hears.{waits_in}
 use Rattle.cell_laws.proofs.Linking.{Meanwhile, Meant, expiry-left, numbered-client, resolved-meant, verdict-meant}
 use Rattle.cell_laws.proofs.Meetings.{bound-met, sound-met}
@@ -287,17 +288,17 @@ module _ (count : ℕ) (s : State) (sound : IsSoundState count s) (bound : Bound
   its_expiry = expiry count s sound bound ms point due entry times
 
   abbrev pub met_clients : List ClientRow
-  met_clients = delivered cell (all_told (expiry_told gone_rows due.key its_expiry)) (delivered cell (all_told point.happened) s.clients)
+  met_clients = delivered cell (sem_told (expiry_told gone_rows due.key its_expiry)) (delivered cell (sem_told point.happened) s.clients)
 
   gone-bound : Bound (asker gone_rows) (waits_in met_clients)
   gone-bound =
-      bound-met point.rows (waits_in (delivered cell (all_told point.happened) s.clients)) (waits_in met_clients) at.bound at.sound gone_rows due.key due.entry due.at
+      bound-met point.rows (waits_in (delivered cell (sem_told point.happened) s.clients)) (waits_in met_clients) at.bound at.sound gone_rows due.key due.entry due.at
       its_expiry (is_expired count s sound bound ms point due entry times)
-      (expiry-left gone_rows due.key its_expiry (delivered cell (all_told point.happened) s.clients))
+      (expiry-left gone_rows due.key its_expiry (delivered cell (sem_told point.happened) s.clients))
 
   pub gone-sound : AreSound gone_rows
   gone-sound =
-      sound-met point.rows (waits_in (delivered cell (all_told point.happened) s.clients)) (waits_in met_clients) at.bound at.sound due.key due.entry due.at
+      sound-met point.rows (waits_in (delivered cell (sem_told point.happened) s.clients)) (waits_in met_clients) at.bound at.sound due.key due.entry due.at
 
   gone-single : AreSingle s.semaphores → AreSingle gone_rows
   gone-single single =
@@ -330,8 +331,8 @@ module _ (count : ℕ) (s : State) (sound : IsSoundState count s) (bound : Bound
       few : e.client ≤ length s.clients
       few =
           let low = range.1 in
-          let one = told-many (all_told (expiry_told gone_rows due.key its_expiry)) (delivered cell (all_told point.happened) s.clients) in
-          let two = told-many (all_told point.happened) s.clients in
+          let one = told-many (sem_told (expiry_told gone_rows due.key its_expiry)) (delivered cell (sem_told point.happened) s.clients) in
+          let two = told-many (sem_told point.happened) s.clients in
           omega (arith, low, one, two)
 
   pub aborted-on : AreSingle s.semaphores → OwnsUnkept key gone_rows entry.client → IsPassedOn key None due.at gone_rows (lost entry.client due.at gone_rows) (step s (Tick ms))

@@ -7,10 +7,12 @@ pub mod Bounds
 pub mod Meetings
 pub mod Verdicts
 pub mod Hears
-pub mod Linking
 pub mod Replayed
 pub mod Once
 pub mod Fair
+pub mod Notices
+pub mod Happened
+pub mod Linking
 pub mod Events
 pub mod Answering
 pub mod Passing
@@ -54,3 +56,6 @@ pub mod LoadsTold
 pub mod LoadsEnded
 pub mod LoadsStay
 pub mod WorkedLoads
+pub mod Opened
+pub mod Enrolled
+pub mod WorkedEnrolled

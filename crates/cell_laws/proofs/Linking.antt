@@ -59,7 +59,11 @@ use Rattle.cell_services.specs.Requests.{among}
 use Rattle.cell_services.specs.Services.{cause, effect, grants_told, relinquish_outcome, take_outcome}
 use Rattle.cell_client.specs.Areas.{OutcomeIn}
 use Rattle.cell_client.specs.Requests.{answer_told, fits, is_done, refuses, request_told, size_of}
-use Rattle.cell_services.specs.Serving.{all_told, also_lost, also_told, happening_told, own_told, resolved, services, tables_cancelled, tables_heard, tables_lost, waiting_of}
+use Rattle.cell_ticks.specs.Ticks as device
+use Rattle.cell_ticks.specs.declared.happening.DatedHappening.{DatedHappening}
+use Rattle.event_cond.specs.Skips.{Saying}
+use Rattle.event_ticks.specs.Ticks as events
+use Rattle.cell_services.specs.Serving.{all_told, also_lost, also_told, happening_told, own_told, resolved, saying, services, tables_cancelled, tables_heard, tables_lost, waiting_of}
 use Rattle.cell_services.specs.Tables.{Tables, moment_after, moment_of, own_domains}
 use Rattle.serve_domains.specs.Domains.{asks_next, replied_to, reply_of}
 use Rattle.serve_domains.specs.Tables.{DomainTables}
@@ -71,9 +75,11 @@ use Rattle.mms_step.proofs.Sound.{delivered_both}
 use Rattle.cell_laws.specs.Linked.{asker}
 use Rattle.cell_laws.proofs.Bound.{Bound, bound-same, nat-same, of-both}
 use Rattle.cell_laws.proofs.Bounds.{bound-answered, bound-cancelled, bound-defined, bound-deleted, bound-given, bound-waits, told_of}
+use Rattle.cell_laws.proofs.Happened.{at_conditions, at_semaphores, conditions-told, from_rows, keeps-ticked, sem-both, sem_told, then-told, told-more}
 use Rattle.cell_laws.proofs.Hears.{AllStill, AreStill, IsAdmitted, RowsDistinct, admitted-none, admitted-open, all-still, distinct-told, granted-left, next-still, reached-answered, reached-closed, reached-still, reached-waits, told-still, waits_in}
 use Rattle.cell_laws.proofs.Losing.{bound-lost}
 use Rattle.cell_laws.proofs.Meetings.{bound-met, is_met, sound-met}
+use Rattle.cell_laws.proofs.Notices.{alteration-notices, deletion-notices, notices-still, trigger-notices}
 use Rattle.cell_laws.proofs.Queues.{is_answered, rise}
 use Rattle.cell_laws.proofs.Verdicts.{by-conclusion, by-error, by-rejected, by-response, by-tables}
 
@@ -230,6 +236,15 @@ module _ (count : ℕ) (s : State) (sound : IsSound count s) (bound : Bound (ask
     done (request.DefineSemaphore x) none = bound-defined s.semaphores (waits_in rows) now_bound its.client x
     done (request.DeleteSemaphore x) none = bound-deleted s.semaphores (waits_in rows) now_bound sound.semaphores its.client x none
     done (request.InitiateDownloadSequence x) none = told-nothing ((its.client, Asks asks.Segment x.domain) ∷ []) (tt, tt)
+    done (request.DeleteEventCondition x) none =
+        let also : List (ℕ × Effect) = (effect old its invoke (request.DeleteEventCondition x)).also in
+        told-nothing also (notices-still also (deletion-notices old its invoke x))
+    done (request.AlterEventConditionMonitoring x) none =
+        let also : List (ℕ × Effect) = (effect old its invoke (request.AlterEventConditionMonitoring x)).also in
+        told-nothing also (notices-still also (alteration-notices old its invoke x))
+    done (request.TriggerEvent x) none =
+        let also : List (ℕ × Effect) = (effect old its invoke (request.TriggerEvent x)).also in
+        told-nothing also (notices-still also (trigger-notices old its invoke x))
     done asked none = now_bound
 
   answered-still : (invoke : ℕ) (told : Option Answer) → AreStill (answer_told invoke told)
@@ -330,33 +345,30 @@ module _ (count : ℕ) (s : State) (sound : IsSound count s) (bound : Bound (ask
 
 -- ---- time goes by
 
-told-both : (xs ys : List Happening) (rows : List ClientRow) → delivered cell (all_told (xs ++ ys)) rows ≡ delivered cell (all_told ys) (delivered cell (all_told xs) rows)
-told-both [] ys rows = refl
-told-both (x ∷ xs) ys rows =
-    delivered_both (happening_told x) (all_told (xs ++ ys)) rows ∙ told-both xs ys (delivered cell (happening_told x) rows)
-    ∙ ap (delivered cell (all_told ys)) (sym (delivered_both (happening_told x) (all_told xs) rows))
+told-both : (xs ys : List Happening) (rows : List ClientRow) → delivered cell (sem_told (xs ++ ys)) rows ≡ delivered cell (sem_told ys) (delivered cell (sem_told xs) rows)
+told-both xs ys rows = ap (λ (l : List (ℕ × Effect)). delivered cell l rows) (sem-both xs ys) ∙ delivered_both (sem_told xs) (sem_told ys) rows
 
-pub told-grants : (grants : List Granted) → all_told (map happens.Grants grants) ≡ grants_told grants
+pub told-grants : (grants : List Granted) → sem_told (map happens.Grants grants) ≡ grants_told grants
 told-grants [] = refl
 told-grants (g ∷ grants) = ap (λ (l : List (ℕ × Effect)). happening_told (happens.Grants g) ++ l) (told-grants grants)
 
 -- an entry's deadline is met
 pub expiry-left : (named : Rows) (key : Key) (x : Expired) (rows : List ClientRow) (c i : ℕ)
-    → waits_in (delivered cell (all_told (expiry_told named key x)) rows) c i ≡ cond (is_met named key x c i) None (waits_in rows c i)
+    → waits_in (delivered cell (sem_told (expiry_told named key x)) rows) c i ≡ cond (is_met named key x c i) None (waits_in rows c i)
 expiry-left named key x rows c i = by_waited x.waited
   where
-    by_grant : (o : Option Grant) → waits_in (delivered cell (all_told (ticks.grant_told named key o)) rows) c i ≡ cond (is_answered (option_to_list (told_of named key o)) c i) None (waits_in rows c i)
+    by_grant : (o : Option Grant) → waits_in (delivered cell (sem_told (ticks.grant_told named key o)) rows) c i ≡ cond (is_answered (option_to_list (told_of named key o)) c i) None (waits_in rows c i)
     by_grant None = refl
     by_grant (Some g) = granted-left (granted named (key, g) ∷ []) rows c i
 
-    by_waited : (b : Bool) → waits_in (delivered cell (all_told (if b then happens.WaitEnds x.client x.invoke ∷ [] else ticks.grant_told named key x.grant)) rows) c i
+    by_waited : (b : Bool) → waits_in (delivered cell (sem_told (if b then happens.WaitEnds x.client x.invoke ∷ [] else ticks.grant_told named key x.grant)) rows) c i
         ≡ cond (if b then c == x.client && i == x.invoke else is_answered (option_to_list (told_of named key x.grant)) c i) None (waits_in rows c i)
     by_waited true = reached-still _ tt x.client (reached cell x.client (Answers x.invoke) rows) c i ∙ reached-answered x.invoke x.client rows c i
     by_waited false = by_grant x.grant
 
 -- and an association may be aborted
 aborted-left : (client : ℕ) (now : Moment) (rows : Rows) (clients : List ClientRow) (c i : ℕ)
-    → waits_in (delivered cell (all_told (abort_told true client now rows)) clients) c i
+    → waits_in (delivered cell (sem_told (abort_told true client now rows)) clients) c i
     ≡ cond (is_answered (lost_granted client now rows) c i) None (cond (c == client) None (waits_in clients c i))
 aborted-left client now rows clients c i =
     ap (λ (told : List (ℕ × Effect)). waits_in (delivered cell told (reached cell client Closes (reached cell client (Sends Abort) clients))) c i) (told-grants (lost_granted client now rows))
@@ -366,7 +378,7 @@ aborted-left client now rows clients c i =
 
 -- what holds of the semaphores meanwhile, and of clients that are told of what happened
 pub record Meanwhile (clients : List ClientRow) (s : Ticking) : Type 0 where
-  pub bound : Bound (asker s.rows) (waits_in (delivered cell (all_told s.happened) clients))
+  pub bound : Bound (asker s.rows) (waits_in (delivered cell (sem_told s.happened) clients))
   pub sound : AreSound s.rows
 
 module _ (clients : List ClientRow) where
@@ -377,10 +389,10 @@ module _ (clients : List ClientRow) where
       rows = expire_after d.key d.entry d.at s.rows
 
       told : List ClientRow
-      told = delivered cell (all_told s.happened) clients
+      told = delivered cell (sem_told s.happened) clients
 
       met_clients : List ClientRow
-      met_clients = delivered cell (all_told (expiry_told rows d.key x)) told
+      met_clients = delivered cell (sem_told (expiry_told rows d.key x)) told
 
       met_bound : Bound (asker rows) (waits_in met_clients)
       met_bound = bound-met s.rows (waits_in told) (waits_in met_clients) are.bound are.sound rows d.key d.entry d.at x is (expiry-left rows d.key x told)
@@ -389,18 +401,18 @@ module _ (clients : List ClientRow) where
       met_sound = sound-met s.rows (waits_in told) (waits_in met_clients) are.bound are.sound d.key d.entry d.at
 
       in_parts : (more : List Happening) (c i : ℕ)
-          → waits_in (delivered cell (all_told (s.happened ++ (expiry_told rows d.key x ++ more))) clients) c i ≡ waits_in (delivered cell (all_told more) met_clients) c i
+          → waits_in (delivered cell (sem_told (s.happened ++ (expiry_told rows d.key x ++ more))) clients) c i ≡ waits_in (delivered cell (sem_told more) met_clients) c i
       in_parts more c i =
           ap (λ (l : List ClientRow). waits_in l c i) (told-both s.happened (expiry_told rows d.key x ++ more) clients ∙ told-both (expiry_told rows d.key x) more told)
 
       by_abort : (b : Bool) → Meanwhile clients (record { rows = after_abort b x.client d.at rows; happened = s.happened ++ (expiry_told rows d.key x ++ abort_told b x.client d.at rows) })
       by_abort false = record {
-        bound = bound-same (asker rows) (asker rows) (waits_in met_clients) (waits_in (delivered cell (all_told (s.happened ++ (expiry_told rows d.key x ++ []))) clients)) met_bound (λ k n. refl) (in_parts []);
+        bound = bound-same (asker rows) (asker rows) (waits_in met_clients) (waits_in (delivered cell (sem_told (s.happened ++ (expiry_told rows d.key x ++ []))) clients)) met_bound (λ k n. refl) (in_parts []);
         sound = met_sound;
       }
       by_abort true = record {
         bound = bound-lost x.client d.at rows (rise rows met_sound) (waits_in met_clients)
-            (waits_in (delivered cell (all_told (s.happened ++ (expiry_told rows d.key x ++ abort_told true x.client d.at rows))) clients)) met_bound
+            (waits_in (delivered cell (sem_told (s.happened ++ (expiry_told rows d.key x ++ abort_told true x.client d.at rows))) clients)) met_bound
             (λ c i. in_parts (abort_told true x.client d.at rows) c i ∙ aborted-left x.client d.at rows met_clients c i);
         sound = keeps_lost x.client d.at rows met_sound;
       }
@@ -422,6 +434,53 @@ module _ (clients : List ClientRow) where
   pub ticked-keeps : (until : Moment) (s : Ticking) → Meanwhile clients s → Meanwhile clients (ticked_on until s)
   ticked-keeps until s are = settle-keeps (next_met until) (Meanwhile clients) (next-keeps until) (entries_left s.rows) s are
 
+-- ---- and on the device, whose conditions are evaluated meanwhile
+
+pub record OnDevice (clients : List ClientRow) (s : device.Ticking) : Type 0 where
+  pub bound : Bound (asker s.semaphores) (waits_in (delivered cell (all_told s.happened) clients))
+  pub sound : AreSound s.semaphores
+
+module _ (clients : List ClientRow) (cells : Saying) where
+  pub device-met : (s : device.Ticking) (d : NamedDeadline) (x : Expired) → expired d.key d.entry s.semaphores ≡ Some x → OnDevice clients s
+      → OnDevice clients (device.with_semaphores s d.at (met_as (from_rows s.semaphores) d x))
+  device-met s d x is are = record { bound = subst (λ (rows : List ClientRow). Bound (asker after.rows) (waits_in rows)) (sym so) met_so.bound; sound = met_so.sound }
+    where
+      told : List ClientRow
+      told = delivered cell (all_told s.happened) clients
+
+      after : Ticking
+      after = met_as (from_rows s.semaphores) d x
+
+      met_so : Meanwhile told after
+      met_so = one-met told (from_rows s.semaphores) d x is (record { bound = are.bound; sound = are.sound })
+
+      so : delivered cell (all_told (s.happened ++ at_semaphores d.at after.happened)) clients ≡ delivered cell (sem_told after.happened) told
+      so =
+          ap (λ (l : List (ℕ × Effect)). delivered cell l clients) (then-told s.happened d.at after.happened)
+          ∙ delivered_both (all_told s.happened) (sem_told after.happened) clients
+
+  pub device-evaluated : (s : device.Ticking) (d : NamedDeadline) → OnDevice clients s → OnDevice clients (device.evaluated cells s d)
+  device-evaluated s d are = record {
+    bound = bound-same (asker s.semaphores) (asker s.semaphores) (waits_in told) (waits_in (delivered cell (all_told (s.happened ++ turns)) clients)) are.bound (λ k n. refl)
+        (λ c i. ap (λ (rows : List ClientRow). waits_in rows c i) so ∙ all-still (all_told turns) told (notices-still (all_told turns) (conditions-told d.at evaluated.told)) c i);
+    sound = are.sound;
+  }
+    where
+      told : List ClientRow
+      told = delivered cell (all_told s.happened) clients
+
+      evaluated : events.Ticking
+      evaluated = events.evaluated cells (events.begun s.conditions s.enrolments []) (d.at, d.key)
+
+      turns : List DatedHappening
+      turns = at_conditions d.at evaluated.told
+
+      so : delivered cell (all_told (s.happened ++ turns)) clients ≡ delivered cell (all_told turns) told
+      so = ap (λ (l : List (ℕ × Effect)). delivered cell l clients) (told-more s.happened turns) ∙ delivered_both (all_told s.happened) (all_told turns) clients
+
+  device-ticked : (until : Moment) (s : device.Ticking) → OnDevice clients s → OnDevice clients (device.ticked_on cells until s)
+  device-ticked until = keeps-ticked cells until (OnDevice clients) (λ s d x due is are. device-met s d x is are) device-evaluated
+
 -- ---- each event
 
 pub linked-bound : (count : ℕ) (s : State) (event : CellEvent) → IsSound count s → Bound (asker s.semaphores) (waits_in s.clients)
@@ -432,7 +491,8 @@ linked-bound count s (Heard client octets) sound bound =
     (resolved-meant (cell.tables_of s) row (verdict row octets) (verdict-meant row octets))
 linked-bound count s (Lost client) sound bound = loses-one count s sound bound client (row_at cell client s.clients).association refl
 linked-bound count s (Tick ms) sound bound =
-    (ticked-keeps s.clients (moment_after ms (cell.tables_of s)) (record { rows = s.semaphores; happened = [] }) (record { bound = bound; sound = sound.semaphores })).bound
+    (device-ticked s.clients (saying s.variables) (moment_after ms (cell.tables_of s)) (device.begun s.semaphores s.events.conditions s.events.enrolments)
+    (record { bound = bound; sound = sound.semaphores })).bound
 linked-bound count s (Ends name) sound bound = bound
 linked-bound count s (Drain client) sound bound =
     bound-same (asker s.semaphores) (asker s.semaphores) (waits_in s.clients) (waits_in (delivered cell (tell client (Drains ∷ [])) s.clients)) bound (λ k n. refl)

@@ -15,6 +15,7 @@ use Rattle.cell_services.specs.Services.{grant_told, grants_told}
 use Rattle.mms_step.proofs.LoadsKept.{AreQuiet}
 use Rattle.mms_step.proofs.PartsAfter.{told_one}
 use Rattle.mms_step.specs.Partition.{cell}
+use Rattle.cell_laws.proofs.Notices.{AreNotices}
 
 -- so is the row of each client
 abbrev pub AllRows : (ℕ → ClientRow → Type 0) → List ClientRow → Type 0
@@ -81,6 +82,11 @@ both_plain (x ∷ xs) ys a b = (a.0, both_plain xs ys a.1 b)
 pub grants_plain : (grants : List Granted) → ArePlain (grants_told grants)
 grants_plain [] = tt
 grants_plain (g ∷ grants) = both_plain (grant_told g) (grants_told grants) (tt, (tt, tt)) (grants_plain grants)
+
+-- nor does what is told of transitions
+pub notices_plain : (told : List (ℕ × Effect)) → AreNotices told → ArePlain told
+notices_plain [] are = tt
+notices_plain (t ∷ told) are = (subst IsPlain (sym are.0.is) tt, notices_plain told are.1)
 
 -- nor the loads
 pub plain_quiet : (told : List (ℕ × Effect)) → ArePlain told → AreQuiet told

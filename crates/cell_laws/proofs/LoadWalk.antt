@@ -1,5 +1,6 @@
 -- What holds of loads, of domains and of the rows of clients holds along a history, where each thing that may be done to them keeps it.
 use Rattle.std.specs.Prelude.{◌≡◌, ℕ, zero, suc, ◌+◌, Bool, true, false, not, fold, length, Option, None, Some, List, [], ◌∷◌, ◌++◌, option_to_list, option_map, slice_get, unwrap_or, Result, if◌then◌else◌, nat_le, nat_lt, is_some, refl}
+use Rattle.std.specs.List.{cons_option}
 use Rattle.std.specs.Option.{option_map_or}
 use Rattle.std.proofs.Common.{ap, sym, ◌∙◌, subst, arith, append-nil, append_assoc}
 use Rattle.mms_types.proofs.Conditions.{none_holds}
@@ -9,6 +10,7 @@ use Rattle.mms_types.specs.declared.asked.Asked.TheVariants as asks
 use Rattle.mms_types.specs.declared.domain.InitiateDownloadSequence.{InitiateDownloadSequence}
 use Rattle.mms_types.specs.declared.event.CellEvent.{CellEvent}
 use Rattle.mms_types.specs.declared.event.CellEvent.TheVariants.{Heard, Lost, Tick, Ends, Drain}
+use Rattle.mms_types.specs.declared.moment.Moment.{Moment}
 use Rattle.mms_types.specs.declared.pdu.Answer.{Answer}
 use Rattle.mms_types.specs.declared.pdu.Pdu.{Pdu}
 use Rattle.mms_types.specs.declared.pdu.Request.{Request}
@@ -21,7 +23,11 @@ use Rattle.mms_time.specs.declared.taking.TakeDone.{TakeDone}
 use Rattle.mms_time.specs.declared.taking.TakeDone.TheVariants as taken
 use Rattle.sem_ticks.specs.Granted.{lost_granted, relinquish_granted}
 use Rattle.sem_ticks.specs.declared.granted.Granted.{Granted}
-use Rattle.sem_ticks.specs.declared.ticks.Happening.{Happening}
+use Rattle.cell_ticks.specs.Ticks.{dated}
+use Rattle.cell_ticks.specs.declared.happening.DatedHappening.{DatedHappening}
+use Rattle.cell_ticks.specs.declared.happening.Happening.{Happening as DeviceHappening}
+use Rattle.cell_ticks.specs.declared.happening.Happening.TheVariants as device
+use Rattle.serve_events.specs.Told.{notices_told}
 use Rattle.sem_ticks.specs.declared.ticks.Happening.TheVariants as happens
 use Rattle.association.specs.Asked.{AreApart, asked_of}
 use Rattle.association.specs.Client.{ClientRow}
@@ -50,7 +56,7 @@ use Rattle.serve_domains.specs.Tables as domains
 use Rattle.serve_programs.specs.Programs.{with_domains}
 use Rattle.cell_services.specs.Requests.{among, told_in}
 use Rattle.cell_services.specs.Services.{area_of, cause, effect, grants_told, relinquish_outcome, reply_in, take_outcome}
-use Rattle.cell_services.specs.Serving.{aborted, all_told, also_lost, also_served, also_told, domains_without, happening_told, is_served_in, loss_also, meanwhile, own_told, resolved, served_told, tables_cancelled, tables_heard, tables_lost, tables_served, waiting_of, without_client}
+use Rattle.cell_services.specs.Serving.{aborted_at, all_told, also_lost, also_served, also_told, dated_told, domains_without, happened_told, happening_told, is_served_in, loss_also, lost_in, meanwhile, own_told, resolved, served_told, tables_cancelled, tables_heard, tables_lost, tables_served, waiting_of, without_client}
 use Rattle.cell_services.specs.Tables.{Tables, moment_of, own_domains}
 use Rattle.mms_step.proofs.Rows.{delivered_both, nobody_told}
 use Rattle.mms_step.proofs.Sound.{step_sound}
@@ -60,7 +66,8 @@ use Rattle.mms_step.specs.Step.{step}
 use Rattle.cell_laws.specs.Loads.{Answers, Begins, LoadStep, load_begun, load_heard, load_step, load_steps}
 use Rattle.cell_laws.proofs.LoadMeant.{IsBoth, IsReply, resolved_both}
 use Rattle.cell_laws.proofs.LoadUsers.{IsOfUsers}
-use Rattle.cell_laws.proofs.LoadRows.{ArePlain, IsLike, grants_plain, none_told, plain_told}
+use Rattle.cell_laws.proofs.LoadRows.{ArePlain, IsLike, grants_plain, none_told, notices_plain, plain_told}
+use Rattle.cell_laws.proofs.Notices.{alteration-notices, deletion-notices, told-notices, trigger-notices}
 
 -- one step more, where there is one
 abbrev pub logged : List LoadStep → Option LoadStep → List LoadStep
@@ -179,6 +186,15 @@ module _ (P : List LoadStep → Rows → List ClientRow → Type 0) (kept : IsKe
         by_found : (o : Option Invocation) → P log (option_map_or (λ p. with_domains (after_unused p.domains name t.domains.domains) t.domains) o t.domains).domains rows
         by_found None = is
         by_found (Some p) = unused_kept p.domains name d rows is
+    request_kept rows invoke (request.DeleteEventCondition x) like none is =
+        let also : List (ℕ × Effect) = (effect t row invoke (request.DeleteEventCondition x)).also in
+        kept.plain log d also rows (notices_plain also (deletion-notices t row invoke x)) is
+    request_kept rows invoke (request.AlterEventConditionMonitoring x) like none is =
+        let also : List (ℕ × Effect) = (effect t row invoke (request.AlterEventConditionMonitoring x)).also in
+        kept.plain log d also rows (notices_plain also (alteration-notices t row invoke x)) is
+    request_kept rows invoke (request.TriggerEvent x) like none is =
+        let also : List (ℕ × Effect) = (effect t row invoke (request.TriggerEvent x)).also in
+        kept.plain log d also rows (notices_plain also (trigger-notices t row invoke x)) is
     request_kept rows invoke asked like none is = is
 
     module _ (rows : List ClientRow) (there : slice_get rows k ≡ Some row) (is : P log d rows) where
@@ -316,20 +332,30 @@ module _ (P : List LoadStep → Rows → List ClientRow → Type 0) (kept : IsKe
   aborts_kept t rows zero is = kept.nobody log t.domains rows is
   aborts_kept t rows (suc k) is = kept.closed log t.domains rows k abort_told (λ r. refl) is
 
-  happened_kept : (happened : List Happening) (t : DomainTables) (rows : List ClientRow) → P log t.domains rows
-      → P log (domains_without (aborted happened) t).domains (delivered cell (all_told happened) rows)
+  one_kept : (happening : DeviceHappening) (at : Moment) (t : DomainTables) (rows : List ClientRow) → P log t.domains rows
+      → P log (domains_without (lost_in (dated at happening ∷ [])) t).domains (delivered cell (happened_told happening) rows)
+  one_kept (device.Semaphores (happens.WaitEnds client invoke)) at t rows is = kept.plain log t.domains (happening_told (happens.WaitEnds client invoke)) rows (tt, (tt, tt)) is
+  one_kept (device.Semaphores (happens.Grants grant)) at t rows is = kept.plain log t.domains (happening_told (happens.Grants grant)) rows (tt, (tt, tt)) is
+  one_kept (device.Semaphores (happens.Aborts client)) at t rows is = aborts_kept t rows client is
+  one_kept (device.Turns told) at t rows is =
+      kept.plain log t.domains (notices_told told.turned told.notices) rows
+      (notices_plain (notices_told told.turned told.notices) (told-notices told.turned told.notices)) is
+
+  happened_kept : (happened : List DatedHappening) (t : DomainTables) (rows : List ClientRow) → P log t.domains rows
+      → P log (domains_without (lost_in happened) t).domains (delivered cell (all_told happened) rows)
   happened_kept [] t rows is = is
-  happened_kept (happens.WaitEnds client invoke ∷ rest) t rows is =
-      both log (domains_without (aborted rest) t).domains (happening_told (happens.WaitEnds client invoke)) (all_told rest) rows
-      (happened_kept rest t (delivered cell (happening_told (happens.WaitEnds client invoke)) rows)
-      (kept.plain log t.domains (happening_told (happens.WaitEnds client invoke)) rows (tt, (tt, tt)) is))
-  happened_kept (happens.Grants grant ∷ rest) t rows is =
-      both log (domains_without (aborted rest) t).domains (happening_told (happens.Grants grant)) (all_told rest) rows
-      (happened_kept rest t (delivered cell (happening_told (happens.Grants grant)) rows)
-      (kept.plain log t.domains (happening_told (happens.Grants grant)) rows (tt, (tt, tt)) is))
-  happened_kept (happens.Aborts client ∷ rest) t rows is =
-      both log (domains_without (aborted rest) (domains.lost client t)).domains (happening_told (happens.Aborts client)) (all_told rest) rows
-      (happened_kept rest (domains.lost client t) (delivered cell (happening_told (happens.Aborts client)) rows) (aborts_kept t rows client is))
+  happened_kept (x ∷ rest) t rows is =
+      subst (λ (d : DomainTables). P log d.domains (delivered cell (all_told (x ∷ rest)) rows)) (sym (lost_first x rest t))
+      (both log (domains_without (lost_in rest) (domains_without (lost_in (x ∷ [])) t)).domains (dated_told x) (all_told rest) rows
+      (happened_kept rest (domains_without (lost_in (x ∷ [])) t) (delivered cell (dated_told x) rows) (one_kept x.happening x.at t rows is)))
+    where
+      by_one : (o : Option ℕ) (clients : List ℕ) (d : DomainTables) → domains_without (cons_option o clients) d ≡ domains_without clients (domains_without (cons_option o []) d)
+      by_one None clients d = refl
+      by_one (Some client) clients d = refl
+
+      lost_first : (y : DatedHappening) (ys : List DatedHappening) (d : DomainTables)
+          → domains_without (lost_in (y ∷ ys)) d ≡ domains_without (lost_in ys) (domains_without (lost_in (y ∷ [])) d)
+      lost_first y ys d = by_one (aborted_at y) (lost_in ys) d
 
   -- ---- each event
 

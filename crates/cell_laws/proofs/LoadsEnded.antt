@@ -31,7 +31,7 @@ use Rattle.serve_domains.specs.Domains.{replied_to, reply_of}
 use Rattle.serve_domains.specs.Tables.{DomainTables}
 use Rattle.serve_domains.specs.Tables as domains
 use Rattle.cell_services.specs.Requests.{among}
-use Rattle.cell_services.specs.Serving.{aborted, domains_without, is_served, meanwhile, resolved, tables_heard, tables_lost}
+use Rattle.cell_services.specs.Serving.{domains_without, is_served, lost_in, meanwhile, resolved, tables_heard, tables_lost}
 use Rattle.cell_services.specs.Tables.{Tables, own_domains}
 use Rattle.mms_step.proofs.DomainNames.{HaveNames, lost_names}
 use Rattle.mms_step.proofs.Sound.{replay_sound}
@@ -183,9 +183,9 @@ module _ (client : ℕ) (name : List ℕ) where
           rest (ap (λ (o : Option Domain). option_map_or (is_loaded_by client) o false) (gone_then ∙ ap (λ (b : Bool). cond (not b) (Some it.0) None) e) ∙ it.2) (behind e has)
 
 pub replay_loads_aborted : (config : Config) (history : List CellEvent) (ms : ℕ) (client : ℕ) (name : List ℕ) → IsConfig config
-    → Contains (aborted (meanwhile ms (cell.tables_of (replay config history))).happened) client
+    → Contains (lost_in (meanwhile ms (cell.tables_of (replay config history))).happened) client
     → is_there (is_loaded_by client) name (replay config history).domains.domains ≡ true
     → named name (step (replay config history) (Tick ms)).domains.domains ≡ None
 replay_loads_aborted config history ms client name is has loads =
-    aborted_among client name (aborted (meanwhile ms (cell.tables_of (replay config history))).happened) (replay config history).domains
+    aborted_among client name (lost_in (meanwhile ms (cell.tables_of (replay config history))).happened) (replay config history).domains
     (replay_sound config history is).names loads has

@@ -44,7 +44,7 @@ use Rattle.serve_domains.specs.Tables as domains
 use Rattle.serve_programs.specs.Programs.{with_domains}
 use Rattle.cell_services.specs.Requests.{among, told_in}
 use Rattle.cell_services.specs.Services.{cause, effect, relinquish_outcome, take_outcome}
-use Rattle.cell_services.specs.Serving.{aborted, domains_without, is_served, meanwhile, resolved, tables_cancelled, tables_heard, tables_lost, waiting_of}
+use Rattle.cell_services.specs.Serving.{domains_without, is_served, lost_in, meanwhile, resolved, tables_cancelled, tables_heard, tables_lost, waiting_of}
 use Rattle.cell_services.specs.Tables.{Tables, own_domains}
 use Rattle.mms_step.proofs.DomainNames.{HaveNames, lost_names}
 use Rattle.mms_step.proofs.Sound.{replay_sound}
@@ -314,9 +314,9 @@ module _ (name : List ℕ) (domain : Domain) (client : ℕ) (loader : domain.loa
         by_gone : LostStays from (row_at cell from s.clients) → IsNamed name (step s (Lost from)).domains.domains ⊎ EndsLoad name client s (Lost from)
         by_gone (inl stays) = inl stays
         by_gone (inr ends) = inr (inr (inl ends))
-    stays_or (Tick ms) = by_aborted (aborted_or (aborted (meanwhile ms t).happened) s.domains sound.names at)
+    stays_or (Tick ms) = by_aborted (aborted_or (lost_in (meanwhile ms t).happened) s.domains sound.names at)
       where
-        by_aborted : IsNamed name (domains_without (aborted (meanwhile ms t).happened) s.domains).domains ⊎ Contains (aborted (meanwhile ms t).happened) client
+        by_aborted : IsNamed name (domains_without (lost_in (meanwhile ms t).happened) s.domains).domains ⊎ Contains (lost_in (meanwhile ms t).happened) client
             → IsNamed name (step s (Tick ms)).domains.domains ⊎ EndsLoad name client s (Tick ms)
         by_aborted (inl stays) = inl stays
         by_aborted (inr among) = inr (inr (inr (record { ms = ms; passes = refl; among = among })))

@@ -57,6 +57,7 @@ use Rattle.cell_laws.specs.Lost.{HasStill, IsLost, IsLostFor, given_back, gone, 
 use Rattle.cell_laws.proofs.Bound.{nat-same, of-both}
 use Rattle.cell_laws.proofs.Entries.{owned_owner}
 use Rattle.cell_laws.proofs.Freeing.{Found}
+use Rattle.cell_laws.proofs.Happened.{rows-then}
 use Rattle.cell_laws.proofs.Hears.{admitted-open}
 use Rattle.cell_laws.proofs.Holding.{Holder, cancelled-stays, changed-cases, defined-stays, deleted-stays, due-cases, held-there, holder, lost-cases, named-there, sound-expired, there}
 use Rattle.cell_laws.proofs.Linking.{Meant, numbered-client, resolved-meant, verdict-meant}
@@ -460,8 +461,10 @@ module _ (s : State) (key : Key) (e : SemEntry) (holds : is_queued e ≡ false) 
       by_due None due h = absurd (cc h)
       by_due (Some d) due h = by_expired d due (expired d.key d.entry u.rows) refl h
 
-  passes : AreSound s.semaphores → entry_in key e.number s.semaphores ≡ Some e → Stands (step s (Tick ms)).semaphores
-  passes sound at = (settle-keeps (next_met until) At goes-on (entries_left s.semaphores) first (record { many = zero; reached = refl; sound = sound; stands = as_was at })).stands
+  passes : (count : ℕ) → IsSoundState count s → entry_in key e.number s.semaphores ≡ Some e → Stands (step s (Tick ms)).semaphores
+  passes count sound at =
+      subst Stands (sym (rows-then count s sound ms))
+      (settle-keeps (next_met until) At goes-on (entries_left s.semaphores) first (record { many = zero; reached = refl; sound = sound.semaphores; stands = as_was at })).stands
 
 -- ---- each event
 
@@ -470,7 +473,7 @@ standing : (count : ℕ) (s : State) (event : CellEvent) (key : Key) (e : SemEnt
 standing count s (Heard client octets) key e sound at holds =
     heard count s sound key e at holds client octets (comes_to count s sound key e at holds client octets) refl (meant_so count s sound key e at holds client octets)
 standing count s (Lost client) key e sound at holds = loses count s sound key e at holds client
-standing count s (Tick ms) key e sound at holds = passes s key e holds ms sound.semaphores at
+standing count s (Tick ms) key e sound at holds = passes s key e holds ms count sound at
 standing count s (Ends name) key e sound at holds = as_was at
 standing count s (Drain client) key e sound at holds = as_was at
 

@@ -1,8 +1,7 @@
 -- No deadline is further away than 32 bits tell, whatever a request, a cancel, a loss or a deadline that is met does.
-use Rattle.std.proofs.Common.{◌≡◌, ℕ, zero, suc, ◌+◌, ◌≤◌, ◌==◌, ◌⊎◌, inl, inr, Bool, true, false, not, cond, nat_le, List, [], ◌∷◌, ◌++◌, map, filter, fold, length, Option, None, Some, option_and_then, option_map, option_to_list, if◌then◌else◌, refl, ap, subst, arith}
+use Rattle.std.proofs.Common.{◌≡◌, ℕ, zero, suc, ◌+◌, ◌≤◌, ◌==◌, ◌⊎◌, inl, inr, Bool, true, false, not, cond, List, [], ◌∷◌, ◌++◌, map, filter, fold, length, Option, None, Some, option_and_then, option_map, option_to_list, if◌then◌else◌, refl, ap, subst, arith}
 use Rattle.std.specs.List.{All, cons_option}
 use Rattle.std.specs.Map.{lookup, remove_entry, set_value}
-use Rattle.std.proofs.lemmas.Bool.Decides.{nat_tests}
 use Rattle.mms_types.specs.Order.{key_eq, key_of, scope_eq}
 use Rattle.mms_types.specs.declared.key.Key.{Key}
 use Rattle.mms_types.specs.declared.key.Scope.TheVariants.{Association}
@@ -11,7 +10,6 @@ use Rattle.mms_types.specs.declared.semaphore.DefineSemaphore.{DefineSemaphore}
 use Rattle.mms_types.specs.declared.semaphore.TakeControl.{TakeControl}
 use Rattle.token_sem.specs.Semaphore.{Loss, Sem, after_cancel, after_freeing, after_giving_back, deadline_after, deadline_with, deadlines, effect_of, expired_entry, grant_of, granted_entry, granted_to, has_claim, hung_entry, hung_to_preempt, is_queued, loss_of_one, next, numbered, outcome, outcome_later, outcome_now, owned_by, owner_from, owner_of, tokens_held, waits_for, without}
 use Rattle.token_sem.specs.declared.entry.Ask.{Ask}
-use Rattle.token_sem.specs.declared.entry.Expired.{Expired}
 use Rattle.token_sem.specs.declared.entry.Outcome.{Outcome}
 use Rattle.token_sem.specs.declared.entry.Outcome.TheVariants.{Refused, Preempts, Gets, TimesOut, WaitsUntil, WaitsForEver}
 use Rattle.token_sem.specs.declared.entry.SemEntry.{SemEntry}
@@ -21,16 +19,19 @@ use Rattle.token_sem.proofs.Least.{Stands}
 use Rattle.pool_sem.specs.Pools as pool
 use Rattle.pool_sem.specs.declared.outcome.PoolOutcome.{PoolOutcome}
 use Rattle.pool_sem.specs.declared.outcome.PoolOutcome.TheVariants as pooled
-use Rattle.mms_time.specs.Deadlines.{NamedDeadline, all_deadlines, deadlines_of, expire_after, expired, first_due, named_deadline, next_due, until_only, without_due}
+use Rattle.mms_time.specs.Deadlines.{NamedDeadline, all_deadlines, deadlines_of, expire_after, named_deadline, without_due}
 use Rattle.mms_time.specs.Loss.{all_changed, lost, without_owners, without_waiters}
 use Rattle.mms_time.specs.Semaphores.{Rows, changed, changed_row, changed_to, entries_in, entries_of, entry_in, entry_waits}
 use Rattle.mms_time.specs.Services.{ask_of, cancel_after, cancelled, define_after, deleted, place_asked, relinquished, take_after, with_take, with_token_back, without_entry}
 use Rattle.mms_time.specs.declared.row.Semaphore.{Semaphore}
 use Rattle.mms_time.specs.declared.row.Semaphore.TheVariants.{Token, Pool}
 use Rattle.mms_time.specs.declared.row.SemaphoreRow.{SemaphoreRow}
-use Rattle.sem_ticks.specs.Ticks.{Ticking, after_abort, entries_left, met, met_as, next_met, ticked_on}
-use Rattle.sem_ticks.proofs.Settling.{settle-keeps}
+use Rattle.sem_ticks.specs.Ticks.{after_abort}
+use Rattle.event_cond.specs.Skips.{Saying}
+use Rattle.cell_ticks.specs.Ticks.{Ticking, ticked_on}
+use Rattle.cell_ticks.proofs.Next.{next_by_then}
 use Rattle.cell_laws.proofs.Asked32.{AsksFew, Few}
+use Rattle.cell_laws.proofs.Happened.{keeps-ticked}
 
 -- ---- entries
 
@@ -428,34 +429,10 @@ module _ (until now : Moment) (le : now.0 ≤ until.0) where
 
 -- ---- every deadline up to a moment is met
 
--- what is met lies at most there
-met-by : (until : Moment) (rows : Rows) (d : NamedDeadline) → next_due until rows ≡ Some d → d.at.0 ≤ until.0
-met-by until rows d is = by_first (first_due rows) is
-  where
-    by_first : (o : Option NamedDeadline) → until_only until o ≡ Some d → d.at.0 ≤ until.0
-    by_first None h = absurd (cc h)
-    by_first (Some x) h = by_test (nat_le x.at.0 until.0) refl h
-      where
-        by_test : (b : Bool) → nat_le x.at.0 until.0 ≡ b → (if b then Some x else None) ≡ Some d → d.at.0 ≤ until.0
-        by_test true t k =
-            let low : x.at.0 ≤ until.0 = grind (arith, nat_tests) in
-            let same : x ≡ d = cc k in
-            subst (λ (y : NamedDeadline). y.at.0 ≤ until.0) same low
-        by_test false t k = absurd (cc k)
-
-next-near : (until : Moment) (s t : Ticking) → next_met until s ≡ Some t → RowsNear until s.rows → RowsNear until t.rows
-next-near until s t same all = by_due (next_due until s.rows) refl same
-  where
-    by_expired : (d : NamedDeadline) → d.at.0 ≤ until.0 → (o : Option Expired) → option_map (met_as s d) o ≡ Some t → RowsNear until t.rows
-    by_expired d le None h = absurd (cc h)
-    by_expired d le (Some x) h =
-        let one : met_as s d x ≡ t = cc h in
-        subst (λ (u : Ticking). RowsNear until u.rows) one
-        (near_aborted until d.at le x.abort x.client (expire_after d.key d.entry d.at s.rows) (near_expired until d.at le d.key d.entry s.rows all))
-
-    by_due : (o : Option NamedDeadline) → next_due until s.rows ≡ o → option_and_then (met s) o ≡ Some t → RowsNear until t.rows
-    by_due None e h = absurd (cc h)
-    by_due (Some d) e h = by_expired d (met-by until s.rows d e) (expired d.key d.entry s.rows) h
-
-pub near_ticked : (until : Moment) (s : Ticking) → RowsNear until s.rows → RowsNear until (ticked_on until s).rows
-near_ticked until s all = settle-keeps (next_met until) (λ t. RowsNear until t.rows) (next-near until) (entries_left s.rows) s all
+pub near_ticked : (cells : Saying) (until : Moment) (s : Ticking) → RowsNear until s.semaphores → RowsNear until (ticked_on cells until s).semaphores
+near_ticked cells until =
+    keeps-ticked cells until (λ s. RowsNear until s.semaphores)
+    (λ s d x due is all.
+    let le = next_by_then until s.semaphores s.conditions d due in
+    near_aborted until d.at le x.abort x.client (expire_after d.key d.entry d.at s.semaphores) (near_expired until d.at le d.key d.entry s.semaphores all))
+    (λ s d all. all)

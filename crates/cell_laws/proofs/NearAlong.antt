@@ -39,7 +39,8 @@ use Rattle.sem_ticks.specs.declared.granted.Granted.{Granted}
 use Rattle.parted_state.specs.Served.{row_at}
 use Rattle.cell_client.specs.Association.{Verdict, Tells, Takes, Replies, Exhausts, Concludes, Cancels, Aborts, admitted, cancelled, idle_verdict, open_verdict, requested, verdict, verdict_by}
 use Rattle.cell_services.specs.Services.{effect, effect_of, relinquish_outcome, reply_in, take_outcome}
-use Rattle.cell_services.specs.Serving.{is_served, is_served_in, resolved, tables_cancelled, tables_heard, tables_lost, waiting_of}
+use Rattle.cell_ticks.specs.Ticks.{begun}
+use Rattle.cell_services.specs.Serving.{is_served, is_served_in, resolved, saying, tables_cancelled, tables_heard, tables_lost, waiting_of}
 use Rattle.cell_services.specs.Tables.{Tables, moment_after, moment_of}
 use Rattle.mms_step.specs.Partition.{cell}
 use Rattle.mms_step.specs.State.{State, start}
@@ -156,7 +157,7 @@ near-after s (Lost client) all =
     (sym (now_lost (row_at cell client s.clients).association (row_at cell client s.clients).client (cell.tables_of s)))
     (lost-near (cell.tables_of s) all (row_at cell client s.clients).association (row_at cell client s.clients).client)
 near-after s (Tick ms) all =
-    near_ticked (moment_after ms (cell.tables_of s)) (record { rows = s.semaphores; happened = [] })
+    near_ticked (saying s.variables) (moment_after ms (cell.tables_of s)) (begun s.semaphores s.events.conditions s.events.enrolments)
     (rows-later (record { 0 = s.now }) (moment_after ms (cell.tables_of s)) s.semaphores (omega arith) all)
 near-after s (Ends name) all = all
 near-after s (Drain client) all = all

@@ -1,8 +1,8 @@
 -- Each scope that is a domain is live after an event where it was before.
-use Rattle.std.proofs.Common.{◌≡◌, ◌∙◌, ℕ, Bool, true, false, not, List, [], ◌∷◌, length, nat_le, Option, None, Some, is_none, is_some, option_and_then, option_map, if◌then◌else◌, refl, sym, subst}
-use Rattle.std.specs.Prelude.{◌||◌, ◌&&◌}
+use Rattle.std.proofs.Common.{◌≡◌, ◌∙◌, ℕ, Bool, true, false, not, List, [], ◌∷◌, length, nat_le, Option, None, Some, is_none, is_some, if◌then◌else◌, refl, sym, subst}
+use Rattle.std.specs.Prelude.{◌||◌, ◌&&◌, filter}
 use Rattle.std.specs.List.{IsDistinct, list_any}
-use Rattle.std.specs.Map.{keys_of}
+use Rattle.std.specs.Map.{keys_of, set_value}
 use Rattle.std.specs.Option.{option_map_or}
 use Rattle.std.proofs.lemmas.Cmp.{nat_list_eq_equiv}
 use Rattle.mms_types.proofs.Conditions.{none_holds}
@@ -29,7 +29,6 @@ use Rattle.association.specs.Client.{ClientRow}
 use Rattle.association.specs.declared.negotiation.Association.{Association}
 use Rattle.association.specs.declared.negotiation.Association.TheVariants.{Idle, Open}
 use Rattle.association.specs.declared.waiting.Waiting.{Waiting}
-use Rattle.token_sem.specs.declared.entry.Expired.{Expired}
 use Rattle.object_names.specs.Deletion.{selects}
 use Rattle.object_names.specs.NewName as new
 use Rattle.object_names.specs.Scopes.{has_any_of}
@@ -42,16 +41,32 @@ use Rattle.variables.specs.declared.rows.Variable.{Variable}
 use Rattle.variable_lists.specs.Lists as lists
 use Rattle.variable_services.specs.declared.tables.VariableTables.{VariableTables}
 use Rattle.variable_services.specs.Services.{lost as variables_lost, pairs}
-use Rattle.mms_time.specs.Deadlines.{NamedDeadline, expire_after, expired, next_due, without_due}
+use Rattle.mms_time.specs.Deadlines.{expire_after, without_due}
 use Rattle.mms_time.specs.Loss.{all_changed, lost, without_owners, without_waiters}
 use Rattle.mms_time.specs.Semaphores.{Rows, entry_in, entry_waits, semaphore}
 use Rattle.mms_time.specs.Services.{cancel_after, cancelled, define_after, define_cause, delete_after, most_semaphores, new_semaphore, relinquish_after, take_after, take_told, with_take, with_token_back, without_entry}
 use Rattle.mms_time.specs.declared.taking.TakeDone.{TakeDone}
 use Rattle.mms_time.specs.declared.taking.TakeDone.TheVariants.{Answered, Waits}
 use Rattle.sem_ticks.specs.Granted.{relinquish_granted}
-use Rattle.sem_ticks.specs.Ticks.{Ticking, after_abort, entries_left, met, met_as, next_met, ticked_on}
+use Rattle.sem_ticks.specs.Ticks.{after_abort, met_as}
+use Rattle.mms_types.specs.declared.condition.CellFact.{CellFact}
+use Rattle.mms_types.specs.declared.condition.DefineEventCondition.{DefineEventCondition}
+use Rattle.mms_types.specs.declared.condition.DefineEventEnrollment.{DefineEventEnrollment}
+use Rattle.event_cond.specs.Conditions.{Rows as Conditions, changed as changed_condition, condition, named as named_condition}
+use Rattle.event_cond.specs.Deletion as gone
+use Rattle.event_cond.specs.Services as services
+use Rattle.event_cond.specs.Services.{after_define, defined}
+use Rattle.event_cond.specs.declared.condition.Condition.{Condition}
+use Rattle.event_enrol.specs.Enrolments as enrol
+use Rattle.event_enrol.specs.declared.enrolment.Enrolment.{Enrolment}
+use Rattle.cell_client.specs.Facts.{Facts}
+use Rattle.serve_events.specs.Events.{after_alter, after_delete, after_trigger, alter_condition, define_condition, delete_conditions, is_in_domain, trigger, variable_of}
+use Rattle.serve_events.specs.Events.{is_there as is_there_named}
+use Rattle.serve_events.specs.declared.tables.EventTables.{EventTables}
+use Rattle.event_cond.specs.Skips.{Saying}
+use Rattle.cell_ticks.specs.Ticks.{Ticking, aborted, begun, enrolments_without, ticked_on}
+use Rattle.cell_ticks.specs.Ticks.{without_clients as conditions_without}
 use Rattle.sem_ticks.specs.declared.granted.Granted.{Granted}
-use Rattle.sem_ticks.proofs.Settling.{settle-keeps}
 use Rattle.domain_load.specs.Domains.{is_there, name_eq, without, without_loads}
 use Rattle.domain_load.specs.Domains as domain
 use Rattle.domain_load.specs.Loading.{initiate_after, reply_after}
@@ -73,41 +88,51 @@ use Rattle.serve_variables.specs.Variables.{specifies_domain, write}
 use Rattle.cell_services.specs.Facts.{is_domain_live, is_scope_used}
 use Rattle.cell_services.specs.Requests.{among, told_in}
 use Rattle.cell_services.specs.Services.{area_of, cause, effect, effect_of, relinquish_outcome, reply_in, take_outcome}
-use Rattle.cell_services.specs.Serving.{aborted, domains_without, is_served_in, meanwhile, passed, tables_cancelled, tables_heard, tables_lost, tables_served, waiting_of, without_client, without_clients}
-use Rattle.cell_services.specs.Tables.{Tables, moment_after, moment_of, own_domains, own_variables}
+use Rattle.cell_services.specs.Serving.{domains_without, is_served_in, lost_in, meanwhile, passed, saying, tables_cancelled, tables_heard, tables_lost, tables_served, waiting_of, without_client, without_clients}
+use Rattle.cell_services.specs.Tables.{Tables, moment_after, moment_of, own_domains, own_events, own_variables}
 use Rattle.cell_laws.specs.Scopes.{IsScopeLive}
-use Rattle.cell_laws.proofs.EachName.{Each, each_added, each_changed, each_left, each_mapped, each_other, each_removed, each_weaker, each_without}
+use Rattle.cell_laws.proofs.EachName.{Each, each_added, each_changed, each_kept, each_left, each_mapped, each_other, each_removed, each_set, each_weaker, each_without}
+use Rattle.cell_laws.proofs.Happened.{from_rows, keeps-ticked}
 use Rattle.cell_laws.proofs.LiveStays.{StayLive, begun_stays, deleted_stays, lost_stays, not_scoped, replied_stays, unused_stay, used_stay}
 
 -- ---- something holds of the name of each variable, of each list and of each semaphore
 
-pub record NamesAre (P : Key → Type 0) (v : VariableTables) (rows : Rows) : Type 0 where
+pub record NamesAre (P : Key → Type 0) (v : VariableTables) (e : EventTables) (rows : Rows) : Type 0 where
   pub variables : Each P v.vars.variables
   pub lists : Each P v.lists
+  pub conditions : Each P e.conditions
+  pub enrolments : Each P e.enrolments
   pub semaphores : Each P rows
 
-module _ (P Q : Key → Type 0) (v : VariableTables) (rows : Rows) where
-  names_weaker : ((key : Key) → P key → Q key) → NamesAre P v rows → NamesAre Q v rows
+module _ (P Q : Key → Type 0) (v : VariableTables) (e : EventTables) (rows : Rows) where
+  names_weaker : ((key : Key) → P key → Q key) → NamesAre P v e rows → NamesAre Q v e rows
   names_weaker weaker all = record {
     variables = each_weaker P Q weaker v.vars.variables all.variables;
     lists = each_weaker P Q weaker v.lists all.lists;
+    conditions = each_weaker P Q weaker e.conditions all.conditions;
+    enrolments = each_weaker P Q weaker e.enrolments all.enrolments;
     semaphores = each_weaker P Q weaker rows all.semaphores;
   }
 
-  none_of : (a b c : Bool) → (a || b || c) ≡ false → (a ≡ false) × ((b ≡ false) × (c ≡ false))
-  none_of true b c h = absurd (cc h)
-  none_of false true c h = absurd (cc h)
-  none_of false false c h = (refl, (refl, h))
+  neither : (a b : Bool) → (a || b) ≡ false → (a ≡ false) × (b ≡ false)
+  neither true b h = absurd (cc h)
+  neither false b h = (refl, h)
 
   -- where none is of that scope
   names_other : (scope : Scope) → ((key : Key) → scope_eq key.scope scope ≡ false → P key → Q key)
-      → (has_any_of scope v.vars.variables || has_any_of scope v.lists || has_any_of scope rows) ≡ false → NamesAre P v rows → NamesAre Q v rows
+      → (has_any_of scope v.vars.variables || has_any_of scope v.lists || has_any_of scope e.conditions || has_any_of scope e.enrolments || has_any_of scope rows) ≡ false
+      → NamesAre P v e rows → NamesAre Q v e rows
   names_other scope other none all =
-      let parts = none_of (has_any_of scope v.vars.variables) (has_any_of scope v.lists) (has_any_of scope rows) none in
+      let a = neither (has_any_of scope v.vars.variables || has_any_of scope v.lists || has_any_of scope e.conditions || has_any_of scope e.enrolments) (has_any_of scope rows) none in
+      let b = neither (has_any_of scope v.vars.variables || has_any_of scope v.lists || has_any_of scope e.conditions) (has_any_of scope e.enrolments) a.0 in
+      let c = neither (has_any_of scope v.vars.variables || has_any_of scope v.lists) (has_any_of scope e.conditions) b.0 in
+      let d = neither (has_any_of scope v.vars.variables) (has_any_of scope v.lists) c.0 in
       record {
-        variables = each_other P Q scope other v.vars.variables parts.0 all.variables;
-        lists = each_other P Q scope other v.lists parts.1.0 all.lists;
-        semaphores = each_other P Q scope other rows parts.1.1 all.semaphores;
+        variables = each_other P Q scope other v.vars.variables d.0 all.variables;
+        lists = each_other P Q scope other v.lists d.1 all.lists;
+        conditions = each_other P Q scope other e.conditions c.1 all.conditions;
+        enrolments = each_other P Q scope other e.enrolments b.1 all.enrolments;
+        semaphores = each_other P Q scope other rows a.1 all.semaphores;
       }
 
 -- ---- where its scope is a domain, that is live
@@ -116,7 +141,7 @@ abbrev pub HasLive : domain.Rows → Key → Type 0
 HasLive domains key = IsScopeLive domains key.scope
 
 abbrev pub AreLive : Tables → Type 0
-AreLive t = NamesAre (HasLive t.domains.domains) t.variables t.semaphores
+AreLive t = NamesAre (HasLive t.domains.domains) t.variables t.events t.semaphores
 
 live_stays : (before after : domain.Rows) → StayLive before after → (key : Key) → HasLive before key → HasLive after key
 live_stays before after stays key live = by_scope key.scope live
@@ -126,8 +151,8 @@ live_stays before after stays key live = by_scope key.scope live
     by_scope Vmd live = tt
     by_scope (OfClient client) live = tt
 
-all_stay : (before after : domain.Rows) (v : VariableTables) (rows : Rows) → StayLive before after → NamesAre (HasLive before) v rows → NamesAre (HasLive after) v rows
-all_stay before after v rows stays all = names_weaker (HasLive before) (HasLive after) v rows (live_stays before after stays) all
+all_stay : (before after : domain.Rows) (v : VariableTables) (e : EventTables) (rows : Rows) → StayLive before after → NamesAre (HasLive before) v e rows → NamesAre (HasLive after) v e rows
+all_stay before after v e rows stays all = names_weaker (HasLive before) (HasLive after) v e rows (live_stays before after stays) all
 
 -- another domain is deleted
 others_stay : (name : List ℕ) (rows : domain.Rows) → IsDistinct name_eq (keys_of rows) → (key : Key) → scope_eq key.scope (Domain name) ≡ false → HasLive rows key
@@ -180,6 +205,21 @@ semaphore_against live client x rows none =
     (none_holds (new.is_of_domain x.name && not live) object_undefined ((is_some (semaphore client x.name rows), object_exists)
     ∷ (nat_le most_semaphores (length rows), capability_unavailable) ∷ []) none).0
 
+condition_against : (live : Bool) (client : ℕ) (x : DefineEventCondition) (cell : CellFact) (rows : Conditions) → services.define_cause live client x cell rows ≡ None
+    → (new.is_of_domain x.name && not live) ≡ false
+condition_against live client x cell rows none =
+    (none_holds (new.is_of_domain x.name && not live) object_undefined ((is_some (condition client x.name rows), object_exists)
+    ∷ (is_some x.monitored && services.is_missing cell, object_undefined)
+    ∷ (is_some x.monitored && services.is_other cell, type_inconsistent)
+    ∷ (nat_le services.most_conditions (length rows), capability_unavailable) ∷ []) none).0
+
+enrolment_against : (live there : Bool) (client : ℕ) (x : DefineEventEnrollment) (rows : enrol.Rows) → enrol.define_cause live there client x rows ≡ None
+    → (new.is_of_domain x.name && not live) ≡ false
+enrolment_against live there client x rows none =
+    (none_holds (new.is_of_domain x.name && not live) object_undefined ((enrol.is_defined client x.name rows, object_exists)
+    ∷ (not there, object_non_existent)
+    ∷ (nat_le enrol.most_enrolments (length rows), capability_unavailable) ∷ []) none).0
+
 -- ---- a write changes cells alone
 
 named_stay : (o : Option ℕ) (f : Cell → Cell) (rows : cells.Rows) → (change_named o f rows).variables ≡ rows.variables
@@ -192,6 +232,39 @@ written_stay client (owns, x) rows = named_stay (number_named client x.0 rows) (
 writes_stay : (client : ℕ) (xs : List (Bool × (Spec × Datum))) (rows : cells.Rows) → (writes client xs rows).0.variables ≡ rows.variables
 writes_stay client [] rows = refl
 writes_stay client (x ∷ xs) rows = writes_stay client xs (written client x rows) ∙ written_stay client x rows
+
+-- ---- what is done to event conditions and enrollments
+
+module _ (P : Key → Type 0) where
+  each_condition : (key : Key) (f : Condition → Condition) (rows : Conditions) → Each P rows → Each P (changed_condition key f rows)
+  each_condition key f rows all = by_named (named_condition key rows)
+    where
+      by_named : (o : Option Condition) → Each P (option_map_or (λ c. set_value (key_eq key) rows (f c)) o rows)
+      by_named None = all
+      by_named (Some c) = each_set P (key_eq key) (f c) rows all
+
+  each_gone : (client : ℕ) (rows : enrol.Rows) → Each P rows → Each P (enrol.without_client client rows)
+  each_gone client rows all = each_without P (OfClient client) (filter (λ (row : Key × Enrolment). not (enrol.is_of client row)) rows) (each_kept P _ rows all)
+
+  conditions_gone : (clients : List ℕ) (rows : Conditions) → Each P rows → Each P (conditions_without clients rows)
+  conditions_gone [] rows all = all
+  conditions_gone (client ∷ clients) rows all = conditions_gone clients (gone.without_client client rows) (each_without P (OfClient client) rows all)
+
+  enrolments_gone : (clients : List ℕ) (rows : enrol.Rows) → Each P rows → Each P (enrolments_without clients rows)
+  enrolments_gone [] rows all = all
+  enrolments_gone (client ∷ clients) rows all = enrolments_gone clients (enrol.without_client client rows) (each_gone client rows all)
+
+  abbrev EachOf : Ticking → Type 0
+  EachOf s = Each P s.conditions × Each P s.enrolments
+
+  events_ticked : (cells : Saying) (until : Moment) (s : Ticking) → EachOf s → EachOf (ticked_on cells until s)
+  events_ticked cells until =
+      keeps-ticked cells until EachOf
+      (λ s d x due is all. (
+        conditions_gone (aborted (met_as (from_rows s.semaphores) d x).happened) s.conditions all.0,
+        enrolments_gone (aborted (met_as (from_rows s.semaphores) d x).happened) s.enrolments all.1,
+      ))
+      (λ s d all. (each_condition d.key _ s.conditions all.0, all.1))
 
 -- ---- what is done to semaphores
 
@@ -209,29 +282,15 @@ module _ (P : Key → Type 0) where
       (each_mapped P (without_owners client now) (all_changed (without_waiters client) rows)
       (each_mapped P (without_waiters client) rows all))
 
-  each_met : (s t : Ticking) (due : NamedDeadline) → met s due ≡ Some t → Each P s.rows → Each P t.rows
-  each_met s t due same all = by_expired (expired due.key due.entry s.rows) same
-    where
-      aborted_rows : (aborts : Bool) (client : ℕ) (rows : Rows) → Each P rows → Each P (after_abort aborts client due.at rows)
-      aborted_rows true client rows is = each_lost client due.at rows is
-      aborted_rows false client rows is = is
+  each_aborted : (aborts : Bool) (client : ℕ) (now : Moment) (rows : Rows) → Each P rows → Each P (after_abort aborts client now rows)
+  each_aborted true client now rows is = each_lost client now rows is
+  each_aborted false client now rows is = is
 
-      by_expired : (o : Option Expired) → option_map (met_as s due) o ≡ Some t → Each P t.rows
-      by_expired None h = absurd (cc h)
-      by_expired (Some x) h =
-          let one : met_as s due x ≡ t = cc h in
-          subst (λ (u : Ticking). Each P u.rows) one
-          (aborted_rows x.abort x.client (expire_after due.key due.entry due.at s.rows) (each_changed P (without_due due.entry due.at) due.key s.rows all))
-
-  each_next : (until : Moment) (s t : Ticking) → next_met until s ≡ Some t → Each P s.rows → Each P t.rows
-  each_next until s t same all = by_due (next_due until s.rows) same
-    where
-      by_due : (o : Option NamedDeadline) → option_and_then (met s) o ≡ Some t → Each P t.rows
-      by_due None h = absurd (cc h)
-      by_due (Some due) h = each_met s t due h all
-
-  each_ticked : (until : Moment) (s : Ticking) → Each P s.rows → Each P (ticked_on until s).rows
-  each_ticked until s all = settle-keeps (next_met until) (λ t. Each P t.rows) (each_next until) (entries_left s.rows) s all
+  each_ticked : (cells : Saying) (until : Moment) (s : Ticking) → Each P s.semaphores → Each P (ticked_on cells until s).semaphores
+  each_ticked cells until =
+      keeps-ticked cells until (λ s. Each P s.semaphores)
+      (λ s d x due is all. each_aborted x.abort x.client d.at (expire_after d.key d.entry d.at s.semaphores) (each_changed P (without_due d.entry d.at) d.key s.semaphores all))
+      (λ s d all. all)
 
 -- ---- a request
 
@@ -246,17 +305,21 @@ module _ (t : Tables) (all : AreLive t) where
 
   -- variables, lists or semaphores become others
   with_variables : (rows : List (Key × Variable)) → Each Live rows → AreLive (record t { variables = record t.variables { vars = record t.variables.vars { variables = rows } } })
-  with_variables rows each = record { variables = each; lists = all.lists; semaphores = all.semaphores }
+  with_variables rows each = record { variables = each; lists = all.lists; conditions = all.conditions; enrolments = all.enrolments; semaphores = all.semaphores }
 
   with_lists : (rows : lists.Rows) → Each Live rows → AreLive (record t { variables = record t.variables { lists = rows } })
-  with_lists rows each = record { variables = all.variables; lists = each; semaphores = all.semaphores }
+  with_lists rows each = record { variables = all.variables; lists = each; conditions = all.conditions; enrolments = all.enrolments; semaphores = all.semaphores }
 
   with_semaphores : (rows : Rows) → Each Live rows → AreLive (record t { semaphores = rows })
-  with_semaphores rows each = record { variables = all.variables; lists = all.lists; semaphores = each }
+  with_semaphores rows each = record { variables = all.variables; lists = all.lists; conditions = all.conditions; enrolments = all.enrolments; semaphores = each }
+
+  -- so do event conditions and enrollments
+  with_events : (e : EventTables) → Each Live e.conditions → Each Live e.enrolments → AreLive (record t { events = e })
+  with_events e conditions enrolments = record { variables = all.variables; lists = all.lists; conditions = conditions; enrolments = enrolments; semaphores = all.semaphores }
 
   -- domains become others
   with_domains : (d : DomainTables) → StayLive t.domains.domains d.domains → AreLive (record t { domains = d })
-  with_domains d stay = all_stay t.domains.domains d.domains t.variables t.semaphores stay all
+  with_domains d stay = all_stay t.domains.domains d.domains t.variables t.events t.semaphores stay all
 
   module _ (row : ClientRow) (invoke : ℕ) where
     with_take_live : (x : TakeControl) → AreLive (record t { semaphores = take_after row.client invoke (moment_of t) x t.semaphores })
@@ -274,6 +337,8 @@ module _ (t : Tables) (all : AreLive t) where
       variables = subst (λ (rows : List (Key × Variable)). Each Live rows)
           (sym (writes_stay row.client (flagged (told_in own_variables t row (write x)).owned (pairs row.client x t.variables)) t.variables.vars)) all.variables;
       lists = all.lists;
+      conditions = all.conditions;
+      enrolments = all.enrolments;
       semaphores = all.semaphores;
     }
     effect_live (request.DefineNamedVariable x) none distinct =
@@ -313,7 +378,7 @@ module _ (t : Tables) (all : AreLive t) where
     effect_live (request.InitiateDownloadSequence x) none distinct =
         with_domains (record t.domains { domains = initiate_after row.client x t.domains.domains }) (begun_stays row.client x t.domains.domains)
     effect_live (request.DeleteDomain name) none distinct =
-        names_other Live (HasLive (without name t.domains.domains)) t.variables t.semaphores (Domain name) (others_stay name t.domains.domains distinct)
+        names_other Live (HasLive (without name t.domains.domains)) t.variables t.events t.semaphores (Domain name) (others_stay name t.domains.domains distinct)
         (not_scoped name (uploads_of name t.domains.uploads) (is_scope_used name t) t.domains.domains none) all
     effect_live (request.CreateProgramInvocation x) none distinct =
         with_domains (programs.with_domains (after_used x.domains x.name t.domains.domains) t.domains) (used_stay x.domains x.name t.domains.domains)
@@ -323,6 +388,33 @@ module _ (t : Tables) (all : AreLive t) where
             → AreLive (record t { domains = option_map_or (λ p. programs.with_domains (after_unused p.domains name t.domains.domains) t.domains) o t.domains })
         by_found None = all
         by_found (Some p) = with_domains (programs.with_domains (after_unused p.domains name t.domains.domains) t.domains) (unused_stay p.domains name t.domains.domains)
+    effect_live (request.DefineEventCondition x) none distinct =
+        let asks : Bool = is_of_domain x.name || option_map_or is_in_domain (variable_of x.monitored) false in
+        let live : Bool = if asks then is_domain_live (domain_in x.name) t.domains else false in
+        let facts : Facts = told_in own_events t row (define_condition x) in
+        with_events (record t.events { conditions = after_define row.client facts.now x (facts.cell row.client) t.events.conditions })
+        (each_added Live t.events.conditions (key_of row.client x.name, defined facts.now x (facts.cell row.client)) all.conditions
+        (new_live t.domains row.client x.name asks (or_true (is_of_domain x.name) (option_map_or is_in_domain (variable_of x.monitored) false))
+        (condition_against live row.client x (facts.cell row.client) t.events.conditions none))) all.enrolments
+    effect_live (request.DeleteEventCondition x) none distinct =
+        let facts : Facts = told_in own_events t row (delete_conditions x) in
+        with_events (after_delete row.client facts.now x t.events) (each_kept Live _ t.events.conditions all.conditions) (each_kept Live _ t.events.enrolments all.enrolments)
+    effect_live (request.AlterEventConditionMonitoring x) none distinct =
+        let facts : Facts = told_in own_events t row (alter_condition x) in
+        with_events (after_alter row.client facts.now facts.truth x t.events) (each_condition Live (key_of row.client x.name) _ t.events.conditions all.conditions) all.enrolments
+    effect_live (request.TriggerEvent x) none distinct =
+        let facts : Facts = told_in own_events t row (trigger x) in
+        with_events (after_trigger row.client facts.now x.name t.events) (each_condition Live (key_of row.client x.name) _ t.events.conditions all.conditions) all.enrolments
+    effect_live (request.DefineEventEnrollment x) none distinct =
+        let asks : Bool = is_of_domain x.name || is_of_domain x.condition in
+        let live : Bool = if asks then is_domain_live (domain_in x.name) t.domains else false in
+        with_events (record t.events { enrolments = enrol.defined row.client x t.events.enrolments }) all.conditions
+        (each_added Live t.events.enrolments
+        (key_of row.client x.name, record { client = row.client; condition = key_of row.client x.condition; transitions = x.transitions; rule = x.rule }) all.enrolments
+        (new_live t.domains row.client x.name asks (or_true (is_of_domain x.name) (is_of_domain x.condition))
+        (enrolment_against live (is_there_named row.client t.events.conditions x.condition) row.client x t.events.enrolments none)))
+    effect_live (request.DeleteEventEnrollment x) none distinct =
+        with_events (record t.events { enrolments = enrol.after_delete row.client x t.events.enrolments }) all.conditions (each_kept Live _ t.events.enrolments all.enrolments)
     effect_live asked none distinct = all
 
     served_live : (asked : Request) → IsDistinct name_eq (keys_of t.domains.domains) → AreLive (tables_served t row invoke (area_of asked))
@@ -359,6 +451,8 @@ module _ (t : Tables) (all : AreLive t) where
         record {
           variables = each_without Then (OfClient client) t.variables.vars.variables stayed.variables;
           lists = each_without Then (OfClient client) t.variables.lists stayed.lists;
+          conditions = each_without Then (OfClient client) t.events.conditions stayed.conditions;
+          enrolments = each_gone Then client t.events.enrolments stayed.enrolments;
           semaphores = each_lost Then client (moment_of t) t.semaphores stayed.semaphores;
         }
 
@@ -399,11 +493,13 @@ module _ (t : Tables) (all : AreLive t) where
 
   pub passed_live : (ms : ℕ) → AreLive (passed ms t (meanwhile ms t)).tables
   passed_live ms =
-      let clients : List ℕ = aborted (meanwhile ms t).happened in
+      let clients : List ℕ = lost_in (meanwhile ms t).happened in
       let stayed = with_domains (domains_without clients t.domains) (domains_stay clients t.domains) in
       let Then : Key → Type 0 = HasLive (domains_without clients t.domains).domains in
       record {
         variables = variables_left Then clients t.variables stayed.variables;
         lists = lists_left Then clients t.variables stayed.lists;
-        semaphores = each_ticked Then (moment_after ms t) (record { rows = t.semaphores; happened = [] }) stayed.semaphores;
+        conditions = (events_ticked Then (saying t.variables) (moment_after ms t) (begun t.semaphores t.events.conditions t.events.enrolments) (stayed.conditions, stayed.enrolments)).0;
+        enrolments = (events_ticked Then (saying t.variables) (moment_after ms t) (begun t.semaphores t.events.conditions t.events.enrolments) (stayed.conditions, stayed.enrolments)).1;
+        semaphores = each_ticked Then (saying t.variables) (moment_after ms t) (begun t.semaphores t.events.conditions t.events.enrolments) stayed.semaphores;
       }

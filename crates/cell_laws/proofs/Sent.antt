@@ -37,13 +37,16 @@ use Rattle.parted_state.specs.Lists.{get_changed, get_change, length-change}
 use Rattle.parted_state.specs.Served.{delivered, reached, row_at}
 use Rattle.sem_ticks.specs.Granted.{lost_granted, relinquish_granted}
 use Rattle.sem_ticks.specs.declared.granted.Granted.{Granted}
-use Rattle.sem_ticks.specs.declared.ticks.Happening.{Happening}
+use Rattle.cell_ticks.specs.declared.happening.DatedHappening.{DatedHappening}
+use Rattle.cell_ticks.specs.declared.happening.Happening.{Happening as DeviceHappening}
+use Rattle.cell_ticks.specs.declared.happening.Happening.TheVariants as device
+use Rattle.serve_events.specs.Told.{notices_told}
 use Rattle.sem_ticks.specs.declared.ticks.Happening.TheVariants as happens
 use Rattle.cell_client.specs.Association.{Came, Verdict, Tells, Takes, Replies, Exhausts, Concludes, Cancels, Aborts, verdict, verdict_by, idle_verdict, open_verdict, admitted, requested, cancelled, negotiated, refused, loss_told, other_error}
 use Rattle.cell_client.specs.Effects.{Effect, Sends, Opens, Closes, Waits, Answers, Asks, Settles, Drains, felt, tell}
 use Rattle.cell_services.specs.Services.{cause, cause_of, effect, effect_of, grants_told, relinquish_outcome, reply_in, take_outcome}
 use Rattle.cell_client.specs.Requests.{answer_told, fits, refuses, request_told, size_of}
-use Rattle.cell_services.specs.Serving.{all_told, also_lost, also_told, is_served, is_served_in, meanwhile, own_told, resolved}
+use Rattle.cell_services.specs.Serving.{all_told, also_lost, also_told, dated_told, happened_told, is_served, is_served_in, meanwhile, own_told, resolved}
 use Rattle.cell_services.specs.Tables.{Tables, moment_of}
 use Rattle.domain_load.specs.Loading.{asked_next}
 use Rattle.serve_domains.specs.Domains.{asks_next, replied_to, reply_of}
@@ -55,6 +58,7 @@ use Rattle.mms_step.proofs.PartsAfter.{step_sized}
 use Rattle.cell_laws.specs.Tally.{Account, account, account_after, drained, drains, opens, sent_by, sent_to, told_in}
 use Rattle.cell_laws.proofs.Bound.{nat-same, nat-test}
 use Rattle.cell_laws.proofs.Verdicts.{by-conclusion, by-error, by-rejected, by-response, by-tables}
+use Rattle.cell_laws.proofs.Notices.{AreNotices, alteration-notices, deletion-notices, told-notices, trigger-notices}
 
 -- ---- nothing that is told takes an outbox away
 
@@ -205,11 +209,19 @@ grants-kept : (grants : List Granted) → AreKept (grants_told grants)
 grants-kept [] = tt
 grants-kept (g ∷ grants) = (tt, (tt, grants-kept grants))
 
-happened-kept : (happened : List Happening) → AreKept (all_told happened)
+notices-kept : (told : List (ℕ × Effect)) → AreNotices told → AreKept told
+notices-kept [] are = tt
+notices-kept (t ∷ told) are = (subst IsKept (sym are.0.is) tt, notices-kept told are.1)
+
+happened-kept : (happened : List DatedHappening) → AreKept (all_told happened)
 happened-kept [] = tt
-happened-kept (happens.WaitEnds client invoke ∷ rest) = (tt, (tt, happened-kept rest))
-happened-kept (happens.Grants grant ∷ rest) = (tt, (tt, happened-kept rest))
-happened-kept (happens.Aborts client ∷ rest) = (tt, (tt, happened-kept rest))
+happened-kept (x ∷ rest) = both (dated_told x) (all_told rest) (by_one x.happening) (happened-kept rest)
+  where
+    by_one : (h : DeviceHappening) → AreKept (happened_told h)
+    by_one (device.Semaphores (happens.WaitEnds client invoke)) = (tt, (tt, tt))
+    by_one (device.Semaphores (happens.Grants grant)) = (tt, (tt, tt))
+    by_one (device.Semaphores (happens.Aborts client)) = (tt, (tt, tt))
+    by_one (device.Turns told) = notices-kept (notices_told told.turned told.notices) (told-notices told.turned told.notices)
 
 reply-kept : (client number : ℕ) (came : Came) (o : Option (Asked × List ℕ)) (d : DomainTables) → AreKept (replied_to client number came o d).also
 reply-kept client number came None d = tt
@@ -233,6 +245,10 @@ module _ (t : Tables) (row : ClientRow) where
   effect-kept invoke (request.TakeControl x) = took invoke (take_told row.client x t.semaphores) x
   effect-kept invoke (request.RelinquishControl x) = gave (relinquish_granted row.client x t.semaphores) x
   effect-kept invoke (request.InitiateDownloadSequence x) = (tt, tt)
+  effect-kept invoke (request.DeleteEventCondition x) = notices-kept (effect t row invoke (request.DeleteEventCondition x)).also (deletion-notices t row invoke x)
+  effect-kept invoke (request.AlterEventConditionMonitoring x) =
+      notices-kept (effect t row invoke (request.AlterEventConditionMonitoring x)).also (alteration-notices t row invoke x)
+  effect-kept invoke (request.TriggerEvent x) = notices-kept (effect t row invoke (request.TriggerEvent x)).also (trigger-notices t row invoke x)
   effect-kept invoke asked = tt
 
   also-kept : (v : Verdict) → AreKept (also_told t row v)

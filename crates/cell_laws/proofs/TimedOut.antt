@@ -33,7 +33,9 @@ use Rattle.sem_ticks.specs.declared.ticks.Happening.TheVariants as happens
 use Rattle.sem_ticks.proofs.Kept.{row_found}
 use Rattle.sem_ticks.proofs.Settling.{settle-keeps}
 use Rattle.sem_ticks.proofs.Twice.{tick_meets}
-use Rattle.cell_services.specs.Serving.{all_told, meanwhile}
+use Rattle.cell_ticks.specs.Ticks.{dated}
+use Rattle.cell_ticks.specs.declared.happening.Happening.TheVariants as device
+use Rattle.cell_services.specs.Serving.{meanwhile}
 use Rattle.cell_services.specs.Tables.{moment_after}
 use Rattle.mms_step.specs.Partition.{cell}
 use Rattle.mms_step.specs.State.{State, IsSound as IsSoundState}
@@ -47,6 +49,7 @@ use Rattle.cell_laws.proofs.Bound.{Bound}
 use Rattle.cell_laws.proofs.Entries.{leaving}
 use Rattle.cell_laws.proofs.Freeing.{Found, Gone, IsTold, found-changed, freed, gone, granted-same, next_of, passes-on}
 use Rattle.cell_laws.proofs.Granted.{happened-none, next-range, told-of}
+use Rattle.cell_laws.proofs.Happened.{happens-too, sem_told}
 use Rattle.cell_laws.proofs.Hears.{waits_in}
 use Rattle.cell_laws.proofs.Linking.{Meanwhile, next-keeps}
 use Rattle.cell_laws.proofs.Meetings.{expiry-is, expiry_by}
@@ -160,19 +163,22 @@ module _ (count : ℕ) (s : State) (sound : IsSoundState count s) (bound : Bound
       ∙ tick_meets until point (met_as point due expiry) (ap (option_and_then (met point)) times.next ∙ ap (option_map (met_as point due)) is_expired)
 
   -- whatever is told then has happened after the event
-  pub happens-then : (g : Granted) → Contains (expiry_told later due.key expiry ++ abort_told expiry.abort expiry.client due.at later) (happens.Grants g)
-      → Contains (meanwhile ms (cell.tables_of s)).happened (happens.Grants g)
+  abbrev pub Happens : Granted → Type 0
+  Happens g = (at : Moment) × Contains (meanwhile ms (cell.tables_of s)).happened (dated at (device.Semaphores (happens.Grants g)))
+
+  pub happens-then : (g : Granted) → Contains (expiry_told later due.key expiry ++ abort_told expiry.abort expiry.client due.at later) (happens.Grants g) → Happens g
   happens-then g is =
-      subst (λ (t : Ticking). Contains t.happened (happens.Grants g)) (sym then_on)
+      happens-too count s sound ms (happens.Grants g)
+      (subst (λ (t : Ticking). Contains t.happened (happens.Grants g)) (sym then_on)
       (still-happened until (happens.Grants g) (met_as point due expiry)
-      (Contains-append_right point.happened (expiry_told later due.key expiry ++ abort_told expiry.abort expiry.client due.at later) (happens.Grants g) is))
+      (Contains-append_right point.happened (expiry_told later due.key expiry ++ abort_told expiry.abort expiry.client due.at later) (happens.Grants g) is)))
 
   -- who is granted a token then is told
   pub told-then : (key : Key) (rows : Rows) (token : Option ℕ) (e : SemEntry) → (1 ≤ e.client) × (e.client ≤ length s.clients)
-      → Contains (meanwhile ms (cell.tables_of s)).happened (happens.Grants (granted rows (key, grant_of token e))) → IsTold after e (granted rows (key, grant_of token e))
+      → Happens (granted rows (key, grant_of token e)) → IsTold after e (granted rows (key, grant_of token e))
   told-then key rows token e range is =
       told-of after key rows token e range.0 (let few = range.1 in let sized = step_sized s (Tick ms) in omega (arith, few, sized))
-      (happened-none (meanwhile ms (cell.tables_of s)).happened s.clients (granted rows (key, grant_of token e)) is) (ticked_to s ms (granted rows (key, grant_of token e)) is)
+      (happened-none (meanwhile ms (cell.tables_of s)).happened s.clients is.0 (granted rows (key, grant_of token e)) is.1) (ticked_to s ms is.0 (granted rows (key, grant_of token e)) is.1)
 
   abbrev named : Option ℕ
   named = held_in entry has.sem
@@ -191,13 +197,13 @@ module _ (count : ℕ) (s : State) (sound : IsSoundState count s) (bound : Bound
       (happens-then (granted later (due.key, grant_of named e)) (Contains-append_left (expiry_told later due.key expiry) _ (happens.Grants (granted later (due.key, grant_of named e))) grants)))
     where
       clients : List ClientRow
-      clients = delivered cell (all_told point.happened) s.clients
+      clients = delivered cell (sem_told point.happened) s.clients
 
       range : (1 ≤ e.client) × (e.client ≤ length clients)
       range = next-range due.key point.rows has.sem clients has.found has.sound at_point.bound named e first
 
       few : e.client ≤ length s.clients
-      few = let low = range.1 in let many = told-many (all_told point.happened) s.clients in omega (arith, low, many)
+      few = let low = range.1 in let many = told-many (sem_told point.happened) s.clients in omega (arith, low, many)
 
       heir : (leaving has.sem).heir entry (entries_in has.sem) ≡ Some (grant_of named e)
       heir = goes.heir ∙ ap (option_map (grant_of named)) first

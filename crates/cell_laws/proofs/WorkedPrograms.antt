@@ -7,6 +7,7 @@ use Rattle.domain_load.specs.declared.domain.Domain.{Domain}
 use Rattle.program_inv.specs.Programs.{Rows}
 use Rattle.program_inv.specs.declared.invocation.Invocation.{Invocation}
 use Rattle.serve_programs.specs.Users.{users_of}
+use Rattle.serve_events.specs.Tables.{no_events}
 use Rattle.mms_step.specs.State.{State}
 use Rattle.cell_laws.specs.Programs.{AreForOne, HaveTheirDomains}
 
@@ -49,6 +50,7 @@ device domains programs = record {
   variables = record { vars = record { cells = []; variables = [] }; lists = [] };
   domains = record { domains = domains; uploads = record { rows = []; given = 0 } };
   programs = programs;
+  events = no_events;
   semaphores = [];
   clients = [];
 }

@@ -6,8 +6,12 @@ use Rattle.mms_types.specs.declared.key.Scope.{Scope}
 use Rattle.mms_types.specs.declared.key.Scope.TheVariants as scope
 use Rattle.domain_load.specs.Domains.{Rows, without}
 use Rattle.domain_load.specs.declared.domain.Domain.{Domain}
+use Rattle.event_cond.specs.declared.condition.Condition.{Condition}
+use Rattle.event_cond.specs.declared.condition.ConditionClass.TheVariants.{NetworkTriggered}
+use Rattle.event_enrol.specs.declared.enrolment.Enrolment.{Enrolment}
 use Rattle.mms_time.specs.Services.{new_semaphore}
 use Rattle.mms_time.specs.declared.row.SemaphoreRow.{SemaphoreRow}
+use Rattle.serve_events.specs.Tables.{no_events}
 use Rattle.mms_step.specs.State.{State}
 use Rattle.cell_laws.specs.Scopes.{AreScopesLive, HaveLiveScopes, IsScopeLive}
 use Rattle.cell_laws.proofs.EachName.{each_all}
@@ -68,6 +72,7 @@ device domains s = record {
   };
   domains = record { domains = domains; uploads = record { rows = []; given = 0 } };
   programs = [];
+  events = no_events;
   semaphores = semaphore s ∷ [];
   clients = [];
 }
@@ -77,11 +82,26 @@ all_live : HaveLiveScopes (device there (scope.Association 7))
 all_live = record {
   variables = each_all (HasLive there) (device there (scope.Association 7)).variables.vars.variables (refl, tt);
   lists = each_all (HasLive there) (device there (scope.Association 7)).variables.lists (refl, tt);
+  conditions = each_all (HasLive there) (device there (scope.Association 7)).events.conditions tt;
+  enrolments = each_all (HasLive there) (device there (scope.Association 7)).events.enrolments tt;
   semaphores = each_all (HasLive there) (device there (scope.Association 7)).semaphores (tt, tt);
 }
 
 semaphore_loading : HaveLiveScopes (device there (scope.Domain (d 50))) → ⊥
 semaphore_loading have = loading (have.semaphores 0 (name_of scope.Vmd) (omega arith))
+
+-- neither is an event condition, nor an enrollment on one of the device
+abbrev condition : Condition
+condition = record { priority = 64; severity = 64; class = NetworkTriggered; to_active = None; to_idle = None }
+
+abbrev enrolment : Enrolment
+enrolment = record { client = 7; condition = name_of scope.Vmd; transitions = record { octets = 0 ∷ [] }; rule = 0 }
+
+condition_loading : HaveLiveScopes (record (device there scope.Vmd) { events = record { conditions = (name_of (scope.Domain (d 50)), condition) ∷ []; enrolments = [] } }) → ⊥
+condition_loading have = loading (have.conditions 0 (name_of scope.Vmd) (omega arith))
+
+enrolment_missing : HaveLiveScopes (record (device there scope.Vmd) { events = record { conditions = (name_of scope.Vmd, condition) ∷ []; enrolments = (name_of (scope.Domain (d 52)), enrolment) ∷ [] } }) → ⊥
+enrolment_missing have = missing (have.enrolments 0 (name_of scope.Vmd) (omega arith))
 
 -- and none is left behind by a domain that is deleted
 variable_left : HaveLiveScopes (device (without (d 49) there) scope.Vmd) → ⊥

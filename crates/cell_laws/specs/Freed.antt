@@ -148,7 +148,7 @@ pub record GivesBack (s : State) (client : ℕ) (octets : List ℕ) (key : Key) 
   pub taken : verdict (row_at cell client s.clients) octets ≡ Takes invoke (request.RelinquishControl asked)
   pub served : is_served (cell.tables_of s) (row_at cell client s.clients) invoke (request.RelinquishControl asked) ≡ true
 
--- the semaphores, when so many deadlines were met of those up to a moment, one after the other
+-- the semaphores, when so many of their deadlines were met up to a moment, one after the other; event conditions change nothing of this
 abbrev pub after_met : Moment → ℕ → Ticking → Option Ticking
 after_met until zero t = Some t
 after_met until (suc n) t = option_and_then (after_met until n) (next_met until t)

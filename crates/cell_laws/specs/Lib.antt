@@ -1,3 +1,4 @@
+pub mod Enrolled
 pub mod Freed
 pub mod Linked
 pub mod Loads

@@ -15,7 +15,7 @@ use Rattle.domain_load.specs.declared.domain.Domain.{Domain}
 use Rattle.parted_state.specs.Served.{row_at}
 use Rattle.cell_client.specs.Association.{Verdict, Takes, Replies, verdict}
 use Rattle.serve_domains.specs.Domains.{reply_of}
-use Rattle.cell_services.specs.Serving.{aborted, is_served, meanwhile, resolved}
+use Rattle.cell_services.specs.Serving.{is_served, lost_in, meanwhile, resolved}
 use Rattle.cell_services.specs.Tables.{Tables}
 use Rattle.mms_step.specs.Partition.{cell}
 use Rattle.mms_step.specs.State.{State}
@@ -134,7 +134,7 @@ pub record IsBrokenOff (name : List ℕ) (client : ℕ) (s : State) (event : Cel
 pub record IsAbortedMeanwhile (client : ℕ) (s : State) (event : CellEvent) : Type 0 where
   pub ms : ℕ
   pub passes : event ≡ Tick ms
-  pub among : Contains (aborted (meanwhile ms (cell.tables_of s)).happened) client
+  pub among : Contains (lost_in (meanwhile ms (cell.tables_of s)).happened) client
 
 -- why the client's load of that name ends before it is whole
 abbrev pub EndsLoad : List ℕ → ℕ → State → CellEvent → Type 0

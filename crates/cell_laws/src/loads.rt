@@ -11,7 +11,7 @@ ghost use Rattle.domain_load.specs.Loading.{domain_of};
 ghost use Rattle.domain_load.specs.Standing.{is_live, is_loaded_by};
 ghost use Rattle.domain_load.specs.declared.domain.Domain.{Domain};
 ghost use Rattle.serve_domains.specs.Domains.{calling_of};
-ghost use Rattle.cell_services.specs.Serving.{aborted, meanwhile};
+ghost use Rattle.cell_services.specs.Serving.{lost_in, meanwhile};
 ghost use Rattle.mms_step.specs.State.{start};
 ghost use Rattle.mms_step.specs.Step.{replay, step};
 ghost use Rattle.parted_state.specs.Served.{row_at};
@@ -49,7 +49,7 @@ pub fn nothing_of_an_ended_load_stays()
         → named name (step (replay config history) event).domains.domains ≡ None }
     ensures aborted { (config : Config) (history : List CellEvent) (ms : ℕ) (client : ℕ) (name : List ℕ)
         → IsConfig config
-        → Contains (aborted (meanwhile ms (cell.tables_of (replay config history))).happened) client
+        → Contains (lost_in (meanwhile ms (cell.tables_of (replay config history))).happened) client
         → is_there (is_loaded_by client) name (replay config history).domains.domains ≡ true
         → named name (step (replay config history) (Tick ms)).domains.domains ≡ None }
     ensures no_other_cause { (config : Config) (history : List CellEvent) (event : CellEvent) (client : ℕ)
