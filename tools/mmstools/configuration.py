@@ -1,4 +1,4 @@
-"""The rules of a configuration (docs/PROFILE.md, "Recording and report"): which is broken, in which row and key.
+"""The rules of a configuration (docs/RECORDING.md): which is broken, in which row and key.
 
 TOML is read by Python's tomllib, which knows TOML 1.0; the device reads 1.1.
 """

@@ -442,11 +442,7 @@ class _History:
 
     def notices(self, row: Row) -> None:
         """Event notifications come of ticks, and of what changes an event condition."""
-        if (
-            row.event.kind == "tick"
-            or row.said is not None
-            and row.said.service in ("triggerEvent", "alterEventConditionMonitoring", "deleteEventCondition")
-        ):
+        if _notifies(row):
             for c in sorted(self.queue):
                 while self.head(c) is not None and self.head(c).said.pdu == "unconfirmed":
                     self.put(row, c, None)
@@ -545,6 +541,7 @@ class _Ways:
         self.anything = 0  # what may answer anything: aborts, and rejects without an invokeID
         self.answering: Dict[tuple, int] = {}  # other outputs, by what they have to fit
         self.late = self.by_tick = 0  # what any event may send behind its own answer, and what any tick may
+        self.notices = 0  # what comes of transitions of event conditions
         self.grants: Dict[str, Dict[str, int]] = {}  # by semaphore and token: what an event sends that frees one
         for j, out in enumerate(outs):
             self._answers(1 << j, out)
@@ -576,7 +573,7 @@ class _Ways:
         if out.octets is None:
             self.by_tick |= bit
         elif says.pdu == "unconfirmed":
-            self.late |= bit
+            self.notices |= bit
         elif says.pdu == "confirmed-Error" and says.detail.startswith("service-preempt: timeout"):
             self.by_tick |= bit
         elif says.pdu == "confirmed-Response" and says.service == "takeControl":
@@ -609,6 +606,7 @@ class _Ways:
         """Whether an event may send no answer of its own; which outputs may be its one answer, and which the first of
         two; and what may come behind."""
         late = self.late | (self.by_tick if row.event.kind == "tick" else 0) | (self._freed(row) if self.grants else 0)
+        late |= self.notices if _notifies(row) else 0
         if row.event.client != self.client or row.event.kind != "heard":
             return True, 0, 0, late
         asks, answers = row.said, self._answering(row)
@@ -683,6 +681,12 @@ def _members(bits: int) -> Iterator[int]:
     while bits:
         yield (bits & -bits).bit_length() - 1
         bits &= bits - 1
+
+
+def _notifies(row: Row) -> bool:
+    """Whether event conditions may come to another state in that event."""
+    by_request = ("triggerEvent", "alterEventConditionMonitoring", "deleteEventCondition")
+    return row.event.kind == "tick" or row.said is not None and row.said.service in by_request
 
 
 def _token(asks: Said, says: Optional[Said]) -> str:

@@ -1,4 +1,4 @@
-"""What a recording is refused for (docs/PROFILE.md, "Recording and report"): each word and each rule of the
+"""What a recording is refused for (docs/RECORDING.md): each word and each rule of the
 configuration in one table, and which of them a recording breaks first, with the line, the row and the key."""
 
 import re
@@ -219,7 +219,7 @@ def explained(refusal: Refusal, text: str = "") -> Iterator[str]:
     """The refusal in sentences, with the line itself where the recording's text is there."""
     meaning = refusal.meaning()
     where = f"Line {refusal.line} is refused" if refusal.rule is None else f"Rule {refusal.rule} is broken"
-    yield f"`{refusal.told()}` (docs/PROFILE.md, Recording and report). {where} where {meaning.where}."
+    yield f"`{refusal.told()}` (docs/RECORDING.md). {where} where {meaning.where}."
     yield f"Look at: {meaning.look}"
     if refusal.broken is not None:
         yield f"Here: {refusal.broken.words()}"

@@ -1,4 +1,4 @@
-"""Recordings and reports, the two texts of mmscell (docs/PROFILE.md, "Recording and report")."""
+"""Recordings and reports, the two texts of mmscell (docs/RECORDING.md)."""
 
 import re
 from dataclasses import dataclass, field

@@ -11,7 +11,7 @@ from mmstools import refusals
 from row_files import HERE, rows
 from test_explain import HEAD, Files
 
-PROFILE = os.path.join(HERE, "..", "..", "docs", "PROFILE.md")
+RECORDING = os.path.join(HERE, "..", "..", "docs", "RECORDING.md")
 OWN = os.path.join(HERE, "..", "..", "crates", "mmscell", "out", "mmscell")
 PROGRAM = os.environ.get("MMSCELL") or OWN
 CELLS = '''[[cell]]
@@ -50,9 +50,9 @@ class Told(unittest.TestCase):
             found = refusals.first_refusal(with_config(line * 5 + "#" * rest + "\r\n"))
             self.assertEqual(found and found.told(), told)
 
-    def test_every_word_of_profile(self):
-        """The words and the rules are those of docs/PROFILE.md."""
-        with open(PROFILE, encoding="utf-8") as f:
+    def test_every_word_of_the_docs(self):
+        """The words and the rules are those of docs/RECORDING.md."""
+        with open(RECORDING, encoding="utf-8") as f:
             text = f.read()
         words, rules = ((text.partition(head)[2].partition("\n\n")[0]) for head in ("| word |", "| rule | broken"))
         words, rules = re.findall(r"(?m)^\| `(\w+)` \| ", words), re.findall(r"(?m)^\| (\d+) \| ", rules)
