@@ -77,7 +77,11 @@ class History(unittest.TestCase):
 
     @needs_program
     def test_every_guess_is_marked(self):
-        """What the report alone tells is held against a phase for each event: an output that is sure stands there."""
+        """What the report alone tells is held against a phase for each event: an output that is sure stands there.
+
+        A notification tells its moment, but a report not its own start: of several ticks and requests of one phase that
+        may have turned a condition, which one did stays a guess.
+        """
         count = guesses = 0
         for name, recording in recordings_of_rows():
             flat = [e for p in recording.phases for e in p]
@@ -90,7 +94,7 @@ class History(unittest.TestCase):
                 self.assertEqual([o.octets for _, o in told], [o.octets for _, o in true], name)
                 for (at, out), (where, _) in zip(told, true):
                     self.assertTrue(at == where or not out.sure, f"{name}: {out.said.title} at {at}, not {where}")
-                    guesses += not out.sure
+                    guesses += not out.sure and out.said.pdu != "unconfirmed"
                 count += len(told)
         self.assertGreater(count, 9000)
         self.assertLess(guesses, count // 25)  # and not all of them are called guesses
