@@ -22,7 +22,9 @@ const PARAMETERS: [u8; 2] = [0xE9, 0x00];
 
 /// The services that the server offers: the bits of the one list of services, also of those that the server asks, of
 /// eventNotification, of conclude and of cancel.
-const SERVICES: [u8; 11] = [0xEF, 0x3C, 0x1F, 0xFF, 0x0F, 0xFD, 0xB8, 0x60, 0, 0, 0x98];
+const SERVICES: [u8; 11] = [
+    0xEF, 0x3C, 0x1F, 0xFF, 0x0F, 0xFD, 0xB8, 0x60, 0x7E, 0, 0x98,
+];
 
 /// What an association was negotiated to (ISO 9506-1, Initiate).
 #[derive(Clone, Copy)]

@@ -91,7 +91,7 @@ module _ (lengths : Lengths) (edition : Edition) (invoke : ℕ) (p : Part) (shar
   unread_request unread.Malformed own e = refused_by fault.malformed own e
   unread_request unread.TooDeep own e = refused_by fault.too_deep own e
 
--- ---- the areas, by their numbers: 0 to 3, 4 to 18, 19 to 25, 26 to 37, 38 to 45 and 46 to 58
+-- ---- the areas, by their numbers: 0 to 3, 4 to 18, 19 to 25, 26 to 37, 38 to 45 and 46 to 70
 
 abbrev after_device : List (Share Request)
 after_device = variable_area.requests ∷ semaphore_area.requests ∷ domain_area.requests ∷ program_area.requests ∷ event_area.requests ∷ []
@@ -121,44 +121,44 @@ module _ (n : ℕ) (edition : Edition) where
   pub device_form : n ≤ 3 → form_at n (requests.alternatives edition) ≡ form_at n (forms_of device_area.requests.arms edition)
   unfolding requests
   device_form few =
-      form_there [] device_area.requests after_device n edition refl (none_within 4 58 (joined after_device) n refl (λ low high. omega (arith, few, low)))
+      form_there [] device_area.requests after_device n edition refl (none_within 4 70 (joined after_device) n refl (λ low high. omega (arith, few, low)))
 
   pub variable_form : 4 ≤ n → n ≤ 18 → form_at n (requests.alternatives edition) ≡ form_at n (forms_of variable_area.requests.arms edition)
   unfolding requests
   variable_form most few =
       form_there (device_area.requests ∷ []) variable_area.requests after_variables n edition
       (none_within 0 3 (joined (device_area.requests ∷ [])) n refl (λ low high. omega (arith, most, high)))
-      (none_within 19 58 (joined after_variables) n refl (λ low high. omega (arith, few, low)))
+      (none_within 19 70 (joined after_variables) n refl (λ low high. omega (arith, few, low)))
 
   pub semaphore_form : 19 ≤ n → n ≤ 25 → form_at n (requests.alternatives edition) ≡ form_at n (forms_of semaphore_area.requests.arms edition)
   unfolding requests
   semaphore_form most few =
       form_there before_semaphores semaphore_area.requests after_semaphores n edition
       (none_within 0 18 (joined before_semaphores) n refl (λ low high. omega (arith, most, high)))
-      (none_within 26 58 (joined after_semaphores) n refl (λ low high. omega (arith, few, low)))
+      (none_within 26 70 (joined after_semaphores) n refl (λ low high. omega (arith, few, low)))
 
   pub domain_form : 26 ≤ n → n ≤ 37 → form_at n (requests.alternatives edition) ≡ form_at n (forms_of domain_area.requests.arms edition)
   unfolding requests
   domain_form most few =
       form_there before_domains domain_area.requests after_domains n edition
       (none_within 0 25 (joined before_domains) n refl (λ low high. omega (arith, most, high)))
-      (none_within 38 58 (joined after_domains) n refl (λ low high. omega (arith, few, low)))
+      (none_within 38 70 (joined after_domains) n refl (λ low high. omega (arith, few, low)))
 
   pub program_form : 38 ≤ n → n ≤ 45 → form_at n (requests.alternatives edition) ≡ form_at n (forms_of program_area.requests.arms edition)
   unfolding requests
   program_form most few =
       form_there before_programs program_area.requests (event_area.requests ∷ []) n edition
       (none_within 0 37 (joined before_programs) n refl (λ low high. omega (arith, most, high)))
-      (none_within 46 58 (joined (event_area.requests ∷ [])) n refl (λ low high. omega (arith, few, low)))
+      (none_within 46 70 (joined (event_area.requests ∷ [])) n refl (λ low high. omega (arith, few, low)))
 
   pub event_form : 46 ≤ n → form_at n (requests.alternatives edition) ≡ form_at n (forms_of event_area.requests.arms edition)
   unfolding requests
   event_form most =
       form_there before_events event_area.requests [] n edition (none_within 0 45 (joined before_events) n refl (λ low high. omega (arith, most, high))) refl
 
-  pub no_request_form : 58 < n → form_at n (requests.alternatives edition) ≡ None
+  pub no_request_form : 70 < n → form_at n (requests.alternatives edition) ≡ None
   unfolding requests
-  no_request_form many = no_form (joined request_shares) n edition (none_within 0 58 (joined request_shares) n refl (λ low high. omega (arith, many, high)))
+  no_request_form many = no_form (joined request_shares) n edition (none_within 0 70 (joined request_shares) n refl (λ low high. omega (arith, many, high)))
 
 -- ---- what an area's requests say
 

@@ -10,6 +10,8 @@ use Rattle.mms_types.specs.declared.condition.ConditionState.{ConditionState}
 use Rattle.mms_types.specs.declared.condition.ConditionState.TheVariants.{Idle, Active}
 use Rattle.mms_types.specs.declared.condition.ConditionStatus.{ConditionStatus}
 use Rattle.mms_types.specs.declared.condition.EventTime.TheVariants as time
+use Rattle.mms_types.specs.declared.journal.EntryContent.TheVariants.{Data, Text}
+use Rattle.mms_types.specs.declared.journal.JournalEntry.{JournalEntry}
 use Rattle.mms_types.specs.declared.object_name.ObjectName.TheVariants.{Vmd, Association}
 use Rattle.mms_types.specs.declared.pdu.Answer.TheVariants as answer
 use Rattle.mms_types.specs.declared.variable.Access.TheVariants as access
@@ -30,6 +32,7 @@ use Rattle.pdu_names.specs.Editions.{lengths_of}
 use Rattle.pdu_names.specs.Names.{names}
 use Rattle.pdu_assoc.specs.ServiceErrors.{numbered}
 use Rattle.pdu_programs.specs.Services.{server_requests, client_answers}
+use Rattle.pdu_events.specs.Entries.{entry_contents}
 use Rattle.mms_pdu.specs.Services.{requests, answers, service_numbers}
 use Rattle.mms_pdu.specs.Pdus.{pdu_octets}
 use Rattle.mms_pdu.specs.Hearing.{depth_of, sole_part, part_told, heard}
@@ -67,6 +70,10 @@ active_since_20 = record {
   to_idle = time.TimeOfDay (record { ms = 10; day = 0 });
 }
 
+-- an entry of a journal at 5 ms, a text
+abbrev ok : JournalEntry
+ok = record { time = record { ms = 5; day = 0 }; content = Text (111 ∷ 107 ∷ []) }
+
 sent : Answers pdu_octets (
     (pdu.ConfirmedError (record { invoke = 2; modifier = None; error = cancel }), 162 ∷ 10 ∷ 128 ∷ 1 ∷ 2 ∷ 162 ∷ 5 ∷ 160 ∷ 3 ∷ 133 ∷ 1 ∷ 3 ∷ []) ∷ (
       pdu.ConfirmedError (record { invoke = 5; modifier = None; error = stopped }),
@@ -89,20 +96,24 @@ sent : Answers pdu_octets (
     ) ∷ (
       told_of_m None 35,
       163 ∷ 25 ∷ 162 ∷ 23 ∷ 160 ∷ 3 ∷ 130 ∷ 1 ∷ 78 ∷ 161 ∷ 3 ∷ 128 ∷ 1 ∷ 77 ∷ 130 ∷ 1 ∷ 64 ∷ 164 ∷ 8 ∷ 128 ∷ 6 ∷ 0 ∷ 0 ∷ 0 ∷ 35 ∷ 0 ∷ 0 ∷ [],
+    ) ∷ (
+      pdu.ConfirmedResponse 3 (answer.ReadJournal (record { entries = record { number = 0 ∷ 0 ∷ 0 ∷ 0 ∷ 0 ∷ 0 ∷ 0 ∷ 1 ∷ []; client = 1; entry = ok } ∷ []; more = false })),
+      161 ∷ 44 ∷ 2 ∷ 1 ∷ 3 ∷ 191 ∷ 65 ∷ 38 ∷ 160 ∷ 33 ∷ 48 ∷ 31 ∷ 128 ∷ 8 ∷ 0 ∷ 0 ∷ 0 ∷ 0 ∷ 0 ∷ 0 ∷ 0 ∷ 1 ∷ 161 ∷ 5 ∷ 161 ∷ 3 ∷ 2 ∷ 1 ∷ 1
+          ∷ 162 ∷ 12 ∷ 128 ∷ 6 ∷ 0 ∷ 0 ∷ 0 ∷ 5 ∷ 0 ∷ 0 ∷ 131 ∷ 2 ∷ 111 ∷ 107 ∷ 129 ∷ 1 ∷ 0 ∷ [],
     ) ∷
     [])
-unfolding requests answers names numbered element_octets identifier_octets length_octets digits
+unfolding requests answers names entry_contents numbered element_octets identifier_octets length_octets digits
 sent = refl
 
 -- ---- who asks which services
 
 -- 27 and 28 are the server's: an initiate-Response names them, no client may ask them, and a client may answer them alone
-numbers_are : service_numbers ≡ 0 ∷ 1 ∷ 2 ∷ 4 ∷ 5 ∷ 6 ∷ 7 ∷ 10 ∷ 11 ∷ 12 ∷ 13 ∷ 19 ∷ 20 ∷ 21 ∷ 22 ∷ 23 ∷ 24 ∷ 25 ∷ 26 ∷ 27 ∷ 28 ∷ 29 ∷ 30 ∷ 31 ∷ 36 ∷ 37 ∷ 38 ∷ 39 ∷ 40 ∷ 41 ∷ 42 ∷ 43 ∷ 44 ∷ 45 ∷ 47 ∷ 48 ∷ 50 ∷ 51 ∷ 52 ∷ 57 ∷ 58 ∷ []
+numbers_are : service_numbers ≡ 0 ∷ 1 ∷ 2 ∷ 4 ∷ 5 ∷ 6 ∷ 7 ∷ 10 ∷ 11 ∷ 12 ∷ 13 ∷ 19 ∷ 20 ∷ 21 ∷ 22 ∷ 23 ∷ 24 ∷ 25 ∷ 26 ∷ 27 ∷ 28 ∷ 29 ∷ 30 ∷ 31 ∷ 36 ∷ 37 ∷ 38 ∷ 39 ∷ 40 ∷ 41 ∷ 42 ∷ 43 ∷ 44 ∷ 45 ∷ 47 ∷ 48 ∷ 50 ∷ 51 ∷ 52 ∷ 57 ∷ 58 ∷ 65 ∷ 66 ∷ 67 ∷ 68 ∷ 69 ∷ 70 ∷ []
 numbers_are = refl
 
 clients_may_ask : Answers (has_number (requests.alternatives One)) (
     (0, true) ∷ (25, true) ∷ (26, true) ∷ (27, false) ∷ (28, false) ∷ (29, true) ∷ (31, true) ∷ (32, false) ∷ (36, true) ∷ (37, true) ∷ (38, true) ∷ (45, true) ∷ (46, false) ∷ (47, true) ∷ (48, true) ∷ (49, false) ∷ (50, true) ∷ (52, true) ∷
-    (53, false) ∷ (56, false) ∷ (57, true) ∷ (58, true) ∷ (59, false) ∷ [])
+    (53, false) ∷ (56, false) ∷ (57, true) ∷ (58, true) ∷ (59, false) ∷ (64, false) ∷ (65, true) ∷ (70, true) ∷ (71, false) ∷ [])
 unfolding requests
 clients_may_ask = refl
 
@@ -141,6 +152,16 @@ define of = pdu.ConfirmedRequest 1 (request.DefineNamedVariable (record { name =
 abbrev seven : Datum
 seven = datum.integer (pos 7)
 
+-- one with these data of X
+abbrev entry : List Datum → JournalEntry
+entry values = record {
+  time = record { ms = 5; day = 0 };
+  content = Data None (Some (map (λ value. record { tag = 88 ∷ []; value = value }) values));
+}
+
+abbrev write_entries : List JournalEntry → Pdu
+write_entries entries = pdu.ConfirmedRequest 1 (request.WriteJournal (record { name = Vmd (74 ∷ []); entries = entries }))
+
 -- an array or a structure is one more than its deepest part, and 1 where it has none; what is deepest counts, wherever it stands
 nests : Answers depth_of (
     (write [], 0) ∷
@@ -151,6 +172,9 @@ nests : Answers depth_of (
     (define (Some shape.boolean), 0) ∷
     (define (Some (shape.structure false no_field)), 1) ∷
     (define (Some (shape.array false 2 (shape.structure true (field None shape.boolean (field (Some (65 ∷ [])) (shape.array false 0 shape.boolean) no_field))))), 3) ∷
+    (write_entries (ok ∷ entry [] ∷ []), 0) ∷
+    (write_entries (entry (seven ∷ datum.array (row []) ∷ seven ∷ []) ∷ ok ∷ []), 1) ∷
+    (write_entries (entry (datum.array (row []) ∷ []) ∷ entry (seven ∷ datum.structure (row (datum.array (row []) ∷ [])) ∷ []) ∷ entry (seven ∷ []) ∷ []), 2) ∷
     (pdu.ConfirmedRequest 1 (request.GetNamedVariableListAttributes (Vmd (76 ∷ []))), 0) ∷
     (pdu.ConfirmedRequest 1 (request.ReportEventConditionStatus (Vmd (77 ∷ []))), 0) ∷
     (pdu.CancelRequest 1, 0) ∷

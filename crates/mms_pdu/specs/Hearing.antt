@@ -16,7 +16,7 @@ use Rattle.mms_types.specs.declared.pdu.Request.{Request}
 use Rattle.mms_types.specs.declared.pdu.Request.TheVariants as request
 use Rattle.mms_types.specs.declared.pdu.Pdu.{Pdu}
 use Rattle.mms_types.specs.declared.pdu.Pdu.TheVariants as pdu
-use Rattle.mms_types.specs.Depths.{write_depth, definition_depth}
+use Rattle.mms_types.specs.Depths.{write_depth, definition_depth, journal_depth}
 use Rattle.pdu_names.specs.Said.{natural_of}
 use Rattle.pdu_assoc.specs.Heard.{unconfirmed_form, heard_cancel_form, heard_cancel_error_form, heard_error, heard_reject_form, answered}
 use Rattle.mms_pdu.specs.declared.refusal.Refusal.{Refusal}
@@ -138,11 +138,12 @@ module _ (lengths : Lengths) (edition : Edition) where
   unfoldable pub heard : List ℕ → Result Value Refusal
   heard octets = and_then (valid (sole_part lengths octets)) part_told
 
--- How deep the data and the type of a request nest (ISO 9506-2, nestingLevel): the data that is written, and the type of a variable that
--- is defined. The other requests have none.
+-- How deep the data and the type of a request nest (ISO 9506-2, nestingLevel): the data that is written, also into a journal, and the type
+-- of a variable that is defined. The other requests have none.
 abbrev pub request_depth : Request → ℕ
 request_depth (request.Write x) = write_depth x
 request_depth (request.DefineNamedVariable x) = definition_depth x
+request_depth (request.WriteJournal x) = journal_depth x
 request_depth other = 0
 
 -- and those of a PDU

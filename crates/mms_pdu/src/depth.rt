@@ -5,14 +5,15 @@ ghost use Rattle.mms_pdu.specs.Hearing.{request_depth, depth_of};
 
 use mms_types::{Pdu, Request};
 
-/// How deep the data and the type of a request nest: the data that is written, and the type of a variable that is
-/// defined.
+/// How deep the data and the type of a request nest: the data that is written, also into a journal, and the type of a
+/// variable that is defined.
 pub(crate) fn request_depth(request: &Request) -> u8
     ensures { result ≡ request_depth request.now }
 {
     match request {
         Request::Write(x) => x.depth(),
         Request::DefineNamedVariable(x) => x.depth(),
+        Request::WriteJournal(x) => x.depth(),
         _ => 0,
     }
 }

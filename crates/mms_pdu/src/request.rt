@@ -304,7 +304,7 @@ pub(crate) fn tell_request(
         19..=25 => tell_of::<SemaphoreServices>(alloc, invoke, service, edition, told),
         26..=37 => tell_of::<DomainServices>(alloc, invoke, service, edition, told),
         38..=45 => tell_of::<ProgramServices>(alloc, invoke, service, edition, told),
-        46..=58 => tell_of::<EventServices>(alloc, invoke, service, edition, told),
+        46..=70 => tell_of::<EventServices>(alloc, invoke, service, edition, told),
         _ => tell(told, Err(Refusal::Service { invoke })),
     }
 }

@@ -2,7 +2,7 @@
 use Rattle.mms_types.specs.declared.pdu.Request.{Request}
 use Rattle.mms_types.specs.declared.pdu.Request.TheVariants as request
 use Rattle.mms_types.specs.declared.area.AreaRequest.{AreaRequest}
-use Rattle.mms_types.specs.declared.area.AreaRequest.TheVariants.{Device, Variables, Semaphores, Domains, Invocations, Programs, Events}
+use Rattle.mms_types.specs.declared.area.AreaRequest.TheVariants.{Device, Variables, Semaphores, Domains, Invocations, Programs, Events, Journals}
 use Rattle.mms_types.specs.declared.area.DeviceRequest.{DeviceRequest}
 use Rattle.mms_types.specs.declared.area.DeviceRequest.TheVariants as device
 use Rattle.mms_types.specs.declared.area.DomainRequest.{DomainRequest}
@@ -11,6 +11,8 @@ use Rattle.mms_types.specs.declared.area.EventRequest.{EventRequest}
 use Rattle.mms_types.specs.declared.area.EventRequest.TheVariants as events
 use Rattle.mms_types.specs.declared.area.InvocationRequest.{InvocationRequest}
 use Rattle.mms_types.specs.declared.area.InvocationRequest.TheVariants as invocations
+use Rattle.mms_types.specs.declared.area.JournalRequest.{JournalRequest}
+use Rattle.mms_types.specs.declared.area.JournalRequest.TheVariants as journals
 use Rattle.mms_types.specs.declared.area.ProgramRequest.{ProgramRequest}
 use Rattle.mms_types.specs.declared.area.ProgramRequest.TheVariants as programs
 use Rattle.mms_types.specs.declared.area.SemaphoreRequest.{SemaphoreRequest}
@@ -71,6 +73,14 @@ event_request (events.TriggerEvent x) = request.TriggerEvent x.now
 event_request (events.DefineEventEnrollment x) = request.DefineEventEnrollment x.now
 event_request (events.DeleteEventEnrollment x) = request.DeleteEventEnrollment x.now
 
+abbrev pub journal_request : JournalRequest → Request
+journal_request (journals.ReadJournal x) = request.ReadJournal x.now
+journal_request (journals.WriteJournal x) = request.WriteJournal x.now
+journal_request (journals.InitializeJournal x) = request.InitializeJournal x.now
+journal_request (journals.ReportJournalStatus x) = request.ReportJournalStatus x.now
+journal_request (journals.CreateJournal x) = request.CreateJournal x.now
+journal_request (journals.DeleteJournal x) = request.DeleteJournal x.now
+
 abbrev pub request_of : AreaRequest → Request
 request_of (Device asked) = device_request asked
 request_of (Variables asked) = variable_request asked
@@ -79,3 +89,4 @@ request_of (Domains asked) = domain_request asked
 request_of (Invocations asked) = invocation_request asked
 request_of (Programs asked) = program_request asked
 request_of (Events asked) = event_request asked
+request_of (Journals asked) = journal_request asked

@@ -6,10 +6,10 @@ ghost use Rattle.mms_types.specs.Areas.{request_of};
 use crate::{
     AlterEventConditionMonitoring, CreateProgramInvocation, DefineEventCondition,
     DefineEventEnrollment, DefineNamedVariable, DefineNamedVariableList, DefineSemaphore,
-    DeleteEventEnrollment, DeleteNames, GetNameList, Identifier, InitiateDownloadSequence,
-    ObjectName, ObjectNames, Read, RelinquishControl, ReportPoolSemaphoreStatus,
-    ReportSemaphoreEntryStatus, Request, RunProgram, Spec, Status, TakeControl, TriggerEvent,
-    Write,
+    DeleteEventEnrollment, DeleteNames, GetNameList, Identifier, InitializeJournal,
+    InitiateDownloadSequence, ObjectName, ObjectNames, Read, ReadJournal, RelinquishControl,
+    ReportPoolSemaphoreStatus, ReportSemaphoreEntryStatus, Request, RunProgram, Spec, Status,
+    TakeControl, TriggerEvent, Write, WriteJournal,
 };
 
 /// What is asked of the device itself (ISO 9506-1, VMD support).
@@ -87,6 +87,17 @@ pub enum EventRequest<'a> {
     DeleteEventEnrollment(&'a DeleteEventEnrollment),
 }
 
+/// What is asked of journals (ISO 9506-1, journal management).
+#[derive(Clone, Copy)]
+pub enum JournalRequest<'a> {
+    ReadJournal(&'a ReadJournal),
+    WriteJournal(&'a WriteJournal),
+    InitializeJournal(&'a InitializeJournal),
+    ReportJournalStatus(&'a ObjectName),
+    CreateJournal(&'a ObjectName),
+    DeleteJournal(&'a ObjectName),
+}
+
 /// A request, by the area of the device that serves it.
 #[derive(Clone, Copy)]
 pub enum AreaRequest<'a> {
@@ -97,6 +108,7 @@ pub enum AreaRequest<'a> {
     Invocations(InvocationRequest<'a>),
     Programs(ProgramRequest<'a>),
     Events(EventRequest<'a>),
+    Journals(JournalRequest<'a>),
 }
 
 impl Request {
@@ -197,6 +209,24 @@ impl Request {
             }
             Request::DeleteEventEnrollment(asked) => {
                 AreaRequest::Events(EventRequest::DeleteEventEnrollment(asked))
+            }
+            Request::ReadJournal(asked) => {
+                AreaRequest::Journals(JournalRequest::ReadJournal(asked.get()))
+            }
+            Request::WriteJournal(asked) => {
+                AreaRequest::Journals(JournalRequest::WriteJournal(asked))
+            }
+            Request::InitializeJournal(asked) => {
+                AreaRequest::Journals(JournalRequest::InitializeJournal(asked))
+            }
+            Request::ReportJournalStatus(name) => {
+                AreaRequest::Journals(JournalRequest::ReportJournalStatus(name))
+            }
+            Request::CreateJournal(name) => {
+                AreaRequest::Journals(JournalRequest::CreateJournal(name))
+            }
+            Request::DeleteJournal(name) => {
+                AreaRequest::Journals(JournalRequest::DeleteJournal(name))
             }
         }
     }

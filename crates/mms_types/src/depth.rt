@@ -4,9 +4,12 @@ ghost use Rattle.std.specs.Prelude.{◌≡◌, ◌≤◌, max};
 ghost use Rattle.mms_types.specs.Datum.{row, depth, deepest};
 ghost use Rattle.mms_types.specs.Shape.{shape_depth, fields_depth};
 ghost use Rattle.mms_types.specs.SeenType.{fields};
-ghost use Rattle.mms_types.specs.Depths.{write_depth, definition_depth};
+ghost use Rattle.mms_types.specs.Depths.{write_depth, definition_depth, journal_depth, entries_depth, entry_depth, variables_depth};
 
-use crate::{Component, Data, DataKind, DefineNamedVariable, TypeKind, TypeSpec, Write};
+use crate::{
+    Component, Data, DataKind, DefineNamedVariable, EntryContent, JournalEntry, JournalVariable,
+    TypeKind, TypeSpec, Write, WriteJournal,
+};
 
 impl Data {
     /// How deep it nests: a simple value 0, an array or a structure one more than its deepest part. At most 10.
@@ -49,6 +52,51 @@ impl DefineNamedVariable {
             Some(of) => of.depth(),
         }
     }
+}
+
+impl WriteJournal {
+    /// How deep the data of the entries nests: the deepest of it, and 0 where there is none. At most 10.
+    pub fn depth(&self) -> u8
+        ensures depth { result ≡ journal_depth self.now }
+        ensures most { result ≤ 10 }
+    {
+        entries_depth(self.entries.as_slice())
+    }
+}
+
+fn entries_depth(entries: &[JournalEntry]) -> u8
+    ensures depth { result ≡ entries_depth entries.now }
+    ensures most { result ≤ 10 }
+{
+    let mut found = 0;
+    for entry in entries {
+        found = greater(found, entry_depth(entry));
+    }
+    found
+}
+
+fn entry_depth(entry: &JournalEntry) -> u8
+    ensures depth { result ≡ entry_depth entry.now }
+    ensures most { result ≤ 10 }
+{
+    match &entry.content {
+        EntryContent::Data {
+            variables: Some(variables),
+            ..
+        } => variables_depth(variables.as_slice()),
+        _ => 0,
+    }
+}
+
+fn variables_depth(variables: &[JournalVariable]) -> u8
+    ensures depth { result ≡ variables_depth variables.now }
+    ensures most { result ≤ 10 }
+{
+    let mut found = 0;
+    for variable in variables {
+        found = greater(found, variable.value.depth());
+    }
+    found
 }
 
 fn greater(a: u8, b: u8) -> u8

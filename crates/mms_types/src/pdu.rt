@@ -3,12 +3,12 @@ use crate::{
     CreateProgramInvocation, DefineEventCondition, DefineEventEnrollment, DefineNamedVariable,
     DefineNamedVariableList, DefineSemaphore, DeleteEventEnrollment, DeleteNames, Deleted,
     DomainAttributes, EntryStatuses, EventNotification, GetNameList, GetNameListAnswer, Identifier,
-    IdentifyAnswer, Initiate, InitiateAnswer, InitiateDownloadSequence,
-    InitiateUploadSequenceAnswer, InvocationAttributes, ListAttributes, ObjectName, ObjectNames,
-    PoolStatus, Read, ReadAnswer, RelinquishControl, ReportPoolSemaphoreStatus,
-    ReportSemaphoreEntryStatus, RunProgram, Segment, SemaphoreStatus, ServiceError, Spec, Status,
-    StatusAnswer, TakeControl, TakeControlAnswer, TerminateDownloadSequence, TriggerEvent,
-    VariableAttributes, Write, WriteAnswer,
+    IdentifyAnswer, InitializeJournal, Initiate, InitiateAnswer, InitiateDownloadSequence,
+    InitiateUploadSequenceAnswer, InvocationAttributes, JournalStatus, ListAttributes, ObjectName,
+    ObjectNames, PoolStatus, Read, ReadAnswer, ReadJournal, ReadJournalAnswer, RelinquishControl,
+    ReportPoolSemaphoreStatus, ReportSemaphoreEntryStatus, RunProgram, Segment, SemaphoreStatus,
+    ServiceError, Spec, Status, StatusAnswer, TakeControl, TakeControlAnswer,
+    TerminateDownloadSequence, TriggerEvent, VariableAttributes, Write, WriteAnswer, WriteJournal,
 };
 
 /// What a client asks of the server (ISO 9506-2, ConfirmedServiceRequest): a variant for each service that clients ask,
@@ -92,6 +92,18 @@ pub enum Request {
     DefineEventEnrollment(Boxed<DefineEventEnrollment>),
     /// The deletion of event enrollments.
     DeleteEventEnrollment(DeleteEventEnrollment),
+    /// Entries of a journal. What is asked is kept apart, so that no request grows by it.
+    ReadJournal(Boxed<ReadJournal>),
+    /// New entries for a journal.
+    WriteJournal(WriteJournal),
+    /// Entries of a journal are to go.
+    InitializeJournal(InitializeJournal),
+    /// What the journal of this name is.
+    ReportJournalStatus(ObjectName),
+    /// A journal of this name is to be made.
+    CreateJournal(ObjectName),
+    /// The deletion of the journal of this name.
+    DeleteJournal(ObjectName),
 }
 
 /// What the server answers to a request (ISO 9506-2, ConfirmedServiceResponse): a variant for each service that clients
@@ -175,6 +187,18 @@ pub enum Answer {
     DefineEventEnrollment,
     /// How many event enrollments were not deleted.
     DeleteEventEnrollment(u32),
+    /// Entries of the journal, and whether more were asked for.
+    ReadJournal(ReadJournalAnswer),
+    /// The entries were written.
+    WriteJournal,
+    /// How many entries went.
+    InitializeJournal(u32),
+    /// What the journal is.
+    ReportJournalStatus(JournalStatus),
+    /// The journal was made.
+    CreateJournal,
+    /// The journal was deleted.
+    DeleteJournal,
 }
 
 /// What the server asks of a client (ISO 9506-2, ConfirmedServiceRequest): a variant for each service that the server
@@ -310,6 +334,12 @@ impl Drop for Request {
             Request::TriggerEvent(_x) => {}
             Request::DefineEventEnrollment(_x) => {}
             Request::DeleteEventEnrollment(_x) => {}
+            Request::ReadJournal(_x) => {}
+            Request::WriteJournal(_x) => {}
+            Request::InitializeJournal(_x) => {}
+            Request::ReportJournalStatus(_x) => {}
+            Request::CreateJournal(_x) => {}
+            Request::DeleteJournal(_x) => {}
         }
     }
 }
@@ -356,6 +386,12 @@ impl Drop for Answer {
             Answer::TriggerEvent => {}
             Answer::DefineEventEnrollment => {}
             Answer::DeleteEventEnrollment(_) => {}
+            Answer::ReadJournal(_x) => {}
+            Answer::WriteJournal => {}
+            Answer::InitializeJournal(_) => {}
+            Answer::ReportJournalStatus(_) => {}
+            Answer::CreateJournal => {}
+            Answer::DeleteJournal => {}
         }
     }
 }

@@ -1,12 +1,17 @@
-//! The forms of the services for event conditions and event enrollments, in octets, both ways (ISO 9506-2, event
-//! management): DefineEventCondition, DeleteEventCondition, ReportEventConditionStatus, AlterEventConditionMonitoring,
-//! TriggerEvent, DefineEventEnrollment, DeleteEventEnrollment and EventNotification. A definition, a change and a
-//! trigger are answered by `pdu_names::Null`. `EventServices` is their area, which has them by their numbers.
+//! The forms of the services for event conditions, event enrollments and journals, in octets, both ways (ISO 9506-2,
+//! event management and journal management): DefineEventCondition, DeleteEventCondition, ReportEventConditionStatus,
+//! AlterEventConditionMonitoring, TriggerEvent, DefineEventEnrollment, DeleteEventEnrollment and EventNotification, and
+//! ReadJournal, WriteJournal, InitializeJournal, ReportJournalStatus, CreateJournal and DeleteJournal. What changes
+//! without a number to tell is answered by `pdu_names::Null`. `EventServices` is their area, which has them by their
+//! numbers.
 #![tactic(auto)]
 
 mod changes;
 mod conditions;
 mod enrollments;
+mod entries;
+mod journals;
+mod selections;
 mod services;
 mod times;
 
@@ -19,6 +24,19 @@ pub use conditions::{
 pub use enrollments::{
     DefineEventEnrollmentRequest, DeleteEventEnrollmentAlternatives, DeleteEventEnrollmentRequest,
     DeleteEventEnrollmentResponse, EventNotifications,
+};
+pub use entries::{
+    EntryContentAlternatives, JournalEntryContents, JournalEventContents, JournalVariableContents,
+};
+pub use journals::{
+    CreateJournalRequest, DeleteJournalRequest, InitializeJournalRequest,
+    InitializeJournalResponse, JournalLimitContents, JournalNamed, ReadEntryContents,
+    ReadJournalResponse, ReportJournalStatusRequest, ReportJournalStatusResponse,
+    WriteJournalRequest,
+};
+pub use selections::{
+    EntryToStartAfterContents, JournalStartAlternatives, JournalStopAlternatives,
+    ReadJournalRequest,
 };
 pub use services::EventServices;
 pub use times::{EventTimeAlternatives, EventTimes, TimeOfDayContents};

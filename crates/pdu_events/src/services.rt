@@ -1,4 +1,4 @@
-//! Services for event conditions and event enrollments by their numbers.
+//! Services for event conditions, event enrollments and journals by their numbers.
 
 ghost use Rattle.pdu_events.specs.Services.{event_area};
 
@@ -10,6 +10,12 @@ use crate::conditions::{
 use crate::enrollments::{
     DefineEventEnrollmentRequest, DeleteEventEnrollmentRequest, DeleteEventEnrollmentResponse,
 };
+use crate::journals::{
+    CreateJournalRequest, DeleteJournalRequest, InitializeJournalRequest,
+    InitializeJournalResponse, ReadJournalResponse, ReportJournalStatusRequest,
+    ReportJournalStatusResponse, WriteJournalRequest,
+};
+use crate::selections::ReadJournalRequest;
 use ber_core::{Element, Memory as Full, Writer};
 use ber_forms::Unread;
 use mms_types::{Answer, Edition, Request};
@@ -17,7 +23,8 @@ use pdu_areas::{Area, boxed, own};
 use pdu_names::{Formed, Null, read_as};
 use std::alloc::Global;
 
-/// The services for event conditions and event enrollments: each by its number, with its argument and its result.
+/// The services for event conditions, event enrollments and journals: each by its number, with its argument and its
+/// result.
 pub struct EventServices;
 
 impl Area for EventServices {
@@ -53,6 +60,25 @@ impl Area for EventServices {
             58 => Ok(Some(Request::DeleteEventEnrollment(read_as::<DeleteEventEnrollmentRequest>(
                 alloc, service, edition,
             )?))),
+            65 => {
+                let found = read_as::<ReadJournalRequest>(alloc, service, edition)?;
+                Ok(Some(Request::ReadJournal(boxed(alloc, found)?)))
+            }
+            66 => Ok(Some(Request::WriteJournal(read_as::<WriteJournalRequest>(
+                alloc, service, edition,
+            )?))),
+            67 => Ok(Some(Request::InitializeJournal(read_as::<InitializeJournalRequest>(
+                alloc, service, edition,
+            )?))),
+            68 => Ok(Some(Request::ReportJournalStatus(read_as::<ReportJournalStatusRequest>(
+                alloc, service, edition,
+            )?))),
+            69 => Ok(Some(Request::CreateJournal(read_as::<CreateJournalRequest>(
+                alloc, service, edition,
+            )?))),
+            70 => Ok(Some(Request::DeleteJournal(read_as::<DeleteJournalRequest>(
+                alloc, service, edition,
+            )?))),
             _ => Ok(None),
         }
     }
@@ -83,6 +109,14 @@ impl Area for EventServices {
             Request::DeleteEventEnrollment(x) => own(DeleteEventEnrollmentRequest::put_part(
                 out, 58, x,
             )),
+            Request::ReadJournal(x) => own(ReadJournalRequest::put_part(out, 65, x.get())),
+            Request::WriteJournal(x) => own(WriteJournalRequest::put_part(out, 66, x)),
+            Request::InitializeJournal(x) => own(InitializeJournalRequest::put_part(out, 67, x)),
+            Request::ReportJournalStatus(x) => own(ReportJournalStatusRequest::put_part(
+                out, 68, x,
+            )),
+            Request::CreateJournal(x) => own(CreateJournalRequest::put_part(out, 69, x)),
+            Request::DeleteJournal(x) => own(DeleteJournalRequest::put_part(out, 70, x)),
             _ => Ok(false),
         }
     }
@@ -103,6 +137,14 @@ impl Area for EventServices {
             Answer::DeleteEventEnrollment(x) => own(DeleteEventEnrollmentResponse::put_part(
                 out, 58, x,
             )),
+            Answer::ReadJournal(x) => own(ReadJournalResponse::put_part(out, 65, x)),
+            Answer::WriteJournal => own(Null::put_part(out, 66, &())),
+            Answer::InitializeJournal(x) => own(InitializeJournalResponse::put_part(out, 67, x)),
+            Answer::ReportJournalStatus(x) => own(ReportJournalStatusResponse::put_part(
+                out, 68, x,
+            )),
+            Answer::CreateJournal => own(Null::put_part(out, 69, &())),
+            Answer::DeleteJournal => own(Null::put_part(out, 70, &())),
             _ => Ok(false),
         }
     }
