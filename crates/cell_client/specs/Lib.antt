@@ -5,4 +5,5 @@ pub mod Facts
 pub mod Meant
 pub mod Reads
 pub mod Requests
+pub mod ServedLaws
 pub mod Telling

@@ -2,6 +2,5 @@ pub mod Answered
 pub mod DomainLaws
 pub mod LoadLaws
 pub mod NumberLaws
-pub mod ServedLaws
 pub mod UserLaws
 mod Worked

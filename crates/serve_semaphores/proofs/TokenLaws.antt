@@ -33,7 +33,8 @@ use Rattle.cell_client.specs.declared.told.Told.{Told}
 use Rattle.cell_client.specs.Requests.{fits, is_done, refuses, request_told, size_of}
 use Rattle.serve_semaphores.specs.Semaphores.{given_back, relinquish_control, take_control, taken}
 use Rattle.serve_semaphores.specs.Tokens.{grants_nobody, grants_nobody_among, is_taken, relinquish_cause_on, relinquish_on, relinquished_on, take_cause_on, take_effects, take_on, taken_on}
-use Rattle.serve_semaphores.proofs.ServedLaws.{became, refused, unfitting, waits}
+use Rattle.cell_client.specs.ServedLaws.{became, refused}
+use Rattle.serve_semaphores.proofs.ServedLaws.{unfitting, waits}
 
 -- ---- one semaphore among all
 

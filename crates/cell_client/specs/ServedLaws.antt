@@ -1,4 +1,4 @@
--- A request is served on the tables of its area and the row of its client: refused, or answered.
+-- Laws of a request that is served on the tables of its area and the row of its client: it is refused, or answered.
 use Rattle.std.proofs.Common.{◌≡◌, ◌∙◌, ap, sym, refl, ℕ, Bool, true, false, List, [], ◌∷◌, ◌++◌, Option, Some, if◌then◌else◌}
 use Rattle.mms_types.specs.declared.pdu.Answer.{Answer}
 use Rattle.mms_types.specs.declared.service_error.ServiceError.{ServiceError}
@@ -53,3 +53,14 @@ module _ {A : Type 0} (r : RequestIn A) (facts : Facts) (invoke : ℕ) (row : Cl
       by_test : (b : Bool) → tell row.client told ++ (if b then [] else []) ≡ tell row.client told ++ []
       by_test true = refl
       by_test false = refl
+
+-- it is refused, or answered and nothing changes
+pub answered : {A : Type 0} (r : RequestIn A) (facts : Facts) (invoke : ℕ) (row : ClientRow) (was : A) (new : RoomyRow) (why : Option ServiceError) (answer : Option Answer)
+    → r.cause facts was row ≡ why → r.effect facts was row invoke ≡ record { tables = was; answer = answer; also = [] }
+    → new ≡ settled (felt_all (request_told (size_of row.association) invoke why answer) row) → IsServedIn r facts invoke row was was new
+answered {A} r facts invoke row was new why answer cause effect is =
+    became r facts invoke row was was new why was answer cause effect (by_test (is_done (size_of row.association) invoke why answer)) is
+  where
+    by_test : (b : Bool) → was ≡ (if b then was else was)
+    by_test true = refl
+    by_test false = refl
