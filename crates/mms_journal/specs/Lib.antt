@@ -1,0 +1,9 @@
+pub mod Cuts
+pub mod Entries
+pub mod Formed
+pub mod Journals
+pub mod Kept
+pub mod Range
+pub mod Selection
+pub mod Services
+pub mod Tags
