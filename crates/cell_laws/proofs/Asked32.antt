@@ -181,7 +181,13 @@ other-few n v none =
     (either (n == 51) _ _ (record { few = tt })
     (either (n == 52) _ _ (record { few = tt })
     (either (n == 57) _ _ (record { few = tt })
-    (either (n == 58) _ _ (record { few = tt }) (record { few = tt })))))))))))))))))))))))))))))))))))))))
+    (either (n == 58) _ _ (record { few = tt })
+    (either (n == 65) _ _ (record { few = tt })
+    (either (n == 66) _ _ (record { few = tt })
+    (either (n == 67) _ _ (record { few = tt })
+    (either (n == 68) _ _ (record { few = tt })
+    (either (n == 69) _ _ (record { few = tt })
+    (either (n == 70) _ _ (record { few = tt }) (record { few = tt })))))))))))))))))))))))))))))))))))))))))))))
 
 abbrev members : Form → Components
 members (sequence cs) = cs

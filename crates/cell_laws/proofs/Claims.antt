@@ -1,4 +1,5 @@
--- A client has one claim at most on a semaphore of equal tokens: it waits once, or owns one token. A hung entry is no claim.
+-- A client has one claim at most on a semaphore of equal tokens: it waits once, or owns one token. A hung entry is no
+-- claim.
 use Rattle.std.proofs.Common.{◌≡◌, ℕ, ◌+◌, inl, inr, Bool, true, false, not, cond, ◌==◌, ◌&&◌, ◌||◌, List, [], ◌∷◌, ◌++◌, map, filter, fold, Option, None, Some, option_map, option_to_list, if◌then◌else◌, refl, sym, ◌∙◌, ap, subst}
 use Rattle.mms_types.specs.declared.moment.Moment.{Moment}
 use Rattle.token_sem.specs.declared.entry.Ask.{Ask}

@@ -1,4 +1,5 @@
--- After any history, and at each point while time goes by, a client has one claim at most on each semaphore of equal tokens.
+-- After any history, and at each point while time goes by, a client has one claim at most on each semaphore of equal
+-- tokens.
 use Rattle.std.proofs.Common.{◌≡◌, ℕ, ◌+◌, ◌⊎◌, inl, inr, Bool, true, false, not, cond, ◌==◌, List, [], ◌∷◌, ◌++◌, filter, fold, Option, None, Some, is_some, option_and_then, option_map, if◌then◌else◌, refl, sym, ◌∙◌, ap, subst}
 use Rattle.std.specs.Map.{lookup, remove_entry}
 use Rattle.std.proofs.lemmas.Map.{lookup-remove_entry, lookup-set_value}

@@ -1,4 +1,5 @@
--- What happens while time goes by, on the device and to its semaphores alone: whom it tells what, and what holds at the end.
+-- What happens while time goes by, on the device and to its semaphores alone: whom it tells what, and what holds at the
+-- end.
 use Rattle.std.proofs.Common.{◌≡◌, ℕ, zero, suc, ◌∙◌, ◌⊎◌, inl, inr, ◌==◌, nat_lt, Bool, true, false, List, [], ◌∷◌, ◌++◌, append_assoc, map, Option, None, Some, option_and_then, option_map, if◌then◌else◌, refl, sym, ap, subst}
 use Rattle.std.specs.List.{Contains, flat_map}
 use Rattle.mms_types.specs.declared.moment.Moment.{Moment}

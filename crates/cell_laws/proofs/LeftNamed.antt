@@ -1,4 +1,5 @@
--- The tokens of a pool that a client owns who is lost go, one after the other, to the first that waits for each, or are free.
+-- The tokens of a pool that a client owns who is lost go, one after the other, to the first that waits for each, or are
+-- free.
 use Rattle.std.proofs.Common.{◌≡◌, ℕ, inl, inr, Bool, true, false, not, cond, List, [], ◌∷◌, ◌++◌, map, filter, fold, length, Option, None, Some, option_map, option_to_list, refl, sym, ◌∙◌, ap, subst}
 use Rattle.std.specs.Map.{lookup}
 use Rattle.std.proofs.lemmas.List.Sums.{fold-append}

@@ -1,4 +1,5 @@
--- What a client sends, as to what is asked of it: which request of a load it answers, and that nothing else makes more requests unanswered.
+-- What a client sends, as to what is asked of it: which request of a load it answers, and that nothing else makes more
+-- requests unanswered.
 use Rattle.std.proofs.Common.{◌≡◌, ℕ, ◌⊎◌, inl, inr, Bool, true, false, List, [], ◌∷◌, Option, None, Some, refl, nat_lt}
 use Rattle.std.specs.Prelude.{Result, Ok, Err}
 use Rattle.mms_types.specs.declared.asked.Asked.{Asked}
@@ -37,7 +38,8 @@ use Rattle.cell_services.specs.Serving.{resolved}
 use Rattle.cell_services.specs.Tables.{Tables}
 use Rattle.cell_laws.proofs.Verdicts.{by-conclusion, by-tables}
 
--- what a client is told: its unanswered requests stay, or one is unanswered no more; and an association opens only where there is none
+-- what a client is told: its unanswered requests stay, or one is unanswered no more; and an association opens only
+-- where there is none
 pub record IsSpared (row : ClientRow) (effects : List Effect) : Type 0 where
   pub asked : ((felt_all effects row).asked ≡ row.asked) ⊎ ((number : ℕ) × ((felt_all effects row).asked ≡ unsettled number row.asked))
   pub opened : ((felt_all effects row).association ≡ row.association) ⊎ (row.association ≡ Idle)

@@ -1,4 +1,5 @@
--- What each domain is by its last load, and what clients are asked of it, whatever is done to loads, to domains and to clients.
+-- What each domain is by its last load, and what clients are asked of it, whatever is done to loads, to domains and to
+-- clients.
 use Rattle.std.specs.Prelude.{◌≡◌, ◌≢◌, ℕ, ◌+◌, ◌==◌, ◌&&◌, All, Bool, true, false, not, cond, count_by, length, option_map, Option, None, Some, List, [], ◌∷◌, ◌++◌, if◌then◌else◌, refl}
 use Rattle.std.specs.Option.{option_map_or}
 use Rattle.std.proofs.Common.{ap, sym, ◌∙◌, subst, arith}

@@ -1,4 +1,5 @@
--- Program invocations come to domains and leave them: domains change in their lists of names alone, and nothing of their loads changes.
+-- Program invocations come to domains and leave them: domains change in their lists of names alone, and nothing of
+-- their loads changes.
 use Rattle.std.specs.Prelude.{◌≡◌, ℕ, ◌++◌, Bool, true, false, cond, Option, None, Some, List, [], ◌∷◌, refl}
 use Rattle.std.specs.List.{IsDistinct}
 use Rattle.std.specs.Map.{set_value}

@@ -1,4 +1,5 @@
--- What holds of loads, of domains and of the rows of clients holds along a history, where each thing that may be done to them keeps it.
+-- What holds of loads, of domains and of the rows of clients holds along a history, where each thing that may be done
+-- to them keeps it.
 use Rattle.std.specs.Prelude.{◌≡◌, ℕ, zero, suc, ◌+◌, Bool, true, false, not, fold, length, Option, None, Some, List, [], ◌∷◌, ◌++◌, option_to_list, option_map, slice_get, unwrap_or, Result, if◌then◌else◌, nat_le, nat_lt, is_some, refl}
 use Rattle.std.specs.List.{cons_option}
 use Rattle.std.specs.Option.{option_map_or}
@@ -78,9 +79,10 @@ logged_all : (log : List LoadStep) (o : Option LoadStep) (rest : List LoadStep) 
 logged_all log None rest = refl
 logged_all log (Some one) rest = append_assoc log (one ∷ []) rest
 
--- Of the steps of loads, domains and clients something holds whatever is done to them: clients are told something that changes neither what is asked of them nor
--- their associations; one is told what its octets come to at once; its association ends; a load begins; a domain is deleted; a request of a load is answered;
--- program invocations come to a domain or leave it.
+-- Of the steps of loads, domains and clients something holds whatever is done to them: clients are told something that
+-- changes neither what is asked of them nor their associations; one is told what its octets come to at once; its
+-- association ends; a load begins; a domain is deleted; a request of a load is answered; program invocations come to a
+-- domain or leave it.
 pub record IsKept (P : List LoadStep → Rows → List ClientRow → Type 0) : Type 0 where
   pub plain : (log : List LoadStep) (d : Rows) (told : List (ℕ × Effect)) (rows : List ClientRow) → ArePlain told → P log d rows → P log d (delivered cell told rows)
   pub spared : (log : List LoadStep) (d : Rows) (rows : List ClientRow) (k : ℕ) (row : ClientRow) (effects : List Effect) → slice_get rows k ≡ Some row → AreApart row.asked

@@ -1,4 +1,5 @@
--- A deadline that is met, and all that are met meanwhile, keep what links requests that wait and entries that are queued.
+-- A deadline that is met, and all that are met meanwhile, keep what links requests that wait and entries that are
+-- queued.
 use Rattle.std.proofs.Common.{◌≡◌, ℕ, Bool, true, false, cond, ◌==◌, ◌&&◌, List, Option, None, Some, option_and_then, option_to_list, if◌then◌else◌, refl, sym, ◌∙◌, ap}
 use Rattle.std.specs.Map.{lookup}
 use Rattle.mms_types.specs.Order.{key_eq}

@@ -1,4 +1,5 @@
--- What clients are told of transitions of event conditions answers no request, and changes nothing but what is to be sent.
+-- What clients are told of transitions of event conditions answers no request, and changes nothing but what is to be
+-- sent.
 use Rattle.std.proofs.Common.{◌≡◌, ℕ, inl, List, [], ◌∷◌, ◌++◌, refl, sym, ap, subst}
 use Rattle.mms_types.specs.declared.condition.AlterEventConditionMonitoring.{AlterEventConditionMonitoring}
 use Rattle.mms_types.specs.declared.condition.Notice.{Notice}

@@ -1,4 +1,5 @@
--- The client of each enrollment has an association: what clients are told ends none, but where a client is lost, whose enrollments go.
+-- The client of each enrollment has an association: what clients are told ends none, but where a client is lost, whose
+-- enrollments go.
 use Rattle.std.proofs.Common.{◌≡◌, ℕ, zero, suc, ◌⊎◌, inl, inr, ◌==◌, Bool, true, false, not, cond, List, [], ◌∷◌, ◌++◌, filter, Option, None, Some, option_map, slice_get, unwrap_or, Result, Ok, Err, refl, sym, ◌∙◌, ap, subst}
 use Rattle.std.specs.List.{AllByRecursion}
 use Rattle.mms_types.specs.Order.{scope_eq}

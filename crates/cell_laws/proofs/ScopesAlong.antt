@@ -45,7 +45,7 @@ module _ (count : ℕ) (s : State) (sound : IsSound count s) where
 -- ---- each event
 
 abbrev pub HoldsIn : State → Type 0
-HoldsIn s = NamesAre (HasLive s.domains.domains) s.variables s.events s.semaphores
+HoldsIn s = NamesAre (HasLive s.domains.domains) s.variables s.events s.journals s.semaphores
 
 module _ (count : ℕ) (s : State) (sound : IsSound count s) (all : HoldsIn s) where
   held : AreLive (cell.tables_of s)
@@ -79,7 +79,7 @@ first_pools domains [] = tt
 first_pools domains (pool ∷ pools) = (tt, first_pools domains pools)
 
 first_live : (config : Config) → HoldsIn (start config)
-first_live config = record { variables = first_variables [] config.variables; lists = tt; conditions = tt; enrolments = tt; semaphores = first_pools [] config.pools }
+first_live config = record { variables = first_variables [] config.variables; lists = tt; conditions = tt; enrolments = tt; journals = tt; semaphores = first_pools [] config.pools }
 
 pub replay_live : (config : Config) (history : List CellEvent) → IsConfig config → HaveLiveScopes (replay config history)
 replay_live config history is =
@@ -90,5 +90,6 @@ replay_live config history is =
       lists = each_all (HasLive s.domains.domains) s.variables.lists all.lists;
       conditions = each_all (HasLive s.domains.domains) s.events.conditions all.conditions;
       enrolments = each_all (HasLive s.domains.domains) s.events.enrolments all.enrolments;
+      journals = each_all (HasLive s.domains.domains) s.journals all.journals;
       semaphores = each_all (HasLive s.domains.domains) s.semaphores all.semaphores;
     }

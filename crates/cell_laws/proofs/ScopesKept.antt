@@ -73,6 +73,9 @@ use Rattle.domain_load.specs.Loading.{initiate_after, reply_after}
 use Rattle.domain_load.specs.Standing.{is_live}
 use Rattle.domain_load.specs.Used.{after_unused, after_used}
 use Rattle.domain_upload.specs.Uploads.{uploads_of}
+use Rattle.mms_journal.specs.Journals.{Log, Rows as Books, changed as changed_journal, journal, most_journals, named as named_journal}
+use Rattle.mms_journal.specs.Services.{after_create, after_delete as after_delete_journal, after_initialize, after_write, create_cause, created, initialized, written_by}
+use Rattle.mms_journal.specs.Services.{without_client as journals_lost}
 use Rattle.program_inv.specs.Programs as program
 use Rattle.program_inv.specs.declared.invocation.Invocation.{Invocation}
 use Rattle.cell_client.specs.Areas.{domain_in, is_of_domain}
@@ -88,29 +91,31 @@ use Rattle.serve_variables.specs.Variables.{specifies_domain, write}
 use Rattle.cell_services.specs.Facts.{is_domain_live, is_scope_used}
 use Rattle.cell_services.specs.Requests.{among, told_in}
 use Rattle.cell_services.specs.Services.{area_of, cause, effect, effect_of, relinquish_outcome, reply_in, take_outcome}
-use Rattle.cell_services.specs.Serving.{domains_without, is_served_in, lost_in, meanwhile, passed, saying, tables_cancelled, tables_heard, tables_lost, tables_served, waiting_of, without_client, without_clients}
+use Rattle.cell_services.specs.Serving.{domains_without, journals_without, is_served_in, lost_in, meanwhile, passed, saying, tables_cancelled, tables_heard, tables_lost, tables_served, waiting_of, without_client, without_clients}
 use Rattle.cell_services.specs.Tables.{Tables, moment_after, moment_of, own_domains, own_events, own_variables}
 use Rattle.cell_laws.specs.Scopes.{IsScopeLive}
 use Rattle.cell_laws.proofs.EachName.{Each, each_added, each_changed, each_kept, each_left, each_mapped, each_other, each_removed, each_set, each_weaker, each_without}
 use Rattle.cell_laws.proofs.Happened.{from_rows, keeps-ticked}
 use Rattle.cell_laws.proofs.LiveStays.{StayLive, begun_stays, deleted_stays, lost_stays, not_scoped, replied_stays, unused_stay, used_stay}
 
--- ---- something holds of the name of each variable, of each list and of each semaphore
+-- ---- something holds of the name of each object that has a scope
 
-pub record NamesAre (P : Key → Type 0) (v : VariableTables) (e : EventTables) (rows : Rows) : Type 0 where
+pub record NamesAre (P : Key → Type 0) (v : VariableTables) (e : EventTables) (j : Books) (rows : Rows) : Type 0 where
   pub variables : Each P v.vars.variables
   pub lists : Each P v.lists
   pub conditions : Each P e.conditions
   pub enrolments : Each P e.enrolments
+  pub journals : Each P j
   pub semaphores : Each P rows
 
-module _ (P Q : Key → Type 0) (v : VariableTables) (e : EventTables) (rows : Rows) where
-  names_weaker : ((key : Key) → P key → Q key) → NamesAre P v e rows → NamesAre Q v e rows
+module _ (P Q : Key → Type 0) (v : VariableTables) (e : EventTables) (j : Books) (rows : Rows) where
+  names_weaker : ((key : Key) → P key → Q key) → NamesAre P v e j rows → NamesAre Q v e j rows
   names_weaker weaker all = record {
     variables = each_weaker P Q weaker v.vars.variables all.variables;
     lists = each_weaker P Q weaker v.lists all.lists;
     conditions = each_weaker P Q weaker e.conditions all.conditions;
     enrolments = each_weaker P Q weaker e.enrolments all.enrolments;
+    journals = each_weaker P Q weaker j all.journals;
     semaphores = each_weaker P Q weaker rows all.semaphores;
   }
 
@@ -120,10 +125,11 @@ module _ (P Q : Key → Type 0) (v : VariableTables) (e : EventTables) (rows : R
 
   -- where none is of that scope
   names_other : (scope : Scope) → ((key : Key) → scope_eq key.scope scope ≡ false → P key → Q key)
-      → (has_any_of scope v.vars.variables || has_any_of scope v.lists || has_any_of scope e.conditions || has_any_of scope e.enrolments || has_any_of scope rows) ≡ false
-      → NamesAre P v e rows → NamesAre Q v e rows
+      → (has_any_of scope v.vars.variables || has_any_of scope v.lists || has_any_of scope e.conditions || has_any_of scope e.enrolments || has_any_of scope j || has_any_of scope rows) ≡ false
+      → NamesAre P v e j rows → NamesAre Q v e j rows
   names_other scope other none all =
-      let a = neither (has_any_of scope v.vars.variables || has_any_of scope v.lists || has_any_of scope e.conditions || has_any_of scope e.enrolments) (has_any_of scope rows) none in
+      let z = neither (has_any_of scope v.vars.variables || has_any_of scope v.lists || has_any_of scope e.conditions || has_any_of scope e.enrolments || has_any_of scope j) (has_any_of scope rows) none in
+      let a = neither (has_any_of scope v.vars.variables || has_any_of scope v.lists || has_any_of scope e.conditions || has_any_of scope e.enrolments) (has_any_of scope j) z.0 in
       let b = neither (has_any_of scope v.vars.variables || has_any_of scope v.lists || has_any_of scope e.conditions) (has_any_of scope e.enrolments) a.0 in
       let c = neither (has_any_of scope v.vars.variables || has_any_of scope v.lists) (has_any_of scope e.conditions) b.0 in
       let d = neither (has_any_of scope v.vars.variables) (has_any_of scope v.lists) c.0 in
@@ -132,7 +138,8 @@ module _ (P Q : Key → Type 0) (v : VariableTables) (e : EventTables) (rows : R
         lists = each_other P Q scope other v.lists d.1 all.lists;
         conditions = each_other P Q scope other e.conditions c.1 all.conditions;
         enrolments = each_other P Q scope other e.enrolments b.1 all.enrolments;
-        semaphores = each_other P Q scope other rows a.1 all.semaphores;
+        journals = each_other P Q scope other j a.1 all.journals;
+        semaphores = each_other P Q scope other rows z.1 all.semaphores;
       }
 
 -- ---- where its scope is a domain, that is live
@@ -141,7 +148,7 @@ abbrev pub HasLive : domain.Rows → Key → Type 0
 HasLive domains key = IsScopeLive domains key.scope
 
 abbrev pub AreLive : Tables → Type 0
-AreLive t = NamesAre (HasLive t.domains.domains) t.variables t.events t.semaphores
+AreLive t = NamesAre (HasLive t.domains.domains) t.variables t.events t.journals t.semaphores
 
 live_stays : (before after : domain.Rows) → StayLive before after → (key : Key) → HasLive before key → HasLive after key
 live_stays before after stays key live = by_scope key.scope live
@@ -151,8 +158,9 @@ live_stays before after stays key live = by_scope key.scope live
     by_scope Vmd live = tt
     by_scope (OfClient client) live = tt
 
-all_stay : (before after : domain.Rows) (v : VariableTables) (e : EventTables) (rows : Rows) → StayLive before after → NamesAre (HasLive before) v e rows → NamesAre (HasLive after) v e rows
-all_stay before after v e rows stays all = names_weaker (HasLive before) (HasLive after) v e rows (live_stays before after stays) all
+all_stay : (before after : domain.Rows) (v : VariableTables) (e : EventTables) (j : Books) (rows : Rows) → StayLive before after → NamesAre (HasLive before) v e j rows
+    → NamesAre (HasLive after) v e j rows
+all_stay before after v e j rows stays all = names_weaker (HasLive before) (HasLive after) v e j rows (live_stays before after stays) all
 
 -- another domain is deleted
 others_stay : (name : List ℕ) (rows : domain.Rows) → IsDistinct name_eq (keys_of rows) → (key : Key) → scope_eq key.scope (Domain name) ≡ false → HasLive rows key
@@ -220,6 +228,11 @@ enrolment_against live there client x rows none =
     ∷ (not there, object_non_existent)
     ∷ (nat_le enrol.most_enrolments (length rows), capability_unavailable) ∷ []) none).0
 
+journal_against : (live : Bool) (client : ℕ) (given : ObjectName) (rows : Books) → create_cause live client given rows ≡ None → (new.is_of_domain given && not live) ≡ false
+journal_against live client given rows none =
+    (none_holds (new.is_of_domain given && not live) object_undefined ((is_some (journal client given rows), object_exists)
+    ∷ (nat_le most_journals (length rows), capability_unavailable) ∷ []) none).0
+
 -- ---- a write changes cells alone
 
 named_stay : (o : Option ℕ) (f : Cell → Cell) (rows : cells.Rows) → (change_named o f rows).variables ≡ rows.variables
@@ -266,6 +279,16 @@ module _ (P : Key → Type 0) where
       ))
       (λ s d all. (each_condition d.key _ s.conditions all.0, all.1))
 
+-- ---- what is done to journals
+
+module _ (P : Key → Type 0) where
+  each_journal : (key : Key) (f : Log → Log) (rows : Books) → Each P rows → Each P (changed_journal key f rows)
+  each_journal key f rows all = by_named (named_journal key rows)
+    where
+      by_named : (o : Option Log) → Each P (option_map_or (λ j. set_value (key_eq key) rows (f j)) o rows)
+      by_named None = all
+      by_named (Some j) = each_set P (key_eq key) (f j) rows all
+
 -- ---- what is done to semaphores
 
 module _ (P : Key → Type 0) where
@@ -305,21 +328,26 @@ module _ (t : Tables) (all : AreLive t) where
 
   -- variables, lists or semaphores become others
   with_variables : (rows : List (Key × Variable)) → Each Live rows → AreLive (record t { variables = record t.variables { vars = record t.variables.vars { variables = rows } } })
-  with_variables rows each = record { variables = each; lists = all.lists; conditions = all.conditions; enrolments = all.enrolments; semaphores = all.semaphores }
+  with_variables rows each = record { variables = each; lists = all.lists; conditions = all.conditions; enrolments = all.enrolments; journals = all.journals; semaphores = all.semaphores }
 
   with_lists : (rows : lists.Rows) → Each Live rows → AreLive (record t { variables = record t.variables { lists = rows } })
-  with_lists rows each = record { variables = all.variables; lists = each; conditions = all.conditions; enrolments = all.enrolments; semaphores = all.semaphores }
+  with_lists rows each = record { variables = all.variables; lists = each; conditions = all.conditions; enrolments = all.enrolments; journals = all.journals; semaphores = all.semaphores }
 
   with_semaphores : (rows : Rows) → Each Live rows → AreLive (record t { semaphores = rows })
-  with_semaphores rows each = record { variables = all.variables; lists = all.lists; conditions = all.conditions; enrolments = all.enrolments; semaphores = each }
+  with_semaphores rows each = record { variables = all.variables; lists = all.lists; conditions = all.conditions; enrolments = all.enrolments; journals = all.journals; semaphores = each }
 
   -- so do event conditions and enrollments
   with_events : (e : EventTables) → Each Live e.conditions → Each Live e.enrolments → AreLive (record t { events = e })
-  with_events e conditions enrolments = record { variables = all.variables; lists = all.lists; conditions = conditions; enrolments = enrolments; semaphores = all.semaphores }
+  with_events e conditions enrolments = record { variables = all.variables; lists = all.lists; conditions = conditions; enrolments = enrolments; journals = all.journals; semaphores = all.semaphores }
+
+  -- so do journals
+  with_journals : (rows : Books) → Each Live rows → AreLive (record t { journals = rows })
+  with_journals rows each =
+      record { variables = all.variables; lists = all.lists; conditions = all.conditions; enrolments = all.enrolments; journals = each; semaphores = all.semaphores }
 
   -- domains become others
   with_domains : (d : DomainTables) → StayLive t.domains.domains d.domains → AreLive (record t { domains = d })
-  with_domains d stay = all_stay t.domains.domains d.domains t.variables t.events t.semaphores stay all
+  with_domains d stay = all_stay t.domains.domains d.domains t.variables t.events t.journals t.semaphores stay all
 
   module _ (row : ClientRow) (invoke : ℕ) where
     with_take_live : (x : TakeControl) → AreLive (record t { semaphores = take_after row.client invoke (moment_of t) x t.semaphores })
@@ -339,6 +367,7 @@ module _ (t : Tables) (all : AreLive t) where
       lists = all.lists;
       conditions = all.conditions;
       enrolments = all.enrolments;
+      journals = all.journals;
       semaphores = all.semaphores;
     }
     effect_live (request.DefineNamedVariable x) none distinct =
@@ -378,7 +407,7 @@ module _ (t : Tables) (all : AreLive t) where
     effect_live (request.InitiateDownloadSequence x) none distinct =
         with_domains (record t.domains { domains = initiate_after row.client x t.domains.domains }) (begun_stays row.client x t.domains.domains)
     effect_live (request.DeleteDomain name) none distinct =
-        names_other Live (HasLive (without name t.domains.domains)) t.variables t.events t.semaphores (Domain name) (others_stay name t.domains.domains distinct)
+        names_other Live (HasLive (without name t.domains.domains)) t.variables t.events t.journals t.semaphores (Domain name) (others_stay name t.domains.domains distinct)
         (not_scoped name (uploads_of name t.domains.uploads) (is_scope_used name t) t.domains.domains none) all
     effect_live (request.CreateProgramInvocation x) none distinct =
         with_domains (programs.with_domains (after_used x.domains x.name t.domains.domains) t.domains) (used_stay x.domains x.name t.domains.domains)
@@ -415,6 +444,18 @@ module _ (t : Tables) (all : AreLive t) where
         (enrolment_against live (is_there_named row.client t.events.conditions x.condition) row.client x t.events.enrolments none)))
     effect_live (request.DeleteEventEnrollment x) none distinct =
         with_events (record t.events { enrolments = enrol.after_delete row.client x t.events.enrolments }) all.conditions (each_kept Live _ t.events.enrolments all.enrolments)
+    effect_live (request.CreateJournal given) none distinct =
+        let asks : Bool = is_of_domain given in
+        let live : Bool = if asks then is_domain_live (domain_in given) t.domains else false in
+        with_journals (after_create row.client given t.journals)
+        (each_added Live t.journals (key_of row.client given, created) all.journals
+        (new_live t.domains row.client given asks (λ e. e) (journal_against live row.client given t.journals none)))
+    effect_live (request.DeleteJournal given) none distinct =
+        with_journals (after_delete_journal row.client given t.journals) (each_removed Live (key_eq (key_of row.client given)) t.journals all.journals)
+    effect_live (request.WriteJournal x) none distinct =
+        with_journals (after_write row.client x.name x.entries t.journals) (each_journal Live (key_of row.client x.name) (written_by row.client x.entries) t.journals all.journals)
+    effect_live (request.InitializeJournal x) none distinct =
+        with_journals (after_initialize row.client x t.journals) (each_journal Live (key_of row.client x.name) (initialized x.limit) t.journals all.journals)
     effect_live asked none distinct = all
 
     served_live : (asked : Request) → IsDistinct name_eq (keys_of t.domains.domains) → AreLive (tables_served t row invoke (area_of asked))
@@ -453,6 +494,7 @@ module _ (t : Tables) (all : AreLive t) where
           lists = each_without Then (OfClient client) t.variables.lists stayed.lists;
           conditions = each_without Then (OfClient client) t.events.conditions stayed.conditions;
           enrolments = each_gone Then client t.events.enrolments stayed.enrolments;
+          journals = each_without Then (OfClient client) t.journals stayed.journals;
           semaphores = each_lost Then client (moment_of t) t.semaphores stayed.semaphores;
         }
 
@@ -487,6 +529,10 @@ module _ (t : Tables) (all : AreLive t) where
     lists_left [] v each = each
     lists_left (client ∷ clients) v each = lists_left clients (variables_lost client v) (each_without P (OfClient client) v.lists each)
 
+    journals_left : (clients : List ℕ) (j : Books) → Each P j → Each P (journals_without clients j)
+    journals_left [] j each = each
+    journals_left (client ∷ clients) j each = journals_left clients (journals_lost client j) (each_without P (OfClient client) j each)
+
   domains_stay : (clients : List ℕ) (d : DomainTables) → StayLive d.domains (domains_without clients d).domains
   domains_stay [] d name live = live
   domains_stay (client ∷ clients) d name live = domains_stay clients (domains.lost client d) name (lost_stays client d.domains name live)
@@ -501,5 +547,6 @@ module _ (t : Tables) (all : AreLive t) where
         lists = lists_left Then clients t.variables stayed.lists;
         conditions = (events_ticked Then (saying t.variables) (moment_after ms t) (begun t.semaphores t.events.conditions t.events.enrolments) (stayed.conditions, stayed.enrolments)).0;
         enrolments = (events_ticked Then (saying t.variables) (moment_after ms t) (begun t.semaphores t.events.conditions t.events.enrolments) (stayed.conditions, stayed.enrolments)).1;
+        journals = journals_left Then clients t.journals stayed.journals;
         semaphores = each_ticked Then (saying t.variables) (moment_after ms t) (begun t.semaphores t.events.conditions t.events.enrolments) stayed.semaphores;
       }

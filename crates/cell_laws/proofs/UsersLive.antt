@@ -1,4 +1,5 @@
--- Each domain that a program invocation names is live where the names that domains have are those of the invocations that name them.
+-- Each domain that a program invocation names is live where the names that domains have are those of the invocations
+-- that name them.
 use Rattle.std.specs.Prelude.{◌≡◌, ◌≢◌, ℕ, Bool, true, false, ◌||◌, All, List, [], ◌∷◌, cond, if◌then◌else◌, filter, refl}
 use Rattle.std.specs.List.{AllByRecursion, list_any}
 use Rattle.std.specs.Map.{keys_of}

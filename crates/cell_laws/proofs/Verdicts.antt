@@ -1,4 +1,5 @@
--- What octets of a client come to, case by case: conclusions, answers to the server's requests, and what the tables make of it.
+-- What octets of a client come to, case by case: conclusions, answers to the server's requests, and what the tables
+-- make of it.
 use Rattle.std.proofs.Common.{ℕ, Bool, true, false, List, [], ◌∷◌, Option, None, Some, if◌then◌else◌}
 use Rattle.mms_types.specs.declared.asked.Asked.{Asked}
 use Rattle.mms_types.specs.declared.asked.Asked.TheVariants as asks

@@ -47,6 +47,7 @@ device association conditions = record {
   domains = record { domains = []; uploads = record { rows = []; given = 0 } };
   programs = [];
   events = record { conditions = conditions; enrolments = on_it ∷ [] };
+  journals = [];
   semaphores = [];
   clients = record (new_row 1 no_device) { association = association } ∷ [];
 }

@@ -1,4 +1,5 @@
--- Worked examples of tokens that are lost, each for one of the causes, and of the farthest deadline, typed by hand from the definitions.
+-- Worked examples of tokens that are lost, each for one of the causes, and of the farthest deadline, typed by hand from
+-- the definitions.
 use Rattle.std.specs.Prelude.{◌≡◌, ℕ, Bool, true, false, List, [], ◌∷◌, Option, Some, None, map}
 use Rattle.std.proofs.Common.{refl}
 use Rattle.mms_types.specs.declared.key.Key.{Key}

@@ -51,6 +51,7 @@ device domains programs = record {
   domains = record { domains = domains; uploads = record { rows = []; given = 0 } };
   programs = programs;
   events = no_events;
+  journals = [];
   semaphores = [];
   clients = [];
 }

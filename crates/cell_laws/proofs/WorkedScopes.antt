@@ -13,6 +13,7 @@ use Rattle.mms_time.specs.Services.{new_semaphore}
 use Rattle.mms_time.specs.declared.row.SemaphoreRow.{SemaphoreRow}
 use Rattle.serve_events.specs.Tables.{no_events}
 use Rattle.mms_step.specs.State.{State}
+use Rattle.mms_journal.specs.Services.{created}
 use Rattle.cell_laws.specs.Scopes.{AreScopesLive, HaveLiveScopes, IsScopeLive}
 use Rattle.cell_laws.proofs.EachName.{each_all}
 use Rattle.cell_laws.proofs.ScopesKept.{HasLive}
@@ -73,6 +74,7 @@ device domains s = record {
   domains = record { domains = domains; uploads = record { rows = []; given = 0 } };
   programs = [];
   events = no_events;
+  journals = [];
   semaphores = semaphore s ∷ [];
   clients = [];
 }
@@ -84,6 +86,7 @@ all_live = record {
   lists = each_all (HasLive there) (device there (scope.Association 7)).variables.lists (refl, tt);
   conditions = each_all (HasLive there) (device there (scope.Association 7)).events.conditions tt;
   enrolments = each_all (HasLive there) (device there (scope.Association 7)).events.enrolments tt;
+  journals = each_all (HasLive there) (device there (scope.Association 7)).journals tt;
   semaphores = each_all (HasLive there) (device there (scope.Association 7)).semaphores (tt, tt);
 }
 
@@ -102,6 +105,10 @@ condition_loading have = loading (have.conditions 0 (name_of scope.Vmd) (omega a
 
 enrolment_missing : HaveLiveScopes (record (device there scope.Vmd) { events = record { conditions = (name_of scope.Vmd, condition) ∷ []; enrolments = (name_of (scope.Domain (d 52)), enrolment) ∷ [] } }) → ⊥
 enrolment_missing have = missing (have.enrolments 0 (name_of scope.Vmd) (omega arith))
+
+-- nor a journal
+journal_loading : HaveLiveScopes (record (device there scope.Vmd) { journals = (name_of (scope.Domain (d 50)), created) ∷ [] }) → ⊥
+journal_loading have = loading (have.journals 0 (name_of scope.Vmd) (omega arith))
 
 -- and none is left behind by a domain that is deleted
 variable_left : HaveLiveScopes (device (without (d 49) there) scope.Vmd) → ⊥

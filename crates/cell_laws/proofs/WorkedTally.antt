@@ -1,4 +1,5 @@
--- Worked examples of what is sent and what is counted where the server asks something, typed by hand from the definitions.
+-- Worked examples of what is sent and what is counted where the server asks something, typed by hand from the
+-- definitions.
 use Rattle.std.specs.Prelude.{◌≡◌, ℕ, false, List, [], ◌∷◌}
 use Rattle.std.proofs.Common.{inr, refl}
 use Rattle.mms_types.specs.declared.asked.Asked.TheVariants as asks

@@ -1,4 +1,5 @@
--- A token of a semaphore that is freed goes to the waiter of least rank, or is free (ISO 9506-1, TakeControl and RelinquishControl).
+-- A token of a semaphore that is freed goes to the waiter of least rank, or is free (ISO 9506-1, TakeControl and
+-- RelinquishControl).
 use Rattle.std.specs.Prelude.{◌≡◌, ◌⊎◌, ℕ, zero, suc, ◌+◌, ◌-◌, Bool, true, false, not, List, [], ◌∷◌, ◌++◌, filter, fold, length, Option, None, Some, option_and_then, All, Contains}
 use Rattle.std.specs.Map.{lookup}
 use Rattle.mms_types.specs.Order.{key_eq, key_of, scope_eq}
@@ -138,8 +139,8 @@ IsPassedOn key token now old new s = ((waiter : SemEntry) × GoesTo key token no
 
 -- ---- where a token is freed
 
--- By these octets a client gives back a token of the semaphore of that name, which it names where that is a pool: its request for that is taken, and isn't
--- refused.
+-- By these octets a client gives back a token of the semaphore of that name, which it names where that is a pool: its
+-- request for that is taken, and isn't refused.
 pub record GivesBack (s : State) (client : ℕ) (octets : List ℕ) (key : Key) (token : Option (List ℕ)) : Type 0 where
   pub invoke : ℕ
   pub asked : RelinquishControl
@@ -148,12 +149,14 @@ pub record GivesBack (s : State) (client : ℕ) (octets : List ℕ) (key : Key) 
   pub taken : verdict (row_at cell client s.clients) octets ≡ Takes invoke (request.RelinquishControl asked)
   pub served : is_served (cell.tables_of s) (row_at cell client s.clients) invoke (request.RelinquishControl asked) ≡ true
 
--- the semaphores, when so many of their deadlines were met up to a moment, one after the other; event conditions change nothing of this
+-- the semaphores, when so many of their deadlines were met up to a moment, one after the other; event conditions change
+-- nothing of this
 abbrev pub after_met : Moment → ℕ → Ticking → Option Ticking
 after_met until zero t = Some t
 after_met until (suc n) t = option_and_then (after_met until n) (next_met until t)
 
--- While so many milliseconds go by, at a point the next deadline is that of an entry that has a token: its control times out.
+-- While so many milliseconds go by, at a point the next deadline is that of an entry that has a token: its control
+-- times out.
 pub record TimesOut (s : State) (ms : ℕ) (point : Ticking) (due : NamedDeadline) (entry : SemEntry) : Type 0 where
   -- how many are met before
   pub many : ℕ
@@ -162,7 +165,8 @@ pub record TimesOut (s : State) (ms : ℕ) (point : Ticking) (due : NamedDeadlin
   pub its : entry_in due.key due.entry point.rows ≡ Some entry
   pub holds : is_queued entry ≡ false
 
--- The association of a client ends by an event: the client concludes, proposes another, has no number left for what would be asked of it, or is lost.
+-- The association of a client ends by an event: the client concludes, proposes another, has no number left for what
+-- would be asked of it, or is lost.
 abbrev pub Leaves : ℕ → State → CellEvent → Type 0
 Leaves leaver s (Heard client octets) =
     (client ≡ leaver) × EndsIt (resolved (cell.tables_of s) (row_at cell client s.clients) (verdict (row_at cell client s.clients) octets))
@@ -187,7 +191,8 @@ are_named key rows = named_tokens_found (lookup (key_eq key) rows)
 abbrev pub owners_at : Key → ℕ → Rows → List SemEntry
 owners_at key client rows = filter (owned_by client) (entries_at key rows)
 
--- In a semaphore a client that is lost waits no more, and these of its owner entries are lost, one after the other: the token of each is kept, or freed.
+-- In a semaphore a client that is lost waits no more, and these of its owner entries are lost, one after the other: the
+-- token of each is kept, or freed.
 abbrev pub with_lost : ℕ → Moment → List SemEntry → Semaphore → Semaphore
 with_lost client now owners (Token s) =
     Token (record s { entries = (fold (loss_of_one now) (record { entries = filter (λ e. not (waits_for client e)) s.entries; grants = [] }) owners).entries })
@@ -198,8 +203,9 @@ with_lost client now owners (Pool p) =
 abbrev pub lost_so_far : ℕ → Moment → List SemEntry → Key → Rows → Rows
 lost_so_far client now owners key rows = changed (with_lost client now owners) key rows
 
--- A client owns one of equal tokens that isn't kept where the client is lost (ISO 9506-1, TakeControl, relinquishIfConnectionLost), and the semaphore isn't
--- one of its association, which goes with it. A client owns one of them at most.
+-- A client owns one of equal tokens that isn't kept where the client is lost (ISO 9506-1, TakeControl,
+-- relinquishIfConnectionLost), and the semaphore isn't one of its association, which goes with it. A client owns one of
+-- them at most.
 pub record OwnsUnkept (key : Key) (rows : Rows) (client : ℕ) : Type 0 where
   pub owner : SemEntry
   pub there : Contains (entries_at key rows) owner
@@ -209,8 +215,8 @@ pub record OwnsUnkept (key : Key) (rows : Rows) (client : ℕ) : Type 0 where
   pub equal : are_named key rows ≡ false
   pub lasting : scope_eq key.scope (Association client) ≡ false
 
--- A client may own several tokens of a pool. In order of number its owner entries are these first ones, then this one, whose token isn't kept where the client
--- is lost, and others; and the pool isn't one of its association.
+-- A client may own several tokens of a pool. In order of number its owner entries are these first ones, then this one,
+-- whose token isn't kept where the client is lost, and others; and the pool isn't one of its association.
 pub record OwnsNamed (key : Key) (rows : Rows) (client : ℕ) (first : List SemEntry) (owner : SemEntry) : Type 0 where
   pub others : List SemEntry
   pub owners : owners_at key client rows ≡ first ++ owner ∷ others

@@ -1,4 +1,5 @@
--- The requests that wait at the server, and the entries of semaphores that are queued (ISO 9506-1, environment and general management, and TakeControl).
+-- The requests that wait at the server, and the entries of semaphores that are queued (ISO 9506-1, environment and
+-- general management, and TakeControl).
 use Rattle.std.specs.Prelude.{◌≡◌, ℕ, List, [], Option, None, Some, Contains, if◌then◌else◌}
 use Rattle.mms_types.specs.declared.key.Key.{Key}
 use Rattle.association.specs.Waiting.{AreDistinct}

@@ -1,4 +1,5 @@
--- How each domain was loaded, told from what clients send (ISO 9506-1, domain management): who began the last load of a name, and what was answered in it.
+-- How each domain was loaded, told from what clients send (ISO 9506-1, domain management): who began the last load of a
+-- name, and what was answered in it.
 use Rattle.std.specs.Prelude.{◌≡◌, ◌⊎◌, ℕ, Bool, true, false, List, [], ◌∷◌, ◌++◌, fold, length, map, Option, None, Some, option_map, option_to_list, All, Contains, if◌then◌else◌}
 use Rattle.mms_types.specs.declared.asked.Reply.{Reply}
 use Rattle.mms_types.specs.declared.asked.Reply.TheVariants as reply
@@ -87,8 +88,9 @@ but_last [] = []
 but_last (x ∷ []) = []
 but_last (x ∷ y ∷ ys) = x ∷ but_last (y ∷ ys)
 
--- The domain was loaded by the one client that began its last load: this client answered with these segments, each but the last one with more to come, and then
--- that the load has ended. The domain has these segments, and what was asked for.
+-- The domain was loaded by the one client that began its last load: this client answered with these segments, each but
+-- the last one with more to come, and then that the load has ended. The domain has these segments, and what was asked
+-- for.
 pub record WasLoaded (name : List ℕ) (domain : Domain) (last : Option Load) : Type 0 where
   pub client : ℕ
   pub asked : InitiateDownloadSequence
@@ -104,8 +106,8 @@ pub record WasLoaded (name : List ℕ) (domain : Domain) (last : Option Load) : 
   pub capabilities : domain.capabilities ≡ asked.capabilities
   pub sharable : domain.sharable ≡ asked.sharable
 
--- The client loads the domain: it began the last load, and answered with these segments so far, each but the last one with more to come, and with nothing else.
--- The domain has these segments, and what was asked for.
+-- The client loads the domain: it began the last load, and answered with these segments so far, each but the last one
+-- with more to come, and with nothing else. The domain has these segments, and what was asked for.
 pub record IsLoading (name : List ℕ) (client : ℕ) (domain : Domain) (last : Option Load) : Type 0 where
   pub asked : InitiateDownloadSequence
   pub parts : List (List ℕ × Bool)

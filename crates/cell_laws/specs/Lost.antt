@@ -1,4 +1,5 @@
--- Why a token is lost: what becomes, by one event, of an entry that has one (ISO 9506-1, TakeControl and RelinquishControl).
+-- Why a token is lost: what becomes, by one event, of an entry that has one (ISO 9506-1, TakeControl and
+-- RelinquishControl).
 use Rattle.std.specs.Prelude.{◌≡◌, ◌⊎◌, ℕ, true, false, List, Option, None, Some}
 use Rattle.std.specs.Map.{lookup}
 use Rattle.mms_types.specs.Order.{key_eq, key_of, scope_eq}
@@ -33,7 +34,8 @@ hung e = record e { state = Hung }
 
 -- ---- a client is lost
 
--- While time goes by the association of a client is aborted: control of one of its owner entries times out, whose request asked for that.
+-- While time goes by the association of a client is aborted: control of one of its owner entries times out, whose
+-- request asked for that.
 pub record IsAborted (client : ℕ) (s : State) (event : CellEvent) : Type 0 where
   pub ms : ℕ
   pub passes : event ≡ Tick ms
@@ -73,8 +75,8 @@ preempted_found asked (Some row) = preempted_in asked row.semaphore
 abbrev pub preempted_at : TakeControl → Key → Rows → Option SemEntry
 preempted_at asked key rows = preempted_found asked (lookup (key_eq key) rows)
 
--- It is hung, and the one that a request for a token preempts, which names its client and is taken and not refused. An owner entry of the other client has the
--- token after the event.
+-- It is hung, and the one that a request for a token preempts, which names its client and is taken and not refused. An
+-- owner entry of the other client has the token after the event.
 pub record IsPreempted (s : State) (event : CellEvent) (key : Key) (e : SemEntry) : Type 0 where
   pub client : ℕ
   pub octets : List ℕ

@@ -1,4 +1,5 @@
--- Domains and the program invocations that name them, in a state of the device (ISO 9506-1, program invocation management).
+-- Domains and the program invocations that name them, in a state of the device (ISO 9506-1, program invocation
+-- management).
 use Rattle.std.specs.Prelude.{◌≡◌, ◌≤◌, ℕ, true, false, List, Some, All, filter, length}
 use Rattle.std.specs.Map.{keys_of}
 use Rattle.object_names.specs.Listing.{sorted_names}

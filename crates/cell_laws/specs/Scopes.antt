@@ -18,10 +18,11 @@ IsScopeLive domains (Association client) = Unit {0}
 abbrev pub AreScopesLive : Rows → List Key → Type 0
 AreScopesLive domains keys = All (λ key. IsScopeLive domains key.scope) keys
 
--- of the named variables, of the variable lists, of the event conditions and the enrollments, and of the semaphores
+-- of the named variables, of the variable lists, of the event conditions and the enrollments, of the journals, and of the semaphores
 pub record HaveLiveScopes (s : State) : Type 0 where
   pub variables : AreScopesLive s.domains.domains (keys_of s.variables.vars.variables)
   pub lists : AreScopesLive s.domains.domains (keys_of s.variables.lists)
   pub conditions : AreScopesLive s.domains.domains (keys_of s.events.conditions)
   pub enrolments : AreScopesLive s.domains.domains (keys_of s.events.enrolments)
+  pub journals : AreScopesLive s.domains.domains (keys_of s.journals)
   pub semaphores : AreScopesLive s.domains.domains (keys_of s.semaphores)

@@ -1,4 +1,5 @@
--- How many requests of a client were taken since its association opened, and how many were answered (ISO 9506-1: each confirmed request has one answer).
+-- How many requests of a client were taken since its association opened, and how many were answered (ISO 9506-1: each
+-- confirmed request has one answer).
 use Rattle.std.specs.Prelude.{◌≡◌, ◌⊎◌, ℕ, ◌+◌, Bool, true, false, ◌==◌, ◌&&◌, List, [], ◌∷◌, ◌++◌, count_by, fold, All, if◌then◌else◌}
 use Rattle.std.specs.List.{list_any}
 use Rattle.mms_types.specs.declared.event.CellEvent.{CellEvent}
@@ -80,7 +81,8 @@ taken_from client s (Tick ms) = []
 taken_from client s (Ends name) = []
 taken_from client s (Drain other) = []
 
--- a state; of a client the invokeIDs of the requests that were taken since its association opened, and what was sent to it since then
+-- a state; of a client the invokeIDs of the requests that were taken since its association opened, and what was sent to
+-- it since then
 pub record Account : Type 0 where
   pub state : State
   pub taken : List ℕ
@@ -105,8 +107,8 @@ pub record HaveOneAnswerEach (client : ℕ) (s : State) (taken : List ℕ) (sent
   pub pdus : List Pdu
   pub spelled : AreSpelled sent pdus
   pub unsigned : All HasUnsigned32 pdus
-  -- and of each invokeID as many requests were taken as outputs are a confirmed response or a confirmed error of it, by their octets, and one more where a
-  -- request of it waits
+  -- and of each invokeID as many requests were taken as outputs are a confirmed response or a confirmed error of it, by
+  -- their octets, and one more where a request of it waits
   pub answers : ℕ → ℕ
   pub told : (invoke : ℕ) → HaveAnswers invoke sent (answers invoke)
   pub balance : (invoke : ℕ) → count_by (λ other. invoke == other) taken

@@ -66,11 +66,12 @@ pub fn what_is_sent_is_in_the_outbox()
 {}
 
 /// A token that is freed goes, at that point of the event, to the entry of least rank, by priority and then by number,
-/// of those that wait for it or for any: it is an owner entry from that moment on, and after the event its request waits
-/// no more, and its positive answer is in its client's outbox. Where no entry waits for it, it is free. A token is freed
-/// where a client gives it back; where control of an entry that has it times out, while time goes by; and where the
-/// client of an owner entry is lost, unless it keeps the token: because its association ends, or is aborted as control
-/// times out. Of equal tokens a client owns one at most; of a pool it may own several, of which the next law tells.
+/// of those that wait for it or for any: it is an owner entry from that moment on, and after the event its request
+/// waits no more, and its positive answer is in its client's outbox. Where no entry waits for it, it is free. A token
+/// is freed where a client gives it back; where control of an entry that has it times out, while time goes by; and
+/// where the client of an owner entry is lost, unless it keeps the token: because its association ends, or is aborted
+/// as control times out. Of equal tokens a client owns one at most; of a pool it may own several, of which the next law
+/// tells.
 pub fn a_freed_token_is_passed_on()
     ensures given_back { (config : Config) (history : List CellEvent) (client : ℕ) (octets : List ℕ) (key : Key)
         (token : Option (List ℕ))

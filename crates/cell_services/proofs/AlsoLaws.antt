@@ -4,7 +4,7 @@ use Rattle.std.specs.List.{flat_map, list_any}
 use Rattle.std.proofs.Common.{ap, ap₂, sym, ◌∙◌, arith}
 use Rattle.std.proofs.lemmas.Bool.Decides.{nat_tests}
 use Rattle.std.proofs.lemmas.List.Folds.{list_any-append}
-use Rattle.mms_types.specs.Areas.{device_request, domain_request, event_request, invocation_request, program_request, semaphore_request, variable_request}
+use Rattle.mms_types.specs.Areas.{device_request, domain_request, event_request, invocation_request, journal_request, program_request, semaphore_request, variable_request}
 use Rattle.mms_types.specs.declared.asked.Asked.{Asked}
 use Rattle.mms_types.specs.declared.area.DomainRequest.{DomainRequest}
 use Rattle.mms_types.specs.declared.area.DomainRequest.TheVariants as domain
@@ -12,6 +12,7 @@ use Rattle.mms_types.specs.declared.area.DeviceRequest.{DeviceRequest}
 use Rattle.mms_types.specs.declared.area.EventRequest.{EventRequest}
 use Rattle.mms_types.specs.declared.area.SemaphoreRequest.{SemaphoreRequest}
 use Rattle.mms_types.specs.declared.area.InvocationRequest.{InvocationRequest}
+use Rattle.mms_types.specs.declared.area.JournalRequest.{JournalRequest}
 use Rattle.mms_types.specs.declared.area.ProgramRequest.{ProgramRequest}
 use Rattle.mms_types.specs.declared.area.VariableRequest.{VariableRequest}
 use Rattle.mms_types.specs.declared.condition.Notice.{Notice}
@@ -40,18 +41,20 @@ use Rattle.domain_upload.specs.Uploads.{has_upload}
 use Rattle.serve_domains.specs.Domains as domains
 use Rattle.serve_domains.specs.Tables.{DomainTables}
 use Rattle.cell_services.specs.Others.{AlsoTells, client_of, clients_meanwhile, clients_told, grant_clients}
-use Rattle.cell_services.specs.AreaLaws.{device_alone, in_device, in_domains, in_events, in_invocations, in_programs, in_semaphores, in_variables, variables_alone}
+use Rattle.cell_services.specs.AreaLaws.{device_alone, in_device, in_domains, in_events, in_invocations, in_journals, in_programs, in_semaphores, in_variables, variables_alone}
 use Rattle.cell_services.specs.Device as device
 use Rattle.cell_services.specs.Requests.{told_in}
-use Rattle.cell_services.specs.Services.{InArea, OfDevice, OfDomains, OfEvents, OfInvocations, OfPrograms, OfSemaphores, OfVariables, area_of, reply_in, cause_of, effect_of, grants_told, lacks_number}
+use Rattle.cell_services.specs.Services.{InArea, OfDevice, OfDomains, OfEvents, OfInvocations, OfJournals, OfPrograms, OfSemaphores, OfVariables, area_of, reply_in, cause_of, effect_of, grants_told, lacks_number}
 use Rattle.cell_client.specs.Areas.{also_in, lacks_number_in}
 use Rattle.cell_client.specs.Facts.{Facts, no_facts}
 use Rattle.cell_client.specs.Requests.{is_done, size_of}
 use Rattle.cell_services.specs.Serving.{all_told, also_lost, also_served, also_told, happened_told, happening_told, is_served_in, loss_also, resolved}
-use Rattle.cell_services.specs.Tables.{Tables, own_domains, own_events, own_invocations, own_programs, own_semaphores, own_variables}
+use Rattle.cell_services.specs.Tables.{Tables, own_domains, own_events, own_invocations, own_journals, own_programs, own_semaphores, own_variables}
 use Rattle.parted_state.specs.Area.{no_table}
 use Rattle.serve_semaphores.specs.Semaphores as semaphores
 use Rattle.serve_semaphores.specs.Tokens.{is_the_one}
+use Rattle.serve_journals.specs.AnswerLaws.{journals_alone}
+use Rattle.serve_journals.specs.Journals as journals
 use Rattle.serve_programs.specs.AnswerLaws.{makes_alone, programs_alone}
 use Rattle.serve_programs.specs.Programs as programs
 use Rattle.serve_variables.specs.Variables as variables
@@ -232,6 +235,16 @@ module _ (t : Tables) (row : ClientRow) (invoke : ℕ) (asked : Request) where
       ∙ ap (λ (l : List (ℕ × Effect)). if is_done (size_of row.association) invoke (cause_of t row (OfPrograms (programs.program_in x)))
       (effect_of t row invoke (OfPrograms (programs.program_in x))).answer then l else [])
       (programs_alone (told_in own_programs t row (programs.program_in x)) row invoke t.programs x)
+      ∙ chosen_none _)
+      ∙ ap (list_any (λ (c : ℕ). c == k)) (sym none)
+
+  pub journals_tell : (x : JournalRequest) (clients : List ℕ) → journal_request x ≡ asked → clients ≡ [] → AlsoTells t row (Takes invoke asked) clients
+  journals_tell x clients is none k other =
+      ap (λ (l : List (ℕ × Effect)). is_told l k)
+      (also_as (OfJournals (journals.request_in x)) (ap area_of (sym is) ∙ in_journals x)
+      ∙ ap (λ (l : List (ℕ × Effect)). if is_done (size_of row.association) invoke (cause_of t row (OfJournals (journals.request_in x)))
+      (effect_of t row invoke (OfJournals (journals.request_in x))).answer then l else [])
+      (journals_alone (told_in own_journals t row (journals.request_in x)) row invoke t.journals x)
       ∙ chosen_none _)
       ∙ ap (list_any (λ (c : ℕ). c == k)) (sym none)
 

@@ -2,11 +2,13 @@
 use Rattle.std.specs.Prelude.{◌≡◌, ℕ, Bool, true, false, ◌||◌, Option, None, Some, is_some, List, ◌++◌, ◌∷◌, [], Result, Ok, Err, IfNone, IfOk, IfSome, OnOk, OnSome, if◌then◌else◌, refl}
 use Rattle.std.proofs.Common.{ap, ap₂, sym, ◌∙◌, subst}
 use Rattle.std.specs.List.{list_any}
-use Rattle.mms_types.specs.Areas.{domain_request, event_request, invocation_request, program_request, semaphore_request, variable_request}
+use Rattle.mms_types.specs.Areas.{domain_request, event_request, invocation_request, journal_request, program_request, semaphore_request, variable_request}
 use Rattle.mms_types.specs.declared.area.DomainRequest.{DomainRequest}
 use Rattle.mms_types.specs.declared.area.EventRequest.{EventRequest}
 use Rattle.mms_types.specs.declared.area.EventRequest.TheVariants as events
 use Rattle.mms_types.specs.declared.area.InvocationRequest.{InvocationRequest}
+use Rattle.mms_types.specs.declared.area.JournalRequest.{JournalRequest}
+use Rattle.mms_types.specs.declared.area.JournalRequest.TheVariants as journals
 use Rattle.mms_types.specs.declared.area.ProgramRequest.{ProgramRequest}
 use Rattle.mms_types.specs.declared.area.SemaphoreRequest.{SemaphoreRequest}
 use Rattle.mms_types.specs.declared.area.SemaphoreRequest.TheVariants as semaphores
@@ -46,6 +48,8 @@ use Rattle.serve_programs.specs.Programs as program
 use Rattle.serve_events.specs.Events as event
 use Rattle.serve_events.specs.Turns.{turned_after}
 use Rattle.serve_events.specs.declared.tables.EventTables.{EventTables}
+use Rattle.mms_journal.specs.Journals.{Rows as Journals}
+use Rattle.serve_journals.specs.Journals as journal
 use Rattle.serve_semaphores.specs.Tokens.{rows_cancelled, told_after, waiting_of}
 use Rattle.serve_variables.specs.Variables as variable
 use Rattle.serve_variables.specs.Variables.{accesses_domain, guards_asked, lists_domain, specifies_domain}
@@ -53,13 +57,13 @@ use Rattle.serve_semaphores.specs.Semaphores as semaphore
 use Rattle.cell_services.specs.Acts.{all_done, IsDoneIn}
 use Rattle.cell_services.specs.Device.{domain_of, get_name_list, is_domain, listed, scope_cause, scope_of}
 use Rattle.cell_services.specs.Facts.{is_domain_live, is_true, names_in, tells}
-use Rattle.cell_services.specs.AreaLaws.{in_domains, in_events, in_invocations, in_programs, in_semaphores, in_variables}
+use Rattle.cell_services.specs.AreaLaws.{in_domains, in_events, in_invocations, in_journals, in_programs, in_semaphores, in_variables}
 use Rattle.cell_services.proofs.PlanLaws.{append_none}
 use Rattle.cell_services.proofs.TimeLaws.{moment_given}
 use Rattle.cell_services.specs.Requests.{told_in}
-use Rattle.cell_services.specs.Services.{InArea, OfDomains, OfEvents, OfInvocations, OfPrograms, OfSemaphores, OfVariables, area_of, lacks_number}
+use Rattle.cell_services.specs.Services.{InArea, OfDomains, OfEvents, OfInvocations, OfJournals, OfPrograms, OfSemaphores, OfVariables, area_of, lacks_number}
 use Rattle.cell_services.specs.Serving.{also_served, comes_of, hears, served_told, tables_cancelled, tables_served}
-use Rattle.cell_services.specs.Tables.{Tables, moment_of, own_domains, own_events, own_invocations, own_programs, own_semaphores, own_variables}
+use Rattle.cell_services.specs.Tables.{Tables, moment_of, own_domains, own_events, own_invocations, own_journals, own_programs, own_semaphores, own_variables}
 use Rattle.cell_client.specs.Requests.{is_done, request_told, size_of}
 
 -- what a request of an area does among all tables
@@ -325,6 +329,31 @@ module _ (t : Tables) (row : ClientRow) (invoke : ℕ) (new : RoomyRow) where
         done = heard_as t row invoke (program_request x) (OfPrograms (program.program_in x)) (in_programs x) refl
             ∙ in_place own_programs (λ u. refl) (program.program_in x) t row invoke now new is;
       }
+
+-- ---- journals
+
+journals_live : (x : JournalRequest) (t : Tables) (row : ClientRow)
+    → (told_in own_journals t row (journal.request_in x)).live ≡ is_domain_live (journal.domain_asked x) t.domains
+journals_live (journals.ReadJournal x) t row = none_live (is_of_domain x.now.name)
+journals_live (journals.WriteJournal x) t row = none_live (is_of_domain x.now.name)
+journals_live (journals.InitializeJournal x) t row = none_live (is_of_domain x.now.name)
+journals_live (journals.ReportJournalStatus x) t row = none_live (is_of_domain x.now)
+journals_live (journals.CreateJournal x) t row = one_live x.now t.domains
+journals_live (journals.DeleteJournal x) t row = none_live (is_of_domain x.now)
+
+pub journals_served : (t : Tables) (row : ClientRow) (invoke : ℕ) (new : RoomyRow) (x : JournalRequest) (live : Bool) (was now : Journals)
+    → ((facts : Facts) → facts.live ≡ live → IsServedIn (journal.request_in x) facts invoke row was now new)
+    → t.journals ≡ was → live ≡ is_domain_live (journal.domain_asked x) t.domains → IsDoneIn own_journals t row now new (Takes invoke (journal_request x))
+journals_served t row invoke new x live was now served stood lives =
+    let is : IsServedIn (journal.request_in x) (told_in own_journals t row (journal.request_in x)) invoke row t.journals now new =
+    subst (λ (u : Journals). IsServedIn (journal.request_in x) (told_in own_journals t row (journal.request_in x)) invoke row u now new) (sym stood)
+    (served (told_in own_journals t row (journal.request_in x)) (journals_live x t row ∙ sym lives)) in
+    record {
+      effects = is.effects;
+      is = is.is;
+      done = heard_as t row invoke (journal_request x) (OfJournals (journal.request_in x)) (in_journals x) refl
+          ∙ in_place own_journals (λ u. refl) (journal.request_in x) t row invoke now new is;
+    }
 
 -- ---- event conditions and enrollments, at the moment of the device
 

@@ -17,6 +17,8 @@ use Rattle.serve_domains.specs.Tables as domains
 use Rattle.serve_domains.specs.Tables.{DomainTables}
 use Rattle.serve_events.specs.Tables as event_tables
 use Rattle.serve_events.specs.declared.tables.EventTables.{EventTables}
+use Rattle.mms_journal.specs.Services as journals
+use Rattle.mms_journal.specs.Journals.{Rows as Journals}
 use Rattle.cell_ticks.specs.Deadlines.{next_due}
 use Rattle.cell_ticks.specs.Meant.{loss_in, loss_then, state_of}
 use Rattle.cell_ticks.specs.Ticks.{Ticking, ticked}
@@ -33,7 +35,7 @@ use Rattle.cell_client.specs.Telling.{effects_told}
 use Rattle.cell_client.specs.declared.told.Told.{Told}
 use Rattle.cell_services.specs.Acts.{plan_done}
 use Rattle.cell_services.specs.Changes.{MayChange, clients_of, events_after}
-use Rattle.cell_services.specs.Serving.{aborted_then, all_told, domains_without, lost_in, meanwhile, passed, passes, saying, without_client, without_clients}
+use Rattle.cell_services.specs.Serving.{aborted_then, all_told, domains_without, journals_without, lost_in, meanwhile, passed, passes, saying, without_client, without_clients}
 use Rattle.cell_services.specs.Tables.{Tables, last_moment, moment_after, moment_of}
 
 pub moment_given : (t : Tables) (now : Moment) → now.0 ≡ t.now → now ≡ moment_of t
@@ -86,6 +88,7 @@ module _ (ms : ℕ) (t : Tables) (d : DeviceTicked) where
     domains = domains_without clients t.domains;
     programs = t.programs;
     events = events_after ms d.losses.items t;
+    journals = journals_without clients t.journals;
     semaphores = renewed d.changed t.semaphores;
   }
 
@@ -137,10 +140,10 @@ ticks_may ms t d (Err memory) low change = tt
 -- ---- a client is lost
 
 pub client_lost : (client : ℕ) (u t : Tables) → u ≡ t → (now : Moment) → now ≡ moment_of t → (v : VariableTables) → v ≡ variables.lost client u.variables
-    → (d : DomainTables) → d ≡ domains.lost client u.domains → (e : EventTables) → e ≡ event_tables.lost client u.events
+    → (d : DomainTables) → d ≡ domains.lost client u.domains → (e : EventTables) → e ≡ event_tables.lost client u.events → (j : Journals) → j ≡ journals.without_client client u.journals
     → (s : Rows) → s ≡ semaphores.lost client now u.semaphores
-    → record { now = u.now; variables = v; domains = d; programs = u.programs; events = e; semaphores = s } ≡ without_client client t
-client_lost client u t same now at v of_variables d of_domains e of_events s of_semaphores =
+    → record { now = u.now; variables = v; domains = d; programs = u.programs; events = e; journals = j; semaphores = s } ≡ without_client client t
+client_lost client u t same now at v of_variables d of_domains e of_events j of_journals s of_semaphores =
     let then = of_semaphores ∙ ap (λ (m : Moment). semaphores.lost client m u.semaphores) (at ∙ ap moment_of (sym same)) in
-    (λ i. record { now = u.now; variables = of_variables i; domains = of_domains i; programs = u.programs; events = of_events i; semaphores = then i })
+    (λ i. record { now = u.now; variables = of_variables i; domains = of_domains i; programs = u.programs; events = of_events i; journals = of_journals i; semaphores = then i })
     ∙ ap (without_client client) same

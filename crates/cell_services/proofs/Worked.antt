@@ -43,6 +43,9 @@ asked_by_words : Answers request_asks (
     (request.ReportEventConditionStatus (name.Domain (codes "D") (codes "C")), 4 ∷ 0 ∷ 2 ∷ []) ∷
     (request.DefineEventCondition (condition_of None), 4 ∷ 0 ∷ []) ∷
     (request.DefineEventCondition (condition_of (Some (record { variable = spec.Address 0; interval = 10 }))), 4 ∷ 0 ∷ 1 ∷ []) ∷
+    (request.CreateJournal (name.Vmd (codes "J")), 5 ∷ []) ∷
+    (request.CreateJournal (name.Domain (codes "D") (codes "J")), 5 ∷ 2 ∷ []) ∷
+    (request.ReportJournalStatus (name.Domain (codes "D") (codes "J")), 5 ∷ 2 ∷ []) ∷
     [])
 asked_by_words = refl
 

@@ -2,7 +2,7 @@
 use Rattle.std.specs.Prelude.{◌≡◌, ℕ, Bool, true, false, [], ◌∷◌, ◌++◌, List, Option, is_some, refl}
 use Rattle.std.specs.List.{flat_map, list_any}
 use Rattle.std.proofs.Common.{ap, ◌∙◌}
-use Rattle.mms_types.specs.Areas.{device_request, domain_request, event_request, invocation_request, program_request, semaphore_request, variable_request}
+use Rattle.mms_types.specs.Areas.{device_request, domain_request, event_request, invocation_request, journal_request, program_request, semaphore_request, variable_request}
 use Rattle.mms_types.specs.declared.area.DeviceRequest.{DeviceRequest}
 use Rattle.mms_types.specs.declared.area.DeviceRequest.TheVariants as device
 use Rattle.mms_types.specs.declared.area.DomainRequest.{DomainRequest}
@@ -11,6 +11,8 @@ use Rattle.mms_types.specs.declared.area.EventRequest.{EventRequest}
 use Rattle.mms_types.specs.declared.area.EventRequest.TheVariants as events
 use Rattle.mms_types.specs.declared.area.InvocationRequest.{InvocationRequest}
 use Rattle.mms_types.specs.declared.area.InvocationRequest.TheVariants as invocations
+use Rattle.mms_types.specs.declared.area.JournalRequest.{JournalRequest}
+use Rattle.mms_types.specs.declared.area.JournalRequest.TheVariants as journals
 use Rattle.mms_types.specs.declared.area.ProgramRequest.{ProgramRequest}
 use Rattle.mms_types.specs.declared.area.ProgramRequest.TheVariants as programs
 use Rattle.mms_types.specs.declared.area.SemaphoreRequest.{SemaphoreRequest}
@@ -29,10 +31,12 @@ use Rattle.program_inv.specs.Programs.{Rows as Programs}
 use Rattle.serve_programs.specs.Programs as program
 use Rattle.serve_events.specs.Events as event
 use Rattle.serve_events.specs.declared.tables.EventTables.{EventTables}
+use Rattle.mms_journal.specs.Journals.{Rows as Journals}
+use Rattle.serve_journals.specs.Journals as journal
 use Rattle.serve_semaphores.specs.Semaphores as semaphore
 use Rattle.cell_services.specs.Device as of_device
 use Rattle.cell_services.specs.Facts.{cell_tables, guard_tables, tables_for}
-use Rattle.cell_services.specs.Services.{OfDevice, OfDomains, OfEvents, OfInvocations, OfPrograms, OfSemaphores, OfVariables, area_of}
+use Rattle.cell_services.specs.Services.{OfDevice, OfDomains, OfEvents, OfInvocations, OfJournals, OfPrograms, OfSemaphores, OfVariables, area_of}
 
 pub in_device : (x : DeviceRequest) → area_of (device_request x) ≡ OfDevice (of_device.request_in x)
 in_device (device.Status x) = refl
@@ -87,6 +91,14 @@ in_events (events.TriggerEvent x) = refl
 in_events (events.DefineEventEnrollment x) = refl
 in_events (events.DeleteEventEnrollment x) = refl
 
+pub in_journals : (x : JournalRequest) → area_of (journal_request x) ≡ OfJournals (journal.request_in x)
+in_journals (journals.ReadJournal x) = refl
+in_journals (journals.WriteJournal x) = refl
+in_journals (journals.InitializeJournal x) = refl
+in_journals (journals.ReportJournalStatus x) = refl
+in_journals (journals.CreateJournal x) = refl
+in_journals (journals.DeleteJournal x) = refl
+
 -- ---- what their own tables show to be asked besides
 
 none_behind : (b : Bool) → guard_tables b ++ [] ≡ guard_tables b
@@ -124,6 +136,10 @@ more_invocations (invocations.DeleteProgramInvocation x) t row = refl
 pub more_programs : (x : ProgramRequest) (t : Programs) (row : ClientRow) → flat_map tables_for ((program.program_in x).more t row) ≡ []
 more_programs (programs.Start x) t row = refl
 more_programs other t row = refl
+
+pub more_journals : (x : JournalRequest) (rows : Journals) (row : ClientRow) → flat_map tables_for ((journal.request_in x).more rows row) ≡ []
+more_journals (journals.ReadJournal x) rows row = refl
+more_journals other rows row = refl
 
 pub more_device : (x : DeviceRequest) (row : ClientRow) → flat_map tables_for ((of_device.request_in x).more tt row) ≡ []
 more_device device.Identify row = refl

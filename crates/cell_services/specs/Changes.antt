@@ -7,7 +7,7 @@ use Rattle.event_ticks.specs.Ticks as events
 use Rattle.event_ticks.specs.declared.ticks.Loss.{Loss}
 use Rattle.serve_events.specs.declared.tables.EventTables.{EventTables}
 use Rattle.cell_services.specs.Tables.{Tables, last_moment, moment_after}
-use Rattle.cell_services.specs.Serving.{domains_without, saying, without_client, without_clients}
+use Rattle.cell_services.specs.Serving.{domains_without, journals_without, saying, without_client, without_clients}
 
 abbrev pub clients_of : List Loss → List ℕ
 clients_of losses = map (λ loss. loss.client) losses
@@ -28,6 +28,7 @@ changed (Ticks ms renewal losses) t = record {
   domains = domains_without (clients_of losses.items) t.domains;
   programs = t.programs;
   events = events_after ms losses.items t;
+  journals = journals_without (clients_of losses.items) t.journals;
   semaphores = renewed renewal t.semaphores;
 }
 changed (Loses client) t = without_client client t

@@ -77,13 +77,14 @@ abbrev pub programs_listed : programs.Rows → Scope → Option (List ℕ) → L
 programs_listed rows scope.Vmd after = programs.names_after after rows
 programs_listed rows s after = []
 
--- the names of a class and a scope that come after that one, in order of octets; other classes have no names yet
+-- the names of a class and a scope that come after that one, in order of octets; other classes have no names
 abbrev pub names_in : Tables → Scope → ObjectClass → Option (List ℕ) → List (List ℕ)
 names_in t s class.NamedVariable after = names_after s after t.variables.vars.variables
 names_in t s class.NamedVariableList after = names_after s after t.variables.lists
 names_in t s class.Semaphore after = names_after s after t.semaphores
 names_in t s class.EventCondition after = names_after s after t.events.conditions
 names_in t s class.EventEnrollment after = names_after s after t.events.enrolments
+names_in t s class.Journal after = names_after s after t.journals
 names_in t s class.Domain after = domains_listed t.domains s after
 names_in t s class.ProgramInvocation after = programs_listed t.programs s after
 names_in t s c after = []
@@ -93,11 +94,11 @@ abbrev pub is_domain_live : Option (List ℕ) → DomainTables → Bool
 is_domain_live None domains = false
 is_domain_live (Some domain) domains = loaded.is_there is_live domain domains.domains
 
--- some object has the domain for its scope: a variable, a list, an event condition, an enrollment or a semaphore
+-- some object has the domain for its scope: a variable, a list, an event condition, an enrollment, a journal or a semaphore
 abbrev pub is_scope_used : List ℕ → Tables → Bool
 is_scope_used domain t =
     has_any_of (scope.Domain domain) t.variables.vars.variables || has_any_of (scope.Domain domain) t.variables.lists || has_any_of (scope.Domain domain) t.events.conditions
-    || has_any_of (scope.Domain domain) t.events.enrolments || has_any_of (scope.Domain domain) t.semaphores
+    || has_any_of (scope.Domain domain) t.events.enrolments || has_any_of (scope.Domain domain) t.journals || has_any_of (scope.Domain domain) t.semaphores
 
 -- what becomes of the cell of the variable that a client names so; none where none is asked for
 abbrev pub cell_of : Option Spec → Variables → ℕ → CellFact

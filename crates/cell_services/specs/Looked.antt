@@ -10,6 +10,7 @@ pub record IsLookedAt (by : NameTables) (t : Tables) : Type 0 where
   pub domains : t.domains ≡ by.domains.now
   pub programs : t.programs ≡ by.programs.now
   pub events : t.events ≡ by.events.now
+  pub journals : t.journals ≡ by.journals.now
   pub semaphores : t.semaphores ≡ by.semaphores.now
 
 -- those by which it is found who else is told something

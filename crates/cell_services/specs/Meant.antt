@@ -11,7 +11,7 @@ use Rattle.cell_services.specs.Serving.{own_told, hears}
 
 -- where no table is used, what is heard is the same with none
 abbrev pub no_tables : Tables
-no_tables = record { now = 0; variables = no_variables; domains = no_domains; programs = []; events = no_events; semaphores = [] }
+no_tables = record { now = 0; variables = no_variables; domains = no_domains; programs = []; events = no_events; journals = []; semaphores = [] }
 
 -- the row of a client after a verdict that uses none
 abbrev pub row_after : Verdict → ClientRow → ClientRow

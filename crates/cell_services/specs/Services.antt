@@ -1,5 +1,5 @@
 -- The confirmed services: why a request is refused, what it does otherwise, and which tables it uses (ISO 9506-1, VMD support, variable access, domain management, program
--- invocation management, event management and semaphore management).
+-- invocation management, event management, journal management and semaphore management).
 use Rattle.std.specs.Prelude.{ℕ, Bool, false, List, Option}
 use Rattle.mms_types.specs.declared.pdu.Request.{Request}
 use Rattle.mms_types.specs.declared.pdu.Request.TheVariants as request
@@ -14,13 +14,15 @@ use Rattle.association.specs.Client.{ClientRow}
 use Rattle.parted_state.specs.Area.{no_table}
 use Rattle.program_inv.specs.Programs.{Rows as Programs}
 use Rattle.serve_domains.specs.Tables.{DomainTables}
-use Rattle.cell_services.specs.Tables.{Tables, moment_of, own_variables, own_domains, own_invocations, own_programs, own_events, own_semaphores}
+use Rattle.cell_services.specs.Tables.{Tables, moment_of, own_variables, own_domains, own_invocations, own_programs, own_events, own_journals, own_semaphores}
 use Rattle.cell_services.specs.Device as device
 use Rattle.serve_variables.specs.Variables as variables
 use Rattle.serve_domains.specs.Domains as domains
 use Rattle.serve_programs.specs.Programs as programs
 use Rattle.serve_events.specs.Events as events
 use Rattle.serve_events.specs.declared.tables.EventTables.{EventTables}
+use Rattle.mms_journal.specs.Journals.{Rows as Journals}
+use Rattle.serve_journals.specs.Journals as journals
 use Rattle.serve_semaphores.specs.Semaphores as semaphores
 use Rattle.cell_client.specs.Areas.{lacks_number_in}
 use Rattle.cell_client.specs.Facts.{no_facts}
@@ -38,7 +40,7 @@ Outcome = OutcomeIn Tables
 -- ---- each service, in its area
 
 -- a request to the device, which has no table of its own; to its variables; to its domains; by which program invocations are made of these and deleted; to program
--- invocations; to event conditions and enrollments; or to its semaphores
+-- invocations; to event conditions and enrollments; to journals; or to its semaphores
 pub data InArea : Type 0 where
   OfDevice : RequestIn (Unit {0}) → InArea
   OfVariables : RequestIn VariableTables → InArea
@@ -46,6 +48,7 @@ pub data InArea : Type 0 where
   OfInvocations : RequestIn (DomainTables × Programs) → InArea
   OfPrograms : RequestIn Programs → InArea
   OfEvents : RequestIn EventTables → InArea
+  OfJournals : RequestIn Journals → InArea
   OfSemaphores : RequestIn Rows → InArea
 
 abbrev pub area_of : Request → InArea
@@ -88,6 +91,12 @@ area_of (request.AlterEventConditionMonitoring x) = OfEvents (events.alter_condi
 area_of (request.TriggerEvent x) = OfEvents (events.trigger x)
 area_of (request.DefineEventEnrollment x) = OfEvents (events.define_enrolment x)
 area_of (request.DeleteEventEnrollment x) = OfEvents (events.delete_enrolments x)
+area_of (request.ReadJournal x) = OfJournals (journals.read x)
+area_of (request.WriteJournal x) = OfJournals (journals.write x)
+area_of (request.InitializeJournal x) = OfJournals (journals.initialize x)
+area_of (request.ReportJournalStatus x) = OfJournals (journals.report_status x)
+area_of (request.CreateJournal x) = OfJournals (journals.create x)
+area_of (request.DeleteJournal x) = OfJournals (journals.delete x)
 
 -- and what a client answers to the server's request of that number
 abbrev pub reply_in : ℕ → Came → InArea
@@ -102,6 +111,7 @@ cause_of t row (OfDomains r) = cause_in own_domains t row r
 cause_of t row (OfInvocations r) = cause_in own_invocations t row r
 cause_of t row (OfPrograms r) = cause_in own_programs t row r
 cause_of t row (OfEvents r) = cause_in own_events t row r
+cause_of t row (OfJournals r) = cause_in own_journals t row r
 cause_of t row (OfSemaphores r) = cause_in own_semaphores t row r
 
 abbrev pub effect_of : Tables → ClientRow → ℕ → InArea → Outcome
@@ -111,6 +121,7 @@ effect_of t row invoke (OfDomains r) = effect_in own_domains t row invoke r
 effect_of t row invoke (OfInvocations r) = effect_in own_invocations t row invoke r
 effect_of t row invoke (OfPrograms r) = effect_in own_programs t row invoke r
 effect_of t row invoke (OfEvents r) = effect_in own_events t row invoke r
+effect_of t row invoke (OfJournals r) = effect_in own_journals t row invoke r
 effect_of t row invoke (OfSemaphores r) = effect_in own_semaphores t row invoke r
 
 abbrev pub asks_of : InArea → List ℕ
@@ -120,6 +131,7 @@ asks_of (OfDomains r) = asks_in own_domains r
 asks_of (OfInvocations r) = asks_in own_invocations r
 asks_of (OfPrograms r) = asks_in own_programs r
 asks_of (OfEvents r) = asks_in own_events r
+asks_of (OfJournals r) = asks_in own_journals r
 asks_of (OfSemaphores r) = asks_in own_semaphores r
 
 abbrev pub more_of : Tables → ClientRow → InArea → List ℕ
@@ -129,6 +141,7 @@ more_of t row (OfDomains r) = more_in own_domains t row r
 more_of t row (OfInvocations r) = more_in own_invocations t row r
 more_of t row (OfPrograms r) = more_in own_programs t row r
 more_of t row (OfEvents r) = more_in own_events t row r
+more_of t row (OfJournals r) = more_in own_journals t row r
 more_of t row (OfSemaphores r) = more_in own_semaphores t row r
 
 -- Requests to domains alone ask clients anything, and none that does is told anything by other tables: it would ask, and no number is left for that.
@@ -139,6 +152,7 @@ lacks_number t row invoke (OfVariables r) = false
 lacks_number t row invoke (OfInvocations r) = false
 lacks_number t row invoke (OfPrograms r) = false
 lacks_number t row invoke (OfEvents r) = false
+lacks_number t row invoke (OfJournals r) = false
 lacks_number t row invoke (OfSemaphores r) = false
 
 -- the first condition for which a request is refused

@@ -27,6 +27,8 @@ use Rattle.variable_services.specs.declared.tables.VariableTables.{VariableTable
 use Rattle.variable_services.specs.Services.{lost}
 use Rattle.domain_upload.specs.Uploads.{has_upload}
 use Rattle.program_inv.specs.Programs.{after_ends}
+use Rattle.mms_journal.specs.Journals.{Rows as Journals}
+use Rattle.mms_journal.specs.Services as journals
 use Rattle.serve_domains.specs.Tables.{DomainTables}
 use Rattle.serve_domains.specs.Tables as domains
 use Rattle.serve_events.specs.Tables as events
@@ -47,6 +49,7 @@ without_client client t = record t {
   variables = lost client t.variables;
   domains = domains.lost client t.domains;
   events = events.lost client t.events;
+  journals = journals.without_client client t.journals;
   semaphores = semaphores.lost client (moment_of t) t.semaphores;
 }
 
@@ -210,6 +213,9 @@ without_clients clients variables = fold (λ v client. lost client v) variables 
 abbrev pub domains_without : List ℕ → DomainTables → DomainTables
 domains_without clients t = fold (λ d client. domains.lost client d) t clients
 
+abbrev pub journals_without : List ℕ → Journals → Journals
+journals_without clients t = fold (λ j client. journals.without_client client j) t clients
+
 -- what the cells say that conditions watch: none changes while time goes by
 abbrev pub saying : VariableTables → Saying
 saying variables cell = is_true (Some cell) variables.vars
@@ -226,6 +232,7 @@ passed ms t s = record {
     domains = domains_without (lost_in s.happened) t.domains;
     programs = t.programs;
     events = record { conditions = s.conditions; enrolments = s.enrolments };
+    journals = journals_without (lost_in s.happened) t.journals;
     semaphores = s.semaphores;
   };
   told = all_told s.happened;

@@ -2,7 +2,7 @@
 
 ghost use Rattle.std.specs.Prelude.{◌≡◌, ℕ, false, true, IfNone, IfOk, IfSome, OnErr, OnOk, OnSome};
 ghost use Rattle.association.specs.Asked.{is_open};
-ghost use Rattle.mms_types.specs.Areas.{domain_request, event_request, invocation_request, program_request, semaphore_request, variable_request};
+ghost use Rattle.mms_types.specs.Areas.{domain_request, event_request, invocation_request, journal_request, program_request, semaphore_request, variable_request};
 ghost use Rattle.mms_types.specs.Moments.{IsDated};
 ghost use Rattle.mms_time.specs.Guards.{owns_guard};
 ghost use Rattle.serve_semaphores.specs.Tokens.{told_after};
@@ -11,6 +11,7 @@ ghost use Rattle.serve_domains.specs.Domains.{AnswersLoad};
 ghost use Rattle.serve_programs.specs.Users.{AreUsed};
 ghost use Rattle.serve_events.specs.Events as of_events;
 ghost use Rattle.serve_events.specs.Turns.{turned_after, turns_of};
+ghost use Rattle.serve_journals.specs.Journals as of_journals;
 ghost use Rattle.serve_semaphores.specs.Semaphores as of_semaphores;
 ghost use Rattle.serve_variables.specs.Variables as of_variables;
 ghost use Rattle.cell_client.specs.Areas.{lacks_number_in};
@@ -22,13 +23,14 @@ ghost use Rattle.cell_services.specs.Acts.{all_done, IsDoneIn};
 ghost use Rattle.cell_services.specs.Serving.{hears};
 ghost use Rattle.cell_services.specs.Facts.{is_domain_live, is_scope_used};
 ghost use Rattle.cell_services.specs.Requests.{told_in};
-ghost use Rattle.cell_services.specs.Tables.{Tables as Rows, own_domains, own_events, own_invocations, own_programs, own_semaphores, own_variables};
+ghost use Rattle.cell_services.specs.Tables.{Tables as Rows, own_domains, own_events, own_invocations, own_journals, own_programs, own_semaphores, own_variables};
 
 use cell_client::{Came, Client, Told};
+use mms_journal::Journals;
 use mms_time::{Semaphores, owns_guard};
 use mms_types::{
-    CellFact, DomainRequest, EventRequest, Identifier, InvocationRequest, Memory, Moment,
-    ProgramRequest, Scope, SemaphoreRequest, VariableRequest,
+    CellFact, DomainRequest, EventRequest, Identifier, InvocationRequest, JournalRequest, Memory,
+    Moment, ProgramRequest, Scope, SemaphoreRequest, VariableRequest,
 };
 use program_inv::Programs;
 use serve_domains::DomainTables;
@@ -112,16 +114,18 @@ pub fn serve_semaphores(
 }
 
 /// Whether some object has that domain for its scope: a variable, a list of variables, an event condition, an event
-/// enrollment or a semaphore.
+/// enrollment, a journal or a semaphore.
 pub fn is_scope_used(
     alloc: Global,
     variables: &VariableTables,
     events: &EventTables,
+    journals: &Journals,
     semaphores: &Semaphores,
     domain: &Identifier,
 ) -> Result<bool, Memory>
     ensures { IfOk result (λ used. (t : Rows) → t.variables ≡ variables.now
-        → t.events ≡ events.now → t.semaphores ≡ semaphores.now → used ≡ is_scope_used domain.now t) }
+        → t.events ≡ events.now → t.journals ≡ journals.now
+        → t.semaphores ≡ semaphores.now → used ≡ is_scope_used domain.now t) }
 {
     let scope = Scope::Domain(domain.copy(alloc)?);
     Ok(
@@ -129,6 +133,7 @@ pub fn is_scope_used(
             || variables.lists.has_any_of(&scope)
             || events.conditions.has_any_of(&scope)
             || events.enrolments.has_any_of(&scope)
+            || journals.has_any_of(&scope)
             || semaphores.has_any_of(&scope),
     )
 }
@@ -260,6 +265,27 @@ pub fn serve_events(
     ensures same { OnErr result (events.new ≡ events.old) }
 {
     serve_events::serve(alloc, own, events, now, live, cell, is_true, invoke, asked)
+}
+
+/// Serves a request for journals on these and the part of its client, with whether the domain is live that has to be.
+/// Without memory all is as before.
+pub fn serve_journals(
+    alloc: Global,
+    own: &mut Client,
+    journals: &mut Journals,
+    live: bool,
+    invoke: u32,
+    asked: JournalRequest<'_>,
+) -> Result<(), Memory>
+    requires settled { own.old ≡ settled own.old.row }
+    ensures served { OnOk result ((t : Rows) → t.journals ≡ journals.old
+        → live ≡ is_domain_live (of_journals.domain_asked asked.entry) t.domains
+        → IsDoneIn own_journals t own.old.row journals.new
+        own.new (Takes invoke (journal_request asked.entry))) }
+    ensures kept { OnErr result (own.new ≡ own.old) }
+    ensures same { OnErr result (journals.new ≡ journals.old) }
+{
+    serve_journals::serve(alloc, own, journals, live, invoke, asked)
 }
 
 /// Cancels the request of that invokeID, which waits, on the semaphores and the part of its client (ISO 9506-1, Cancel).

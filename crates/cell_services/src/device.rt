@@ -14,6 +14,7 @@ ghost use Rattle.cell_services.specs.Facts.{domains_listed, is_domain_live, name
 ghost use Rattle.cell_services.specs.Tables.{Tables as Rows};
 
 use cell_client::Client;
+use mms_journal::Journals;
 use mms_time::Semaphores;
 use mms_types::{
     Answer, DeviceRequest, GetNameList, GetNameListAnswer, Identifier, Identifiers, Memory,
@@ -40,6 +41,8 @@ pub struct NameTables<'a> {
     pub programs: &'a Programs,
     /// Event conditions and the enrollments on them.
     pub events: &'a EventTables,
+    /// Journals.
+    pub journals: &'a Journals,
     /// Semaphores.
     pub semaphores: &'a Semaphores,
 }
@@ -142,6 +145,9 @@ fn names_in(
                 .enrolments
                 .names_after(alloc, scope, after, MOST_NAMES)?
         }
+        ObjectClass::Journal => tables
+            .journals
+            .names_after(alloc, scope, after, MOST_NAMES)?,
         ObjectClass::Semaphore => tables
             .semaphores
             .names_after(alloc, scope, after, MOST_NAMES)?,

@@ -13,7 +13,7 @@ mod tables;
 
 pub use areas::{
     cancel_on_semaphores, is_scope_used, make_programs, serve_domains, serve_events,
-    serve_programs, serve_reply, serve_semaphores, serve_variables,
+    serve_journals, serve_programs, serve_reply, serve_semaphores, serve_variables,
 };
 pub use clock::Clock;
 pub use device::{NameTables, serve_device};

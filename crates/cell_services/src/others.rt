@@ -127,7 +127,8 @@ impl<'a> ToldTables<'a> {
             AreaRequest::Device(_)
             | AreaRequest::Variables(_)
             | AreaRequest::Invocations(_)
-            | AreaRequest::Programs(_) => Ok(Vec::new(alloc)),
+            | AreaRequest::Programs(_)
+            | AreaRequest::Journals(_) => Ok(Vec::new(alloc)),
         }
     }
 

@@ -5,12 +5,13 @@ ghost use Rattle.mms_types.specs.Moments.{IsDated};
 ghost use Rattle.event_ticks.specs.Ticks as events_part;
 ghost use Rattle.cell_services.specs.Changes.{changed, clients_of, may_want, MayChange};
 ghost use Rattle.cell_services.specs.Meant.{no_tables};
-ghost use Rattle.cell_services.specs.Serving.{domains_without, saying, without_client, without_clients};
+ghost use Rattle.cell_services.specs.Serving.{domains_without, journals_without, saying, without_client, without_clients};
 ghost use Rattle.cell_services.specs.Tables.{moment_of};
 
 use crate::Clock;
 use event_cond::Cells;
 use event_ticks::Loss;
+use mms_journal::Journals;
 use mms_time::{Semaphores, lose};
 use mms_types::{Memory, Moment};
 use program_inv::Programs;
@@ -34,6 +35,8 @@ pub struct Tables {
     pub programs: Programs,
     /// Event conditions and the enrollments on them.
     pub events: EventTables,
+    /// Journals.
+    pub journals: Journals,
     /// Semaphores.
     pub semaphores: Semaphores,
 }
@@ -45,8 +48,9 @@ impl Model for Tables {
 
     ghost use Rattle.std.specs.Coded.{codes};
     ghost use Rattle.variable_services.specs.contracts.tables.VariableTables as kept;
+    ghost use Rattle.mms_types.specs.DatumCode.{datum_code};
 
-    ghost coded = { Prim.hlevel (codes, kept.the_row.coded) };
+    ghost coded = { Prim.hlevel (codes, kept.the_row.coded, datum_code) };
 
     ghost view = { λ tables. record {
       now = tables.clock;
@@ -54,6 +58,7 @@ impl Model for Tables {
       domains = tables.domains;
       programs = tables.programs;
       events = tables.events;
+      journals = tables.journals;
       semaphores = tables.semaphores;
     } };
 }
@@ -90,6 +95,15 @@ fn lose_domains(domains: &mut DomainTables, losses: &[Loss])
 {
     for loss in losses {
         domains.lose(loss.client);
+    }
+}
+
+/// Clients are lost, of which journals go.
+fn lose_journals(journals: &mut Journals, losses: &[Loss])
+    ensures { journals.new ≡ journals_without (clients_of losses.now) journals.old }
+{
+    for loss in losses {
+        journals.lose(loss.client);
     }
 }
 
@@ -144,6 +158,7 @@ impl Tables {
             domains: DomainTables::empty(alloc),
             programs: Programs::new(alloc),
             events: EventTables::empty(alloc),
+            journals: Journals::new(alloc),
             semaphores: Semaphores::new(alloc),
         }
     }
@@ -167,6 +182,7 @@ impl Tables {
         self.variables.lose(client);
         self.domains.lose(client);
         self.events.lose(client);
+        self.journals.lose(client);
         Ok(())
     }
 
@@ -203,6 +219,7 @@ impl Change {
                 tick_events(&mut tables.events, &tables.variables, &losses, until);
                 lose_variables(&mut tables.variables, &losses);
                 lose_domains(&mut tables.domains, &losses);
+                lose_journals(&mut tables.journals, &losses);
             }
             Change::Loses(client) => tables.lose(alloc, client)?,
         }

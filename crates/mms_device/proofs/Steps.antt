@@ -1,4 +1,5 @@
--- What the device of many callers uses of the step of an event and of the parts: all of it that rests on the step's own proofs.
+-- What the device of many callers uses of the step of an event and of the parts: all of it that rests on the step's own
+-- proofs.
 use Rattle.std.specs.Prelude.{◌≡◌, ℕ, ◌+◌, ◌<◌, ◌≤◌, true, Option, None, Some, List, [], ◌∷◌, ◌++◌, is_some, map, length, Contains, refl}
 use Rattle.std.proofs.Common.{ap, sym, ◌∙◌, subst, arith}
 use Rattle.std.proofs.lemmas.List.{length-map}

@@ -1,4 +1,5 @@
--- What contracts see of a device that many callers share, and what one call makes of a caller's pass (this profile's choice).
+-- What contracts see of a device that many callers share, and what one call makes of a caller's pass (this profile's
+-- choice).
 use Rattle.std.specs.Prelude.{◌≡◌, ◌≢◌, ◌^◌, ℕ, ◌+◌, ◌-◌, List, [], ◌∷◌, ◌++◌, length, map, Contains}
 use Rattle.mms_types.specs.declared.event.CellEvent.{CellEvent}
 use Rattle.mms_types.specs.declared.event.CellEvent.TheVariants.{Tick}
@@ -16,7 +17,8 @@ pub record Shared : Type 0 where
   pub table : Opened Part
   pub config : Config
 
--- the table is that of the configured device: its parts are those of the start, its callers are the cell and each client, and each of them may commit 2^33 events
+-- the table is that of the configured device: its parts are those of the start, its callers are the cell and each
+-- client, and each of them may commit 2^33 events
 pub record IsOf (table : Opened Part) (config : Config) : Type 0 where
   pub opening : table.opening ≡ parts_of (start config)
   pub callers : table.callers ≡ config.clients + 1
@@ -51,22 +53,23 @@ ticks_in (event ∷ events) = goes_by event + ticks_in events
 abbrev pub IsTimely : Config → Caller → CellEvent → Type 0
 IsTimely config pass event = IsInTime (config.start.0 + ticks_in (events_of pass.by pass.seen)) event
 
--- The event was committed, once: it has that place behind a history that begins with what the pass knew. Beside those that were there it is the one event of the
--- caller's own, and nothing else of the pass has changed.
+-- The event was committed, once: it has that place behind a history that begins with what the pass knew. Beside those
+-- that were there it is the one event of the caller's own, and nothing else of the pass has changed.
 pub record IsServed (event : CellEvent) (old new : Caller) (ticket : ℕ) (h : History) : Type 0 where
   pub pass : new ≡ record old { seen = h ++ (old.by, event) ∷ []; own = old.own ++ ticket ∷ []; left = old.left - 1 }
   pub seen : StartsWith h old.seen
   pub place : ticket ≡ length h + 1
   pub own : events_of old.by new.seen ≡ events_of old.by old.seen ++ event ∷ []
 
--- Nothing of the pass has changed but what it knows of others: the history begins with what it knew, and has no further event of the caller's own.
+-- Nothing of the pass has changed but what it knows of others: the history begins with what it knew, and has no further
+-- event of the caller's own.
 pub record IsAsBefore (old new : Caller) : Type 0 where
   pub pass : new ≡ record old { seen = new.seen }
   pub seen : StartsWith new.seen old.seen
   pub own : events_of old.by new.seen ≡ events_of old.by old.seen
 
--- One claim was lost, on a part that the event wants in the state to which the history leads that the pass then knows, and to another caller. Nothing else has
--- changed but what the pass knows of others.
+-- One claim was lost, on a part that the event wants in the state to which the history leads that the pass then knows,
+-- and to another caller. Nothing else has changed but what the pass knows of others.
 pub record IsBusy (config : Config) (event : CellEvent) (old new : Caller) (part by : ℕ) : Type 0 where
   pub pass : new ≡ record old { seen = new.seen; lost = old.lost ++ (part, by) ∷ [] }
   pub seen : StartsWith new.seen old.seen
@@ -74,7 +77,8 @@ pub record IsBusy (config : Config) (event : CellEvent) (old new : Caller) (part
   pub another : by ≢ old.by
   pub wants : Contains (wanted event (led_to config new.seen)) part
 
--- A caller tried in vain: nothing of the pass has changed but what it knows of others and the claims that it lost, and both begin with what was there.
+-- A caller tried in vain: nothing of the pass has changed but what it knows of others and the claims that it lost, and
+-- both begin with what was there.
 pub record HasTried (old new : Caller) : Type 0 where
   pub pass : new ≡ record old { seen = new.seen; lost = new.lost }
   pub seen : StartsWith new.seen old.seen

@@ -12,7 +12,8 @@ use Rattle.mms_step.specs.Tasks.{IsFoundOf}
 use Rattle.mms_step.specs.State.{State, IsSound}
 use Rattle.mms_step.specs.Step.{IsInTime}
 
--- they are parts of a state that may come, nothing else is needed, what is found is what its octets come to, and the event is one of a client that is there, in time
+-- they are parts of a state that may come, nothing else is needed, what is found is what its octets come to, and the
+-- event is one of a client that is there, in time
 pub record MayStep (event : CellEvent) (found : Option Found) (hand : List (Option Part)) : Type 0 where
   pub of : (s : State) × ((count : ℕ) × IsSound count s) × IsHandOf hand (parts_of s)
   pub found_of : IsFoundOf found event hand

@@ -35,7 +35,8 @@ Wants event hand part = (s : State) → IsHandOf hand (parts_of s) → Contains 
 abbrev pub HoldsWanted : CellEvent → List (Option Part) → Type 0
 HoldsWanted event hand = (part : ℕ) → is_held hand part ≡ true → Wants event hand part
 
--- while a call takes parts: nothing of the pass has changed but what it knows, what it holds and the claims that it lost
+-- while a call takes parts: nothing of the pass has changed but what it knows, what it holds and the claims that it
+-- lost
 pub record IsTaking (event : CellEvent) (old new : Caller) : Type 0 where
   pub pass : new ≡ record old { seen = new.seen; lost = new.lost; taken = new.taken; hand = new.hand; order = new.order }
   pub seen : StartsWith new.seen old.seen

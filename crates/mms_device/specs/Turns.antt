@@ -14,7 +14,8 @@ abbrev pub AreOf : ℕ → List CellEvent → Type 0
 AreOf caller [] = Unit {0}
 AreOf caller (event ∷ events) = MayMake caller event × AreOf caller events
 
--- The pass is the device's and holds nothing, it has a commit left for each of the events, these are its actor's, and time doesn't end before them.
+-- The pass is the device's and holds nothing, it has a commit left for each of the events, these are its actor's, and
+-- time doesn't end before them.
 pub record CanServe (device : Shared) (pass : Caller) (events : List CellEvent) : Type 0 where
   pub of_table : pass.table ≡ device.table
   pub idle : HoldsNothing pass
@@ -33,8 +34,9 @@ places placed = map (λ p. p.0) placed
 abbrev pub events : List (ℕ × CellEvent) → List CellEvent
 events placed = map (λ p. p.1) placed
 
--- What turns make of a job: some first events of those that were left are served. Their places are the new own places of the pass, and these events are those
--- that it has made since, in the history that it then knows, which begins with the one that it knew. So many commits fewer are left. It is the same caller's.
+-- What turns make of a job: some first events of those that were left are served. Their places are the new own places
+-- of the pass, and these events are those that it has made since, in the history that it then knows, which begins with
+-- the one that it knew. So many commits fewer are left. It is the same caller's.
 pub record MadeOf (a b : CellJob) : Type 0 where
   pub placed : List (ℕ × CellEvent)
   pub log : b.log.items ≡ a.log.items ++ placed
@@ -52,7 +54,8 @@ pub record SameWork (a b : CellJob) : Type 0 where
   pub own : b.pass.own ≡ a.pass.own
   pub left : b.pass.left ≡ a.pass.left
 
--- The first event that was left was served, once. With its place it is the last of the served ones, and those behind it are left.
+-- The first event that was left was served, once. With its place it is the last of the served ones, and those behind it
+-- are left.
 pub record HasMoved (a b : CellJob) : Type 0 where
   pub event : CellEvent
   pub more : List CellEvent
@@ -63,7 +66,8 @@ pub record HasMoved (a b : CellJob) : Type 0 where
   pub log : b.log.items ≡ a.log.items ++ (place, event) ∷ []
   pub pass : IsServed event a.pass b.pass place before
 
--- A claim was lost: on a part that the first event that was left wants, and to another caller. The same events are served and left.
+-- A claim was lost: on a part that the first event that was left wants, and to another caller. The same events are
+-- served and left.
 pub record IsHeldUp (device : Shared) (a b : CellJob) : Type 0 where
   pub event : CellEvent
   pub more : List CellEvent

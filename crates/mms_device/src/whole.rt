@@ -43,8 +43,9 @@ impl Model for Whole {
 
     ghost use Rattle.std.specs.Coded.{codes};
     ghost use Rattle.variable_services.specs.contracts.tables.VariableTables as kept;
+    ghost use Rattle.mms_types.specs.DatumCode.{datum_code};
 
-    ghost coded = { Prim.hlevel (codes, kept.the_row.coded) };
+    ghost coded = { Prim.hlevel (codes, kept.the_row.coded, datum_code) };
 
     ghost view = { λ device. record { state = state_in device.hand; count = device.count } };
 

@@ -22,7 +22,7 @@ use Rattle.cell_services.specs.Tables.{Tables, moment_after}
 use Rattle.event_cond.specs.Skips.{any_due}
 use Rattle.cell_client.specs.Association.{Verdict, Takes, verdict, Replies}
 use Rattle.cell_services.specs.Facts.{Question, Now, Live, Owned, Names, class_tables, guard_tables, tables_for, Scoped, Cell, Truth, cell_tables}
-use Rattle.cell_services.specs.Services.{InArea, OfDevice, OfVariables, OfSemaphores, area_of, asks_of, more_of, OfDomains, OfEvents, OfInvocations, OfPrograms, reply_in}
+use Rattle.cell_services.specs.Services.{InArea, OfDevice, OfVariables, OfSemaphores, area_of, asks_of, more_of, OfDomains, OfEvents, OfInvocations, OfJournals, OfPrograms, reply_in}
 use Rattle.cell_services.specs.Serving.{heard_asks, heard_more, loss_asks, services, abort_asks, aborted_meanwhile, evaluation_asks, time_asks, words, more_of_verdict, resolved}
 use Rattle.mms_step.specs.Step.{step}
 use Rattle.mms_step.specs.Partition.{cell, parts_of, state_in}
@@ -93,6 +93,7 @@ area_below (OfDomains r) = questions_below r.words
 area_below (OfInvocations r) = questions_below r.words
 area_below (OfPrograms r) = questions_below r.words
 area_below (OfEvents r) = questions_below r.words
+area_below (OfJournals r) = questions_below r.words
 area_below (OfSemaphores r) = questions_below r.words
 
 area_more_below : (t : Tables) (row : ClientRow) (a : InArea) → are_tables (more_of t row a) ≡ true
@@ -102,6 +103,7 @@ area_more_below t row (OfDomains r) = questions_below (r.more t.domains row)
 area_more_below t row (OfInvocations r) = questions_below (r.more (t.domains, t.programs) row)
 area_more_below t row (OfPrograms r) = questions_below (r.more t.programs row)
 area_more_below t row (OfEvents r) = questions_below (r.more t.events row)
+area_more_below t row (OfJournals r) = questions_below (r.more t.journals row)
 area_more_below t row (OfSemaphores r) = questions_below (r.more t.semaphores row)
 
 asks_below : (v : Verdict) → are_tables (heard_asks v) ≡ true

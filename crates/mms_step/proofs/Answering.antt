@@ -30,13 +30,17 @@ use Rattle.serve_programs.specs.Programs as of_programs
 use Rattle.mms_types.specs.declared.area.DomainRequest.{DomainRequest}
 use Rattle.mms_types.specs.declared.area.DomainRequest.TheVariants as domains
 use Rattle.serve_events.specs.AnswerLaws as event_laws
+use Rattle.serve_journals.specs.AnswerLaws as journal_laws
+use Rattle.serve_journals.specs.Journals as of_journals
 use Rattle.serve_events.specs.Events as of_events
 use Rattle.mms_types.specs.declared.area.EventRequest.{EventRequest}
 use Rattle.mms_types.specs.declared.area.EventRequest.TheVariants as events
+use Rattle.mms_types.specs.declared.area.JournalRequest.{JournalRequest}
+use Rattle.mms_types.specs.declared.area.JournalRequest.TheVariants as journals
 use Rattle.cell_services.specs.Requests.{told_in}
 use Rattle.cell_services.specs.Services.{cause, effect}
 use Rattle.cell_services.specs.Serving.{also_told, own_told}
-use Rattle.cell_services.specs.Tables.{Tables, own_semaphores, own_variables, own_domains, own_events, own_invocations, own_programs}
+use Rattle.cell_services.specs.Tables.{Tables, own_semaphores, own_variables, own_domains, own_events, own_invocations, own_journals, own_programs}
 use Rattle.mms_step.specs.Answered.{AnswersOrWaits, waits_told}
 
 -- as an area looks at it
@@ -70,6 +74,10 @@ module _ (t : Tables) (row : ClientRow) (invoke : ℕ) (uploads : AreOf t.domain
   of_the_events : (x : EventRequest) → (of_events.request_in x).cause (told_in own_events t row (of_events.request_in x)) t.events row ≡ None
       → AnswersOrWaitsIn row.client invoke ((of_events.request_in x).effect (told_in own_events t row (of_events.request_in x)) t.events row invoke)
   of_the_events x = event_laws.answers_or_waits (told_in own_events t row (of_events.request_in x)) t.events row invoke x
+
+  of_the_journals : (x : JournalRequest) → (of_journals.request_in x).cause (told_in own_journals t row (of_journals.request_in x)) t.journals row ≡ None
+      → AnswersOrWaitsIn row.client invoke ((of_journals.request_in x).effect (told_in own_journals t row (of_journals.request_in x)) t.journals row invoke)
+  of_the_journals x = journal_laws.answers_or_waits (told_in own_journals t row (of_journals.request_in x)) row invoke t.journals x
 
   pub settled : (asked : Request) → cause t row asked ≡ None → AnswersOrWaitsIn row.client invoke (effect t row invoke asked)
   settled (request.GetNameList x) none = inl (_, refl, refl)
@@ -111,6 +119,12 @@ module _ (t : Tables) (row : ClientRow) (invoke : ℕ) (uploads : AreOf t.domain
   settled (request.TriggerEvent x) none = of_the_events (events.TriggerEvent (seen x)) none
   settled (request.DefineEventEnrollment x) none = of_the_events (events.DefineEventEnrollment (seen x)) none
   settled (request.DeleteEventEnrollment x) none = of_the_events (events.DeleteEventEnrollment (seen x)) none
+  settled (request.ReadJournal x) none = of_the_journals (journals.ReadJournal (seen x)) none
+  settled (request.WriteJournal x) none = of_the_journals (journals.WriteJournal (seen x)) none
+  settled (request.InitializeJournal x) none = of_the_journals (journals.InitializeJournal (seen x)) none
+  settled (request.ReportJournalStatus x) none = of_the_journals (journals.ReportJournalStatus (seen x)) none
+  settled (request.CreateJournal x) none = of_the_journals (journals.CreateJournal (seen x)) none
+  settled (request.DeleteJournal x) none = of_the_journals (journals.DeleteJournal (seen x)) none
 
   -- ---- what is told of it
 

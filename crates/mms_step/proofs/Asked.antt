@@ -22,10 +22,10 @@ use Rattle.cell_services.specs.Others.{is_abort}
 use Rattle.cell_services.specs.Serving.{abort_asks, also_lost}
 use Rattle.cell_services.specs.Tables.{Tables, domains_table, journals_table, variables_table}
 use Rattle.mms_step.specs.Needs.{client_parts, two_stages}
-use Rattle.mms_step.specs.Partition.{cell, client_place, clients_among, clock_in, domains_in, events_in, semaphores_in, semaphores_place, variables_in}
+use Rattle.mms_step.specs.Partition.{cell, client_place, clients_among, clock_in, domains_in, events_in, journals_in, semaphores_in, semaphores_place, variables_in}
 use Rattle.mms_step.proofs.Needed.{first_by_test, next_by_test}
 use Rattle.mms_step.proofs.Others.{in_append, told_set}
-use Rattle.mms_step.proofs.ServeLaws.{shown_own}
+use Rattle.mms_step.proofs.Tabled.{shown_own}
 
 -- ---- the tables that held parts show
 
@@ -42,6 +42,9 @@ shown_domains hand = ap (λ (t : Tables). t.domains) (sym (shown_own hand))
 
 pub shown_events : (hand : List (Option Part)) → (tables_shown cell hand).events ≡ events_in (held_at hand 4)
 shown_events hand = ap (λ (t : Tables). t.events) (sym (shown_own hand))
+
+pub shown_journals : (hand : List (Option Part)) → (tables_shown cell hand).journals ≡ journals_in (held_at hand 5)
+shown_journals hand = ap (λ (t : Tables). t.journals) (sym (shown_own hand))
 
 pub shown_now : (hand : List (Option Part)) → (tables_shown cell hand).now ≡ clock_in (held_at hand 0)
 shown_now hand = ap (λ (t : Tables). t.now) (sym (shown_own hand))

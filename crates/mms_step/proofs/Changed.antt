@@ -5,15 +5,16 @@ use Rattle.association.specs.Client.{ClientRow, Client as RoomyRow}
 use Rattle.part_table.specs.Held.{held_at}
 use Rattle.part_table.specs.HeldLaws.{held_within}
 use Rattle.mms_step.specs.declared.part.Part.{Part}
-use Rattle.mms_step.specs.declared.part.Part.TheVariants.{Clock, Client, Domains, Events, Programs, Semaphores, Variables}
+use Rattle.mms_step.specs.declared.part.Part.TheVariants.{Clock, Client, Domains, Events, Journals, Programs, Semaphores, Variables}
 use Rattle.variable_services.specs.declared.tables.VariableTables.{VariableTables}
 use Rattle.parted_state.specs.Served.{change}
 use Rattle.cell_client.specs.Effects.{settled}
+use Rattle.mms_journal.specs.Journals.{Rows as Books}
 use Rattle.program_inv.specs.Programs.{Rows as Invocations}
 use Rattle.serve_domains.specs.Tables.{DomainTables}
 use Rattle.serve_events.specs.declared.tables.EventTables.{EventTables}
 use Rattle.mms_time.specs.Semaphores.{Rows}
-use Rattle.mms_step.specs.Partition.{clock_or, domains_or, events_or, programs_or, semaphores_or, variables_or, on_client, on_clock, on_domains, on_events, on_programs, on_semaphores, on_variables}
+use Rattle.mms_step.specs.Partition.{clock_or, domains_or, events_or, journals_or, programs_or, semaphores_or, variables_or, on_client, on_clock, on_domains, on_events, on_journals, on_programs, on_semaphores, on_variables}
 
 pub changed_part : {P : Type 0} (f : P → P) (hand : List (Option P)) (i : ℕ) (x : P) → held_at hand i ≡ Some x
     → set (set hand i None) i (Some (f x)) ≡ change (option_map f) hand i
@@ -170,6 +171,22 @@ no_events_held f part other = refl
 pub no_events_shown : (now : EventTables) (part : Part) → ((was : EventTables) → part ≡ Events was → ⊥) → events_or now (Some part) ≡ now
 no_events_shown now (Events was) other = absurd (other was refl)
 no_events_shown now part other = refl
+
+-- of which that has the journals
+pub journals_arm : (now : Books) (hand taken new : List (Option Part)) (place : ℕ) (part value : Part) (was after : Books)
+    → Some part ≡ held_at hand place → taken ≡ set hand place None → value ≡ part → value ≡ Journals was → after ≡ now
+    → new ≡ set taken place (Some (Journals after)) → new ≡ change (option_map (on_journals (λ n. now))) hand place
+journals_arm now hand taken new place part value was after held out same is done back =
+    part_changed (on_journals (λ n. now)) hand taken new place part (Journals after) held out (ap Journals done ∙ ap (on_journals (λ n. now)) (sym is ∙ same)) back
+
+-- a part that has none stays as it is
+pub no_journals_held : (f : Books → Books) (part : Part) → ((now : Books) → part ≡ Journals now → ⊥) → on_journals f part ≡ part
+no_journals_held f (Journals now) other = absurd (other now refl)
+no_journals_held f part other = refl
+
+pub no_journals_shown : (now : Books) (part : Part) → ((was : Books) → part ≡ Journals was → ⊥) → journals_or now (Some part) ≡ now
+no_journals_shown now (Journals was) other = absurd (other was refl)
+no_journals_shown now part other = refl
 
 -- of which that has the semaphores
 pub semaphores_arm : (now : Rows) (hand taken new : List (Option Part)) (place : ℕ) (part value : Part) (was after : Rows)

@@ -1,4 +1,5 @@
--- What holds of the event conditions of a device at any time stays so at each event: they are evaluated at multiples of their intervals, and each evaluation lies ahead.
+-- What holds of the event conditions of a device at any time stays so at each event: they are evaluated at multiples of
+-- their intervals, and each evaluation lies ahead.
 use Rattle.std.specs.Prelude.{◌≡◌, ℕ, ◌+◌, ◌<◌, ◌≤◌, Bool, true, false, not, nat_le, List, [], ◌∷◌, ◌++◌, filter, map, Option, None, Some, IfSome, is_some, if◌then◌else◌, refl}
 use Rattle.std.specs.List.{All, AllByRecursion, IsDistinct, cons_option}
 use Rattle.std.specs.Map.{keys_of, set_value}

@@ -1,4 +1,5 @@
--- Where nothing is needed that is not held, the parts that an event changes are held, and become those of the state after it.
+-- Where nothing is needed that is not held, the parts that an event changes are held, and become those of the state
+-- after it.
 use Rattle.std.specs.Prelude.{◌≡◌, ℕ, zero, suc, ◌+◌, ◌-◌, ◌≤◌, Bool, true, false, not, ◌&&◌, ◌||◌, Option, Some, List, [], ◌∷◌, filter, is_some, length, OnOk, OnErr, Result, Ok, Err, refl}
 use Rattle.std.specs.List.{list_all}
 use Rattle.std.specs.Option.{option_map}
@@ -36,7 +37,7 @@ use Rattle.mms_step.specs.After.{after}
 use Rattle.mms_step.specs.AfterLaws.{after_holds_the_same}
 use Rattle.mms_step.proofs.Holding.{client_at, clients_counted, held_client, held_part, after_of_hand, change_is_held}
 use Rattle.mms_step.proofs.Needed.{drain_needs_none}
-use Rattle.mms_step.proofs.ServeLaws.{shown_own}
+use Rattle.mms_step.proofs.Tabled.{shown_own}
 use Rattle.mms_step.proofs.TakenOut.{programs_put}
 use Rattle.mms_step.proofs.PartsAfter.{with_client, client_changed, step_drained}
 

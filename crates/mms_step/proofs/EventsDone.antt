@@ -1,4 +1,5 @@
--- What a request left by which clients are told of transitions is done: the event conditions and enrollments alone become others, beside room that was made.
+-- What a request left by which clients are told of transitions is done: the event conditions and enrollments alone
+-- become others, beside room that was made.
 use Rattle.std.specs.Prelude.{◌≡◌, ℕ, ◌+◌, ◌-◌, Option, None, Some, List, length, slice_get, unwrap_or, refl}
 use Rattle.std.specs.Option.{option_map}
 use Rattle.std.proofs.Common.{set, ap, sym, ◌∙◌, arith}
@@ -9,22 +10,24 @@ use Rattle.cell_client.specs.declared.told.Told.{Told}
 use Rattle.cell_services.specs.Acts.{all_done}
 use Rattle.cell_services.specs.Tables.{Tables, own_events}
 use Rattle.serve_events.specs.declared.tables.EventTables.{EventTables}
-use Rattle.mms_step.specs.Lifting.{tabled, with_events, with_semaphores}
-use Rattle.mms_step.specs.Partition.{cell, parts_of, clients_among, events_in, on_events, semaphores_in, IsEvents}
+use Rattle.mms_step.specs.Lifting.{tabled, with_events, with_journals, with_semaphores}
+use Rattle.mms_step.specs.Partition.{cell, parts_of, clients_among, events_in, journals_in, on_events, semaphores_in, IsEvents}
 use Rattle.mms_step.specs.Rooms.{room_before, room_or_same, room_to, with_rooms, without_rooms, AreClients}
 use Rattle.mms_step.specs.State.{State}
 use Rattle.mms_step.specs.declared.part.Part.{Part}
 use Rattle.mms_step.specs.declared.part.Part.TheVariants.{Events}
 use Rattle.mms_step.specs.declared.telling.Room.{Room}
 use Rattle.mms_step.proofs.Changed.{changed_part}
-use Rattle.mms_step.proofs.ServeLaws.{behind_clients, clients_kept, events_rooms, four_same, own_tables, rooms_kept, semaphores_stay, shown_own, tabled_rooms, tabled_same, told_in_place}
+use Rattle.mms_step.proofs.ServeLaws.{clients_kept, rooms_kept, told_in_place}
+use Rattle.mms_step.proofs.Tabled.{behind_clients, events_rooms, four_same, journals_stay, own_tables, semaphores_stay, shown_own, tabled_rooms, tabled_same}
 use Rattle.mms_step.proofs.ToldLaws.{at_place, get_placed}
 
 -- the events of the parts alone are exchanged
 one_exchanged : (events : EventTables) (hand : List (Option Part)) → with_events events hand ≡ tabled (record (own_tables hand) { events = events }) hand
 one_exchanged events hand =
     sym (semaphores_stay (option_map (on_events (λ was. events))) hand 4 (λ same. omega (arith, same)))
-    ∙ ap (λ (h : List (Option Part)). with_semaphores (semaphores_in (held_at hand (behind_clients hand))) (with_events events h)) (sym (four_same hand))
+    ∙ ap (with_semaphores (semaphores_in (held_at hand (behind_clients hand)))) (sym (journals_stay (option_map (on_events (λ was. events))) hand 4 (λ same. omega (arith, same))))
+    ∙ ap (λ (h : List (Option Part)). with_semaphores (semaphores_in (held_at hand (behind_clients hand))) (with_journals (journals_in (held_at hand 5)) (with_events events h))) (sym (four_same hand))
 
 events_put : (events : EventTables) (last : ℕ) (room : ℕ → Room) (hand : List (Option Part))
     → with_events events (with_rooms last room hand) ≡ tabled (record (own_tables hand) { events = events }) (with_rooms last room (tabled (own_tables hand) hand))

@@ -1,4 +1,5 @@
--- What a request left that tells others something is done: the semaphores alone become others, beside room that was made.
+-- What a request left that tells others something is done: the semaphores alone become others, beside room that was
+-- made.
 use Rattle.std.specs.Prelude.{◌≡◌, ℕ, ◌+◌, ◌-◌, Option, None, Some, List, length, slice_get, unwrap_or, refl}
 use Rattle.std.specs.Option.{option_map}
 use Rattle.std.proofs.Common.{set, ap, sym, ◌∙◌}
@@ -19,14 +20,15 @@ use Rattle.mms_step.specs.declared.part.Part.{Part}
 use Rattle.mms_step.specs.declared.part.Part.TheVariants.{Semaphores}
 use Rattle.mms_step.specs.declared.telling.Room.{Room}
 use Rattle.mms_step.proofs.Changed.{changed_part}
-use Rattle.mms_step.proofs.ServeLaws.{behind_clients, clients_kept, own_tables, rooms_kept, same_place, semaphores_rooms, shown_own, tabled_rooms, tabled_same, told_in_place, five_same}
+use Rattle.mms_step.proofs.ServeLaws.{clients_kept, rooms_kept, told_in_place}
+use Rattle.mms_step.proofs.Tabled.{behind_clients, own_tables, same_place, semaphores_rooms, shown_own, tabled_rooms, tabled_same, six_same}
 use Rattle.mms_step.proofs.ToldLaws.{at_place, get_placed}
 
 semaphores_put : (rows : Rows) (last : ℕ) (room : ℕ → Room) (hand : List (Option Part))
     → with_semaphores rows (with_rooms last room hand) ≡ tabled (record (own_tables hand) { semaphores = rows }) (with_rooms last room (tabled (own_tables hand) hand))
 semaphores_put rows last room hand =
     semaphores_rooms rows last room hand
-    ∙ ap (λ (h : List (Option Part)). with_rooms last room (with_semaphores rows h)) (sym (five_same hand))
+    ∙ ap (λ (h : List (Option Part)). with_rooms last room (with_semaphores rows h)) (sym (six_same hand))
     ∙ sym (tabled_rooms (record (own_tables hand) { semaphores = rows }) last room hand)
     ∙ ap (λ (h : List (Option Part)). tabled (record (own_tables hand) { semaphores = rows }) (with_rooms last room h)) (sym (tabled_same hand))
 

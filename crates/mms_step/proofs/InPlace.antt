@@ -16,22 +16,24 @@ use Rattle.cell_client.specs.Effects.{Effect, felt_all, settled, tell}
 use Rattle.cell_client.specs.declared.told.Told.{Told}
 use Rattle.cell_services.specs.Acts.{all_done, IsDoneIn}
 use Rattle.cell_services.specs.Serving.{hears}
-use Rattle.cell_services.specs.Tables.{Tables, own_domains, own_events, own_programs, own_semaphores, own_variables}
+use Rattle.cell_services.specs.Tables.{Tables, own_domains, own_events, own_journals, own_programs, own_semaphores, own_variables}
 use Rattle.mms_step.specs.declared.part.Part.{Part}
-use Rattle.mms_step.specs.declared.part.Part.TheVariants.{Client, Domains, Events, Programs, Semaphores, Variables}
+use Rattle.mms_step.specs.declared.part.Part.TheVariants.{Client, Domains, Events, Journals, Programs, Semaphores, Variables}
+use Rattle.mms_journal.specs.Journals.{Rows as Books}
 use Rattle.program_inv.specs.Programs.{Rows as Invocations}
 use Rattle.serve_domains.specs.Tables.{DomainTables}
 use Rattle.serve_events.specs.declared.tables.EventTables.{EventTables}
 use Rattle.mms_step.specs.State.{State}
 use Rattle.mms_step.specs.Lifting.{varied, with_semaphores}
 use Rattle.mms_step.specs.Needs.{is_held}
-use Rattle.mms_step.specs.Partition.{cell, parts_of, client_in, client_part, client_place, clients_among, clock_in, domains_in, events_in, on_client, on_domains, on_events, on_programs, on_semaphores, on_variables, programs_in, row_in, semaphores_in, semaphores_place, variables_in, IsClient, IsDomains, IsEvents, IsPrograms, IsSemaphores, IsVariables}
+use Rattle.mms_step.specs.Partition.{cell, parts_of, client_in, client_part, client_place, clients_among, clock_in, domains_in, events_in, journals_in, on_client, on_domains, on_events, on_journals, on_programs, on_semaphores, on_variables, programs_in, row_in, semaphores_in, semaphores_place, variables_in, IsClient, IsDomains, IsEvents, IsJournals, IsPrograms, IsSemaphores, IsVariables}
 use Rattle.mms_step.specs.Rooms.{no_room, with_room}
 use Rattle.mms_step.specs.Tasks.{row_held, AreDone, AreMade, IsRoomless}
 use Rattle.mms_step.proofs.Changed.{client_arm}
 use Rattle.mms_step.proofs.Holding.{client_at, clients_counted, held_part}
-use Rattle.mms_step.proofs.ServeLaws.{behind_clients, change_as, first_of, part_settled, put_tables, shown_own, told_row_at, five_same, varied_same}
-use Rattle.mms_step.proofs.TakenOut.{both_changed, done_in_place, events_done_in_place, held_after_set, domains_done_in_place, invocations_done_in_place, programs_done_in_place, three_changed}
+use Rattle.mms_step.proofs.ServeLaws.{part_settled, put_tables, told_row_at}
+use Rattle.mms_step.proofs.Tabled.{behind_clients, change_as, first_of, shown_own, six_same, varied_same}
+use Rattle.mms_step.proofs.TakenOut.{both_changed, done_in_place, events_done_in_place, held_after_set, domains_done_in_place, invocations_done_in_place, journals_done_in_place, programs_done_in_place, three_changed}
 
 -- ---- a held part of a state has no room
 
@@ -60,6 +62,12 @@ programs_out hand out client table taken third =
 pub events_out : (hand out : List (Option Part)) (client : ℕ) (table : Part) → out ≡ set hand (client_place client) None → Some table ≡ held_at out 4 → Some table ≡ held_at hand 4
 events_out hand out client table taken fourth =
     fourth ∙ ap (λ (l : List (Option Part)). held_at l 4) taken ∙ held_after_set hand (client_place client) 4 None (λ same. omega (arith, same))
+
+-- and that of the journals
+pub journals_out : (hand out : List (Option Part)) (client : ℕ) (table : Part) → 1 ≤ client → out ≡ set hand (client_place client) None → Some table ≡ held_at out 5
+    → Some table ≡ held_at hand 5
+journals_out hand out client table some taken fifth =
+    fifth ∙ ap (λ (l : List (Option Part)). held_at l 5) taken ∙ held_after_set hand (client_place client) 5 None (λ same. omega (arith, same, some))
 
 -- and while that of the domains is, too
 pub programs_left : (hand out less : List (Option Part)) (client : ℕ) → out ≡ set hand (client_place client) None → less ≡ set out 2 None → held_at less 3 ≡ held_at hand 3
@@ -104,7 +112,7 @@ module _ (s : State) (hand : List (Option Part)) (of : IsHandOf hand (parts_of s
       lowered =
           put_tables s hand of (record (tables_shown cell hand) { semaphores = rows })
           ∙ ap (λ (t : Tables). with_semaphores rows (first_of t hand)) (sym (shown_own hand))
-          ∙ ap (with_semaphores rows) (five_same hand)
+          ∙ ap (with_semaphores rows) (six_same hand)
 
   -- ---- once both parts are put back, all is in place that the request does
 
@@ -147,6 +155,30 @@ module _ (s : State) (hand : List (Option Part)) (of : IsHandOf hand (parts_of s
             ∙ ap (λ (l : List (Option Part)). held_at l (behind_clients hand)) (sym taken)
             ∙ sym (held_after_set out 1 (behind_clients hand) None (λ same. omega (arith, same)))
             ∙ ap (λ (l : List (Option Part)). held_at l (behind_clients hand)) (sym left))
+
+    pub journals_served : Some table ≡ held_at out 5 → IsJournals (held_at hand 5) → gone ≡ set out 5 None
+        → ((t : Tables) → t.journals ≡ journals_in (Some table) → IsShown t → AreDone own_journals Journals t v part after now)
+        → IsShown (tables_shown cell hand)
+        → there ≡ set gone 5 (Some now) → new ≡ set there (client_place client) (Some after)
+        → new ≡ put_in_place cell (hears (tables_shown cell hand) (row_held hand client) client v) hand
+    journals_served second there_is left served is_shown put back =
+        let before = ap (λ (l : List (Option Part)). held_at l 5) taken ∙ held_after_set hand (client_place client) 5 None (λ same. omega (arith, same, some)) in
+        let is_table : IsJournals (Some table) = subst IsJournals (sym (second ∙ before)) there_is in
+        let is = served (tables_shown cell hand) (shown ∙ ap journals_in (sym second)) is_shown in
+        let table_is : table ≡ Journals (journals_in (Some table)) = cc is_table in
+        both_changed (felt_all is.done.effects) (on_journals (λ was. is.become)) hand out gone there new (client_place client) 5 part table is.before is.after (λ same. omega (arith, same, some))
+        own taken second left is.is_own is.done.is
+        (put ∙ ap (λ (p : Part). set gone 5 (Some p)) (is.is_now ∙ ap (on_journals (λ was. is.become)) (sym table_is)))
+        (back ∙ ap (λ (p : Part). set there (client_place client) (Some p)) is.is_after)
+        ∙ journals_done_in_place s hand of client is.done.effects is.become some few held
+        ∙ ap (λ (d : Done Tables Effect). put_in_place cell d hand)
+        (sym (heard_so (tables_shown cell hand) (record (tables_shown cell hand) { journals = is.become }) client v (row_held hand client) is.before.row (own_row is.before is.is_own) number
+        is.done.effects is.done.done))
+      where
+        shown : (tables_shown cell hand).journals ≡ journals_in (held_at out 5)
+        shown =
+            ap (λ (t : Tables). t.journals) (sym (shown_own hand))
+            ∙ ap journals_in (sym (ap (λ (l : List (Option Part)). held_at l 5) taken ∙ held_after_set hand (client_place client) 5 None (λ same. omega (arith, same, some))))
 
     pub domains_served : Some table ≡ held_at out 2 → IsDomains (held_at hand 2) → gone ≡ set out 2 None
         → ((t : Tables) → t.domains ≡ domains_in (Some table) → IsShown t → AreDone own_domains Domains t v part after now)
@@ -251,7 +283,8 @@ module _ (s : State) (hand : List (Option Part)) (of : IsHandOf hand (parts_of s
         stood : (tables_shown cell hand).events ≡ events_in (Some table)
         stood = ap (λ (t : Tables). t.events) (sym (shown_own hand)) ∙ ap events_in (sym (events_out hand out client table taken second))
 
-    -- what makes or deletes a program invocation: the part of the domains is taken out before that of the program invocations, and put back after it
+    -- what makes or deletes a program invocation: the part of the domains is taken out before that of the program
+    -- invocations, and put back after it
     pub invocations_served : (less without put : List (Option Part)) (more changed : Part) → Some table ≡ held_at out 2 → IsDomains (held_at hand 2) → less ≡ set out 2 None
         → Some more ≡ held_at less 3 → IsPrograms (held_at hand 3) → without ≡ set less 3 None
         → ((t : Tables) → t.domains ≡ domains_in (Some table) → t.programs ≡ programs_in (Some more) → AreMade t v part after now changed)
@@ -385,6 +418,13 @@ module _ (s : State) (hand : List (Option Part)) (of : IsHandOf hand (parts_of s
   events_beside client out e taken is =
       ap (λ (t : Tables). t.events) (sym (shown_own hand))
       ∙ ap events_in (sym (ap (λ (l : List (Option Part)). held_at l 4) taken ∙ held_after_set hand (client_place client) 4 None (λ same. omega (arith, same))))
+      ∙ sym is
+
+  pub journals_beside : (client : ℕ) (out : List (Option Part)) (j : Books) → 1 ≤ client → out ≡ set hand (client_place client) None → j ≡ journals_in (held_at out 5)
+      → (tables_shown cell hand).journals ≡ j
+  journals_beside client out j some taken is =
+      ap (λ (t : Tables). t.journals) (sym (shown_own hand))
+      ∙ ap journals_in (sym (ap (λ (l : List (Option Part)). held_at l 5) taken ∙ held_after_set hand (client_place client) 5 None (λ same. omega (arith, same, some))))
       ∙ sym is
 
   pub semaphores_beside : (client n : ℕ) (out : List (Option Part)) (rows : Rows) → n ≡ clients_among (length hand) → client ≤ n → out ≡ set hand (client_place client) None

@@ -23,6 +23,7 @@ pub mod TimeNeeds
 pub mod TwoTicks
 pub mod ToldLaws
 pub mod ServeLaws
+pub mod Tabled
 pub mod TakenOut
 pub mod InPlace
 pub mod Ready

@@ -1,4 +1,5 @@
--- What clients are asked of the domains that they load, the uploads that are open, and the program invocations, are right in every state that the device reaches.
+-- What clients are asked of the domains that they load, the uploads that are open, and the program invocations, are
+-- right in every state that the device reaches.
 use Rattle.std.specs.Prelude.{◌≡◌, ℕ, zero, suc, ◌+◌, Bool, true, false, Option, None, Some, List, [], ◌∷◌, ◌++◌, map, option_to_list, is_some, slice_get, unwrap_or, Result, if◌then◌else◌, refl}
 use Rattle.std.specs.List.{IsDistinct, cons_option}
 use Rattle.std.specs.Option.{option_map_or}

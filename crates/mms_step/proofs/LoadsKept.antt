@@ -1,4 +1,5 @@
--- What clients are asked of the domains that they load, and the uploads that are open, stay right whatever clients are told, and whatever is done to domains.
+-- What clients are asked of the domains that they load, and the uploads that are open, stay right whatever clients are
+-- told, and whatever is done to domains.
 use Rattle.std.specs.Prelude.{◌≡◌, ◌≢◌, ℕ, zero, suc, Bool, true, false, Option, None, Some, List, [], ◌∷◌, ◌++◌, slice_get, Result, Ok, Err, refl}
 use Rattle.std.specs.Option.{option_map}
 use Rattle.std.proofs.Common.{ap, sym, ◌∙◌, subst, arith}

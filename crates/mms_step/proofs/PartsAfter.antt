@@ -17,7 +17,7 @@ use Rattle.mms_step.specs.State.{State, start, device_of, first_rows, HasDate}
 use Rattle.cell_services.specs.Tables.{Tables}
 use Rattle.cell_client.specs.Effects.{Effect, felt, felt_all, tell}
 use Rattle.cell_client.specs.Association.{Verdict, Takes, Cancels, verdict, Replies}
-use Rattle.cell_services.specs.Services.{InArea, OfDevice, OfVariables, OfSemaphores, area_of, effect, effect_of, OfDomains, OfEvents, OfInvocations, OfPrograms, reply_in}
+use Rattle.cell_services.specs.Services.{InArea, OfDevice, OfVariables, OfSemaphores, area_of, effect, effect_of, OfDomains, OfEvents, OfInvocations, OfJournals, OfPrograms, reply_in}
 use Rattle.association.specs.declared.negotiation.Association.{Association}
 use Rattle.association.specs.declared.negotiation.Association.TheVariants.{Idle, Open}
 use Rattle.association.specs.declared.waiting.Waiting.{Waiting}
@@ -76,7 +76,7 @@ client_changed s client f some there =
     let rest : change (on_client f) (map client_part s.clients ++ Semaphores s.semaphores ∷ []) (client - 1) ≡ map client_part (change f s.clients (client - 1)) ++ Semaphores s.semaphores ∷ [] =
     change-append (on_client f) (map client_part s.clients) (Semaphores s.semaphores ∷ []) (client - 1) within
     ∙ ap (λ (l : List Part). l ++ Semaphores s.semaphores ∷ []) (change-map (on_client f) f client_part (λ x. refl) s.clients (client - 1)) in
-    ap (λ (l : List Part). Clock s.now ∷ Variables s.variables ∷ Domains s.domains ∷ Programs s.programs ∷ Events s.events ∷ Journals ∷ l) (sym rest)
+    ap (λ (l : List Part). Clock s.now ∷ Variables s.variables ∷ Domains s.domains ∷ Programs s.programs ∷ Events s.events ∷ Journals s.journals ∷ l) (sym rest)
     ∙ ap (λ (i : ℕ). change (on_client f) (parts_of s) i) (sym (in_front client some))
 
 -- ---- what is told to one client changes its row
@@ -93,6 +93,7 @@ now_kept t row invoke (OfDomains r) = refl
 now_kept t row invoke (OfInvocations r) = refl
 now_kept t row invoke (OfPrograms r) = refl
 now_kept t row invoke (OfEvents r) = refl
+now_kept t row invoke (OfJournals r) = refl
 now_kept t row invoke (OfSemaphores r) = refl
 
 now_heard : (t : Tables) (row : ClientRow) (v : Verdict) → (tables_heard t row v).now ≡ t.now
@@ -127,7 +128,7 @@ step_drained s (suc i) some there =
     ap (λ (k : ℕ). at (change drained_row s.clients k)) (sym first)
   where
     at : List ClientRow → State
-    at rows = record { now = s.now; variables = s.variables; domains = s.domains; programs = s.programs; events = s.events; semaphores = s.semaphores; clients = rows }
+    at rows = record { now = s.now; variables = s.variables; domains = s.domains; programs = s.programs; events = s.events; journals = s.journals; semaphores = s.semaphores; clients = rows }
 
 -- as many clients
 pub step_sized : (s : State) (event : CellEvent) → length (step s event).clients ≡ length s.clients

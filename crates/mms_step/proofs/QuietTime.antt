@@ -20,10 +20,11 @@ use Rattle.cell_services.proofs.TimeLaws.{nothing_due}
 use Rattle.mms_step.specs.declared.part.Part.{Part}
 use Rattle.mms_step.specs.declared.part.Part.TheVariants.{Clock}
 use Rattle.mms_step.specs.State.{State}
-use Rattle.mms_step.specs.Lifting.{clocked, domained, tabled, varied, with_events, with_programs, with_semaphores}
-use Rattle.mms_step.specs.Partition.{cell, clients_among, clock_in, domains_in, events_in, on_clock, parts_of, programs_in, semaphores_in, semaphores_place, variables_in}
+use Rattle.mms_step.specs.Lifting.{clocked, domained, tabled, varied, with_events, with_journals, with_programs, with_semaphores}
+use Rattle.mms_step.specs.Partition.{cell, clients_among, clock_in, domains_in, events_in, journals_in, on_clock, parts_of, programs_in, semaphores_in, semaphores_place, variables_in}
 use Rattle.mms_step.proofs.Changed.{changed_part}
-use Rattle.mms_step.proofs.ServeLaws.{behind_clients, domained_same, events_same, programs_same, put_tables, same_place, semaphores_same, shown_own, varied_same}
+use Rattle.mms_step.proofs.ServeLaws.{put_tables}
+use Rattle.mms_step.proofs.Tabled.{behind_clients, domained_same, events_same, journals_same, programs_same, same_place, semaphores_same, shown_own, varied_same}
 
 module _ (hand : List (Option Part)) (m : ℕ) where
   later : List (Option Part)
@@ -37,7 +38,8 @@ module _ (hand : List (Option Part)) (m : ℕ) where
 
   abbrev others : List (Option Part) → List (Option Part)
   others l =
-      with_semaphores (semaphores_in (held_at hand (behind_clients hand))) (with_events (events_in (held_at hand 4)) (with_programs (programs_in (held_at hand 3)) l))
+      with_semaphores (semaphores_in (held_at hand (behind_clients hand)))
+      (with_journals (journals_in (held_at hand 5)) (with_events (events_in (held_at hand 4)) (with_programs (programs_in (held_at hand 3)) l)))
 
   clock_alone : others (domained (domains_in (held_at hand 2)) (varied (variables_in (held_at hand 1)) (clocked m hand))) ≡ clocked m hand
   clock_alone =
@@ -45,10 +47,12 @@ module _ (hand : List (Option Part)) (m : ℕ) where
       (ap (λ (o : Option Part). varied (variables_in o) (clocked m hand)) (sym (beside_clock 1 (λ same. omega (arith, same)))) ∙ varied_same (clocked m hand))
       ∙ ap others
       (ap (λ (o : Option Part). domained (domains_in o) (clocked m hand)) (sym (beside_clock 2 (λ same. omega (arith, same)))) ∙ domained_same (clocked m hand))
-      ∙ ap (λ (l : List (Option Part)). with_semaphores (semaphores_in (held_at hand (behind_clients hand))) (with_events (events_in (held_at hand 4)) l))
+      ∙ ap (λ (l : List (Option Part)). with_semaphores (semaphores_in (held_at hand (behind_clients hand))) (with_journals (journals_in (held_at hand 5)) (with_events (events_in (held_at hand 4)) l)))
       (ap (λ (o : Option Part). with_programs (programs_in o) (clocked m hand)) (sym (beside_clock 3 (λ same. omega (arith, same)))) ∙ programs_same (clocked m hand))
-      ∙ ap (with_semaphores (semaphores_in (held_at hand (behind_clients hand))))
+      ∙ ap (λ (l : List (Option Part)). with_semaphores (semaphores_in (held_at hand (behind_clients hand))) (with_journals (journals_in (held_at hand 5)) l))
       (ap (λ (o : Option Part). with_events (events_in o) (clocked m hand)) (sym (beside_clock 4 (λ same. omega (arith, same)))) ∙ events_same (clocked m hand))
+      ∙ ap (with_semaphores (semaphores_in (held_at hand (behind_clients hand))))
+      (ap (λ (o : Option Part). with_journals (journals_in o) (clocked m hand)) (sym (beside_clock 5 (λ same. omega (arith, same)))) ∙ journals_same (clocked m hand))
       ∙ ap (λ (o : Option Part). with_semaphores (semaphores_in o) (clocked m hand))
       (sym (ap (held_at (clocked m hand)) as_many ∙ beside_clock (behind_clients hand) (λ same. omega (arith, same))))
       ∙ semaphores_same (clocked m hand)

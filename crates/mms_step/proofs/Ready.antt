@@ -2,10 +2,11 @@
 use Rattle.std.specs.Prelude.{◌≡◌, ℕ, ◌+◌, ◌-◌, ◌≤◌, Bool, true, false, ◌&&◌, Option, Some, None, List, [], ◌∷◌, ◌++◌, is_some, length, map, slice_get, IfSome, if◌then◌else◌, refl}
 use Rattle.std.proofs.Common.{ap, sym, ◌∙◌, subst, arith}
 use Rattle.std.specs.List.{flat_map}
-use Rattle.mms_types.specs.Areas.{domain_request, event_request, invocation_request, program_request, semaphore_request, variable_request}
+use Rattle.mms_types.specs.Areas.{domain_request, event_request, invocation_request, journal_request, program_request, semaphore_request, variable_request}
 use Rattle.mms_types.specs.declared.area.DomainRequest.{DomainRequest}
 use Rattle.mms_types.specs.declared.area.EventRequest.{EventRequest}
 use Rattle.mms_types.specs.declared.area.InvocationRequest.{InvocationRequest}
+use Rattle.mms_types.specs.declared.area.JournalRequest.{JournalRequest}
 use Rattle.mms_types.specs.declared.area.ProgramRequest.{ProgramRequest}
 use Rattle.mms_types.specs.declared.area.SemaphoreRequest.{SemaphoreRequest}
 use Rattle.mms_types.specs.declared.area.VariableRequest.{VariableRequest}
@@ -28,19 +29,20 @@ use Rattle.std.specs.Borrow.{Bor}
 use Rattle.cell_client.specs.Requests.{plain_answer}
 use Rattle.serve_domains.specs.Domains as domain
 use Rattle.serve_events.specs.Events as event
+use Rattle.serve_journals.specs.Journals as journal
 use Rattle.serve_programs.specs.Programs as program
 use Rattle.serve_programs.specs.Users.{AreUsed}
 use Rattle.serve_semaphores.specs.Semaphores as semaphore
 use Rattle.serve_variables.specs.Variables as variable
-use Rattle.cell_services.specs.AreaLaws.{in_domains, in_events, in_invocations, in_programs, in_semaphores, in_variables}
-use Rattle.cell_services.specs.Services.{InArea, OfDomains, OfEvents, OfInvocations, OfPrograms, OfSemaphores, OfVariables, area_of, asks_of}
+use Rattle.cell_services.specs.AreaLaws.{in_domains, in_events, in_invocations, in_journals, in_programs, in_semaphores, in_variables}
+use Rattle.cell_services.specs.Services.{InArea, OfDomains, OfEvents, OfInvocations, OfJournals, OfPrograms, OfSemaphores, OfVariables, area_of, asks_of}
 use Rattle.cell_services.specs.Serving.{heard_more}
 use Rattle.cell_services.specs.Facts.{tables_for}
 use Rattle.mms_step.specs.declared.part.Part.{Part}
-use Rattle.mms_step.specs.declared.part.Part.TheVariants.{Domains, Events, Programs, Semaphores, Variables}
+use Rattle.mms_step.specs.declared.part.Part.TheVariants.{Domains, Events, Journals, Programs, Semaphores, Variables}
 use Rattle.mms_step.specs.AfterLaws.{is_device}
 use Rattle.mms_step.specs.Needs.{also_parts, footprint, is_held, need, placed, two_stages, verdict_need}
-use Rattle.mms_step.specs.Partition.{cell, parts_of, client_part, client_place, clients_among, domains_in, events_in, programs_in, row_in, semaphores_in, semaphores_place, variables_in, IsClient, IsDomains, IsEvents, IsPrograms, IsSemaphores, IsVariables}
+use Rattle.mms_step.specs.Partition.{cell, parts_of, client_part, client_place, clients_among, domains_in, events_in, journals_in, programs_in, row_in, semaphores_in, semaphores_place, variables_in, IsClient, IsDomains, IsEvents, IsJournals, IsPrograms, IsSemaphores, IsVariables}
 use Rattle.mms_step.specs.State.{State}
 use Rattle.serve_domains.specs.Loads.{AreLoads}
 use Rattle.mms_step.specs.Tasks.{row_held, AreUsedIn, IsReady}
@@ -114,6 +116,12 @@ module _ (s : State) (hand : List (Option Part)) (of : IsHandOf hand (parts_of s
       let area : area_of asked ≡ OfEvents (event.request_in x) = ap area_of (sym is) ∙ in_events x in
       let there = held_part hand (parts_of s) 4 (Events s.events) of (first_there hand 4 _ _ (in_area hand n (area_of asked) (OfEvents (event.request_in x)) area _ ready.needed)) refl in
       there ∙ sym (ap (λ (o : Option Part). Some (Events (events_in o))) there)
+
+  pub journals_there : (n client invoke : ℕ) (x : JournalRequest) (asked : Request) → journal_request x ≡ asked → IsReady n client (Takes invoke asked) hand → IsJournals (held_at hand 5)
+  journals_there n client invoke x asked is ready =
+      let area : area_of asked ≡ OfJournals (journal.request_in x) = ap area_of (sym is) ∙ in_journals x in
+      let there = held_part hand (parts_of s) 5 (Journals s.journals) of (first_there hand 5 _ _ (in_area hand n (area_of asked) (OfJournals (journal.request_in x)) area _ ready.needed)) refl in
+      there ∙ sym (ap (λ (o : Option Part). Some (Journals (journals_in o))) there)
 
   pub invocations_there : (n client invoke : ℕ) (x : InvocationRequest) (asked : Request) → invocation_request x ≡ asked → IsReady n client (Takes invoke asked) hand
       → IsDomains (held_at hand 2) × IsPrograms (held_at hand 3)

@@ -1,12 +1,14 @@
--- What requests for domains ask: whether an object has one for its scope, and whether a number is left for what would be asked of their client.
+-- What requests for domains ask: whether an object has one for its scope, and whether a number is left for what would
+-- be asked of their client.
 use Rattle.std.specs.Prelude.{◌≡◌, ℕ, Bool, true, false, Option, None, Some, is_some, List, [], ◌∷◌, ◌++◌, if◌then◌else◌, refl}
 use Rattle.std.specs.List.{flat_map}
 use Rattle.std.specs.Option.{option_copied, option_map_or}
 use Rattle.std.proofs.Common.{Bor, ap, ap₂, sym, ◌∙◌}
-use Rattle.mms_types.specs.Areas.{domain_request, event_request, semaphore_request, variable_request}
+use Rattle.mms_types.specs.Areas.{domain_request, event_request, journal_request, semaphore_request, variable_request}
 use Rattle.mms_types.specs.declared.area.DomainRequest.{DomainRequest}
 use Rattle.mms_types.specs.declared.area.DomainRequest.TheVariants as request
 use Rattle.mms_types.specs.declared.area.EventRequest.{EventRequest}
+use Rattle.mms_types.specs.declared.area.JournalRequest.{JournalRequest}
 use Rattle.mms_types.specs.declared.area.SemaphoreRequest.{SemaphoreRequest}
 use Rattle.mms_types.specs.declared.area.SemaphoreRequest.TheVariants as semaphores
 use Rattle.mms_types.specs.declared.area.VariableRequest.{VariableRequest}
@@ -20,15 +22,16 @@ use Rattle.cell_client.specs.Facts.{Question, Live, Scoped, no_facts}
 use Rattle.serve_domains.specs.Domains.{replied, request_in}
 use Rattle.serve_domains.specs.Tables.{DomainTables}
 use Rattle.serve_events.specs.Events as of_events
+use Rattle.serve_journals.specs.Journals as of_journals
 use Rattle.serve_semaphores.specs.Semaphores as of_semaphores
 use Rattle.serve_semaphores.specs.Semaphores.{at_its_moment}
 use Rattle.serve_variables.specs.Variables as of_variables
-use Rattle.cell_services.specs.AreaLaws.{in_events}
+use Rattle.cell_services.specs.AreaLaws.{in_events, in_journals}
 use Rattle.cell_services.specs.Facts.{cell_tables, domain_tables, is_scope_used, scope_tables, tables_for, tells}
 use Rattle.cell_services.specs.Requests.{told_in}
 use Rattle.cell_services.specs.Services.{OfDomains, OfSemaphores, OfVariables, area_of, asks_of, lacks_number}
 use Rattle.cell_services.specs.Serving.{comes_of, hears}
-use Rattle.cell_services.specs.Tables.{Tables, clock_table, own_domains, own_events, own_semaphores, own_variables}
+use Rattle.cell_services.specs.Tables.{Tables, clock_table, own_domains, own_events, own_journals, own_semaphores, own_variables}
 
 -- a request for domains is one of their area
 pub area_of_domains : (asked : DomainRequest) → area_of (domain_request asked) ≡ OfDomains (request_in asked)
@@ -72,6 +75,11 @@ asks_of_semaphores asked named domain is =
 
 pub asks_of_events : (asked : EventRequest) → asks_of (area_of (event_request asked)) ≡ own_events.numbers ++ flat_map tables_for (of_events.request_in asked).words
 asks_of_events asked = ap asks_of (in_events asked)
+
+pub asks_of_journals : (asked : JournalRequest) (named : Bool) (domain : Option (List ℕ)) → (of_journals.request_in asked).words ≡ Live named domain ∷ []
+    → asks_of (area_of (journal_request asked)) ≡ own_journals.numbers ++ flat_map tables_for (Live named domain ∷ [])
+asks_of_journals asked named domain is =
+    ap asks_of (in_journals asked) ∙ ap (λ (w : List Question). own_journals.numbers ++ flat_map tables_for w) is
 
 -- the moment is asked, a domain where one is written, and the variables where one is to be watched
 pub tables_of_events : (words : List Question) (named asked : Bool) (domain : Option (List ℕ)) (variable : Option Spec) → words ≡ of_events.at_its_moment named domain variable

@@ -1,4 +1,5 @@
--- The parts of the device may go from thread to thread: each kind alone, since a `search` that goes down through all of them runs out of steps.
+-- The parts of the device may go from thread to thread: each kind alone, since a `search` that goes down through all of
+-- them runs out of steps.
 use denote.Param.Send.{IsSend, sendable}
 use denote.Param.SendFields.{declared_send, variants_send}
 use Rattle.std.proofs.Crossing.{crosses}
@@ -49,6 +50,13 @@ use Rattle.event_enrol.specs.contracts.enrolments.Enrolments.TheInside as enrolm
 use Rattle.event_enrol.specs.contracts.group.Group as Group
 use Rattle.event_enrol.specs.contracts.group.Group.TheInside as group
 use Rattle.event_enrol.specs.contracts.group.Member as Member
+use Rattle.mms_journal.specs.contracts.journal.Journal as Journal
+use Rattle.mms_journal.specs.contracts.journal.Journal.TheInside as journal
+use Rattle.mms_journal.specs.contracts.journal.Written as Written
+use Rattle.mms_journal.specs.contracts.journals.Journals as Journals
+use Rattle.mms_journal.specs.contracts.journals.Journals.TheInside as journals
+use Rattle.mms_journal.specs.contracts.kept.Kept as KeptEntry
+use Rattle.mms_journal.specs.contracts.kept.Kept.TheInside as kept_entry
 use Rattle.serve_events.specs.contracts.tables.EventTables as EventTables
 use Rattle.serve_domains.specs.contracts.tables.DomainTables as DomainTables
 use Rattle.serve_domains.specs.contracts.tables.DomainTables.TheInside as tables
@@ -158,5 +166,27 @@ enrolments_send = let a = enrolments_inside in search sendable
 pub events_send : IsSend EventTables.the_row
 events_send = declared_send EventTables.the_type (conditions_send, (enrolments_send, tt))
 
+-- journals, whose entries are octets
+kept_entry_inside : IsSend kept_entry.the_row
+kept_entry_inside = declared_send kept_entry.the_type (search (crosses, sendable, octets.the_send) depth 20, (search (crosses, sendable) depth 20, (search (crosses, sendable) depth 20, tt)))
+
+kept_entry_send : IsSend KeptEntry.the_row
+kept_entry_send = let a = kept_entry_inside in search sendable
+
+written_send : IsSend Written.the_row
+written_send = declared_send Written.the_type (search (crosses, sendable) depth 20, (search (crosses, sendable) depth 20, (kept_entry_send, tt)))
+
+journal_inside : IsSend journal.the_row
+journal_inside = declared_send journal.the_type (let a = written_send in search (crosses, sendable) depth 20, (search (crosses, sendable) depth 20, (search (crosses, sendable) depth 20, tt)))
+
+journal_send : IsSend Journal.the_row
+journal_send = let a = journal_inside in search sendable
+
+journals_inside : IsSend journals.the_row
+journals_inside = declared_send journals.the_type (named.the_send Journal.the_row journal_send, tt)
+
+journals_send : IsSend Journals.the_row
+journals_send = let a = journals_inside in search sendable
+
 pub part_send : IsSend Part.the_row
-part_send = variants_send Part.enum ((clock.the_send, tt), ((variables_send, tt), ((tables_send, tt), ((programs_send, tt), ((events_send, tt), (tt, ((client.the_send, tt), ((semaphores_send, tt), tt))))))))
+part_send = variants_send Part.enum ((clock.the_send, tt), ((variables_send, tt), ((tables_send, tt), ((programs_send, tt), ((events_send, tt), ((journals_send, tt), ((client.the_send, tt), ((semaphores_send, tt), tt))))))))

@@ -23,6 +23,7 @@ use Rattle.mms_time.specs.Semaphores.{Rows}
 use Rattle.mms_step.specs.declared.part.Part.{Part}
 use Rattle.mms_step.specs.declared.part.Part.TheVariants.{Client}
 use Rattle.mms_step.specs.State.{State}
+use Rattle.mms_journal.specs.Journals.{Rows as Books}
 use Rattle.program_inv.specs.Programs.{Rows as Invocations}
 use Rattle.serve_domains.specs.Tables.{DomainTables}
 use Rattle.serve_events.specs.declared.tables.EventTables.{EventTables}
@@ -35,12 +36,13 @@ use Rattle.cell_client.specs.declared.acts.Act.{Act}
 use Rattle.cell_client.specs.declared.verdict.Found.{Found}
 use Rattle.cell_client.specs.Meant.{meant, uses_no_table}
 use Rattle.mms_step.specs.Tasks.{row_held, IsFoundOf, IsHeardInPlace}
-use Rattle.mms_step.specs.Lifting.{clocked, domained, varied, with_events, with_programs, with_semaphores}
+use Rattle.mms_step.specs.Lifting.{clocked, domained, varied, with_events, with_journals, with_programs, with_semaphores}
 use Rattle.variable_services.specs.declared.tables.VariableTables.{VariableTables}
-use Rattle.mms_step.specs.Partition.{cell, parts_of, client_part, client_in, client_place, clients_among, domains_in, events_in, programs_in, semaphores_in, variables_in, on_client, on_domains, on_events, on_programs, on_semaphores, on_variables, row_in, IsClient}
+use Rattle.mms_step.specs.Partition.{cell, parts_of, client_part, client_in, client_place, clients_among, domains_in, events_in, journals_in, programs_in, semaphores_in, variables_in, on_client, on_domains, on_events, on_journals, on_programs, on_semaphores, on_variables, row_in, IsClient}
 use Rattle.mms_step.proofs.Changed.{changed_part, as_it_was, client_arm, client_kept}
 use Rattle.mms_step.proofs.Holding.{client_at, clients_counted, held_part}
-use Rattle.mms_step.proofs.ServeLaws.{behind_clients, behind_stay, change_as, clocked_same, domained_same, events_stay, four_of, four_same, put_tables, same_place, semaphores_same, semaphores_stay, shown_own, told_row_at, varied_same, vary_apart}
+use Rattle.mms_step.proofs.ServeLaws.{put_tables, told_row_at}
+use Rattle.mms_step.proofs.Tabled.{behind_clients, behind_stay, change_as, clocked_same, domained_same, events_stay, five_of, five_same, four_of, four_same, journals_stay, same_place, semaphores_same, semaphores_stay, shown_own, varied_same, vary_apart}
 
 -- ---- a part that is taken out beside a client's
 
@@ -111,7 +113,9 @@ module _ (s : State) (hand : List (Option Part)) (of : IsHandOf hand (parts_of s
       lowered : with_tables cell (clients_among (length hand)) (record (tables_shown cell hand) { variables = variables }) hand ≡ varied variables hand
       lowered =
           put_tables s hand of (record (tables_shown cell hand) { variables = variables })
-          ∙ ap (λ (t : Tables). with_semaphores t.semaphores (with_events t.events (with_programs t.programs (domained t.domains (varied variables (clocked t.now hand)))))) (sym (shown_own hand))
+          ∙ ap
+          (λ (t : Tables). with_semaphores t.semaphores (with_journals t.journals (with_events t.events (with_programs t.programs (domained t.domains (varied variables (clocked t.now hand)))))))
+          (sym (shown_own hand))
           ∙ ap (λ (h : List (Option Part)). rest (domained (domains_in (held_at hand 2)) (varied variables h))) (clocked_same hand)
           ∙ ap rest (sym (vary_apart variables (domains_in (held_at hand 2)) hand) ∙ ap (varied variables) (domained_same hand))
           ∙ behind_stay (option_map (on_variables (λ was. variables))) hand 1 (omega arith)
@@ -119,7 +123,7 @@ module _ (s : State) (hand : List (Option Part)) (of : IsHandOf hand (parts_of s
           rest : List (Option Part) → List (Option Part)
           rest h =
               with_semaphores (semaphores_in (held_at hand (behind_clients hand)))
-              (with_events (events_in (held_at hand 4)) (with_programs (programs_in (held_at hand 3)) h))
+              (with_journals (journals_in (held_at hand 5)) (with_events (events_in (held_at hand 4)) (with_programs (programs_in (held_at hand 3)) h)))
 
   pub domains_done_in_place : (client : ℕ) (effects : List Effect) (domains : DomainTables) → 1 ≤ client → client ≤ clients_among (length hand) → IsClient (held_at hand (client_place client))
       → change (option_map (on_client (felt_all effects))) (domained domains hand) (client_place client)
@@ -140,10 +144,12 @@ module _ (s : State) (hand : List (Option Part)) (of : IsHandOf hand (parts_of s
       lowered : with_tables cell (clients_among (length hand)) (record (tables_shown cell hand) { domains = domains }) hand ≡ domained domains hand
       lowered =
           put_tables s hand of (record (tables_shown cell hand) { domains = domains })
-          ∙ ap (λ (t : Tables). with_semaphores t.semaphores (with_events t.events (with_programs t.programs (domained domains (varied t.variables (clocked t.now hand)))))) (sym (shown_own hand))
+          ∙ ap
+          (λ (t : Tables). with_semaphores t.semaphores (with_journals t.journals (with_events t.events (with_programs t.programs (domained domains (varied t.variables (clocked t.now hand)))))))
+          (sym (shown_own hand))
           ∙ ap
           (λ (h : List (Option Part)). with_semaphores (semaphores_in (held_at hand (behind_clients hand)))
-          (with_events (events_in (held_at hand 4)) (with_programs (programs_in (held_at hand 3)) (domained domains h))))
+          (with_journals (journals_in (held_at hand 5)) (with_events (events_in (held_at hand 4)) (with_programs (programs_in (held_at hand 3)) (domained domains h)))))
           (ap (varied (variables_in (held_at hand 1))) (clocked_same hand) ∙ varied_same hand)
           ∙ behind_stay (option_map (on_domains (λ was. domains))) hand 2 (omega arith)
 
@@ -152,12 +158,17 @@ module _ (s : State) (hand : List (Option Part)) (of : IsHandOf hand (parts_of s
       → with_tables cell (clients_among (length hand)) (record (tables_shown cell hand) { domains = domains; programs = programs }) hand ≡ with_programs programs (domained domains hand)
   invocations_lowered domains programs =
       put_tables s hand of (record (tables_shown cell hand) { domains = domains; programs = programs })
-      ∙ ap (λ (t : Tables). with_semaphores t.semaphores (with_events t.events (with_programs programs (domained domains (varied t.variables (clocked t.now hand)))))) (sym (shown_own hand))
-      ∙ ap (λ (h : List (Option Part)). with_semaphores own (with_events (events_in (held_at hand 4)) (with_programs programs (domained domains h))))
+      ∙ ap
+      (λ (t : Tables). with_semaphores t.semaphores (with_journals t.journals (with_events t.events (with_programs programs (domained domains (varied t.variables (clocked t.now hand)))))))
+      (sym (shown_own hand))
+      ∙ ap (λ (h : List (Option Part)). with_semaphores own (with_journals (journals_in (held_at hand 5)) (with_events (events_in (held_at hand 4)) (with_programs programs (domained domains h)))))
       (ap (varied (variables_in (held_at hand 1))) (clocked_same hand) ∙ varied_same hand)
-      ∙ ap (with_semaphores own)
+      ∙ ap (λ (h : List (Option Part)). with_semaphores own (with_journals (journals_in (held_at hand 5)) h))
       (sym (change_other (option_map (on_programs (λ was. programs))) (option_map (on_events (λ was. events_in (held_at hand 4)))) (domained domains hand) 4 3 (λ same. omega (arith, same)))
       ∙ ap (with_programs programs) (events_stay (option_map (on_domains (λ was. domains))) hand 2 (λ same. omega (arith, same))))
+      ∙ ap (with_semaphores own)
+      (sym (change_other (option_map (on_programs (λ was. programs))) (option_map (on_journals (λ was. journals_in (held_at hand 5)))) (domained domains hand) 5 3 (λ same. omega (arith, same)))
+      ∙ ap (with_programs programs) (journals_stay (option_map (on_domains (λ was. domains))) hand 2 (λ same. omega (arith, same))))
       ∙ sym (ap (with_programs programs)
       (change_other (option_map (on_domains (λ was. domains))) (option_map (on_semaphores (λ was. own))) hand (behind_clients hand) 2 (λ same. omega (arith, same)))
       ∙ change_other (option_map (on_programs (λ was. programs))) (option_map (on_semaphores (λ was. own))) (domained domains hand) (behind_clients hand) 3
@@ -215,8 +226,9 @@ module _ (s : State) (hand : List (Option Part)) (of : IsHandOf hand (parts_of s
   events_lowered : (events : EventTables) → with_tables cell (clients_among (length hand)) (record (tables_shown cell hand) { events = events }) hand ≡ with_events events hand
   events_lowered events =
       put_tables s hand of (record (tables_shown cell hand) { events = events })
-      ∙ ap (λ (t : Tables). with_semaphores t.semaphores (with_events events (four_of t hand))) (sym (shown_own hand))
-      ∙ ap (λ (h : List (Option Part)). with_semaphores (semaphores_in (held_at hand (behind_clients hand))) (with_events events h)) (four_same hand)
+      ∙ ap (λ (t : Tables). with_semaphores t.semaphores (with_journals t.journals (with_events events (four_of t hand)))) (sym (shown_own hand))
+      ∙ ap (λ (h : List (Option Part)). with_semaphores (semaphores_in (held_at hand (behind_clients hand))) (with_journals (journals_in (held_at hand 5)) (with_events events h))) (four_same hand)
+      ∙ ap (with_semaphores (semaphores_in (held_at hand (behind_clients hand)))) (journals_stay (option_map (on_events (λ was. events))) hand 4 (λ same. omega (arith, same)))
       ∙ semaphores_stay (option_map (on_events (λ was. events))) hand 4 (λ same. omega (arith, same))
 
   pub events_done_in_place : (client : ℕ) (effects : List Effect) (events : EventTables) → 1 ≤ client → client ≤ clients_among (length hand)
@@ -235,6 +247,31 @@ module _ (s : State) (hand : List (Option Part)) (of : IsHandOf hand (parts_of s
       (ap (option_map (on_client (felt_all effects))) row)
       ∙ sym (told_row_at (clients_among (length hand)) effects client (with_events events hand) found.0 some few row)
       ∙ ap (told_all cell (clients_among (length hand)) (tell client effects)) (sym (events_lowered events))
+
+  -- and so are journals
+  journals_lowered : (journals : Books) → with_tables cell (clients_among (length hand)) (record (tables_shown cell hand) { journals = journals }) hand ≡ with_journals journals hand
+  journals_lowered journals =
+      put_tables s hand of (record (tables_shown cell hand) { journals = journals })
+      ∙ ap (λ (t : Tables). with_semaphores t.semaphores (with_journals journals (five_of t hand))) (sym (shown_own hand))
+      ∙ ap (λ (h : List (Option Part)). with_semaphores (semaphores_in (held_at hand (behind_clients hand))) (with_journals journals h)) (five_same hand)
+      ∙ semaphores_stay (option_map (on_journals (λ was. journals))) hand 5 (λ same. omega (arith, same))
+
+  pub journals_done_in_place : (client : ℕ) (effects : List Effect) (journals : Books) → 1 ≤ client → client ≤ clients_among (length hand)
+      → IsClient (held_at hand (client_place client))
+      → change (option_map (on_client (felt_all effects))) (with_journals journals hand) (client_place client)
+      ≡ put_in_place cell (record { tables = record (tables_shown cell hand) { journals = journals }; told = tell client effects }) hand
+  journals_done_in_place client effects journals some few held =
+      let counted = clients_counted s hand of in
+      let found = client_at s client some (omega (arith, few, counted)) in
+      let is_on : is_held hand (client_place client) ≡ true = ap (λ (o : Option Part). is_some o) held in
+      let there : held_at hand (client_place client) ≡ Some (client_part found.0) =
+      held_part hand (parts_of s) (client_place client) (client_part found.0) of is_on found.1 in
+      let row : held_at (with_journals journals hand) (client_place client) ≡ Some (client_part found.0) =
+      held_else (option_map (on_journals (λ was. journals))) hand 5 (client_place client) (λ same. omega (arith, same, some)) ∙ there in
+      change_as (option_map (on_client (felt_all effects))) (λ o. Some (client_part (felt_all effects found.0))) (with_journals journals hand) (client_place client)
+      (ap (option_map (on_client (felt_all effects))) row)
+      ∙ sym (told_row_at (clients_among (length hand)) effects client (with_journals journals hand) found.0 some few row)
+      ∙ ap (told_all cell (clients_among (length hand)) (tell client effects)) (sym (journals_lowered journals))
 
 -- both parts are put back as they were
 pub both_back : (hand out gone there new : List (Option Part)) (place other : ℕ) (part table : Part) → Some part ≡ held_at hand place → out ≡ set hand place None

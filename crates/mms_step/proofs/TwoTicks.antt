@@ -9,6 +9,7 @@ use Rattle.association.specs.Client.{ClientRow}
 use Rattle.parted_state.specs.Served.{delivered}
 use Rattle.variables.specs.Truth.{truth_of}
 use Rattle.variables.specs.declared.rows.Cell.{Cell}
+use Rattle.mms_journal.specs.Journals.{Rows as Books}
 use Rattle.variable_services.specs.declared.tables.VariableTables.{VariableTables}
 use Rattle.mms_time.specs.Deadlines.{NamedDeadline}
 use Rattle.sem_ticks.specs.Sound as semaphores
@@ -24,7 +25,7 @@ use Rattle.cell_ticks.specs.declared.happening.DatedHappening.{DatedHappening}
 use Rattle.cell_ticks.specs.declared.happening.Happening.TheVariants.{Semaphores, Turns}
 use Rattle.cell_ticks.proofs.Ticked.{twice}
 use Rattle.cell_client.specs.Effects.{Effect}
-use Rattle.cell_services.specs.Serving.{all_told, domains_without, lost_in, saying, without_clients}
+use Rattle.cell_services.specs.Serving.{all_told, domains_without, journals_without, lost_in, saying, without_clients}
 use Rattle.mms_step.specs.Partition.{cell}
 use Rattle.serve_domains.specs.Tables.{DomainTables}
 use Rattle.mms_step.specs.State.{State}
@@ -87,6 +88,10 @@ domains_both : (xs ys : List ℕ) (d : DomainTables) → domains_without (xs ++ 
 domains_both [] ys d = refl
 domains_both (x ∷ xs) ys d = domains_both xs ys (domains_without (x ∷ []) d)
 
+journals_both : (xs ys : List ℕ) (j : Books) → journals_without (xs ++ ys) j ≡ journals_without ys (journals_without xs j)
+journals_both [] ys j = refl
+journals_both (x ∷ xs) ys j = journals_both xs ys (journals_without (x ∷ []) j)
+
 says_so : List (ℕ × Cell) → Saying
 says_so cells number = unwrap_or (option_and_then (λ (c : Cell). truth_of c.value) (lookup (nat_eq number) cells)) false
 
@@ -127,6 +132,7 @@ module _ (s : State) (sound : semaphores.AreSound s.semaphores) (timed : events.
     domains = domains_without (lost_in t.happened) s.domains;
     programs = s.programs;
     events = record { conditions = t.conditions; enrolments = t.enrolments };
+    journals = journals_without (lost_in t.happened) s.journals;
     semaphores = t.semaphores;
     clients = delivered cell (all_told t.happened) s.clients;
   }
@@ -139,6 +145,7 @@ module _ (s : State) (sound : semaphores.AreSound s.semaphores) (timed : events.
     domains = domains_without (lost_in t.happened) (domains_without (lost_in one.happened) s.domains);
     programs = s.programs;
     events = record { conditions = t.conditions; enrolments = t.enrolments };
+    journals = journals_without (lost_in t.happened) (journals_without (lost_in one.happened) s.journals);
     semaphores = t.semaphores;
     clients = delivered cell (all_told t.happened) (delivered cell (all_told one.happened) s.clients);
   }
@@ -147,6 +154,7 @@ module _ (s : State) (sound : semaphores.AreSound s.semaphores) (timed : events.
   in_one t =
       let variables = sym (without_both (lost_in one.happened) (lost_in t.happened) s.variables) ∙ ap (λ (l : List ℕ). without_clients l s.variables) (sym (lost_both one.happened t.happened)) in
       let domains = sym (domains_both (lost_in one.happened) (lost_in t.happened) s.domains) ∙ ap (λ (l : List ℕ). domains_without l s.domains) (sym (lost_both one.happened t.happened)) in
+      let journals = sym (journals_both (lost_in one.happened) (lost_in t.happened) s.journals) ∙ ap (λ (l : List ℕ). journals_without l s.journals) (sym (lost_both one.happened t.happened)) in
       let clients = sym (delivered_both (all_told one.happened) (all_told t.happened) s.clients) ∙ ap (λ (l : List (ℕ × Effect)). delivered cell l s.clients) (sym (told_both one.happened t.happened)) in
       λ i. record {
         now = s.now + a + b;
@@ -154,6 +162,7 @@ module _ (s : State) (sound : semaphores.AreSound s.semaphores) (timed : events.
         domains = domains i;
         programs = s.programs;
         events = record { conditions = t.conditions; enrolments = t.enrolments };
+        journals = journals i;
         semaphores = t.semaphores;
         clients = clients i;
       }

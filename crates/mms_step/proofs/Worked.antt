@@ -1,5 +1,6 @@
--- Worked examples: which parts an event wants, of a device of two clients, in each row of the table of parts in docs/PROFILE.md.
--- Its parts are 0 the clock, 1 variables, 2 domains, 3 program invocations, 4 event conditions, 5 journals, 6 and 7 the clients, 8 semaphores.
+-- Worked examples: which parts an event wants, of a device of two clients, in each row of the table of parts in
+-- docs/PROFILE.md. Its parts are 0 the clock, 1 variables, 2 domains, 3 program invocations, 4 event conditions, 5
+-- journals, 6 and 7 the clients, 8 semaphores.
 use Rattle.std.specs.Prelude.{◌≡◌, ℕ, suc, nat_eq, List, [], ◌∷◌, map, filter, codes, Option, Some, None, false, true, if◌then◌else◌}
 use Rattle.std.specs.List.{list_any, range_with_len}
 use Rattle.std.proofs.Common.{refl}
@@ -50,7 +51,8 @@ entry client state deadline = record {
   deadline = deadline;
 }
 
--- Both clients are in an association. Client 1 owns the one token of the semaphore S until moment 3, and client 2 waits for it.
+-- Both clients are in an association. Client 1 owns the one token of the semaphore S until moment 3, and client 2 waits
+-- for it.
 abbrev device : State
 device = record {
   now = 0;
@@ -58,6 +60,7 @@ device = record {
   domains = no_domains;
   programs = [];
   events = no_events;
+  journals = [];
   semaphores = (
     record { scope = scope.Vmd; item = codes "S" },
     record {
@@ -87,7 +90,8 @@ words_tell = refl
 abbrev among : List ℕ → List ℕ
 among places = filter (λ part. list_any (nat_eq part) places) (range_with_len 0 9)
 
--- all that an event wants: client 2 is granted the token that client 1 had until it was lost, or until moment 3, and is told so
+-- all that an event wants: client 2 is granted the token that client 1 had until it was lost, or until moment 3, and is
+-- told so
 events_want : Answers (λ event. among (wanted event device)) (
     (Lost 1, 0 ∷ 1 ∷ 2 ∷ 4 ∷ 5 ∷ 6 ∷ 7 ∷ 8 ∷ []) ∷
     (Lost 2, 0 ∷ 1 ∷ 2 ∷ 4 ∷ 5 ∷ 7 ∷ 8 ∷ []) ∷

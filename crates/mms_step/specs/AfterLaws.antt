@@ -1,4 +1,5 @@
--- Laws of what an event makes of the parts that are held: the device is one of tables and clients, and each event reads and changes the tables that it uses alone.
+-- Laws of what an event makes of the parts that are held: the device is one of tables and clients, and each event reads
+-- and changes the tables that it uses alone.
 use Rattle.std.specs.Prelude.{◌≡◌, ℕ, zero, suc, ◌+◌, Bool, true, false, ◌||◌, ◌++◌, Option, None, Some, is_some, List, [], ◌∷◌, if◌then◌else◌, slice_get, refl}
 use Rattle.std.specs.List.{list_any}
 use Rattle.std.proofs.Common.{ap, ap₂, sym, ◌∙◌, arith}
@@ -26,9 +27,10 @@ use Rattle.parted_state.specs.Served.{Done, IsDevice, IsServed}
 use Rattle.parted_state.specs.Served as parted
 use Rattle.parted_state.specs.ServedLaws as served
 use Rattle.mms_step.specs.declared.part.Part.{Part}
-use Rattle.mms_step.specs.declared.part.Part.TheVariants.{Clock, Domains, Events, Programs, Semaphores, Variables}
+use Rattle.mms_step.specs.declared.part.Part.TheVariants.{Clock, Domains, Events, Journals, Programs, Semaphores, Variables}
 use Rattle.mms_step.specs.State.{State}
-use Rattle.cell_services.specs.Tables.{Tables, clock_table, variables_table, domains_table, programs_table, conditions_table, semaphores_table, loss_tables, moment_after, own_clock, own_variables, own_domains, own_invocations, own_programs, own_events, own_semaphores}
+use Rattle.cell_services.specs.Tables.{Tables, clock_table, variables_table, domains_table, programs_table, conditions_table, journals_table, semaphores_table, loss_tables, moment_after, own_clock, own_variables, own_domains, own_invocations, own_programs, own_events, own_journals, own_semaphores}
+use Rattle.mms_journal.specs.Journals as journal
 use Rattle.program_inv.specs.Programs as program
 use Rattle.domain_upload.specs.Uploads.{has_upload}
 use Rattle.cell_client.specs.Areas.{lacks_number_in}
@@ -42,10 +44,10 @@ use Rattle.event_cond.specs.Skips.{any_due}
 use Rattle.cell_ticks.specs.Ticks.{Ticking, begun, most_left}
 use Rattle.variable_services.specs.Services.{no_variables}
 use Rattle.cell_services.specs.Requests.{OutcomeIn, RequestIn, asks_in, more_in, told_in, cause_in, effect_in}
-use Rattle.cell_services.specs.Services.{InArea, OfDevice, OfVariables, OfDomains, OfInvocations, OfPrograms, OfEvents, OfSemaphores, area_of, reply_in, asks_of, more_of, cause_of, effect_of, lacks_number}
+use Rattle.cell_services.specs.Services.{InArea, OfDevice, OfVariables, OfDomains, OfInvocations, OfPrograms, OfEvents, OfJournals, OfSemaphores, area_of, reply_in, asks_of, more_of, cause_of, effect_of, lacks_number}
 use Rattle.cell_client.specs.Requests.{is_done, request_told, size_of}
-use Rattle.cell_services.specs.Serving.{tables_cancelled, tables_lost, waiting_of, without_clients, also_lost, all_told, comes_of, domains_without, hears, keeps_upload, more_of_verdict, resolved, heard_asks, heard_more, loss_asks, lost_in, meanwhile, abort_asks, aborted_meanwhile, evaluation_asks, passes, saying, time_asks, services, words}
-use Rattle.mms_step.specs.Partition.{cell, clock_in, domains_in, events_in, programs_in, semaphores_in, variables_in, parts_of}
+use Rattle.cell_services.specs.Serving.{tables_cancelled, tables_lost, waiting_of, without_clients, also_lost, all_told, comes_of, domains_without, hears, journals_without, keeps_upload, more_of_verdict, resolved, heard_asks, heard_more, loss_asks, lost_in, meanwhile, abort_asks, aborted_meanwhile, evaluation_asks, passes, saying, time_asks, services, words}
+use Rattle.mms_step.specs.Partition.{cell, clock_in, domains_in, events_in, journals_in, programs_in, semaphores_in, variables_in, parts_of}
 use Rattle.mms_step.specs.Step.{step}
 use Rattle.mms_step.specs.Needs.{need, wants}
 use Rattle.mms_step.specs.After.{after, parts_after}
@@ -60,7 +62,7 @@ by_place one other (suc zero) same = ap (λ (o : Option Part). Some (Variables (
 by_place one other (suc (suc zero)) same = ap (λ (o : Option Part). Some (Domains (domains_in o))) same
 by_place one other (suc (suc (suc zero))) same = ap (λ (o : Option Part). Some (Programs (programs_in o))) same
 by_place one other (suc (suc (suc (suc zero)))) same = ap (λ (o : Option Part). Some (Events (events_in o))) same
-by_place one other (suc (suc (suc (suc (suc zero))))) same = refl
+by_place one other (suc (suc (suc (suc (suc zero))))) same = ap (λ (o : Option Part). Some (Journals (journals_in o))) same
 by_place one other (suc (suc (suc (suc (suc (suc zero)))))) same = ap (λ (o : Option Part). Some (Semaphores (semaphores_in o))) same
 by_place one other (suc (suc (suc (suc (suc (suc (suc table))))))) same = refl
 
@@ -101,6 +103,9 @@ is_programs = record { number = programs_table; part = Programs; part_in = progr
 abbrev is_events : IsTable cell own_events
 is_events = record { number = conditions_table; part = Events; part_in = events_in; one = refl; shown = λ hand. refl; puts = λ new t. refl }
 
+abbrev is_journals : IsTable cell own_journals
+is_journals = record { number = journals_table; part = Journals; part_in = journals_in; one = refl; shown = λ hand. refl; puts = λ new t. refl }
+
 abbrev is_semaphores : IsTable cell own_semaphores
 is_semaphores = record { number = semaphores_table; part = Semaphores; part_in = semaphores_in; one = refl; shown = λ hand. refl; puts = λ new t. refl }
 
@@ -111,10 +116,10 @@ none_owned client rows other [] none = refl
 none_owned client rows other (None ∷ guards) none = ap (λ (owned : List Bool). false ∷ owned) (none_owned client rows other guards none)
 none_owned client rows other (Some guard ∷ guards) none = absurd (cc none)
 
-abbrev scope_used : List ℕ → VariableTables → EventTables → Rows → Bool
-scope_used domain v e rows =
+abbrev scope_used : List ℕ → VariableTables → EventTables → journal.Rows → Rows → Bool
+scope_used domain v e j rows =
     has_any_of (Domain domain) v.vars.variables || has_any_of (Domain domain) v.lists || has_any_of (Domain domain) e.conditions || has_any_of (Domain domain) e.enrolments
-    || has_any_of (Domain domain) rows
+    || has_any_of (Domain domain) j || has_any_of (Domain domain) rows
 
 told_same : (k : Question) (facts : Facts) (us : List ℕ) (t : Tables) → AllIn cell (tables_for k) us → noted k (alone us t) facts ≡ noted k t facts
 told_same Now facts us t all =
@@ -123,11 +128,12 @@ told_same (Live true domain) facts us t all =
     ap (λ (d : DomainTables). record facts { live = is_domain_live domain d }) (table_same cell is_device own_domains is_domains us t (all domains_table refl))
 told_same (Live false domain) facts us t all = refl
 told_same (Scoped domain) facts us t all =
-    ap₂ (λ (v : VariableTables) (rows : Rows). record facts { scoped = scope_used domain v (alone us t).events rows })
+    ap₂ (λ (v : VariableTables) (rows : Rows). record facts { scoped = scope_used domain v (alone us t).events (alone us t).journals rows })
     (table_same cell is_device own_variables is_variables us t (all variables_table refl))
     (table_same cell is_device own_semaphores is_semaphores us t (all semaphores_table refl))
-    ∙ ap (λ (e : EventTables). record facts { scoped = scope_used domain t.variables e t.semaphores })
+    ∙ ap₂ (λ (e : EventTables) (j : journal.Rows). record facts { scoped = scope_used domain t.variables e j t.semaphores })
     (table_same cell is_device own_events is_events us t (all conditions_table refl))
+    (table_same cell is_device own_journals is_journals us t (all journals_table refl))
 told_same (Owned client guards) facts us t all = by_guards (list_any is_some guards) refl all
   where
     by_guards : (b : Bool) → list_any is_some guards ≡ b → AllIn cell (guard_tables b) us
@@ -159,6 +165,9 @@ told_same (Names class.EventCondition) facts us t all =
 told_same (Names class.EventEnrollment) facts us t all =
     ap (λ (e : EventTables). record facts { names = λ s after. names_after s after e.enrolments })
     (table_same cell is_device own_events is_events us t (all conditions_table refl))
+told_same (Names class.Journal) facts us t all =
+    ap (λ (rows : journal.Rows). record facts { names = λ s after. names_after s after rows })
+    (table_same cell is_device own_journals is_journals us t (all journals_table refl))
 told_same (Names class.Domain) facts us t all =
     ap (λ (d : DomainTables). record facts { names = λ s after. domains_listed d s after })
     (table_same cell is_device own_domains is_domains us t (all domains_table refl))
@@ -235,6 +244,9 @@ invocations_own = both_own cell is_device own_domains own_programs domains_own p
 events_own : IsOwn cell own_events
 events_own = table_own cell is_device own_events is_events
 
+journals_own : IsOwn cell own_journals
+journals_own = table_own cell is_device own_journals is_journals
+
 semaphores_own : IsOwn cell own_semaphores
 semaphores_own = table_own cell is_device own_semaphores is_semaphores
 
@@ -247,6 +259,7 @@ more_law t row (OfDomains r) = (is_plan own_domains domains_own (λ u. refl) row
 more_law t row (OfInvocations r) = (is_plan own_invocations invocations_own (λ u. refl) row 0 0 r).more_same t
 more_law t row (OfPrograms r) = (is_plan own_programs programs_own (λ u. refl) row 0 0 r).more_same t
 more_law t row (OfEvents r) = (is_plan own_events events_own (λ u. refl) row 0 0 r).more_same t
+more_law t row (OfJournals r) = (is_plan own_journals journals_own (λ u. refl) row 0 0 r).more_same t
 more_law t row (OfSemaphores r) = (is_plan own_semaphores semaphores_own (λ u. refl) row 0 0 r).more_same t
 
 abbrev area_uses : Tables → ClientRow → InArea → List ℕ
@@ -263,6 +276,7 @@ takes_law t row client invoke (OfDomains r) = taken_within own_domains domains_o
 takes_law t row client invoke (OfInvocations r) = taken_within own_invocations invocations_own (λ u. refl) row client invoke r t
 takes_law t row client invoke (OfPrograms r) = taken_within own_programs programs_own (λ u. refl) row client invoke r t
 takes_law t row client invoke (OfEvents r) = taken_within own_events events_own (λ u. refl) row client invoke r t
+takes_law t row client invoke (OfJournals r) = taken_within own_journals journals_own (λ u. refl) row client invoke r t
 takes_law t row client invoke (OfSemaphores r) = taken_within own_semaphores semaphores_own (λ u. refl) row client invoke r t
 
 -- ---- what is done with all tables in which a client may have anything
@@ -272,10 +286,11 @@ all_shown : (us : List ℕ) (t : Tables) → AllIn cell loss_tables us → alone
 all_shown us t all =
     ap₂ (λ (n : ℕ) (v : VariableTables). record (alone us t) { now = n; variables = v })
     (table_same cell is_device own_clock is_clock us t (all clock_table refl)) (table_same cell is_device own_variables is_variables us t (all variables_table refl))
-    ∙ ap₂ (λ (d : DomainTables) (rows : Rows). record t { domains = d; programs = (alone us t).programs; events = (alone us t).events; semaphores = rows })
+    ∙ ap₂ (λ (d : DomainTables) (rows : Rows). record t { domains = d; programs = (alone us t).programs; events = (alone us t).events; journals = (alone us t).journals; semaphores = rows })
     (table_same cell is_device own_domains is_domains us t (all domains_table refl)) (table_same cell is_device own_semaphores is_semaphores us t (all semaphores_table refl))
-    ∙ ap (λ (e : EventTables). record t { programs = (alone us t).programs; events = e })
+    ∙ ap₂ (λ (e : EventTables) (j : journal.Rows). record t { programs = (alone us t).programs; events = e; journals = j })
     (table_same cell is_device own_events is_events us t (all conditions_table refl))
+    (table_same cell is_device own_journals is_journals us t (all journals_table refl))
 
 abbrev with_programs : program.Rows → Done Tables Effect → Done Tables Effect
 with_programs p done = record { tables = record done.tables { programs = p }; told = done.told }
@@ -306,7 +321,7 @@ module _ (us : List ℕ) (f : Tables → Done Tables Effect) (t : Tables) (all :
   others (suc (suc zero)) off = out 2 refl off
   others (suc (suc (suc zero))) off = ap (λ (p : program.Rows). Some (Programs p)) keeps
   others (suc (suc (suc (suc zero)))) off = out 4 refl off
-  others (suc (suc (suc (suc (suc zero))))) off = refl
+  others (suc (suc (suc (suc (suc zero))))) off = out 5 refl off
   others (suc (suc (suc (suc (suc (suc zero)))))) off = out 6 refl off
   others (suc (suc (suc (suc (suc (suc (suc k))))))) off = refl
 
@@ -328,6 +343,7 @@ lacks_law us t row invoke (OfVariables r) all = refl
 lacks_law us t row invoke (OfInvocations r) all = refl
 lacks_law us t row invoke (OfPrograms r) all = refl
 lacks_law us t row invoke (OfEvents r) all = refl
+lacks_law us t row invoke (OfJournals r) all = refl
 lacks_law us t row invoke (OfSemaphores r) all = refl
 lacks_law us t row invoke (OfDomains r) all =
     ap (λ (d : DomainTables). lacks_number_in r no_facts row invoke d) (table_same cell is_device own_domains is_domains us t (all domains_table refl))
@@ -456,7 +472,8 @@ lost_law : (t : Tables) (number client : ℕ) (a : Association)
 lost_law t number client Idle = served.unchanged cell is_device [] t []
 lost_law t number client (Open values) = refl
 
--- time goes by: where no client is lost by what happens to semaphores none is, and what the cells say is used where a condition is evaluated
+-- time goes by: where no client is lost by what happens to semaphores none is, and what the cells say is used where a
+-- condition is evaluated
 time_law : (ms : ℕ) (t : Tables)
     → passes ms t ≡ parted.done_within cell (words (Tick ms) ++ (time_asks ms t ++ [])) t (passes ms (alone (words (Tick ms) ++ (time_asks ms t ++ [])) t))
 time_law ms t = by_both (any_due (moment_after ms t) t.events.conditions) refl (aborted_meanwhile ms t) refl
@@ -467,9 +484,17 @@ time_law ms t = by_both (any_due (moment_after ms t) t.events.conditions) refl (
     begins : Ticking
     begins = begun t.semaphores t.events.conditions t.events.enrolments
 
-    with_clients : VariableTables → DomainTables → Ticking → Done Tables Effect
-    with_clients v d s = record {
-      tables = record { now = t.now + ms; variables = v; domains = d; programs = t.programs; events = record { conditions = s.conditions; enrolments = s.enrolments }; semaphores = s.semaphores };
+    with_clients : VariableTables → DomainTables → journal.Rows → Ticking → Done Tables Effect
+    with_clients v d j s = record {
+      tables = record {
+        now = t.now + ms;
+        variables = v;
+        domains = d;
+        programs = t.programs;
+        events = record { conditions = s.conditions; enrolments = s.enrolments };
+        journals = j;
+        semaphores = s.semaphores;
+      };
       told = all_told s.happened;
     }
 
@@ -481,10 +506,10 @@ time_law ms t = by_both (any_due (moment_after ms t) t.events.conditions) refl (
     by_both true due (client ∷ clients) is = refl
     by_both false due (client ∷ clients) is = refl
     by_both true due [] is =
-        ap (λ (l : List ℕ). with_clients (without_clients (lost_in (meanwhile ms t).happened) t.variables) (domains_without l t.domains) (meanwhile ms t)) (none is)
+        ap (λ (l : List ℕ). with_clients (without_clients (lost_in (meanwhile ms t).happened) t.variables) (domains_without l t.domains) (journals_without l t.journals) (meanwhile ms t)) (none is)
     by_both false due [] is =
-        ap (λ (l : List ℕ). with_clients (without_clients l t.variables) (domains_without l t.domains) (meanwhile ms t)) (none is)
-        ∙ ap (with_clients t.variables t.domains)
+        ap (λ (l : List ℕ). with_clients (without_clients l t.variables) (domains_without l t.domains) (journals_without l t.journals) (meanwhile ms t)) (none is)
+        ∙ ap (with_clients t.variables t.domains t.journals)
         (same_saying (saying t.variables) (saying no_variables) (moment_after ms t) (most_left (moment_after ms t) begins) begins due)
 
 pub each_served : (event : CellEvent) → IsServed cell services event

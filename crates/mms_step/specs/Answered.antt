@@ -1,4 +1,5 @@
--- Requests are answered, at once or when they wait no more (ISO 9506-1, environment and general management, and TakeControl).
+-- Requests are answered, at once or when they wait no more (ISO 9506-1, environment and general management, and
+-- TakeControl).
 use Rattle.std.specs.Prelude.{◌≡◌, ◌⊎◌, ℕ, ◌≤◌, List, [], ◌∷◌, length, Contains}
 use Rattle.mms_types.specs.declared.event.What.{What}
 use Rattle.mms_types.specs.declared.event.What.TheVariants.{Octets}

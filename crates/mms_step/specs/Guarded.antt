@@ -11,7 +11,8 @@ use Rattle.cell_services.specs.Serving.{is_served}
 use Rattle.mms_step.specs.Partition.{cell}
 use Rattle.mms_step.specs.State.{State}
 
--- By the event a client writes that has an owner entry of the semaphore of the VMD of that name: its request is taken, and isn't refused.
+-- By the event a client writes that has an owner entry of the semaphore of the VMD of that name: its request is taken,
+-- and isn't refused.
 pub record IsWrittenByOwner (guard : List ℕ) (s : State) (event : CellEvent) : Type 0 where
   pub client : ℕ
   pub octets : List ℕ

@@ -5,11 +5,12 @@ use Rattle.parted_state.specs.Served.{change}
 use Rattle.variable_services.specs.declared.tables.VariableTables.{VariableTables}
 use Rattle.mms_time.specs.Semaphores.{Rows}
 use Rattle.cell_services.specs.Tables.{Tables}
+use Rattle.mms_journal.specs.Journals.{Rows as Journals}
 use Rattle.program_inv.specs.Programs.{Rows as Programs}
 use Rattle.serve_domains.specs.Tables.{DomainTables}
 use Rattle.serve_events.specs.declared.tables.EventTables.{EventTables}
 use Rattle.mms_step.specs.declared.part.Part.{Part}
-use Rattle.mms_step.specs.Partition.{clients_among, on_clock, on_domains, on_events, on_programs, on_semaphores, on_variables, semaphores_place}
+use Rattle.mms_step.specs.Partition.{clients_among, on_clock, on_domains, on_events, on_journals, on_programs, on_semaphores, on_variables, semaphores_place}
 
 -- ---- parts that are held have these tables in place of their own
 
@@ -28,8 +29,12 @@ with_programs programs hand = change (option_map (on_programs (λ was. programs)
 abbrev pub with_events : EventTables → List (Option Part) → List (Option Part)
 with_events events hand = change (option_map (on_events (λ was. events))) hand 4
 
+abbrev pub with_journals : Journals → List (Option Part) → List (Option Part)
+with_journals journals hand = change (option_map (on_journals (λ was. journals))) hand 5
+
 abbrev pub with_semaphores : Rows → List (Option Part) → List (Option Part)
 with_semaphores semaphores hand = change (option_map (on_semaphores (λ was. semaphores))) hand (semaphores_place (clients_among (length hand)))
 
 abbrev pub tabled : Tables → List (Option Part) → List (Option Part)
-tabled t hand = with_semaphores t.semaphores (with_events t.events (with_programs t.programs (domained t.domains (varied t.variables (clocked t.now hand)))))
+tabled t hand =
+    with_semaphores t.semaphores (with_journals t.journals (with_events t.events (with_programs t.programs (domained t.domains (varied t.variables (clocked t.now hand))))))

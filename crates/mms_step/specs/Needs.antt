@@ -20,8 +20,8 @@ is_held hand place = cut.is_held hand place
 abbrev pub footprint : ℕ → CellEvent → List ℕ
 footprint n event = parted.footprint cell services n event
 
--- what an event wants, in stages: its words, the tables that it uses, by the row of its client and then by what these tables show, and the parts of those that
--- are told something
+-- what an event wants, in stages: its words, the tables that it uses, by the row of its client and then by what these
+-- tables show, and the parts of those that are told something
 abbrev pub wants : CellEvent → List (State → List ℕ)
 wants event = parted.wants cell services event
 
@@ -56,8 +56,8 @@ is_own other = false
 abbrev pub client_parts : ℕ → List ℕ → List ℕ
 client_parts n clients = map client_place (filter (λ c. nat_le 1 c && nat_le c n) clients)
 
--- what a verdict on what a client sends needs, and so what its octets need, once its part is held: the tables that it uses, in two stages, and then the parts of
--- those that are told something besides
+-- what a verdict on what a client sends needs, and so what its octets need, once its part is held: the tables that it
+-- uses, in two stages, and then the parts of those that are told something besides
 abbrev pub also_parts : ℕ → List (Option Part) → ClientRow → Verdict → List ℕ
 also_parts n hand row v = parted.told_places cell (also_told (tables_shown cell hand) row (resolved (tables_shown cell hand) row v)) n
 
@@ -74,8 +74,9 @@ abbrev pub lost_need : ℕ → List (Option Part) → ClientRow → List ℕ
 lost_need n hand row =
     two_stages hand (placed n (loss_asks row.association)) (parted.told_places cell (also_lost row.association row.client (tables_shown cell hand)) n)
 
--- what time that goes by needs, once the clock, the event conditions and the semaphores are held: the variables where a condition is evaluated, and whatever a client
--- may have anything in where one is lost; and then the parts of those that are told of what happens meanwhile
+-- what time that goes by needs, once the clock, the event conditions and the semaphores are held: the variables where a
+-- condition is evaluated, and whatever a client may have anything in where one is lost; and then the parts of those
+-- that are told of what happens meanwhile
 abbrev pub time_need : ℕ → List (Option Part) → ℕ → List ℕ
 time_need n hand ms =
     two_stages hand (placed n (time_asks ms (tables_shown cell hand))) (parted.told_places cell (all_told (meanwhile ms (tables_shown cell hand)).happened) n)

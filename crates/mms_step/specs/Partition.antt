@@ -13,6 +13,7 @@ use Rattle.mms_step.specs.State.{State}
 use Rattle.mms_time.specs.Semaphores.{Rows}
 use Rattle.cell_client.specs.Effects.{Effect, felt, settled}
 use Rattle.cell_services.specs.Tables.{Tables}
+use Rattle.mms_journal.specs.Journals as journal
 use Rattle.program_inv.specs.Programs as program
 use Rattle.serve_domains.specs.Tables.{DomainTables, no_domains}
 use Rattle.serve_events.specs.Tables.{no_events}
@@ -20,8 +21,8 @@ use Rattle.serve_events.specs.declared.tables.EventTables.{EventTables}
 use Rattle.variable_services.specs.declared.tables.VariableTables.{VariableTables}
 use Rattle.variable_services.specs.Services.{no_variables}
 
--- With n clients there are n + 7 parts: 0 the clock, 1 variables and their lists, 2 domains and uploads, 3 program invocations, 4 event conditions and
--- enrolments, 5 journals, 5 + c client c, 6 + n semaphores.
+-- With n clients there are n + 7 parts: 0 the clock, 1 variables and their lists, 2 domains and uploads, 3 program
+-- invocations, 4 event conditions and enrolments, 5 journals, 5 + c client c, 6 + n semaphores.
 abbrev pub clock_place : ℕ
 clock_place = 0
 
@@ -45,7 +46,7 @@ client_part row = Client (settled row)
 
 -- the parts of a state
 abbrev pub parts_of : State → List Part
-parts_of s = Clock s.now ∷ Variables s.variables ∷ Domains s.domains ∷ Programs s.programs ∷ Events s.events ∷ Journals ∷ (map client_part s.clients ++ Semaphores s.semaphores ∷ [])
+parts_of s = Clock s.now ∷ Variables s.variables ∷ Domains s.domains ∷ Programs s.programs ∷ Events s.events ∷ Journals s.journals ∷ (map client_part s.clients ++ Semaphores s.semaphores ∷ [])
 
 -- ---- what held parts show
 
@@ -89,6 +90,14 @@ events_or events other = events
 abbrev pub events_in : Option Part → EventTables
 events_in part = events_or no_events part
 
+-- the journals, where they are held, and else these
+abbrev pub journals_or : journal.Rows → Option Part → journal.Rows
+journals_or journals (Some (Journals held)) = held
+journals_or journals other = journals
+
+abbrev pub journals_in : Option Part → journal.Rows
+journals_in part = journals_or [] part
+
 -- the semaphores, where they are held, and else these
 abbrev pub semaphores_or : Rows → Option Part → Rows
 semaphores_or semaphores (Some (Semaphores held)) = held
@@ -119,7 +128,8 @@ abbrev pub client_in : Option Part → RoomyRow
 client_in (Some (Client client)) = client
 client_in other = settled no_client
 
--- the part of a client with its row changed, the clock with its moment changed, and variables, domains, program invocations, event conditions and semaphores that are changed
+-- the part of a client with its row changed, the clock with its moment changed, and variables, domains, program
+-- invocations, event conditions and semaphores that are changed
 abbrev pub on_client : (ClientRow → ClientRow) → Part → Part
 on_client f (Client client) = client_part (f client.row)
 on_client f other = other
@@ -144,6 +154,10 @@ abbrev pub on_events : (EventTables → EventTables) → Part → Part
 on_events f (Events events) = Events (f events)
 on_events f other = other
 
+abbrev pub on_journals : (journal.Rows → journal.Rows) → Part → Part
+on_journals f (Journals journals) = Journals (f journals)
+on_journals f other = other
+
 abbrev pub on_semaphores : (Rows → Rows) → Part → Part
 on_semaphores f (Semaphores semaphores) = Semaphores (f semaphores)
 on_semaphores f other = other
@@ -165,6 +179,9 @@ IsPrograms part = part ≡ Some (Programs (programs_in part))
 abbrev pub IsEvents : Option Part → Type 0
 IsEvents part = part ≡ Some (Events (events_in part))
 
+abbrev pub IsJournals : Option Part → Type 0
+IsJournals part = part ≡ Some (Journals (journals_in part))
+
 abbrev pub IsSemaphores : Option Part → Type 0
 IsSemaphores part = part ≡ Some (Semaphores (semaphores_in part))
 
@@ -173,10 +190,10 @@ IsSemaphores part = part ≡ Some (Semaphores (semaphores_in part))
 -- Where a part isn't held, its table is empty in what is shown.
 abbrev pub cell : Device State Tables ClientRow Effect Part
 cell = record {
-  tables_of = λ s. record { now = s.now; variables = s.variables; domains = s.domains; programs = s.programs; events = s.events; semaphores = s.semaphores };
+  tables_of = λ s. record { now = s.now; variables = s.variables; domains = s.domains; programs = s.programs; events = s.events; journals = s.journals; semaphores = s.semaphores };
   clients_of = λ s. s.clients;
-  state_of = λ t rows. record { now = t.now; variables = t.variables; domains = t.domains; programs = t.programs; events = t.events; semaphores = t.semaphores; clients = rows };
-  table_parts = λ t. Clock t.now ∷ Variables t.variables ∷ Domains t.domains ∷ Programs t.programs ∷ Events t.events ∷ Journals ∷ Semaphores t.semaphores ∷ [];
+  state_of = λ t rows. record { now = t.now; variables = t.variables; domains = t.domains; programs = t.programs; events = t.events; journals = t.journals; semaphores = t.semaphores; clients = rows };
+  table_parts = λ t. Clock t.now ∷ Variables t.variables ∷ Domains t.domains ∷ Programs t.programs ∷ Events t.events ∷ Journals t.journals ∷ Semaphores t.semaphores ∷ [];
   tables = tables_many;
   last = 5;
   client_part = client_part;
@@ -186,6 +203,7 @@ cell = record {
     domains = domains_in (held_at hand 2);
     programs = programs_in (held_at hand 3);
     events = events_in (held_at hand 4);
+    journals = journals_in (held_at hand 5);
     semaphores = semaphores_in (held_at hand 6);
   };
   row_in = row_in;
@@ -193,6 +211,7 @@ cell = record {
   felt = felt;
 }
 
--- the state that held parts show: the moment, the variables, the domains, the program invocations, the event conditions and enrollments, the semaphores, and the rows of the clients
+-- the state that held parts show: the moment, the variables, the domains, the program invocations, the event conditions
+-- and enrollments, the semaphores, and the rows of the clients
 abbrev pub state_in : List (Option Part) → State
 state_in hand = parted.state_in cell hand

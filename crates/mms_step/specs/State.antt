@@ -16,6 +16,7 @@ use Rattle.event_cond.specs.declared.condition.ConditionClass.{ConditionClass}
 use Rattle.event_cond.specs.declared.condition.ConditionClass.TheVariants.{NetworkTriggered, Monitored}
 use Rattle.event_cond.specs.declared.condition.Watch.{Watch}
 use Rattle.event_ticks.specs.Sound as events
+use Rattle.mms_journal.specs.Journals.{Rows as Journals}
 use Rattle.program_inv.specs.Programs.{Rows as Programs}
 use Rattle.serve_domains.specs.Loads.{AreLoads}
 use Rattle.serve_domains.specs.Tables.{DomainTables, no_domains}
@@ -40,12 +41,15 @@ pub record State : Type 0 where
   pub programs : Programs
   -- event conditions and the enrollments on them
   pub events : EventTables
+  -- journals
+  pub journals : Journals
   -- semaphores
   pub semaphores : Rows
   -- the rows of clients 1 to n, in this order
   pub clients : List ClientRow
 
--- what never changes of a configured device: its edition, and the three texts that it answers to Identify (ISO 9506-2, Identify)
+-- what never changes of a configured device: its edition, and the three texts that it answers to Identify (ISO 9506-2,
+-- Identify)
 abbrev pub device_of : Config → Constants
 device_of config = record { edition = config.edition; vendor = config.vendor; model = config.model; revision = config.revision }
 
@@ -53,8 +57,8 @@ device_of config = record { edition = config.edition; vendor = config.vendor; mo
 abbrev pub first_rows : Config → ℕ → List ClientRow
 first_rows config n = map (λ c. new_row c (device_of config)) (clients_to n)
 
--- the start: it is the configured moment, there are the configured cells, variables and pools, no domains, no program invocations, no event conditions, and as
--- many clients as are configured
+-- the start: it is the configured moment, there are the configured cells, variables and pools, no domains, no program
+-- invocations, no event conditions, no journals, and as many clients as are configured
 abbrev pub start : Config → State
 start config = record {
   now = config.start.0;
@@ -62,6 +66,7 @@ start config = record {
   domains = no_domains;
   programs = [];
   events = no_events;
+  journals = [];
   semaphores = pools.configured config.pools;
   clients = first_rows config config.clients;
 }
@@ -71,8 +76,9 @@ abbrev pub AreNumbered : ℕ → List Waiting → Type 0
 AreNumbered count [] = Unit {0}
 AreNumbered count (request ∷ waiting) = (request.entry ≤ count) × AreNumbered count waiting
 
--- What holds of the row of a client after so many events: it has the client's number; no more requests wait than the association allows, and so none without
--- one; each of them has the number of one of the events; and the numbers of the server's unanswered requests are distinct and below the next one.
+-- What holds of the row of a client after so many events: it has the client's number; no more requests wait than the
+-- association allows, and so none without one; each of them has the number of one of the events; and the numbers of the
+-- server's unanswered requests are distinct and below the next one.
 pub record IsSoundRow (count client : ℕ) (row : ClientRow) : Type 0 where
   pub number : row.client ≡ client
   pub allowed : length row.waiting ≤ called_of row.association
@@ -97,10 +103,12 @@ IsAwaitedClass now (Monitored w) = IsAwaited now w
 abbrev pub AreAwaited : ℕ → Conditions → Type 0
 AreAwaited now rows = All (λ row. IsAwaitedClass now row.1.class) rows
 
--- What holds of each state of the device after so many events: it has 1 to 64 clients, in the order of their numbers, and their rows are sound; no token of its
--- semaphores is owned twice, and no free one is waited for; each semaphore has made no more entries than there were events; each deadline lies ahead; its event
--- conditions are evaluated at multiples of their intervals, and each evaluation lies ahead; no two domains have one name; of each client the server's unanswered requests of a load are of the domains that it loads, one of each; the domain of each open upload is there,
--- and isn't LOADING; and the domains that program invocations name are there for them, and for no others.
+-- What holds of each state of the device after so many events: it has 1 to 64 clients, in the order of their numbers,
+-- and their rows are sound; no token of its semaphores is owned twice, and no free one is waited for; each semaphore
+-- has made no more entries than there were events; each deadline lies ahead; its event conditions are evaluated at
+-- multiples of their intervals, and each evaluation lies ahead; no two domains have one name; of each client the
+-- server's unanswered requests of a load are of the domains that it loads, one of each; the domain of each open upload
+-- is there, and isn't LOADING; and the domains that program invocations name are there for them, and for no others.
 pub record IsSound (count : ℕ) (s : State) : Type 0 where
   pub some : 1 ≤ length s.clients
   pub few : length s.clients ≤ 64

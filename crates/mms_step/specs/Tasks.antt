@@ -57,8 +57,8 @@ IsLeftTo (task.Time ms) = Unit {0}
 
 -- ---- what octets come to
 
--- What the octets of an event come to is found once for all that it needs and for its step: the verdict by the row of its client, whose part is held. Nothing may be
--- found yet, and of other events nothing is.
+-- What the octets of an event come to is found once for all that it needs and for its step: the verdict by the row of
+-- its client, whose part is held. Nothing may be found yet, and of other events nothing is.
 abbrev pub IsFoundOf : Option Found → CellEvent → List (Option Part) → Type 0
 IsFoundOf (Some found) (Heard client octets) hand = IsClient (held_at hand (client_place client)) × (meant found ≡ verdict (row_held hand client) octets)
 IsFoundOf found event hand = Unit {0}
@@ -85,7 +85,8 @@ pub record AreDone {A : Type 0} (own : Own Tables A) (wrap : A → Part) (t : Ta
   pub is_now : now ≡ wrap become
   pub done : IsDoneIn own t before.row become after v
 
--- The same of one that makes or deletes a program invocation: the parts of its client, of the domains and of the program invocations after it
+-- The same of one that makes or deletes a program invocation: the parts of its client, of the domains and of the
+-- program invocations after it
 pub record AreMade (t : Tables) (v : Verdict) (part new domains programs : Part) : Type 0 where
   pub before : RoomyRow
   pub after : RoomyRow

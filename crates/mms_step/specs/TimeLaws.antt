@@ -1,4 +1,5 @@
--- Laws of time on a device: the same happens to its semaphores whatever conditions stand beside them, and what the cells say is of no account where no condition is evaluated.
+-- Laws of time on a device: the same happens to its semaphores whatever conditions stand beside them, and what the
+-- cells say is of no account where no condition is evaluated.
 use Rattle.std.specs.Prelude.{◌≡◌, ℕ, zero, suc, ◌+◌, ◌<◌, ◌≤◌, ◌==◌, ◌||◌, Bool, true, false, not, Option, None, Some, is_some, List, [], ◌∷◌, ◌++◌, filter, map, option_map, option_and_then, if◌then◌else◌, refl}
 use Rattle.std.specs.List.{cons_option, flat_map, list_any}
 use Rattle.std.proofs.Common.{ap, sym, ◌∙◌, subst, append_assoc, append-nil, arith, inl, inr, cond}

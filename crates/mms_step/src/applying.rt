@@ -27,6 +27,7 @@ ghost use Rattle.mms_step.specs.After.{after};
 use crate::areas::{cancel, serve_on_device, serve_on_semaphores, serve_on_variables};
 use crate::domains::{reply_on_domains, serve_on_domains};
 use crate::events::serve_on_events;
+use crate::journals::serve_on_journals;
 use crate::needs::client_held;
 use crate::passing::tick;
 use crate::programs::{end_program, make_on_programs, serve_on_programs};
@@ -135,6 +136,9 @@ fn serve_request(
         }
         AreaRequest::Events(asked) => {
             serve_on_events(alloc, held, clients, client, invoke, asked)
+        }
+        AreaRequest::Journals(asked) => {
+            serve_on_journals(alloc, held, clients, client, invoke, asked)
         }
     }
 }

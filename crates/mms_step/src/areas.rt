@@ -17,12 +17,13 @@ ghost use Rattle.serve_variables.specs.Variables as of_variables;
 ghost use Rattle.cell_services.specs.Facts.{is_domain_live};
 ghost use Rattle.cell_services.specs.Looked.{IsLookedAt};
 ghost use Rattle.mms_step.specs.State.{State};
-ghost use Rattle.mms_step.specs.Partition.{cell, parts_of, clients_among, clock_in, client_in, client_place, row_in, semaphores_in, semaphores_place, variables_in, domains_in, events_in, programs_in, IsClient, IsSemaphores, IsVariables};
+ghost use Rattle.mms_step.specs.Partition.{cell, parts_of, clients_among, clock_in, client_in, client_place, row_in, semaphores_in, semaphores_place, variables_in, domains_in, events_in, journals_in, programs_in, IsClient, IsSemaphores, IsVariables};
 ghost use Rattle.mms_step.specs.Tasks.{row_held, AreDone, IsRoomless};
 
 use crate::applying::{put_client, take_client};
 use crate::domains::{domains_held, live_held};
 use crate::events::events_held;
+use crate::journals::journals_held;
 use crate::needs::{now_held, semaphores_held, variables_held};
 use crate::programs::programs_held;
 use crate::tables::{VARIABLES, semaphores as semaphores_part};
@@ -30,6 +31,7 @@ use crate::telling::{make_rooms, tell_all};
 use crate::{Cell, Part};
 use cell_client::Told;
 use cell_services::NameTables;
+use mms_journal::Journals;
 use mms_time::Semaphores;
 use mms_types::{DeviceRequest, Memory, Moment, SemaphoreRequest, VariableRequest};
 use part_table::Hand;
@@ -384,6 +386,7 @@ fn device_on(
         → t.domains ≡ domains_in (held_at held.now 2)
         → t.programs ≡ programs_in (held_at held.now 3)
         → t.events ≡ events_in (held_at held.now 4)
+        → t.journals ≡ journals_in (held_at held.now 5)
         → t.semaphores ≡ semaphores_in (held_at held.now (semaphores_place clients))
         → IsDoneIn no_table t (row_in (Some part.old)) tt (client_in (Some part.new))
         (Takes invoke (device_request asked.entry))) }
@@ -394,12 +397,14 @@ fn device_on(
     let no_domains = DomainTables::empty(alloc);
     let no_programs = Programs::new(alloc);
     let no_events = EventTables::empty(alloc);
+    let no_journals = Journals::new(alloc);
     let no_semaphores = Semaphores::new(alloc);
     let tables = NameTables {
         variables: variables_held(held, &no_variables),
         domains: domains_held(held, &no_domains),
         programs: programs_held(held, &no_programs),
         events: events_held(held, &no_events),
+        journals: journals_held(held, &no_journals),
         semaphores: semaphores_held(held, clients, &no_semaphores),
     };
     device_in_part(alloc, part, tables, invoke, asked)

@@ -14,7 +14,7 @@ ghost use Rattle.cell_services.specs.Device.{domain_of, is_domain};
 ghost use Rattle.cell_services.specs.Facts.{Live, Names, cell_tables, domain_tables, guard_tables, scope_tables, tables_for};
 ghost use Rattle.serve_semaphores.specs.Semaphores.{at_its_moment};
 ghost use Rattle.cell_services.specs.Services.{area_of, more_of, request_asks};
-ghost use Rattle.cell_services.specs.Tables.{clock_table, own_domains, own_events, own_semaphores, own_variables};
+ghost use Rattle.cell_services.specs.Tables.{clock_table, own_domains, own_events, own_journals, own_semaphores, own_variables};
 
 use crate::Cell;
 use crate::events::events_held;
@@ -79,6 +79,19 @@ fn variable_asks(of_domain: bool, clients: u32) -> Parts
     }
 }
 
+/// The part of the journals, and that of the domains where one is written in the request.
+fn journal_asks(of_domain: bool, clients: u32) -> Parts
+    ensures { (domain : Option (List ℕ)) → IsSetOf result (placed clients
+        (own_journals.numbers ++ flat_map tables_for (Live of_domain domain ∷ []))) }
+{
+    let _clients = clients;
+    if of_domain {
+        Parts::of(&[JOURNALS, DOMAINS])
+    } else {
+        Parts::of(&[JOURNALS])
+    }
+}
+
 /// The parts of the semaphores and of the clock, and that of the domains where one is written in the request.
 fn semaphore_asks(of_domain: bool, clients: u32) -> Parts
     requires few { clients ≤ 64 }
@@ -105,8 +118,8 @@ fn domain_asks(scoped: bool, clients: u32) -> Parts
     }
 }
 
-/// The parts of the event conditions and of the clock, that of the domains where one is written in the request, and that
-/// of the variables where one is to be watched.
+/// The parts of the event conditions and of the clock, that of the domains where one is written in the request, and
+/// that of the variables where one is to be watched.
 fn event_parts(of_domain: bool, of_variable: bool, clients: u32) -> Parts
     ensures { IsSetOf result (placed clients (own_events.numbers
         ++ clock_table ∷ (domain_tables of_domain ++ cell_tables of_variable))) }
@@ -150,6 +163,9 @@ pub(crate) fn request_asks(asked: &Request, clients: u32) -> Parts
         AreaRequest::Invocations(_) => Parts::of(&[DOMAINS, PROGRAMS]),
         AreaRequest::Programs(_) => Parts::of(&[PROGRAMS]),
         AreaRequest::Events(asked) => event_asks(asked, clients),
+        AreaRequest::Journals(asked) => {
+            journal_asks(serve_journals::names_domain(asked), clients)
+        }
     }
 }
 
@@ -220,6 +236,7 @@ pub(crate) fn request_more(
         | AreaRequest::Semaphores(_)
         | AreaRequest::Domains(_)
         | AreaRequest::Invocations(_)
-        | AreaRequest::Programs(_) => Parts::new(),
+        | AreaRequest::Programs(_)
+        | AreaRequest::Journals(_) => Parts::new(),
     }
 }

@@ -1,5 +1,5 @@
-//! A request for domains, and what a client answers to the server, on the part of its client and that of the domains, as
-//! they are held.
+//! A request for domains, and what a client answers to the server, on the part of its client and that of the domains,
+//! as they are held.
 
 ghost use Rattle.std.specs.Prelude.{◌≡◌, ℕ, ◌<◌, ◌≤◌, false, true, length, slice_set, None, Some, OnErr, OnOk, IfOk};
 ghost use Rattle.std.specs.Option.{option_copied};
@@ -24,12 +24,14 @@ ghost use Rattle.mms_step.specs.Tasks.{row_held, AreDone, IsRoomless};
 
 use crate::applying::{put_client, take_client};
 use crate::events::events_held;
+use crate::journals::journals_held;
 use crate::needs::{client_held, semaphores_held, variables_held};
 use crate::serving::{Task, serve};
 use crate::tables::DOMAINS;
 use crate::{Cell, Part};
 use cell_client::{Act, Came};
 use cell_services::is_scope_used;
+use mms_journal::Journals;
 use mms_time::Semaphores;
 use mms_types::{DomainRequest, Identifier, Memory};
 use part_table::Hand;
@@ -101,11 +103,13 @@ fn scope_held(
     };
     let no_variables = VariableTables::empty(alloc);
     let no_events = EventTables::empty(alloc);
+    let no_journals = Journals::new(alloc);
     let no_semaphores = Semaphores::new(alloc);
     let variables = variables_held(held, &no_variables);
     let events = events_held(held, &no_events);
+    let journals = journals_held(held, &no_journals);
     let semaphores = semaphores_held(held, clients, &no_semaphores);
-    is_scope_used(alloc, variables, events, semaphores, domain)
+    is_scope_used(alloc, variables, events, journals, semaphores, domain)
 }
 
 /// Whether something would be asked of a client by its request, and no number is left for that.

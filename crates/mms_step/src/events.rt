@@ -128,8 +128,8 @@ fn facts_held(alloc: Global, held: &Hand<Cell>, client: u32, asked: EventRequest
     }
 }
 
-/// Serves a request for event conditions and enrollments on the part of its client and theirs. Where clients are told of
-/// transitions, that is told; then all is as before.
+/// Serves a request for event conditions and enrollments on the part of its client and theirs. Where clients are told
+/// of transitions, that is told; then all is as before.
 fn events_in_parts(
     alloc: Global,
     part: &mut Part,
@@ -181,8 +181,8 @@ fn events_in_parts(
     }
 }
 
-/// Serves a client's request for event conditions and enrollments, which are held, as is the clock, with what other tables
-/// tell it. Where clients are told of transitions, that is told; then all is as before.
+/// Serves a client's request for event conditions and enrollments, which are held, as is the clock, with what other
+/// tables tell it. Where clients are told of transitions, that is told; then all is as before.
 fn serve_alone(
     alloc: Global,
     held: &mut Hand<Cell>,
@@ -252,8 +252,8 @@ fn finish_in_part(
     }
 }
 
-/// Does on the event conditions and enrollments, which are held, what a request of a client left by which clients are told
-/// of transitions, and tells them. Room is made first, which alone may want memory; then all is as before.
+/// Does on the event conditions and enrollments, which are held, what a request of a client left by which clients are
+/// told of transitions, and tells them. Room is made first, which alone may want memory; then all is as before.
 fn finish_and_tell(
     held: &mut Hand<Cell>,
     clients: u32,
@@ -284,8 +284,8 @@ fn finish_and_tell(
     Ok(())
 }
 
-/// Serves a client's request for event conditions and enrollments, which are held, as are the clock and the parts of those
-/// that are told something.
+/// Serves a client's request for event conditions and enrollments, which are held, as are the clock and the parts of
+/// those that are told something.
 pub(crate) fn serve_on_events(
     alloc: Global,
     held: &mut Hand<Cell>,

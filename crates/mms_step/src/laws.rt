@@ -69,9 +69,10 @@ pub fn a_step_is_of_the_held_parts()
 
 /// Every state is sound that the device reaches from its start: its clients are as many as they were, each in its
 /// place, and no more requests of one wait than it may have, each with the number of one of the events; its semaphores
-/// are sound, and each deadline lies ahead; its event conditions are sound, and each evaluation lies ahead; no two domains
-/// have one name; of the requests of a load that a client hasn't answered there is one for each domain that it loads, and
-/// no other; and the domain of each open upload is there, and isn't LOADING. Where the events are some that may come, its moment is one that six octets name.
+/// are sound, and each deadline lies ahead; its event conditions are sound, and each evaluation lies ahead; no two
+/// domains have one name; of the requests of a load that a client hasn't answered there is one for each domain that it
+/// loads, and no other; and the domain of each open upload is there, and isn't LOADING. Where the events are some that
+/// may come, its moment is one that six octets name.
 pub fn each_state_is_sound()
     ensures sound { (config : Config) (history : List CellEvent) → IsConfig config
         → IsSound (length history) (replay config history) }
@@ -80,8 +81,8 @@ pub fn each_state_is_sound()
 {}
 
 /// No token of a semaphore is owned twice, after any history: of equal tokens no more are owned or hung than there are,
-/// and each by an entry with a number of its own; and each token that has a name is owned by one entry at most, or one is
-/// hung with it.
+/// and each by an entry with a number of its own; and each token that has a name is owned by one entry at most, or one
+/// is hung with it.
 pub fn no_token_is_owned_twice()
     ensures held { (config : Config) (history : List CellEvent) (key : Key) (row : SemaphoreRow)
         (tokens : Sem) → IsConfig config
@@ -131,8 +132,8 @@ pub fn every_deadline_lies_ahead()
         (evaluations (replay config history).events.conditions) }
 {}
 
-/// Two ticks are one: the state after both is that after one of both, what is to be sent included. The state is any whose
-/// semaphores and event conditions are sound, and so each that the device reaches.
+/// Two ticks are one: the state after both is that after one of both, what is to be sent included. The state is any
+/// whose semaphores and event conditions are sound, and so each that the device reaches.
 pub fn two_ticks_are_one()
     ensures { (s : State) (first second : ℕ)
         → semaphores.AreSound s.semaphores → events.AreSound s.events.conditions

@@ -8,6 +8,7 @@ mod asks;
 mod cell;
 mod domains;
 mod events;
+mod journals;
 pub mod laws;
 mod lifted;
 mod needs;

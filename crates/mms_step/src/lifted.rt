@@ -2,13 +2,14 @@
 
 ghost use Rattle.std.specs.Prelude.{◌≡◌, ◌≤◌, length};
 ghost use Rattle.part_table.specs.Held.{held_at};
-ghost use Rattle.mms_step.specs.Lifting.{clocked, domained, tabled, varied, with_events, with_programs, with_semaphores};
+ghost use Rattle.mms_step.specs.Lifting.{clocked, domained, tabled, varied, with_events, with_journals, with_programs, with_semaphores};
 ghost use Rattle.cell_services.specs.Meant.{no_tables};
-ghost use Rattle.mms_step.specs.Partition.{clients_among, clock_in, clock_or, domains_in, domains_or, events_in, events_or, programs_in, programs_or, semaphores_in, semaphores_or, semaphores_place, variables_in, variables_or};
+ghost use Rattle.mms_step.specs.Partition.{clients_among, clock_in, clock_or, domains_in, domains_or, events_in, events_or, journals_in, journals_or, programs_in, programs_or, semaphores_in, semaphores_or, semaphores_place, variables_in, variables_or};
 
 use crate::tables::semaphores as semaphores_part;
 use crate::{Cell, Part};
 use cell_services::{Clock, Tables};
+use mms_journal::Journals;
 use mms_time::Semaphores;
 use part_table::Hand;
 use program_inv::Programs;
@@ -98,6 +99,22 @@ fn exchange_events(held: &mut Hand<Cell>, events: &mut EventTables)
     held.put(4, part);
 }
 
+/// Exchanges the journals with those of the part, where they are held.
+fn exchange_journals(held: &mut Hand<Cell>, journals: &mut Journals)
+    ensures part { held.new ≡ with_journals journals.old held.old }
+    ensures journals { journals.new ≡ journals_or journals.old (held_at held.old 5) }
+{
+    let Some(mut part) = held.take(5) else {
+        return;
+    };
+    if let Part::Journals(own) = &mut *part {
+        mem::swap(own, journals);
+        held.put(5, part);
+        return;
+    }
+    held.put(5, part);
+}
+
 /// Exchanges the semaphores with those of the part, where they are held, with so many clients.
 fn exchange_semaphores(held: &mut Hand<Cell>, clients: u32, semaphores: &mut Semaphores)
     requires many { clients ≡ clients_among (length held.old) }
@@ -128,6 +145,7 @@ pub(crate) fn lift(alloc: Global, held: &mut Hand<Cell>, clients: u32) -> Tables
       domains = domains_in (held_at held.old 2);
       programs = programs_in (held_at held.old 3);
       events = events_in (held_at held.old 4);
+      journals = journals_in (held_at held.old 5);
       semaphores = semaphores_in (held_at held.old (semaphores_place clients));
     } }
     ensures left { held.new ≡ tabled no_tables held.old }
@@ -138,6 +156,7 @@ pub(crate) fn lift(alloc: Global, held: &mut Hand<Cell>, clients: u32) -> Tables
     exchange_domains(held, &mut tables.domains);
     exchange_programs(held, &mut tables.programs);
     exchange_events(held, &mut tables.events);
+    exchange_journals(held, &mut tables.journals);
     exchange_semaphores(held, clients, &mut tables.semaphores);
     tables
 }
@@ -154,5 +173,6 @@ pub(crate) fn lower(held: &mut Hand<Cell>, clients: u32, tables: Tables)
     exchange_domains(held, &mut tables.domains);
     exchange_programs(held, &mut tables.programs);
     exchange_events(held, &mut tables.events);
+    exchange_journals(held, &mut tables.journals);
     exchange_semaphores(held, clients, &mut tables.semaphores);
 }

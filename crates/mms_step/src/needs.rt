@@ -115,7 +115,8 @@ fn request_lacks(
         | AreaRequest::Semaphores(_)
         | AreaRequest::Invocations(_)
         | AreaRequest::Programs(_)
-        | AreaRequest::Events(_) => Ok(false),
+        | AreaRequest::Events(_)
+        | AreaRequest::Journals(_) => Ok(false),
     }
 }
 

@@ -13,6 +13,7 @@ use association::Constants;
 use cell_client::Client;
 use cell_config::Config;
 use cell_services::Clock;
+use mms_journal::Journals;
 use mms_time::Semaphores;
 use mms_types::Memory;
 use program_inv::Programs;
@@ -61,8 +62,8 @@ fn put(alloc: Global, parts: &mut Vec<Box<Part>>, part: Part) -> Result<(), Memo
 }
 
 /// The parts of a configured device at the start: it is the configured moment, there are the configured cells,
-/// variables and pools, and as many clients as are configured, no association is open, nothing waits and nothing is to be
-/// sent.
+/// variables and pools, and as many clients as are configured, no association is open, nothing waits and nothing is to
+/// be sent.
 #[tactic(auto, using(crate::proofs::PartsAfter::start_more))]
 pub fn start_parts(alloc: Global, config: &Config) -> Result<Vec<Box<Part>>, Memory>
     requires config { IsConfig config.now }
@@ -78,7 +79,7 @@ pub fn start_parts(alloc: Global, config: &Config) -> Result<Vec<Box<Part>>, Mem
     put(alloc, &mut parts, Part::Domains(DomainTables::empty(alloc)))?;
     put(alloc, &mut parts, Part::Programs(Programs::new(alloc)))?;
     put(alloc, &mut parts, Part::Events(EventTables::empty(alloc)))?;
-    put(alloc, &mut parts, Part::Journals)?;
+    put(alloc, &mut parts, Part::Journals(Journals::new(alloc)))?;
     for client in 0..config.clients {
         let device = device(alloc, config)?;
         put(

@@ -2,6 +2,7 @@
 
 use cell_client::Client;
 use cell_services::Clock;
+use mms_journal::Journals;
 use mms_time::Semaphores;
 use program_inv::Programs;
 use serve_domains::DomainTables;
@@ -20,8 +21,8 @@ pub enum Part {
     Programs(Programs),
     /// Part 4: event conditions and the enrollments on them.
     Events(EventTables),
-    /// Part 5: journals. There are none yet.
-    Journals,
+    /// Part 5: journals.
+    Journals(Journals),
     /// Part 5 + c, of client c.
     Client(Client),
     /// Part 6 + n: semaphores.
@@ -36,7 +37,7 @@ impl Drop for Part {
             Part::Domains(_domains) => {}
             Part::Programs(_programs) => {}
             Part::Events(_events) => {}
-            Part::Journals => {}
+            Part::Journals(_journals) => {}
             Part::Client(_client) => {}
             Part::Semaphores(_semaphores) => {}
         }

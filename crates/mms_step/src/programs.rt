@@ -87,7 +87,8 @@ fn make_in_parts(
     }
 }
 
-/// Serves a client's request that makes or deletes a program invocation, where domains and program invocations are held.
+/// Serves a client's request that makes or deletes a program invocation, where domains and program invocations are
+/// held.
 pub(crate) fn make_on_programs(
     alloc: Global,
     held: &mut Hand<Cell>,

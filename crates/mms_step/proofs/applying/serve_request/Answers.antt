@@ -7,7 +7,7 @@ use Rattle.cell_client.specs.Requests.{plain_answer}
 use Rattle.cell_services.specs.Serving.{hears}
 use Rattle.mms_step.specs.Partition.{cell}
 use Rattle.mms_step.specs.Tasks.{row_held}
-use Rattle.mms_step.proofs.Ready.{domains_there, events_there, invocations_there, programs_there, semaphores_there, variables_there}
+use Rattle.mms_step.proofs.Ready.{domains_there, events_there, invocations_there, journals_there, programs_there, semaphores_there, variables_there}
 use Rattle.mms_step.proofs.applying.serve_request.Goals as goal
 
 pub serve_on_device-requires-clause-tables : goal.serve_on_device-requires-clause-tables
@@ -93,3 +93,14 @@ returns-in-Events-clause-put c =
     (λ put. put
     ∙ ap (λ (r : Request). put_in_place cell (hears (tables_shown cell c.args.held.now) (row_held c.args.held.now c.args.client) c.args.client (Takes c.args.invoke r)) c.args.held.now) c.in-Events.ensures)
     c.serve_on_events.ensures.put
+
+pub serve_on_journals-requires-clause-table : goal.serve_on_journals-requires-clause-table
+serve_on_journals-requires-clause-table c =
+    journals_there c.requires.of.0 c.args.held.now c.requires.of.1 c.args.clients c.args.client c.args.invoke c.in-Journals.asked c.args.asked.now c.in-Journals.ensures c.requires.ready
+
+pub returns-in-Journals-clause-put : goal.returns-in-Journals-clause-put
+returns-in-Journals-clause-put c =
+    on_ok_weaker c.serve_on_journals.result
+    (λ put. put
+    ∙ ap (λ (r : Request). put_in_place cell (hears (tables_shown cell c.args.held.now) (row_held c.args.held.now c.args.client) c.args.client (Takes c.args.invoke r)) c.args.held.now) c.in-Journals.ensures)
+    c.serve_on_journals.ensures.put

@@ -13,7 +13,7 @@ use Rattle.mms_step.specs.declared.part.Part.{Part}
 use Rattle.mms_step.specs.declared.part.Part.TheVariants.{Semaphores}
 use Rattle.mms_step.specs.Tasks.{AreDone, IsRoomless}
 use Rattle.mms_step.proofs.InPlace.{held_roomless, semaphores_left, semaphores_served}
-use Rattle.mms_step.proofs.ServeLaws.{shown_own}
+use Rattle.mms_step.proofs.Tabled.{shown_own}
 use Rattle.mms_step.proofs.TakenOut.{both_back, if_ok_then, none_then, on_err_both, on_some_then, some_then}
 use Rattle.mms_step.proofs.areas.serve_alone.Goals as goal
 

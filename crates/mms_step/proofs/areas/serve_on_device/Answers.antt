@@ -8,7 +8,7 @@ use Rattle.cell_services.specs.Acts.{IsDoneIn}
 use Rattle.mms_step.specs.Partition.{cell, client_in, row_in}
 use Rattle.mms_step.specs.declared.part.Part.{Part}
 use Rattle.mms_step.proofs.Changed.{as_it_was}
-use Rattle.mms_step.proofs.InPlace.{device_served, domains_beside, events_beside, programs_beside, semaphores_beside, variables_beside}
+use Rattle.mms_step.proofs.InPlace.{device_served, domains_beside, events_beside, journals_beside, programs_beside, semaphores_beside, variables_beside}
 use Rattle.mms_step.proofs.areas.serve_on_device.Goals as goal
 
 pub returns-clause-put : goal.returns-clause-put
@@ -26,6 +26,7 @@ returns-clause-put c =
     (domains_beside c.requires.of.0 c.args.held.now c.requires.of.1 c.args.client c.take_client-part.new.held _ c.take_client-part.ensures.left refl)
     (programs_beside c.requires.of.0 c.args.held.now c.requires.of.1 c.args.client c.take_client-part.new.held _ c.take_client-part.ensures.left refl)
     (events_beside c.requires.of.0 c.args.held.now c.requires.of.1 c.args.client c.take_client-part.new.held _ c.take_client-part.ensures.left refl)
+    (journals_beside c.requires.of.0 c.args.held.now c.requires.of.1 c.args.client c.take_client-part.new.held _ c.requires.among.0 c.take_client-part.ensures.left refl)
     (semaphores_beside c.requires.of.0 c.args.held.now c.requires.of.1 c.args.client c.args.clients c.take_client-part.new.held _ c.requires.many
     c.requires.among.1 c.take_client-part.ensures.left refl)))
     c.put_client.ensures)

@@ -11,7 +11,7 @@ use Rattle.mms_step.specs.declared.part.Part.{Part}
 use Rattle.mms_step.specs.declared.part.Part.TheVariants.{Variables}
 use Rattle.mms_step.specs.Tasks.{AreDone, IsRoomless}
 use Rattle.mms_step.proofs.InPlace.{held_roomless, variables_served}
-use Rattle.mms_step.proofs.ServeLaws.{shown_own}
+use Rattle.mms_step.proofs.Tabled.{shown_own}
 use Rattle.mms_step.proofs.TakenOut.{both_back, held_after_set, on_err_both}
 use Rattle.mms_step.proofs.areas.serve_on_variables.Goals as goal
 

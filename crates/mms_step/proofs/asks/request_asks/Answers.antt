@@ -1,13 +1,14 @@
 use Rattle.std.proofs.Common.{◌∙◌, ◌++◌, Bool, [], ap, sym, subst, if◌then◌else◌}
 use Rattle.mms_types.specs.declared.pdu.Request.{Request}
 use Rattle.parted_state.specs.Sets.{IsSetOf}
+use Rattle.serve_journals.specs.Journals as of_journals
 use Rattle.serve_semaphores.specs.Semaphores as of_semaphores
 use Rattle.serve_variables.specs.Variables as of_variables
 use Rattle.cell_services.specs.Facts.{scope_tables}
 use Rattle.cell_services.specs.Services.{area_of, asks_of}
 use Rattle.cell_services.specs.Tables.{own_domains}
 use Rattle.mms_step.specs.Needs.{placed}
-use Rattle.mms_step.proofs.Scoping.{asks_of_domains, asks_of_events, asks_of_semaphores, asks_of_variables}
+use Rattle.mms_step.proofs.Scoping.{asks_of_domains, asks_of_events, asks_of_journals, asks_of_semaphores, asks_of_variables}
 use Rattle.mms_step.proofs.asks.request_asks.Goals as goal
 
 pub returns-in-Variables : goal.returns-in-Variables
@@ -37,3 +38,10 @@ returns-in-Events c =
     subst (IsSetOf c.event_asks.result)
     (ap (placed c.args.clients) (sym (asks_of_events c.in-Events.asked)) ∙ ap (λ (r : Request). placed c.args.clients (asks_of (area_of r))) c.in-Events.ensures)
     c.event_asks.ensures
+
+pub returns-in-Journals : goal.returns-in-Journals
+returns-in-Journals c =
+    subst (IsSetOf c.journal_asks.result)
+    (ap (placed c.args.clients) (sym (asks_of_journals c.in-Journals.asked c.names_domain-in-Journals.result (of_journals.domain_asked c.in-Journals.asked) c.names_domain-in-Journals.ensures))
+    ∙ ap (λ (r : Request). placed c.args.clients (asks_of (area_of r))) c.in-Journals.ensures)
+    (c.journal_asks.ensures (of_journals.domain_asked c.in-Journals.asked))

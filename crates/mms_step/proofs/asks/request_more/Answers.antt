@@ -9,7 +9,7 @@ use Rattle.cell_services.specs.Services.{InArea, area_of, more_of}
 use Rattle.cell_services.specs.Tables.{Tables}
 use Rattle.mms_step.specs.Needs.{placed}
 use Rattle.mms_step.specs.Partition.{cell}
-use Rattle.mms_step.proofs.ServeLaws.{shown_own}
+use Rattle.mms_step.proofs.Tabled.{shown_own}
 use Rattle.mms_step.proofs.asks.request_more.Goals as goal
 
 pub returns-in-Events : goal.returns-in-Events

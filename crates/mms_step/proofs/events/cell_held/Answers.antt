@@ -6,7 +6,7 @@ use Rattle.cell_services.specs.Tables.{Tables}
 use Rattle.variable_services.specs.declared.tables.VariableTables.{VariableTables}
 use Rattle.mms_step.specs.Partition.{cell}
 use Rattle.mms_step.proofs.EventFacts.{cell_told}
-use Rattle.mms_step.proofs.ServeLaws.{shown_own}
+use Rattle.mms_step.proofs.Tabled.{shown_own}
 use Rattle.mms_step.proofs.events.cell_held.Goals as goal
 
 pub returns-in-None : goal.returns-in-None

@@ -6,7 +6,7 @@ use Rattle.cell_services.specs.Facts.{is_domain_live}
 use Rattle.cell_services.specs.Tables.{Tables}
 use Rattle.mms_step.specs.Partition.{cell, domains_in}
 use Rattle.mms_step.proofs.EventFacts.{live_told}
-use Rattle.mms_step.proofs.ServeLaws.{shown_own}
+use Rattle.mms_step.proofs.Tabled.{shown_own}
 use Rattle.mms_step.proofs.events.facts_held.Goals as goal
 
 pub returns-clause-live : goal.returns-clause-live

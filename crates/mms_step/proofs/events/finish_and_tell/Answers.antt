@@ -8,7 +8,8 @@ use Rattle.mms_step.specs.Rooms.{room_to, with_rooms}
 use Rattle.mms_step.specs.declared.part.Part.{Part}
 use Rattle.mms_step.specs.declared.part.Part.TheVariants.{Events}
 use Rattle.mms_step.proofs.EventsDone.{roomed_events, turned_clients, turned_in_place, turned_rooms}
-use Rattle.mms_step.proofs.ServeLaws.{is_settled, shown_own}
+use Rattle.mms_step.proofs.ServeLaws.{is_settled}
+use Rattle.mms_step.proofs.Tabled.{shown_own}
 use Rattle.mms_step.proofs.events.finish_and_tell.Goals as goal
 
 pub make_rooms-requires-clause-settled : goal.make_rooms-requires-clause-settled

@@ -10,4 +10,5 @@ use Rattle.mms_step.proofs.opening.start_parts.Given as goal
 
 abbrev pub invariant-loop-client : goal.invariant-loop-client
 invariant-loop-client l =
-    map box_value l.parts.items ≡ Clock l.config.start.0 ∷ Variables (configured l.config.cells l.config.variables) ∷ Domains no_domains ∷ Programs [] ∷ Events no_events ∷ Journals ∷ map client_part (first_rows l.config l.client)
+    map box_value l.parts.items ≡ Clock l.config.start.0 ∷ Variables (configured l.config.cells l.config.variables) ∷ Domains no_domains ∷ Programs [] ∷ Events no_events ∷ Journals []
+    ∷ map client_part (first_rows l.config l.client)
