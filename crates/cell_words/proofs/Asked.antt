@@ -1,79 +1,162 @@
 -- The parser takes the command forms, and nothing else.
-use Rattle.std.proofs.Common.{◌≡◌, ◌∙◌, ◌⊎◌, ◌&&◌, ◌||◌, ◌==◌, ◌++◌, refl, sym, ap, ap₂, subst, inl, inr, ℕ, zero, suc, Bool, true, false, cond, not, codes, List, [], ◌∷◌, Option, Some, None, option_map, drop, take, length}
-use Rattle.std.specs.Prelude.{nat_eq, nat_le, option_and_then}
+use Rattle.std.proofs.Common.{◌≡◌, ◌∙◌, ◌⊎◌, ◌&&◌, ◌||◌, ◌==◌, ◌++◌, refl, sym, ap, ap₂, subst, inl, inr, ℕ, suc, Bool, true, false, cond, not, codes, List, [], ◌∷◌, Option, Some, None, option_map, drop, length, map, append_assoc}
+use Rattle.std.proofs.Common.{◌+◌, ◌≤◌, arith}
+use Rattle.std.specs.Prelude.{fold, nat_eq, nat_le, option_and_then}
+use Rattle.std.specs.List.{list_all, starts_with}
+use Rattle.std.specs.Option.{is_some}
 use Rattle.std.specs.Str.{bytes_eq}
-use Rattle.std.specs.Option.{option_map_or}
-use Rattle.std.specs.List.{starts_with, list_all}
-use Rattle.std.proofs.lemmas.Slice.Eq.{bytes_eq-Decides, starts_is}
+use Rattle.std.specs.Str.Parse.{digits_value}
+use Rattle.std.proofs.lemmas.Bool.{leb-true, ne_eqb}
 use Rattle.std.proofs.lemmas.Bool.Decides.{Decides-eqb}
-use Rattle.std.proofs.Common.{◌<◌, ◌≤◌, ◌^◌, arith, map}
-use Rattle.std.specs.Str.Parse.{AllDigits, IsNumeral, digits_value, without_leading_plus}
-use Rattle.std.proofs.lemmas.Str.{digit_value_digit}
-use Rattle.std.proofs.lemmas.Bool.{le-leb, leb-true, lt-leb, ne_eqb}
-use Rattle.std.proofs.lemmas.List.Folds.{list_all-map}
+use Rattle.std.proofs.lemmas.Slice.Eq.{bytes_eq-Decides, starts_is}
+use Rattle.clap.proofs.OnLiterals.{clap_on_literals}
+use Rattle.clap.specs.Kinds.{Kinds, or_else}
+use Rattle.clap.specs.Walk.{Names, Row, Rule, Walk, finished, idle, nothing_held, rows_after, rows_of, settled, subcommand_met, walk_from, walked}
+use Rattle.clap.specs.Simple.{Shape, built, entered, names_of, subcommand_of, subcommand_rows_of}
+use Rattle.clap.specs.Faults.{check_fault, defaults_fault, entered_fault, fault_of, level_fault, settle_fault, stray_fault, turn_fault, walk_fault}
+use Rattle.clap.specs.declared.parser.matches.ArgMatches.{ArgMatches}
+use Rattle.clap.specs.declared.parser.matches.Found.{Found}
 use Rattle.clap.proofs.WalkLemmas.{first_value-rows}
 use Rattle.clap.specs.Matches.{first_value}
-use Rattle.clap.specs.Simple.{subcommand_rows_of}
-use Rattle.clap.specs.Walk.{first_of, rows_of}
-use Rattle.clap.specs.declared.parser.matches.Found.{Found}
-use Rattle.clap.specs.declared.parser.matches.ArgMatches.{ArgMatches}
-use Rattle.clap.proofs.OnLiterals.{clap_on_literals}
-use Rattle.clap.specs.Lexer.{long_of, short_of, strip_byte, long_of_rest, short_of_rest}
-use Rattle.clap.specs.Kinds.{Kinds, or_else}
-use Rattle.clap.specs.Walk.{Held, Names, Rule, Step, Waiting, Walk, after_step, arg_by_index, finished, idle, long_or_other, nothing_held, option, plain_word, settled, short_or_plain, subcommand_met, subcommand_or_other, trailing, walk_from, walked, word_met}
-use Rattle.clap.specs.Simple.{Shape, built, names_of, subcommand_of}
-use Rattle.clap.specs.Faults.{bundle_fault, check_fault, defaults_fault, fault_of, flag_word_fault, level_fault, other_fault, positional_fault, settle_fault, step_fault, stray_fault, turn_fault, walk_fault, word_fault}
 use Rattle.cell_words.specs.declared.words.Command.{Command}
-use Rattle.cell_words.specs.Words.{Text, command_of, is_askable, is_digit, is_refused, number_in, run_of}
-use Rattle.cell_words.specs.Parser.{Answers, asked_of, mmscell}
+use Rattle.cell_words.specs.declared.words.Command.TheVariants.{Run, Stress}
+use Rattle.cell_words.specs.Parser.{Answers, asked_of, mmscell, run_found, stress_found}
+use Rattle.cell_words.specs.Words.{Given, Text, command_of, is_digit, is_refused, names, number_in, options_in, replay_of, run_of, run_with, stress_of, stress_with, text_of}
+use Rattle.cell_words.specs.Read.{AreNot}
+use Rattle.cell_words.proofs.Counts.{Accepts, In, begins, bit, dash, dashed, first_of_word, total}
+use Rattle.cell_words.proofs.Leaf.{Form, Kept, Name, Refuses, Status, Takes, Word, clients, else_left, first_rows, leaf, level, plain, bare, valued, no_word, and_word, known, unknown, rounds, rules, seed, stray, workers}
 
--- ---- of lists of kinds
+-- ---- the forms
 
-else_left : (x y : Kinds) → ¬ (x ≡ []) → ¬ (or_else x y ≡ [])
-else_left [] y n e = n refl
-else_left (k ∷ ks) y n e = cc
+abbrev run_names : List Text
+run_names = codes "workers" ∷ []
 
-first_fails : (s : Shape) (names : Names) (h : Held) (word : Text) (rest : List Text) (has : Bool) (below : Kinds)
-    → ¬ (turn_fault s names (walk_from h) word ≡ []) → ¬ (level_fault s names h (word ∷ rest) has below ≡ [])
-unfolding clap_on_literals
-first_fails s names h word rest has below n =
-    else_left (walk_fault s names (walk_from h) (word ∷ rest)) _
-    (else_left (turn_fault s names (walk_from h) word) (walk_fault s names (walked s.rules names (walk_from h) word) rest) n)
+abbrev stress_names : List Text
+stress_names = codes "seed" ∷ codes "clients" ∷ codes "rounds" ∷ codes "workers" ∷ []
 
--- ---- a word with no hyphen at its head
+replay_form : Form []
+replay_form = record { apart = λ o. omega arith; status = λ n m. unknown refl (λ t. refl); no_place = refl }
 
-plain_long : (x : ℕ) (xs : Text) → (x == 45) ≡ false → long_of (x ∷ xs) ≡ None
-plain_long x xs e = ap (λ b. option_and_then long_of_rest (option_and_then (strip_byte 45) (cond b (Some xs) None))) e
+run_form : Form run_names
+run_form = record { apart = λ o. one (bytes_eq o.0 (codes "--workers")); status = has; no_place = refl }
+  where
+    one : (b : Bool) → (bit b + 0) + 0 ≤ 1
+    one true = omega arith
+    one false = omega arith
 
-plain_short : (x : ℕ) (xs : Text) → (x == 45) ≡ false → short_of (x ∷ xs) ≡ None
-plain_short x xs e = ap (λ b. option_and_then short_of_rest (cond b (Some xs) None)) e
+    has : (n : Text) → Name n → Status run_names n
+    has n seed = unknown refl (λ t. refl)
+    has n clients = unknown refl (λ t. refl)
+    has n rounds = unknown refl (λ t. refl)
+    has n workers = known (inl refl) refl refl
 
-plain_dashes : (x : ℕ) (xs : Text) → (x == 45) ≡ false → bytes_eq (x ∷ xs) (45 ∷ 45 ∷ []) ≡ false
-plain_dashes x xs e = ap (λ b. b && bytes_eq xs (45 ∷ [])) e
+-- a name is one of the four at most
+at_name : (n t : Text) → Name n → total stress_names ((dashed n, t) ∷ []) ≤ 1
+at_name n t seed = omega arith
+at_name n t clients = omega arith
+at_name n t rounds = omega arith
+at_name n t workers = omega arith
 
-plain_met : (c : List Rule) (names : Names) (waiting : Waiting) (p : ℕ) (x : ℕ) (xs : Text) (h : Held) → (x == 45) ≡ false
-    → subcommand_met names waiting (x ∷ xs) ≡ None → word_met c names false waiting p (x ∷ xs) h ≡ plain_word c waiting (x ∷ xs) h
-plain_met c names waiting p x xs h e none =
-    ap (λ o. subcommand_or_other c o waiting p (x ∷ xs) h) none
-    ∙ (ap (λ b. cond b (h, trailing p) (long_or_other c waiting (x ∷ xs) (long_of (x ∷ xs)) h)) (plain_dashes x xs e)
-    ∙ (ap (λ o. long_or_other c waiting (x ∷ xs) o h) (plain_long x xs e)
-    ∙ ap (λ o. short_or_plain c waiting (x ∷ xs) o h) (plain_short x xs e)))
+at_one : (n x t : Text) → Name n → bytes_eq x (dashed n) ≡ true → total stress_names ((x, t) ∷ []) ≤ 1
+at_one n x t m h = subst (λ k. total stress_names ((k, t) ∷ []) ≤ 1) (sym ((bytes_eq-Decides x (dashed n)).0 h)) (at_name n t m)
 
-plain_fault : (s : Shape) (names : Names) (waiting : Waiting) (x : ℕ) (xs : Text) (h : Held) → (x == 45) ≡ false
-    → subcommand_met names waiting (x ∷ xs) ≡ None → word_fault s names false waiting (x ∷ xs) h ≡ []
-plain_fault s names waiting x xs h e none =
-    ap (λ o. other_fault s o (x ∷ xs) h) none
-    ∙ (ap (λ b. cond b [] (flag_word_fault s.rules s.args_override_self (long_of (x ∷ xs)) (x ∷ xs) h)) (plain_dashes x xs e)
-    ∙ (ap (λ o. flag_word_fault s.rules s.args_override_self o (x ∷ xs) h) (plain_long x xs e)
-    ∙ ap (λ o. option_map_or (λ flags. bundle_fault s.rules s.args_override_self flags h) o []) (plain_short x xs e)))
+stress_apart : (x t : Text) (a b c d : Bool) → bytes_eq x (codes "--seed") ≡ a → bytes_eq x (codes "--clients") ≡ b → bytes_eq x (codes "--rounds") ≡ c → bytes_eq x (codes "--workers") ≡ d
+    → total stress_names ((x, t) ∷ []) ≤ 1
+stress_apart x t true b c d h i j k = at_one (codes "seed") x t seed h
+stress_apart x t false true c d h i j k = at_one (codes "clients") x t clients i
+stress_apart x t false false true d h i j k = at_one (codes "rounds") x t rounds j
+stress_apart x t false false false true h i j k = at_one (codes "workers") x t workers k
+stress_apart x t false false false false h i j k =
+    let one : bit (bytes_eq x (codes "--seed")) ≡ 0 = ap bit h in
+    let two : bit (bytes_eq x (codes "--clients")) ≡ 0 = ap bit i in
+    let three : bit (bytes_eq x (codes "--rounds")) ≡ 0 = ap bit j in
+    let four : bit (bytes_eq x (codes "--workers")) ≡ 0 = ap bit k in
+    omega (arith, one, two, three, four)
 
--- it is astray where nothing waits for it
-stray : (s : Shape) (names : Names) (h : Held) (x : ℕ) (xs : Text) → (x == 45) ≡ false
-    → subcommand_met names idle (x ∷ xs) ≡ None → arg_by_index s.rules 1 ≡ None
-    → turn_fault s names (walk_from h) (x ∷ xs) ≡ stray_fault s
-stray s names h x xs e none no_place =
-    ap₂ (λ a (m : Held × Step). or_else a (step_fault s 1 m.0 m.1)) (plain_fault s names idle x xs h e none) (plain_met s.rules names idle 1 x xs h e none)
-    ∙ ap (λ o. option_map_or (λ a. positional_fault s.rules s.args_override_self a h) o (stray_fault s)) no_place
+stress_form : Form stress_names
+stress_form = record { apart = λ o. stress_apart o.0 o.1 _ _ _ _ refl refl refl refl; status = has; no_place = refl }
+  where
+    has : (n : Text) → Name n → Status stress_names n
+    has n seed = known (inl refl) refl refl
+    has n clients = known (inr (inl refl)) refl refl
+    has n rounds = known (inr (inr (inl refl))) refl refl
+    has n workers = known (inr (inr (inr (inl refl)))) refl refl
+
+-- ---- what their options may be
+
+both : (a b : Bool) → (a && b) ≡ true → (a ≡ true) × (b ≡ true)
+both true b e = (refl, e)
+both false b e = cc
+
+begins_number : (least most v : ℕ) (text : Text) → number_in least most text ≡ Some v → begins text ≡ true
+begins_number least most v [] e = absurd (cc e)
+begins_number least most v (x ∷ xs) e = go (is_digit x) refl e
+  where
+    go : (b : Bool) → is_digit x ≡ b
+        → cond ((b && list_all is_digit xs) && ((nat_le 1 (length (x ∷ xs)) && nat_le (length (x ∷ xs)) 20) && (nat_le least (digits_value 10 (x ∷ xs)) && nat_le (digits_value 10 (x ∷ xs)) most)))
+        (Some (digits_value 10 (x ∷ xs))) None ≡ Some v → not (x == 45) ≡ true
+    go true h e = let low = leb-true 48 x (both (nat_le 48 x) (nat_le x 57) h).0 in ap not (ne_eqb x 45 (λ z. omega arith))
+    go false h e = absurd (cc e)
+
+-- a text that is a number
+has_number : (least most v : ℕ) (text : Option Text) → option_and_then (number_in least most) text ≡ Some v → (t : Text) × (text ≡ Some t) × (begins t ≡ true)
+has_number least most v None e = absurd (cc e)
+has_number least most v (Some t) e = (t, refl, begins_number least most v t e)
+
+mapped : {X Y : Type 0} (f : X → Y) (o : Option X) (y : Y) → option_map f o ≡ Some y → (x : X) × (o ≡ Some x)
+mapped f None y e = absurd (cc e)
+mapped f (Some x) y e = (x, refl)
+
+-- four numbers of which each is there
+pub four_some : (a b d f : Option ℕ) (command : Command)
+    → option_and_then (λ s. option_and_then (λ c. option_and_then (λ r. option_map (λ n. Stress s c r n) f) d) b) a ≡ Some command
+    → (s : ℕ) × (c : ℕ) × (r : ℕ) × (n : ℕ) × (a ≡ Some s) × (b ≡ Some c) × (d ≡ Some r) × (f ≡ Some n) × (Stress s c r n ≡ command)
+four_some None b d f command e = absurd (cc e)
+four_some (Some s) None d f command e = absurd (cc e)
+four_some (Some s) (Some c) None f command e = absurd (cc e)
+four_some (Some s) (Some c) (Some r) None command e = absurd (cc e)
+four_some (Some s) (Some c) (Some r) (Some n) command e = (s, c, r, n, refl, refl, refl, refl, cc e)
+
+pub counted : (n m : ℕ) (o : Option Command) (c : Command) → cond (n == m) o None ≡ Some c → (n ≡ m) × (o ≡ Some c)
+counted n m o c e = go (n == m) refl e
+  where
+    go : (b : Bool) → (n == m) ≡ b → cond b o None ≡ Some c → (n ≡ m) × (o ≡ Some c)
+    go true h e = ((Decides-eqb n m).0 h, e)
+    go false h e = absurd (cc e)
+
+run_accepts : (options : List Given) (c : Command) → run_of options ≡ Some c → Accepts run_names options
+run_accepts options c e = record { number = k.0; texts = λ n i. at n i }
+  where
+    k : (length options ≡ 1) × (run_with (text_of (codes "--workers") options) ≡ Some c)
+    k = counted (length options) 1 (run_with (text_of (codes "--workers") options)) c e
+
+    at : (n : Text) → In n run_names → (t : Text) × (text_of (dashed n) options ≡ Some t) × (begins t ≡ true)
+    at n (inr i) = absurd i
+    at n (inl is) =
+        let m = mapped (λ (n : ℕ). Run n) (option_and_then (number_in 1 16) (text_of (codes "--workers") options)) c k.1 in
+        subst (λ name. (t : Text) × (text_of (dashed name) options ≡ Some t) × (begins t ≡ true)) is (has_number 1 16 m.0 (text_of (codes "--workers") options) m.1)
+
+abbrev HasText : List Given → Text → Type 0
+HasText options name = (t : Text) × (text_of (dashed name) options ≡ Some t) × (begins t ≡ true)
+
+stress_accepts : (options : List Given) (command : Command) → stress_of options ≡ Some command → Accepts stress_names options
+stress_accepts options command e = record { number = k.0; texts = λ n i. at n i }
+  where
+    k : (length options ≡ 4) × (stress_with (text_of (codes "--seed") options) (text_of (codes "--clients") options) (text_of (codes "--rounds") options) (text_of (codes "--workers") options) ≡ Some command)
+    k = counted (length options) 4 (stress_with (text_of (codes "--seed") options) (text_of (codes "--clients") options) (text_of (codes "--rounds") options) (text_of (codes "--workers") options)) command e
+
+    numbers : (s : ℕ) × (c : ℕ) × (r : ℕ) × (n : ℕ) × (option_and_then (number_in 0 18446744073709551615) (text_of (codes "--seed") options) ≡ Some s)
+        × (option_and_then (number_in 1 64) (text_of (codes "--clients") options) ≡ Some c) × (option_and_then (number_in 1 1000) (text_of (codes "--rounds") options) ≡ Some r)
+        × (option_and_then (number_in 1 16) (text_of (codes "--workers") options) ≡ Some n) × (Stress s c r n ≡ command)
+    numbers = four_some (option_and_then (number_in 0 18446744073709551615) (text_of (codes "--seed") options)) (option_and_then (number_in 1 64) (text_of (codes "--clients") options))
+        (option_and_then (number_in 1 1000) (text_of (codes "--rounds") options)) (option_and_then (number_in 1 16) (text_of (codes "--workers") options)) command k.1
+
+    at : (n : Text) → In n stress_names → (t : Text) × (text_of (dashed n) options ≡ Some t) × (begins t ≡ true)
+    at n (inl is) = subst (HasText options) is (has_number 0 18446744073709551615 numbers.0 (text_of (codes "--seed") options) numbers.4)
+    at n (inr (inl is)) = subst (HasText options) is (has_number 1 64 numbers.1 (text_of (codes "--clients") options) numbers.5)
+    at n (inr (inr (inl is))) = subst (HasText options) is (has_number 1 1000 numbers.2 (text_of (codes "--rounds") options) numbers.6)
+    at n (inr (inr (inr (inl is)))) = subst (HasText options) is (has_number 1 16 numbers.3 (text_of (codes "--workers") options) numbers.7)
+    at n (inr (inr (inr (inr i)))) = absurd i
 
 -- ---- what is to be shown of a list of words
 
@@ -84,297 +167,246 @@ Reads words = ((fault_of mmscell words ≡ []) × (asked_of (subcommand_of mmsce
 abbrev top : Shape
 top = (built mmscell).top
 
-abbrev shape_at : List Shape → ℕ → Shape
-shape_at [] i = top
-shape_at (s ∷ rest) zero = s
-shape_at (s ∷ rest) (suc i) = shape_at rest i
+-- ---- what follows the form's word is its level alone, for any number of words
 
-abbrev replay : Shape
-replay = shape_at (built mmscell).subs 0
+abbrev at_stop : Walk → Text → List Text → Walk
+at_stop w name words = record w { stopped = Some (name, words) }
 
-abbrev run : Shape
-run = shape_at (built mmscell).subs 1
+last : (xs : List Text) (y : Text) (ys : List Text) → (xs ++ y ∷ []) ++ ys ≡ xs ++ (y ∷ ys)
+last [] y ys = refl
+last (x ∷ xs) y ys = ap (λ l. x ∷ l) (last xs y ys)
 
--- the words that the parser is asked
-pub data Word : Text → Type 0 where
-  plain : (x : ℕ) (xs : Text) → (x == 45) ≡ false → Word (x ∷ xs)
-  bare : Word (codes "--workers")
-  valued : (text : Text) → Word (codes "--workers=" ++ text)
+none_left : (xs : List Text) → xs ≡ xs ++ []
+none_left [] = refl
+none_left (x ∷ xs) = ap (λ l. x ∷ l) (none_left xs)
+
+fold_stopped : (c : List Rule) (names : Names) (w : Walk) (name : Text) (words rest : List Text) → fold (walked c names) (at_stop w name words) rest ≡ at_stop w name (words ++ rest)
+unfolding clap_on_literals
+fold_stopped c names w name words [] = ap (at_stop w name) (none_left words)
+fold_stopped c names w name words (x ∷ rest) = fold_stopped c names w name (words ++ x ∷ []) rest ∙ ap (at_stop w name) (last words x rest)
+
+fault_stopped : (s : Shape) (names : Names) (w : Walk) (name : Text) (words rest : List Text) → walk_fault s names (at_stop w name words) rest ≡ []
+unfolding clap_on_literals
+fault_stopped s names w name words [] = refl
+fault_stopped s names w name words (x ∷ rest) = fault_stopped s names w name (words ++ x ∷ []) rest
+
+abbrev at_end : Kinds → Walk → Kinds
+at_end fault w = or_else fault (or_else (entered_fault (built mmscell) w.stopped) (or_else (settle_fault top.rules top.args_override_self w.held)
+    (or_else (defaults_fault (settled top.rules w.held).rows top.rules) (check_fault top (finished top.rules w.held) (is_some (entered (built mmscell) w.stopped))))))
+
+abbrev faults : Text → List Text → List Text → Kinds
+faults form names rest = or_else (level_fault (leaf form names) [] nothing_held rest false []) []
+
+abbrev found : Text → List Text → List Text → Option (Text × List Row)
+found form names rest = Some (form, rows_after (rules names) [] rest)
+
+of_replay : (rest : List Text) → (fault_of mmscell (codes "replay" ∷ rest) ≡ faults (codes "replay") [] rest) × (subcommand_of mmscell (codes "replay" ∷ rest) ≡ found (codes "replay") [] rest)
+unfolding clap_on_literals
+of_replay rest =
+    let end = fold_stopped top.rules (names_of (built mmscell)) (walk_from nothing_held) (codes "replay") [] rest in
+    (ap₂ at_end (fault_stopped top (names_of (built mmscell)) (walk_from nothing_held) (codes "replay") [] rest) end, ap (λ (w : Walk). entered (built mmscell) w.stopped) end)
+
+of_run : (rest : List Text) → (fault_of mmscell (codes "run" ∷ rest) ≡ faults (codes "run") run_names rest) × (subcommand_of mmscell (codes "run" ∷ rest) ≡ found (codes "run") run_names rest)
+unfolding clap_on_literals
+of_run rest =
+    let end = fold_stopped top.rules (names_of (built mmscell)) (walk_from nothing_held) (codes "run") [] rest in
+    (ap₂ at_end (fault_stopped top (names_of (built mmscell)) (walk_from nothing_held) (codes "run") [] rest) end, ap (λ (w : Walk). entered (built mmscell) w.stopped) end)
+
+of_stress : (rest : List Text) → (fault_of mmscell (codes "stress" ∷ rest) ≡ faults (codes "stress") stress_names rest) × (subcommand_of mmscell (codes "stress" ∷ rest) ≡ found (codes "stress") stress_names rest)
+unfolding clap_on_literals
+of_stress rest =
+    let end = fold_stopped top.rules (names_of (built mmscell)) (walk_from nothing_held) (codes "stress") [] rest in
+    (ap₂ at_end (fault_stopped top (names_of (built mmscell)) (walk_from nothing_held) (codes "stress") [] rest) end, ap (λ (w : Walk). entered (built mmscell) w.stopped) end)
+
+-- ---- the forms' words
+
+or_none : (x : Kinds) → or_else x [] ≡ [] → x ≡ []
+or_none [] e = refl
+or_none (k ∷ ks) e = absurd (cc e)
+
+none_of : (f : List Given → Option Command) (os : Option (List Given)) → ((options : List Given) → os ≡ Some options → (c : Command) → f options ≡ Some c → ⊥) → option_and_then f os ≡ None
+none_of f None never = refl
+none_of f (Some options) never = by (f options) refl
+  where
+    by : (o : Option Command) → f options ≡ o → o ≡ None
+    by None e = refl
+    by (Some c) e = absurd (never options refl c e)
+
+replay_reads : (rest : List Text) → Kept rest → Reads (codes "replay" ∷ rest)
+replay_reads [] kept = by (level (codes "replay") [] replay_form [] kept)
+  where
+    by : Takes (codes "replay") [] replay_form [] ⊎ Refuses (codes "replay") [] replay_form [] → Reads (codes "replay" ∷ [])
+    by (inl k) = inl ((of_replay []).0 ∙ ap (λ f. or_else f []) k.0, ap asked_of (of_replay []).1)
+    by (inr k) = absurd (k.1 [] refl (record { number = refl; texts = λ n i. absurd i }))
+replay_reads (word ∷ rest) kept = by (level (codes "replay") [] replay_form (word ∷ rest) kept)
+  where
+    by : Takes (codes "replay") [] replay_form (word ∷ rest) ⊎ Refuses (codes "replay") [] replay_form (word ∷ rest) → Reads (codes "replay" ∷ word ∷ rest)
+    by (inl k) =
+        let m = first_of_word word rest (map dash k.1) k.2 in
+        let size : length (map dash k.1) ≡ suc (length m.1) = ap length m.2 in
+        let none : length (map dash k.1) ≡ 0 = k.4 in
+        absurd (omega (arith, size, none))
+    by (inr k) = inr ((λ z. k.0 (or_none (level_fault (leaf (codes "replay") []) [] nothing_held (word ∷ rest) false []) (sym (of_replay (word ∷ rest)).0 ∙ z))), refl)
+
+run_reads : (rest : List Text) → Kept rest → Reads (codes "run" ∷ rest)
+run_reads rest kept = by (level (codes "run") run_names run_form rest kept)
+  where
+    by : Takes (codes "run") run_names run_form rest ⊎ Refuses (codes "run") run_names run_form rest → Reads (codes "run" ∷ rest)
+    by (inl k) = inl (
+      (of_run rest).0 ∙ ap (λ f. or_else f []) k.0,
+      ap asked_of ((of_run rest).1 ∙ ap (λ rows. Some (codes "run", rows)) k.3) ∙ (ap run_with (first_rows (codes "workers") k.1)
+          ∙ sym (ap (option_and_then run_of) k.2 ∙ ap (λ n. cond (n == 1) (run_with (text_of (codes "--workers") (map dash k.1))) None) k.4)),
+    )
+    by (inr k) = inr (
+      (λ z. k.0 (or_none (level_fault (leaf (codes "run") run_names) [] nothing_held rest false []) (sym (of_run rest).0 ∙ z))),
+      none_of run_of (options_in rest) (λ options is c e. k.1 options is (run_accepts options c e)),
+    )
+
+pub stress_same : (a b c d e f g h : Option Text) → a ≡ e → b ≡ f → c ≡ g → d ≡ h → stress_with a b c d ≡ stress_with e f g h
+stress_same a b c d e f g h i j k l = ap₂ (λ s t. stress_with s t c d) i j ∙ ap₂ (λ s t. stress_with e f s t) k l
+
+stress_reads : (rest : List Text) → Kept rest → Reads (codes "stress" ∷ rest)
+stress_reads rest kept = by (level (codes "stress") stress_names stress_form rest kept)
+  where
+    by : Takes (codes "stress") stress_names stress_form rest ⊎ Refuses (codes "stress") stress_names stress_form rest → Reads (codes "stress" ∷ rest)
+    by (inl k) = inl (
+      (of_stress rest).0 ∙ ap (λ f. or_else f []) k.0,
+      ap asked_of ((of_stress rest).1 ∙ ap (λ rows. Some (codes "stress", rows)) k.3)
+          ∙ (stress_same _ _ _ _ _ _ _ _ (first_rows (codes "seed") k.1) (first_rows (codes "clients") k.1) (first_rows (codes "rounds") k.1) (first_rows (codes "workers") k.1)
+          ∙ sym (ap (option_and_then stress_of) k.2
+          ∙ ap (λ n. cond (n == 4) (stress_with (text_of (codes "--seed") (map dash k.1)) (text_of (codes "--clients") (map dash k.1)) (text_of (codes "--rounds") (map dash k.1)) (text_of (codes "--workers") (map dash k.1))) None) k.4)),
+    )
+    by (inr k) = inr (
+      (λ z. k.0 (or_none (level_fault (leaf (codes "stress") stress_names) [] nothing_held rest false []) (sym (of_stress rest).0 ∙ z))),
+      none_of stress_of (options_in rest) (λ options is c e. k.1 options is (stress_accepts options c e)),
+    )
 
 nothing_reads : Reads []
 unfolding clap_on_literals
 nothing_reads = inr ((λ e. cc), refl)
 
-replay_reads : Reads (codes "replay" ∷ [])
+-- ---- a first word that is no form's
+
+abbrev is_first : Text → Bool → Bool → Bool → Option Text
+is_first word p q r = option_map (λ (s : Text × List Text). s.0) (cond (p || false) (Some (codes "replay", [])) (cond (q || false) (Some (codes "run", [])) (cond (r || false) (Some (codes "stress", [])) None)))
+
+no_form : (word : Text) → bytes_eq (codes "replay") word ≡ false → bytes_eq (codes "run") word ≡ false → bytes_eq (codes "stress") word ≡ false
+    → subcommand_met (names_of (built mmscell)) idle word ≡ None
+no_form word a b c = ap₂ (λ p q. is_first word p q (bytes_eq (codes "stress") word)) a b ∙ ap (λ r. is_first word false false r) c
+
+no_command : (word : Text) (rest : List Text) → bytes_eq (codes "replay") word ≡ false → bytes_eq (codes "run") word ≡ false → bytes_eq (codes "stress") word ≡ false
+    → command_of (word ∷ rest) ≡ None
+no_command word rest a b c =
+    ap₂ (λ p q. cond p (replay_of rest) (cond q (option_and_then run_of (options_in rest)) (cond (bytes_eq (codes "stress") word) (option_and_then stress_of (options_in rest)) None))) a b
+    ∙ ap (λ r. cond r (option_and_then stress_of (options_in rest)) None) c
+
+first_fails : (word : Text) (rest : List Text) → ¬ (turn_fault top (names_of (built mmscell)) (walk_from nothing_held) word ≡ []) → ¬ (fault_of mmscell (word ∷ rest) ≡ [])
 unfolding clap_on_literals
-replay_reads = inl (refl, refl)
+first_fails word rest n =
+    else_left (walk_fault top (names_of (built mmscell)) (walk_from nothing_held) (word ∷ rest)) _
+    (else_left (turn_fault top (names_of (built mmscell)) (walk_from nothing_held) word) (walk_fault top (names_of (built mmscell)) (walked top.rules (names_of (built mmscell)) (walk_from nothing_held) word) rest) n)
 
-valued_reads : (text : Text) → Reads (codes "run" ∷ (codes "--workers=" ++ text) ∷ [])
+bare_fails : (n : Text) → Name n → ¬ (turn_fault top (names_of (built mmscell)) (walk_from nothing_held) (dashed n) ≡ [])
 unfolding clap_on_literals
-valued_reads text = inl (refl, refl)
+bare_fails n seed e = cc
+bare_fails n clients e = cc
+bare_fails n rounds e = cc
+bare_fails n workers e = cc
 
--- ---- the first word
-
-no_form : (x : ℕ) (xs : Text) → bytes_eq (codes "replay") (x ∷ xs) ≡ false → bytes_eq (codes "run") (x ∷ xs) ≡ false
-    → subcommand_met (names_of (built mmscell)) idle (x ∷ xs) ≡ None
-no_form x xs a b = ap₂ (λ p q. option_map (λ (s : Text × List Text). s.0) (cond (p || false) (Some (codes "replay", [])) (cond (q || false) (Some (codes "run", [])) None))) a b
-
-no_command : (word : Text) (rest : List Text) → bytes_eq (codes "replay") word ≡ false → bytes_eq (codes "run") word ≡ false → command_of (word ∷ rest) ≡ None
-no_command word rest a b = ap₂ (λ p q. cond p (command_of (codes "replay" ∷ rest)) (cond q (command_of (codes "run" ∷ rest)) None)) a b
-
-other_reads : (word : Text) → Word word → (rest : List Text) → bytes_eq (codes "replay") word ≡ false → bytes_eq (codes "run") word ≡ false → Reads (word ∷ rest)
+valued_fails : (n t : Text) → Name n → ¬ (turn_fault top (names_of (built mmscell)) (walk_from nothing_held) (dashed n ++ 61 ∷ t) ≡ [])
 unfolding clap_on_literals
-other_reads word (plain x xs e) rest a b =
-    let fails : ¬ (turn_fault top (names_of (built mmscell)) (walk_from nothing_held) (x ∷ xs) ≡ []) = λ z. let bad : stray_fault top ≡ [] = sym (stray top (names_of (built mmscell)) nothing_held x xs e (no_form x xs a b) refl) ∙ z in cc in
-    inr (first_fails top (names_of (built mmscell)) nothing_held (x ∷ xs) rest _ _ fails, no_command (x ∷ xs) rest a b)
-other_reads word bare rest a b = inr ((λ e. cc), refl)
-other_reads word (valued text) rest a b = inr ((λ e. cc), refl)
+valued_fails n t seed e = cc
+valued_fails n t clients e = cc
+valued_fails n t rounds e = cc
+valued_fails n t workers e = cc
 
--- ---- what follows `replay` and `run`
-
--- a leaf at which a plain word comes first, or after what is held
-leaf_stray : (s : Shape) (h : Held) (x : ℕ) (xs : Text) → (x == 45) ≡ false → arg_by_index s.rules 1 ≡ None → ¬ (stray_fault s ≡ [])
-    → ¬ (turn_fault s [] (walk_from h) (x ∷ xs) ≡ [])
-leaf_stray s h x xs e none n z = n (sym (stray s [] h x xs e refl none) ∙ z)
-
-replay_one : (word : Text) → Word word → Reads (codes "replay" ∷ word ∷ [])
-unfolding clap_on_literals
-replay_one word (plain x xs e) = inr (
-  else_left (level_fault replay [] nothing_held ((x ∷ xs) ∷ []) false []) _ (first_fails replay [] nothing_held (x ∷ xs) [] false [] (leaf_stray replay nothing_held x xs e refl (λ z. cc))),
-  refl,
-)
-replay_one word bare = inr ((λ e. cc), refl)
-replay_one word (valued text) = inr ((λ e. cc), refl)
-
-replay_two : (word : Text) → Word word → (more : Text) → Reads (codes "replay" ∷ word ∷ more ∷ [])
-unfolding clap_on_literals
-replay_two word (plain x xs e) more = inr (
-  else_left (level_fault replay [] nothing_held ((x ∷ xs) ∷ more ∷ []) false []) _ (first_fails replay [] nothing_held (x ∷ xs) (more ∷ []) false [] (leaf_stray replay nothing_held x xs e refl (λ z. cc))),
-  refl,
-)
-replay_two word bare more = inr ((λ e. cc), refl)
-replay_two word (valued text) more = inr ((λ e. cc), refl)
-
-other_head : (x : ℕ) → (x == 45) ≡ false → (45 == x) ≡ false
-other_head x e = cases (45 == x) refl
+other_reads : (word : Text) → Word word → (rest : List Text) → bytes_eq (codes "replay") word ≡ false → bytes_eq (codes "run") word ≡ false → bytes_eq (codes "stress") word ≡ false
+    → Reads (word ∷ rest)
+other_reads word w rest a b c = inr (first_fails word rest (fails word w (no_form word a b c)), no_command word rest a b c)
   where
-    cases : (b : Bool) → (45 == x) ≡ b → (45 == x) ≡ false
-    cases true h =
-        let bad : true ≡ false = sym ((Decides-eqb x 45).1 (sym ((Decides-eqb 45 x).0 h))) ∙ e in
-        cc
-    cases false h = h
+    fails : (word : Text) → Word word → subcommand_met (names_of (built mmscell)) idle word ≡ None → ¬ (turn_fault top (names_of (built mmscell)) (walk_from nothing_held) word ≡ [])
+    fails word (plain x xs e) none z = let bad : stray_fault top ≡ [] = sym (stray top (names_of (built mmscell)) nothing_held x xs e none refl) ∙ z in cc
+    fails word (bare n m) none z = bare_fails n m z
+    fails word (valued n t m) none z = valued_fails n t m z
 
-run_none : Reads (codes "run" ∷ [])
-unfolding clap_on_literals
-run_none = inr ((λ e. cc), refl)
-
-run_one : (word : Text) → Word word → Reads (codes "run" ∷ word ∷ [])
-unfolding clap_on_literals
-run_one word (plain x xs e) = inr (
-  else_left (level_fault run [] nothing_held ((x ∷ xs) ∷ []) false []) _ (first_fails run [] nothing_held (x ∷ xs) [] false [] (leaf_stray run nothing_held x xs e refl (λ z. cc))),
-  ap (λ b. run_of (cond (b && bytes_eq (codes "-workers=") (take 9 xs)) (Some (drop 9 xs)) None)) (other_head x e),
-)
-run_one word bare = inr ((λ e. cc), refl)
-run_one word (valued text) = valued_reads text
-
--- a plain word after `--workers`
-abbrev waits : Walk
-waits = walked run.rules [] (walk_from nothing_held) (codes "--workers")
-
-abbrev fault_at : Text → Kinds → Held × Step → Kinds
-fault_at word fault met = let end = (after_step run.rules word waits met.0 met.1).held in
-    or_else (or_else (or_else (or_else fault (step_fault run 1 met.0 met.1)) [])
-    (or_else (settle_fault run.rules false end) (or_else (defaults_fault (settled run.rules end).rows run.rules) (check_fault run (finished run.rules end) false)))) []
-
-abbrev asked_at : Text → Held × Step → Option Command
-asked_at word met = asked_of (Some (codes "run", finished run.rules (after_step run.rules word waits met.0 met.1).held))
-
-taken_apart : (x : ℕ) (xs : Text) → (x == 45) ≡ false → Reads (codes "run" ∷ codes "--workers" ∷ (x ∷ xs) ∷ [])
-unfolding clap_on_literals
-taken_apart x xs e =
-    let met = plain_met run.rules [] (option (codes "workers")) 1 x xs waits.held e refl in
-    let none = plain_fault run [] (option (codes "workers")) x xs waits.held e refl in
-    inl (ap₂ (fault_at (x ∷ xs)) none met, ap (asked_at (x ∷ xs)) met)
-
-run_two : (word : Text) → Word word → (more : Text) → Word more → Reads (codes "run" ∷ word ∷ more ∷ [])
-unfolding clap_on_literals
-run_two word (plain x xs e) more w = inr (
-  else_left (level_fault run [] nothing_held ((x ∷ xs) ∷ more ∷ []) false []) _ (first_fails run [] nothing_held (x ∷ xs) (more ∷ []) false [] (leaf_stray run nothing_held x xs e refl (λ z. cc))),
-  ap (λ b. run_of (cond (b && bytes_eq (codes "-workers") xs) (Some more) None)) (other_head x e),
-)
-run_two word bare more (plain x xs e) = taken_apart x xs e
-run_two word bare more bare = inr ((λ e. cc), refl)
-run_two word bare more (valued text) = inr ((λ e. cc), refl)
-run_two word (valued text) more (plain x xs e) =
-    let held = (walked run.rules [] (walk_from nothing_held) (codes "--workers=" ++ text)).held in
-    inr (
-      else_left (level_fault run [] nothing_held ((codes "--workers=" ++ text) ∷ (x ∷ xs) ∷ []) false []) _
-          (else_left (walk_fault run [] (walk_from nothing_held) ((codes "--workers=" ++ text) ∷ (x ∷ xs) ∷ [])) _
-          (else_left (turn_fault run [] (walk_from held) (x ∷ xs)) [] (leaf_stray run held x xs e refl (λ z. cc)))),
-      refl,
-    )
-run_two word (valued text) more bare = inr ((λ e. cc), refl)
-run_two word (valued text) more (valued other) = inr ((λ e. cc), refl)
+words_read : (words : List Text) → Kept words → Reads words
+words_read words no_word = nothing_reads
+words_read words (and_word form rest w kept) = by (bytes_eq (codes "replay") form) (bytes_eq (codes "run") form) (bytes_eq (codes "stress") form) refl refl refl
+  where
+    by : (p q r : Bool) → bytes_eq (codes "replay") form ≡ p → bytes_eq (codes "run") form ≡ q → bytes_eq (codes "stress") form ≡ r → Reads (form ∷ rest)
+    by true q r a b c = subst (λ w. Reads (w ∷ rest)) ((bytes_eq-Decides (codes "replay") form).0 a) (replay_reads rest kept)
+    by false true r a b c = subst (λ w. Reads (w ∷ rest)) ((bytes_eq-Decides (codes "run") form).0 b) (run_reads rest kept)
+    by false false true a b c = subst (λ w. Reads (w ∷ rest)) ((bytes_eq-Decides (codes "stress") form).0 c) (stress_reads rest kept)
+    by false false false a b c = other_reads form w rest a b c
 
 -- ---- the words that are asked
 
-starts_of : (word : Text) → starts_with nat_eq word (codes "--workers=") ≡ true → word ≡ codes "--workers=" ++ drop 10 word
-starts_of word e = (starts_is Decides-eqb word (codes "--workers=") _ refl).0 e
-
-word_of : (word : Text) → is_refused word ≡ false → Word word
-word_of [] e = cc
-word_of (x ∷ xs) e = head (x == 45) refl
+named : (n : Text) → Name n → (word : Text) → names (dashed n) word ≡ true → Word word
+named n m word e = by (bytes_eq (dashed n) word) (starts_with nat_eq word (dashed n ++ codes "=")) refl refl e
   where
-    hyphen : (a b : Bool) → bytes_eq (codes "--workers") (x ∷ xs) ≡ a → starts_with nat_eq (x ∷ xs) (codes "--workers=") ≡ b → not (a || b) ≡ false → Word (x ∷ xs)
-    hyphen true b p q z = subst Word ((bytes_eq-Decides (codes "--workers") (x ∷ xs)).0 p) bare
-    hyphen false true p q z = subst Word (sym (starts_of (x ∷ xs) q)) (valued (drop 10 (x ∷ xs)))
-    hyphen false false p q z = cc
-
-    head : (b : Bool) → (x == 45) ≡ b → Word (x ∷ xs)
-    head false h = plain x xs h
-    head true h = hyphen _ _ refl refl (sym (ap (λ b. b && not (bytes_eq (codes "--workers") (x ∷ xs) || starts_with nat_eq (x ∷ xs) (codes "--workers="))) h) ∙ e)
+    by : (p q : Bool) → bytes_eq (dashed n) word ≡ p → starts_with nat_eq word (dashed n ++ codes "=") ≡ q → (p || q) ≡ true → Word word
+    by true q a b e = subst Word ((bytes_eq-Decides (dashed n) word).0 a) (bare n m)
+    by false true a b e =
+        let is = (starts_is Decides-eqb word (dashed n ++ codes "=") _ refl).0 b in
+        subst Word (sym (is ∙ append_assoc (dashed n) (codes "=") (drop (length (dashed n ++ codes "=")) word))) (valued n (drop (length (dashed n ++ codes "=")) word) m)
+    by false false a b e = absurd (cc e)
 
 -- a word that is not refused
-ok_word : (word : Text) → not (is_refused word) ≡ true → Word word
-ok_word word e = go (is_refused word) refl e
+word_of : (word : Text) → not (is_refused word) ≡ true → Word word
+word_of [] e = absurd (cc e)
+word_of (x ∷ xs) e = head (x == 45) refl e
   where
-    go : (b : Bool) → is_refused word ≡ b → not b ≡ true → Word word
-    go false h z = word_of word h
-    go true h z = cc
+    head : (b : Bool) → (x == 45) ≡ b → not (b && not (names (codes "--seed") (x ∷ xs) || (names (codes "--clients") (x ∷ xs) || (names (codes "--rounds") (x ∷ xs) || names (codes "--workers") (x ∷ xs))))) ≡ true
+        → Word (x ∷ xs)
+    head false h e = plain x xs h
+    head true h e = option (names (codes "--seed") (x ∷ xs)) (names (codes "--clients") (x ∷ xs)) (names (codes "--rounds") (x ∷ xs)) (names (codes "--workers") (x ∷ xs)) refl refl refl refl e
+      where
+        option : (p q r s : Bool) → names (codes "--seed") (x ∷ xs) ≡ p → names (codes "--clients") (x ∷ xs) ≡ q → names (codes "--rounds") (x ∷ xs) ≡ r → names (codes "--workers") (x ∷ xs) ≡ s
+            → not (not (p || (q || (r || s)))) ≡ true → Word (x ∷ xs)
+        option true q r s a b c d e = named (codes "seed") seed (x ∷ xs) a
+        option false true r s a b c d e = named (codes "clients") clients (x ∷ xs) b
+        option false false true s a b c d e = named (codes "rounds") rounds (x ∷ xs) c
+        option false false false true a b c d e = named (codes "workers") workers (x ∷ xs) d
+        option false false false false a b c d e = absurd (cc e)
 
-both : (a b : Bool) → (a && b) ≡ true → (a ≡ true) × (b ≡ true)
-both true b e = (refl, e)
-both false b e = cc
-
--- the words are at most three, and none is refused
-askable_reads : (words : List Text) → list_all (λ word. not (is_refused word)) words ≡ true → nat_le (length words) 3 ≡ true → Reads words
-askable_reads [] e n = nothing_reads
-askable_reads (form ∷ rest) e n = by_form (bytes_eq (codes "replay") form) (bytes_eq (codes "run") form) refl refl
-  where
-    head : not (is_refused form) ≡ true
-    head = (both (not (is_refused form)) (list_all (λ word. not (is_refused word)) rest) e).0
-
-    tail : list_all (λ word. not (is_refused word)) rest ≡ true
-    tail = (both (not (is_refused form)) (list_all (λ word. not (is_refused word)) rest) e).1
-
-    replays : (ws : List Text) → list_all (λ word. not (is_refused word)) ws ≡ true → nat_le (suc (length ws)) 3 ≡ true → Reads (codes "replay" ∷ ws)
-    replays [] e n = replay_reads
-    replays (a ∷ []) e n = replay_one a (ok_word a (both _ _ e).0)
-    replays (a ∷ b ∷ []) e n = replay_two a (ok_word a (both _ _ e).0) b
-    replays (a ∷ b ∷ c ∷ more) e n = let few = leb-true (suc (length (a ∷ b ∷ c ∷ more))) 3 n in absurd (omega (arith, few))
-
-    runs : (ws : List Text) → list_all (λ word. not (is_refused word)) ws ≡ true → nat_le (suc (length ws)) 3 ≡ true → Reads (codes "run" ∷ ws)
-    runs [] e n = run_none
-    runs (a ∷ []) e n = run_one a (ok_word a (both _ _ e).0)
-    runs (a ∷ b ∷ []) e n = run_two a (ok_word a (both _ _ e).0) b (ok_word b (both _ _ (both _ _ e).1).0)
-    runs (a ∷ b ∷ c ∷ more) e n = let few = leb-true (suc (length (a ∷ b ∷ c ∷ more))) 3 n in absurd (omega (arith, few))
-
-    by_form : (p q : Bool) → bytes_eq (codes "replay") form ≡ p → bytes_eq (codes "run") form ≡ q → Reads (form ∷ rest)
-    by_form true q a b = subst (λ w. Reads (w ∷ rest)) ((bytes_eq-Decides (codes "replay") form).0 a) (replays rest tail n)
-    by_form false true a b = subst (λ w. Reads (w ∷ rest)) ((bytes_eq-Decides (codes "run") form).0 b) (runs rest tail n)
-    by_form false false a b = other_reads form (ok_word form head) rest a b
-
--- ---- the words that are not asked
-
--- a hyphen begins no value
-hyphen_value : (word : Text) → is_refused word ≡ true → run_of (Some word) ≡ None
-hyphen_value [] e = refl
-hyphen_value (x ∷ xs) e = subst (λ y. run_of (Some (y ∷ xs)) ≡ None) (sym ((Decides-eqb x 45).0 (both _ _ e).0)) refl
-
-unasked : (words : List Text) → is_askable words ≡ false → command_of words ≡ None
-unasked [] e = refl
-unasked (form ∷ rest) e = by_form (bytes_eq (codes "replay") form) (bytes_eq (codes "run") form) refl refl
-  where
-    replays : (ws : List Text) → is_askable (codes "replay" ∷ ws) ≡ false → command_of (codes "replay" ∷ ws) ≡ None
-    replays [] e = cc
-    replays (a ∷ ws) e = refl
-
-    one : (a : Text) → (b : Bool) → starts_with nat_eq a (codes "--workers=") ≡ b → is_askable (codes "run" ∷ a ∷ []) ≡ false → command_of (codes "run" ∷ a ∷ []) ≡ None
-    one a false h e = ap (λ b. run_of (cond b (Some (drop 10 a)) None)) h
-    one a true h e =
-        let bad : true ≡ false = subst (λ w. is_askable (codes "run" ∷ w ∷ []) ≡ false) (starts_of a h) e in
-        cc
-
-    second : (b : Text) (r : Bool) → is_refused b ≡ r → is_askable (codes "run" ∷ codes "--workers" ∷ b ∷ []) ≡ false → command_of (codes "run" ∷ codes "--workers" ∷ b ∷ []) ≡ None
-    second b true h e = hyphen_value b h
-    second b false h e =
-        let bad : true ≡ false = sym (ap (λ r. not r && true) h) ∙ e in
-        cc
-
-    two : (a b : Text) → (t : Bool) → bytes_eq (codes "--workers") a ≡ t → is_askable (codes "run" ∷ a ∷ b ∷ []) ≡ false → command_of (codes "run" ∷ a ∷ b ∷ []) ≡ None
-    two a b false h e = ap (λ t. run_of (cond t (Some b) None)) h
-    two a b true h e =
-        let is = (bytes_eq-Decides (codes "--workers") a).0 h in
-        subst (λ w. is_askable (codes "run" ∷ w ∷ b ∷ []) ≡ false → command_of (codes "run" ∷ w ∷ b ∷ []) ≡ None) is (second b _ refl) e
-
-    runs : (ws : List Text) → is_askable (codes "run" ∷ ws) ≡ false → command_of (codes "run" ∷ ws) ≡ None
-    runs [] e = refl
-    runs (a ∷ []) e = one a _ refl e
-    runs (a ∷ b ∷ []) e = two a b _ refl e
-    runs (a ∷ b ∷ c ∷ more) e = refl
-
-    by_form : (p q : Bool) → bytes_eq (codes "replay") form ≡ p → bytes_eq (codes "run") form ≡ q → command_of (form ∷ rest) ≡ None
-    by_form true q a b = subst (λ w. is_askable (w ∷ rest) ≡ false → command_of (w ∷ rest) ≡ None) ((bytes_eq-Decides (codes "replay") form).0 a) (replays rest) e
-    by_form false true a b = subst (λ w. is_askable (w ∷ rest) ≡ false → command_of (w ∷ rest) ≡ None) ((bytes_eq-Decides (codes "run") form).0 b) (runs rest) e
-    by_form false false a b = no_command form rest a b
+kept_of : {X : Type 0} (f : X → Text) (xs : List X) → list_all (λ x. not (is_refused (f x))) xs ≡ true → Kept (map f xs)
+kept_of f [] e = no_word
+kept_of f (x ∷ xs) e =
+    let k = both (not (is_refused (f x))) (list_all (λ x. not (is_refused (f x))) xs) e in
+    and_word (f x) (map f xs) (word_of (f x) k.0) (kept_of f xs k.1)
 
 -- ---- the answers of the functions
 
-pub some_reads : (words : List Text) (m : ArgMatches) → is_askable words ≡ true → Answers words (Some m) → asked_of (subcommand_rows_of m) ≡ command_of words
-some_reads words m askable answer = go (askable_reads words (both _ _ askable).1 (both _ _ askable).0)
+pub some_reads : {X : Type 0} (f : X → Text) (xs : List X) (m : ArgMatches) → list_all (λ x. not (is_refused (f x))) xs ≡ true → Answers (map f xs) (Some m)
+    → asked_of (subcommand_rows_of m) ≡ command_of (map f xs)
+some_reads f xs m kept answer = go (words_read (map f xs) (kept_of f xs kept))
   where
-    go : Reads words → asked_of (subcommand_rows_of m) ≡ command_of words
+    go : Reads (map f xs) → asked_of (subcommand_rows_of m) ≡ command_of (map f xs)
     go (inl k) = ap asked_of answer.1 ∙ k.1
     go (inr k) = absurd (k.0 answer.0)
 
-pub none_reads : (words : List Text) → is_askable words ≡ true → Answers words None → None ≡ command_of words
-none_reads words askable answer = go (askable_reads words (both _ _ askable).1 (both _ _ askable).0)
+pub none_reads : {X : Type 0} (f : X → Text) (xs : List X) → list_all (λ x. not (is_refused (f x))) xs ≡ true → Answers (map f xs) None → None ≡ command_of (map f xs)
+none_reads f xs kept answer = go (words_read (map f xs) (kept_of f xs kept))
   where
-    go : Reads words → None ≡ command_of words
+    go : Reads (map f xs) → None ≡ command_of (map f xs)
     go (inl k) = absurd (answer k.0)
     go (inr k) = sym k.1
 
-pub unasked_reads : (words : List Text) → is_askable words ≡ false → None ≡ command_of words
-unasked_reads words e = sym (unasked words e)
+pub run_is : (f : Found) → run_with (first_value f (codes "workers")) ≡ run_found (rows_of f)
+run_is f = ap run_with (first_value-rows f (codes "workers"))
 
-digits_all : (ds : Text) → list_all is_digit ds ≡ true → AllDigits 10 ds
-digits_all [] e = tt
-digits_all (c ∷ cs) e =
-    let k = both _ _ e in
-    let m = both (nat_le 48 c) (nat_le c 57) k.0 in
-    let low = leb-true 48 c m.0 in
-    let high = leb-true c 57 m.1 in
-    let is = digit_value_digit c (low, high) in
-    (omega (arith, is, low, high), digits_all cs k.1)
+pub stress_is : (f : Found) → stress_with (first_value f (codes "seed")) (first_value f (codes "clients")) (first_value f (codes "rounds")) (first_value f (codes "workers")) ≡ stress_found (rows_of f)
+stress_is f = stress_same _ _ _ _ _ _ _ _ (first_value-rows f (codes "seed")) (first_value-rows f (codes "clients")) (first_value-rows f (codes "rounds")) (first_value-rows f (codes "workers"))
 
-no_plus : (ds : Text) → list_all is_digit ds ≡ true → without_leading_plus ds ≡ ds
-no_plus [] e = refl
-no_plus (c ∷ cs) e =
-    let low = leb-true 48 c (both (nat_le 48 c) (nat_le c 57) (both _ _ e).0).0 in
-    let plus : (c == 43) ≡ false = ne_eqb _ _ (λ z. omega arith) in
-    ap (λ b. drop (cond b 1 0) (c ∷ cs)) plus
+-- an option by its two spellings
+pub named_by : (option spelled word : Text) (r : Bool) → spelled ≡ option ++ codes "=" → bytes_eq option word ≡ false → r ≡ starts_with nat_eq word spelled → r ≡ names option word
+named_by option spelled word r is other starts = starts ∙ (ap (starts_with nat_eq word) is ∙ sym (ap (λ b. b || starts_with nat_eq word (option ++ codes "=")) other))
 
-pub number_wide : (least most : ℕ) (text : Text) → list_all is_digit text ≡ true → 0 < length text → most < 2 ^ 64
-    → ¬ (IsNumeral 10 (without_leading_plus text) × (digits_value 10 (without_leading_plus text) < 2 ^ 64)) → None ≡ number_in least most text
-number_wide least most text e n small fails =
-    let wide : ¬ (digits_value 10 text < 2 ^ 64) = λ lt. fails (rw (no_plus text e) ((n, digits_all text e), lt)) in
-    let over : nat_le (digits_value 10 text) most ≡ false = lt-leb _ _ (omega arith) in
-    sym (go (list_all is_digit text) (nat_le 1 (length text) && nat_le (length text) 20) (nat_le least (digits_value 10 text)) _ over)
-  where
-    go : (a b c d : Bool) → d ≡ false → cond (a && (b && (c && d))) (Some (digits_value 10 text)) None ≡ None
-    go true true true d h = ap (λ z. cond z (Some (digits_value 10 text)) None) h
-    go true true false d h = refl
-    go true false c d h = refl
-    go false b c d h = refl
+-- words that aren't so many options
+pub run_not : (words : List Text) → AreNot 1 words → option_and_then run_of (options_in words) ≡ None
+run_not words never = none_of run_of (options_in words)
+    (λ options is c e. never options is (counted (length options) 1 (run_with (text_of (codes "--workers") options)) c e).0)
 
-pub run_rows : (f : Found) → run_of (first_value f (codes "workers")) ≡ run_of (first_of (codes "workers") (rows_of f))
-run_rows f = ap run_of (first_value-rows f (codes "workers"))
-
-length_map : {X : Type 0} (f : X → Text) (xs : List X) → length (map f xs) ≡ length xs
-length_map f [] = refl
-length_map f (x ∷ xs) = ap suc (length_map f xs)
-
-pub askable_is : {X : Type 0} (f : X → Text) (xs : List X) (r : Bool) → length xs ≤ 3 → r ≡ list_all (λ x. not (is_refused (f x))) xs → r ≡ is_askable (map f xs)
-askable_is f xs r few e =
-    let three : nat_le (length (map f xs)) 3 ≡ true = ap (λ n. nat_le n 3) (length_map f xs) ∙ le-leb _ _ few in
-    e ∙ (sym (list_all-map (λ w. not (is_refused w)) f xs) ∙ sym (ap (λ b. b && list_all (λ w. not (is_refused w)) (map f xs)) three))
+pub stress_not : (words : List Text) → AreNot 4 words → option_and_then stress_of (options_in words) ≡ None
+stress_not words never = none_of stress_of (options_in words) (λ options is c e. never options is
+    (counted (length options) 4 (stress_with (text_of (codes "--seed") options) (text_of (codes "--clients") options) (text_of (codes "--rounds") options) (text_of (codes "--workers") options)) c e).0)

@@ -1,3 +1,6 @@
 mod Asked
-mod Texts
+mod Counts
+mod Leaf
+mod Numbers
 pub mod Ranges
+mod Worked

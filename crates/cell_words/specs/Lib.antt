@@ -1,2 +1,3 @@
 pub mod Words
 pub mod Parser
+pub mod Read

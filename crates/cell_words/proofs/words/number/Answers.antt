@@ -1,5 +1,5 @@
 use Rattle.std.proofs.Common.{rules}
-use Rattle.cell_words.proofs.Asked.{number_wide}
+use Rattle.cell_words.proofs.Numbers.{number_wide}
 use Rattle.cell_words.proofs.words.number.Goals as goal
 
 pub returns-in-Err : goal.returns-in-Err
