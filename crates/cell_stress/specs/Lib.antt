@@ -1,0 +1,3 @@
+pub mod Requests
+pub mod Stress
+pub mod Counts
