@@ -24,8 +24,8 @@ use Rattle.cell_record.specs.Words.{between}
 use Rattle.cell_record.specs.Recording.{ms_in}
 use Rattle.cell_record.specs.Grammar.{phase_ms}
 use Rattle.cell_record.specs.History.{drains}
-use Rattle.cell_record.specs.Report.{taken, placed_from, phase_text}
-use Rattle.cell_run.specs.Along.{AreRecorded, along, taken_along, phase_told}
+use Rattle.cell_record.specs.Report.{taken}
+use Rattle.cell_run.specs.Along.{AreRecorded, along, taken_along}
 
 -- ---- one event
 
@@ -180,11 +180,10 @@ taken_after config h (c ∷ cs) =
     ap (λ (d : Served). outbox_of (replay config h) c ∷ taken_along d cs) (after-append config h (Drain c ∷ []))
     ∙ ap (λ (l : List (List What)). said config h c ∷ l) (taken_after config (h ++ Drain c ∷ []) cs)
 
--- the text of a phase that is served after a history
-pub told_after : (config : Config) (number : ℕ) (h body : List CellEvent)
-    → phase_told (device_after config h) number body
-    ≡ phase_text number (placed_from (length h + 1) body) (taken (said config) (h ++ body) (clients_to config.clients))
-told_after config number h body =
-    ap (λ (m : ℕ). phase_text number (placed_from (length h + 1) body) (taken_along (along (device_after config h) body) (clients_to m))) (after_sized config h)
-    ∙ ap (λ (d : Served). phase_text number (placed_from (length h + 1) body) (taken_along d (clients_to config.clients))) (after-append config h body)
-    ∙ ap (λ (l : List (List What)). phase_text number (placed_from (length h + 1) body) l) (taken_after config (h ++ body) (clients_to config.clients))
+-- what is taken behind a phase that is served after a history
+pub taken_so : (config : Config) (h body : List CellEvent)
+    → taken_along (along (device_after config h) body) (clients_to (length (device_after config h).state.clients)) ≡ taken (said config) (h ++ body) (clients_to config.clients)
+taken_so config h body =
+    ap (λ (m : ℕ). taken_along (along (device_after config h) body) (clients_to m)) (after_sized config h)
+    ∙ ap (λ (d : Served). taken_along d (clients_to config.clients)) (after-append config h body)
+    ∙ taken_after config (h ++ body) (clients_to config.clients)

@@ -1,5 +1,5 @@
 -- What is read and written while a phase is served.
-use Rattle.std.proofs.Common.{◌≡◌, ◌≢◌, ◌≤◌, ◌<◌, ◌⊎◌, inl, inr, ◌^◌, ℕ, ◌+◌, true, false, List, [], ◌∷◌, ◌++◌, length, ap, subst, refl, sym, ◌∙◌, append_assoc, append-nil, None, Some, Ok, Err, IfSome, IfOk, MatchOption, arith}
+use Rattle.std.proofs.Common.{◌≡◌, ◌≤◌, ◌⊎◌, inl, inr, ℕ, ◌+◌, true, false, List, [], ◌∷◌, ◌++◌, length, ap, subst, refl, sym, ◌∙◌, append_assoc, append-nil, None, Some, IfSome, arith}
 use Rattle.std.specs.List.{All}
 use Rattle.std.specs.declared.option.Option.{Option}
 use Rattle.std.specs.Io.KnownBytes.{Appends}
@@ -10,22 +10,21 @@ use Rattle.cell_io.specs.Prefix.{AppendsBefore, AppendsPrefix}
 use Rattle.mms_types.specs.declared.event.CellEvent.{CellEvent}
 use Rattle.cell_config.specs.declared.config.Config.{Config}
 use Rattle.cell_record.specs.EventLine.{IsRecorded}
-use Rattle.cell_record.specs.Grammar.{all_ms, phase_ms}
+use Rattle.cell_record.specs.Grammar.{all_ms}
 use Rattle.cell_record.specs.History.{Interleaves, history}
-use Rattle.cell_record.specs.Progress.{Becomes, IsStated, Progress, place_of, rest_in, rest_of}
+use Rattle.cell_record.specs.Progress.{Becomes, Progress, place_of, rest_in, rest_of}
 use Rattle.cell_record.specs.Recording.{Reading, with_phase}
 use Rattle.cell_record.specs.Stops.{Leads}
 use Rattle.cell_record.specs.declared.recording.Phase.{Phase}
 use Rattle.cell_record.specs.declared.refusal.RecordError.{RecordError}
 use Rattle.cell_record.specs.declared.refusal.RecordError.TheVariants.{Bad, BadConfig, TooMuch, ReadFault, Memory}
-use Rattle.cell_record.specs.declared.told.Told.{Told}
 use Rattle.cell_record.proofs.Readings.{then}
 use Rattle.cell_words.specs.declared.words.Command.{Command}
-use Rattle.cell_run.specs.Ahead.{Comes, HasRead, IsSaid, ReadsEnd, ReadsPhase, text_told}
+use Rattle.cell_run.specs.Ahead.{HasRead, IsSaid, ReadsEnd, ReadsPhase}
 use Rattle.cell_run.specs.Bodies.{Serves}
 use Rattle.cell_run.specs.Outcome.{IsFinal, last_line, report_of, status_for}
 use Rattle.cell_run.specs.Running.{HasRun, MayRun, size_of}
-use Rattle.cell_run.specs.Serving.{IsNext, ServesPhase, WritesAllOf, WritesSomeOf, body_text}
+use Rattle.cell_run.specs.Serving.{WritesAllOf, WritesSomeOf, body_text}
 use Rattle.cell_run.specs.declared.crew.Crew.{Crew}
 use Rattle.cell_run.specs.declared.status.Status.{Status}
 use Rattle.cell_run.specs.declared.status.Status.TheVariants as status

@@ -102,8 +102,10 @@ module _ (self : Crew) (config : Config) (phases bodies : List (List CellEvent))
               → crew.workers ≡ self.workers → ServesPhase config phases bodies number es (record { number = number; served = served; outputs = outputs }) (HasRun crew)
           crew_serves number served crew is same there count workers = record {
             body = all_events crew_body.0;
-            text = phase.told self.device config h.common passes es h.of h.device known true_of recorded after logs s true_after gathered k now g first clients are passed outputs d again k2 last_now g3 phases bodies h.along
-                number self.count served h.count is;
+            number_is = refl;
+            placed = phase.told_served self.device config h.common passes es h.of h.device known true_of recorded after logs s true_after gathered k now g first clients are passed outputs d again k2 last_now g3 phases bodies h.along
+                self.count served h.count is;
+            outputs = phase.told_outputs self.device config h.common passes es h.of h.device known true_of recorded after logs s true_after gathered k now g first clients are passed outputs d again k2 last_now g3 phases bodies h.along;
             served = phase.has_run self.device config h.common passes es h.of h.device known true_of recorded after logs s true_after gathered k now g first clients are passed outputs d again k2 last_now g3 phases bodies h.along
                 crew h.interleave same there count (subst (λ n. (1 ≤ n) × (n ≤ 16)) (sym workers) h.workers) left h.time;
           }

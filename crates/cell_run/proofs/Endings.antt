@@ -1,6 +1,7 @@
 -- How a command that serves a recording ends.
 use Rattle.std.proofs.Common.{◌≡◌, ◌≢◌, ◌⊎◌, inl, inr, ℕ, List, [], ◌∷◌, ◌++◌, length, ap, subst, refl, sym, ◌∙◌, Some, None, Ok, Err, IfSome, arith}
 use Rattle.std.specs.declared.option.Option.{Option}
+use Rattle.std.proofs.KnownBytes.{Appends-nil}
 use Rattle.std.specs.Io.KnownBytes.{Appends, IsAtEnd}
 use Rattle.cell_io.specs.Faults.{Rose}
 use Rattle.cell_io.specs.Prefix.{AppendsPrefix}
@@ -9,14 +10,17 @@ use Rattle.cell_config.specs.declared.config.Config.{Config}
 use Rattle.cell_record.specs.Grammar.{ReadsRecording}
 use Rattle.cell_record.specs.Recording.{Place, Reading, Opening, after_opening, config_in, opening_of_text, reading_of_text}
 use Rattle.cell_words.specs.declared.words.Command.{Command}
-use Rattle.cell_words.specs.declared.words.Command.TheVariants.{Replay, Run}
-use Rattle.cell_run.specs.Bodies.{Serves}
+use Rattle.cell_words.specs.declared.words.Command.TheVariants.{Replay, Run, Stress}
+use Rattle.cell_run.specs.Bodies.{ReadsInput, Serves}
 use Rattle.cell_run.specs.declared.status.Status.{Status}
 use Rattle.cell_run.specs.declared.status.Status.TheVariants as status
 use Rattle.cell_run.specs.Codes.{code_of}
+use Rattle.cell_run.specs.Counted.{AreCounts, HasCounted, WritesCounts, WritesSomeCounts, counts_of, lines_of}
+use Rattle.cell_run.specs.declared.stressing.Numbers.{Numbers}
+use Rattle.cell_stress.specs.Stress.{stress_config, stress_phases}
 use Rattle.cell_run.specs.Outcome.{Completes, IsCut, IsFinal, PrintsBy, PrintsFor, WritesAll, WritesCut, WritesSome, report_of, status_for, status_of}
 use Rattle.cell_run.specs.Printed.{printed, printed_by}
-use Rattle.cell_run.specs.Ending.{Seen, Ends, EndsServing, MayReadAhead}
+use Rattle.cell_run.specs.Ending.{Seen, Ends, EndsServing, EndsStress, MayReadAhead, WritesLines}
 use Rattle.std.specs.Option.{option_map}
 use Rattle.cell_io.specs.Lines.{whole_lines}
 use Rattle.cell_io.specs.Held.{Held, IsLaterPart}
@@ -32,6 +36,7 @@ use Rattle.cell_run.proofs.Complete.{Promise, completes}
 serves_self : (command : Command) (phases : List (List CellEvent)) → Serves command phases phases
 serves_self Replay phases = refl
 serves_self (Run workers) phases = tt
+serves_self (Stress seed clients rounds workers) phases = tt
 
 prints : (command : Command) (opening : Opening) → PrintsBy command opening (printed_by opening)
 prints command (Err e) = refl
@@ -180,11 +185,74 @@ serving_completes command s code input rest out after is e = at input.octets (do
     at None p = tt
     at (Some text) p = λ config phases r nr nk. in_code (p config phases r nr nk)
 
-pub completes_with : (command : Command) (asked : Option Command) (s : Status) (code : ℕ) (input rest out after : Seen) → code ≡ code_of s → asked ≡ Some command → Ends asked s input rest out after
+-- how a command that reads a recording ends
+reads_serving : (command : Command) (s : Status) (input rest out after : Seen) → ReadsInput command → Ends (Some command) s input rest out after → EndsServing command s input rest out after
+reads_serving Replay s input rest out after reads ends = ends
+reads_serving (Run workers) s input rest out after reads ends = ends
+reads_serving (Stress seed clients rounds workers) s input rest out after reads ends = absurd reads
+
+serving_ends : (command : Command) (s : Status) (input rest out after : Seen) → ReadsInput command → EndsServing command s input rest out after → Ends (Some command) s input rest out after
+serving_ends Replay s input rest out after reads ends = ends
+serving_ends (Run workers) s input rest out after reads ends = ends
+serving_ends (Stress seed clients rounds workers) s input rest out after reads ends = absurd reads
+
+pub completes_with : (command : Command) (asked : Option Command) (s : Status) (code : ℕ) (input rest out after : Seen) → ReadsInput command → code ≡ code_of s → asked ≡ Some command → Ends asked s input rest out after
     → IfSome input.octets (λ text. (config : Config) (phases : List (List CellEvent)) → ReadsRecording text config phases → (Rose input.faults rest.faults → ⊥) → (Rose out.faults after.faults → ⊥)
     → (code ≡ 3) ⊎ ((code ≡ 0) × Completes command config phases out.octets after.octets))
-completes_with command asked s code input rest out after is e ends = serving_completes command s code input rest out after is (subst (λ (x : Option Command). Ends x s input rest out after) e ends)
+completes_with command asked s code input rest out after reads is e ends =
+    serving_completes command s code input rest out after is (reads_serving command s input rest out after reads (subst (λ (x : Option Command). Ends x s input rest out after) e ends))
 
 -- the words ask for the command
-pub asked_ends : (command : Command) (asked : Option Command) (s : Status) (input rest out after : Seen) → asked ≡ Some command → EndsServing command s input rest out after → Ends asked s input rest out after
-asked_ends command asked s input rest out after is e = subst (λ (x : Option Command). Ends x s input rest out after) (sym is) e
+pub asked_ends : (command : Command) (asked : Option Command) (s : Status) (input rest out after : Seen) → ReadsInput command → asked ≡ Some command → EndsServing command s input rest out after → Ends asked s input rest out after
+asked_ends command asked s input rest out after reads is e = subst (λ (x : Option Command). Ends x s input rest out after) (sym is) (serving_ends command s input rest out after reads e)
+
+-- ---- `stress`
+
+pub asked_stress : (seed clients rounds workers : ℕ) (asked : Option Command) (s : Status) (input rest out after : Seen) → asked ≡ Some (Stress seed clients rounds workers) → rest ≡ input
+    → EndsStress seed clients rounds s out after → Ends asked s input rest out after
+asked_stress seed clients rounds workers asked s input rest out after is unread ends = subst (λ (x : Option Command). Ends x s input rest out after) (sym is) (unread, ends)
+
+-- nothing was written
+none_counted : (seed clients rounds : ℕ) (held : Option (List ℕ)) → WritesSomeCounts seed clients rounds held held
+none_counted seed clients rounds held = record {
+  bodies = stress_phases seed clients rounds;
+  interleave = interleaves_self (stress_phases seed clients rounds);
+  written = record { written = []; rest = counts_of (stress_config clients) (stress_phases seed clients rounds); appended = Appends-nil held; parts = refl };
+}
+
+pub wanting_stress : (seed clients rounds : ℕ) (out : Seen) → EndsStress seed clients rounds status.Memory out out
+wanting_stress seed clients rounds out = (refl, none_counted seed clients rounds out.octets)
+
+-- the four lines of what was counted are those of the bodies
+lines_are : (config : Config) (bodies : List (List CellEvent)) (numbers : Numbers) → AreCounts config bodies numbers → lines_of numbers.phases numbers.events numbers.requests numbers.replies ≡ counts_of config bodies
+lines_are config bodies numbers counts = rw (counts.phases, counts.events, counts.requests, counts.replies) refl
+
+pub lines_end : (seed clients rounds : ℕ) (numbers : Numbers) (s : Status) (out after : Seen) → HasCounted seed clients rounds numbers
+    → WritesLines (lines_of numbers.phases numbers.events numbers.requests numbers.replies) s out after → EndsStress seed clients rounds s out after
+lines_end seed clients rounds numbers status.Done out after h w =
+    (w.0, record { bodies = h.bodies; interleave = h.interleave; written = subst (Appends out.octets after.octets) (lines_are (stress_config clients) h.bodies numbers h.counts) w.1 })
+lines_end seed clients rounds numbers status.Memory out after h w = subst (λ (x : Seen). EndsStress seed clients rounds status.Memory out x) (sym w) (wanting_stress seed clients rounds out)
+lines_end seed clients rounds numbers status.WriteFault out after h w =
+    (w.0, record { bodies = h.bodies; interleave = h.interleave; written = subst (AppendsPrefix out.octets after.octets) (lines_are (stress_config clients) h.bodies numbers h.counts) w.1 })
+lines_end seed clients rounds numbers status.Usage out after h w = absurd w
+lines_end seed clients rounds numbers status.Bad out after h w = absurd w
+lines_end seed clients rounds numbers status.ReadFault out after h w = absurd w
+lines_end seed clients rounds numbers status.BadConfig out after h w = absurd w
+lines_end seed clients rounds numbers status.TooMuch out after h w = absurd w
+
+-- where the sink doesn't fail, all is written or memory is wanting
+done_or_wanting : (seed clients rounds : ℕ) (s : Status) (code : ℕ) (out after : Seen) → code ≡ code_of s → EndsStress seed clients rounds s out after → (Rose out.faults after.faults → ⊥)
+    → (code ≡ 3) ⊎ ((code ≡ 0) × WritesCounts seed clients rounds out.octets after.octets)
+done_or_wanting seed clients rounds status.Done code out after is e steady = inr (is, e.1)
+done_or_wanting seed clients rounds status.Memory code out after is e steady = inl is
+done_or_wanting seed clients rounds status.WriteFault code out after is e steady = absurd (steady e.0)
+done_or_wanting seed clients rounds status.Usage code out after is e steady = absurd e
+done_or_wanting seed clients rounds status.Bad code out after is e steady = absurd e
+done_or_wanting seed clients rounds status.ReadFault code out after is e steady = absurd e
+done_or_wanting seed clients rounds status.BadConfig code out after is e steady = absurd e
+done_or_wanting seed clients rounds status.TooMuch code out after is e steady = absurd e
+
+pub counted_with : (seed clients rounds workers : ℕ) (asked : Option Command) (s : Status) (code : ℕ) (input rest out after : Seen) → code ≡ code_of s → asked ≡ Some (Stress seed clients rounds workers)
+    → Ends asked s input rest out after → (Rose out.faults after.faults → ⊥) → (code ≡ 3) ⊎ ((code ≡ 0) × WritesCounts seed clients rounds out.octets after.octets)
+counted_with seed clients rounds workers asked s code input rest out after is e ends steady =
+    done_or_wanting seed clients rounds s code out after is (subst (λ (x : Option Command). Ends x s input rest out after) e ends).1 steady

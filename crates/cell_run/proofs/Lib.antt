@@ -18,3 +18,4 @@ pub mod Laid
 pub mod Begun
 pub mod CrewPhase
 pub mod OneHistory
+pub mod Tried

@@ -20,13 +20,13 @@ use Rattle.mms_device.specs.Turns.{AreOf, CanServe, events}
 use Rattle.cell_record.specs.EventLine.{IsRecorded}
 use Rattle.cell_record.specs.Grammar.{all_ms}
 use Rattle.cell_record.specs.History.{IsBodyOf, Interleaves, drains, history, events_of as acts_of}
-use Rattle.cell_record.specs.Report.{phase_text, placed_from, taken}
+use Rattle.cell_record.specs.Report.{placed_from, taken}
 use Rattle.cell_run.specs.declared.crew.Crew.{Crew}
 use Rattle.cell_run.specs.Drained.{AreKnown, DrainAll, drains_of}
 use Rattle.cell_run.specs.Jobs.{AreBelow}
 use Rattle.cell_run.specs.Laying.{IsServedBy, Log, placed_of}
 use Rattle.cell_run.specs.Running.{HasRun, HaveServed, IsWhole, size_of}
-use Rattle.cell_run.specs.Serving.{IsNext, body_text}
+use Rattle.cell_run.specs.Serving.{IsNext}
 use Rattle.cell_run.proofs.Before.{actor_few, actor_makes, actor_time, recorded_below}
 use Rattle.cell_run.proofs.Fronts.{history-snoc}
 use Rattle.cell_run.proofs.OwnCounts.{by_actor, made_rest, none_above, own_one, own_same}
@@ -274,14 +274,17 @@ module _ (device : Shared) (config : Config) (common : History) (passes : List C
 
           module _ (phases bodies : List (List CellEvent)) (along : all_events common ≡ history config.clients bodies) where
             -- what is told of it
-            pub told : (number : ℕ) (before : ℕ) (served : List (ℕ × CellEvent)) → before ≡ length common → served ≡ placed_from (before + 1) (all_events body)
-                → phase_text number served outputs ≡ body_text config number (history config.clients bodies) (all_events body)
-            told number before served count is_served =
+            pub told_served : (before : ℕ) (served : List (ℕ × CellEvent)) → before ≡ length common → served ≡ placed_from (before + 1) (all_events body)
+                → served ≡ placed_from (length (history config.clients bodies) + 1) (all_events body)
+            told_served before served count is_served =
                 let size : before + 1 ≡ length (history config.clients bodies) + 1 = ap (λ n. n + 1) (count ∙ sym (length-map common (λ (m : ℕ × CellEvent). m.1)) ∙ ap length along) in
+                is_served ∙ ap (λ n. placed_from n (all_events body)) size
+
+            pub told_outputs : outputs ≡ taken (said config) (history config.clients bodies ++ all_events body) (clients_to config.clients)
+            told_outputs =
                 let front : all_events now ≡ history config.clients bodies ++ all_events body = ap all_events from_first.1 ∙ map-append (λ (m : ℕ × CellEvent). m.1) common body ∙ ap (λ (l : List CellEvent). l ++ all_events body) along in
-                ap₂ (phase_text number) (is_served ∙ ap (λ n. placed_from n (all_events body)) size)
-                (exactly.1 ∙ ap (λ n. taken (said device.config) (all_events now) (clients_to n)) clients_are ∙ ap (λ (k : Config). taken (said k) (all_events now) (clients_to config.clients)) is
-                ∙ ap (λ (l : List CellEvent). taken (said config) l (clients_to config.clients)) front)
+                exactly.1 ∙ ap (λ n. taken (said device.config) (all_events now) (clients_to n)) clients_are ∙ ap (λ (k : Config). taken (said k) (all_events now) (clients_to config.clients)) is
+                ∙ ap (λ (l : List CellEvent). taken (said config) l (clients_to config.clients)) front
 
             -- and what has been served then
             pub has_run : (crew : Crew) → Interleaves bodies phases → crew.device ≡ device → crew.passes.items ≡ again → crew.count ≡ k2 → (1 ≤ crew.workers) × (crew.workers ≤ 16)

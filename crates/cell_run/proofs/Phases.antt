@@ -13,14 +13,15 @@ use Rattle.cell_record.specs.Recording.{Reading, refused}
 use Rattle.cell_record.specs.Progress.{Becomes, IsStated}
 use Rattle.cell_record.specs.Grammar.{all_ms, phase_ms}
 use Rattle.cell_record.specs.History.{Interleaves, history}
-use Rattle.cell_record.specs.Report.{report_from}
+use Rattle.cell_record.specs.Report.{phase_text, placed_from, report_from}
+use Rattle.cell_record.specs.declared.told.Told.{Told}
 use Rattle.cell_words.specs.declared.words.Command.{Command}
-use Rattle.cell_words.specs.declared.words.Command.TheVariants.{Replay, Run}
+use Rattle.cell_words.specs.declared.words.Command.TheVariants.{Replay, Run, Stress}
 use Rattle.cell_run.specs.declared.status.Status.{Status}
 use Rattle.cell_run.specs.Bodies.{Serves}
 use Rattle.cell_run.specs.Outcome.{IsFinal, last_line, report_of, status_for}
 use Rattle.cell_run.specs.Running.{size_of}
-use Rattle.cell_run.specs.Serving.{body_text, interleaves_self, WritesAllOf, WritesSomeOf}
+use Rattle.cell_run.specs.Serving.{ServesPhase, body_text, interleaves_self, WritesAllOf, WritesSomeOf}
 use Rattle.cell_run.proofs.Fronts.{with_phases, report-append, report-snoc, final_stated}
 
 -- ---- bodies
@@ -41,6 +42,7 @@ interleaves_length (b ∷ bs) (p ∷ ps) h = let rest = interleaves_length bs ps
 serves_more : (command : Command) (bs ps more : List (List CellEvent)) → Serves command bs ps → Serves command (bs ++ more) (ps ++ more)
 serves_more Replay bs ps more h = ap (λ (l : List (List CellEvent)). l ++ more) h
 serves_more (Run workers) bs ps more h = tt
+serves_more (Stress seed clients rounds workers) bs ps more h = tt
 
 pub all_ms-append : (ps : List (List CellEvent)) (x : List CellEvent) → all_ms (ps ++ x ∷ []) ≡ all_ms ps + phase_ms x
 all_ms-append [] x = omega arith
@@ -175,6 +177,13 @@ pub told_so : (config : Config) (bodies : List (List CellEvent)) (number : ℕ) 
     → report_of config bodies ++ text ≡ report_of config (bodies ++ body ∷ [])
 told_so config bodies number body text e n =
     ap (λ (l : List ℕ). report_of config bodies ++ l) (e ∙ ap (λ (k : ℕ). body_text config k (history config.clients bodies) body) n) ∙ sym (report-snoc config bodies body)
+
+-- the text of a phase that was served by a body
+pub text_is : (config : Config) (phases bodies : List (List CellEvent)) (number : ℕ) (events : List CellEvent) (told : Told) (has_served : Config → List (List CellEvent) → List (List CellEvent) → Type 0)
+    → (t : ServesPhase config phases bodies number events told has_served) → phase_text told.number told.served told.outputs ≡ body_text config number (history config.clients bodies) t.body
+text_is config phases bodies number events told has_served t =
+    ap (λ k. phase_text k told.served told.outputs) t.number_is ∙ ap (λ l. phase_text number l told.outputs) t.placed
+    ∙ ap (λ l. phase_text number (placed_from (length (history config.clients bodies) + 1) t.body) l) t.outputs
 
 pub body_whole : (config : Config) (bodies : List (List CellEvent)) (number : ℕ) (body : List CellEvent) (text : List ℕ) (out0 out1 out2 : Option (List ℕ)) → text ≡ body_text config number (history config.clients bodies) body
     → number ≡ 1 + length bodies → Appends out0 out1 (report_of config bodies) → Appends out1 out2 text → Appends out0 out2 (report_of config (bodies ++ body ∷ []))

@@ -1,18 +1,17 @@
 -- The device of one thread serves phases as they are recorded.
 use Rattle.std.proofs.Common.{◌≡◌, ℕ, ◌+◌, ◌≤◌, List, [], ◌∷◌, ◌++◌, length, sym, ap, ◌∙◌, arith, length-append, Result, Ok, Err, OnOk, IfOk}
 use Rattle.mms_types.specs.Actors.{clients_to}
-use Rattle.mms_types.specs.declared.event.What.{What}
 use Rattle.mms_types.specs.declared.event.CellEvent.{CellEvent}
 use Rattle.mms_types.specs.declared.memory.Memory.{Memory}
 use Rattle.cell_config.specs.declared.config.Config.{Config}
 use Rattle.mms_device.specs.Served.{Served, device_after}
 use Rattle.cell_record.specs.Grammar.{phase_ms}
 use Rattle.cell_record.specs.History.{drains, history}
-use Rattle.cell_record.specs.Report.{phase_text, placed_from}
+use Rattle.cell_record.specs.Report.{placed_from}
 use Rattle.cell_record.specs.declared.told.Told.{Told}
-use Rattle.cell_run.specs.Along.{AreRecorded, along, phase_told, taken_along}
+use Rattle.cell_run.specs.Along.{AreRecorded, along, taken_along}
 use Rattle.cell_run.specs.Serving.{HasReplayed, MayServe, ServesPhase}
-use Rattle.cell_run.proofs.Alongside.{after_sized, after-append, phase_now, phase_count, told_after}
+use Rattle.cell_run.proofs.Alongside.{after_sized, after-append, phase_now, phase_count, taken_so}
 use Rattle.cell_run.proofs.Fronts.{history-snoc}
 use Rattle.cell_run.proofs.Phases.{all_ms-append}
 
@@ -34,8 +33,9 @@ replayed d new number events (Ok told) few n s o is config phases bodies h =
     let count = ap (λ (x : Served). x.count) served ∙ phase_count d events config.clients in
     record {
       body = events;
-      text = ap (λ (k : ℕ). phase_text k told.served told.outputs) n ∙ ap (λ (l : List (ℕ × CellEvent)). phase_text number l told.outputs) s ∙ ap (λ (l : List (List What)). phase_text number (placed_from (d.count + 1) events) l) o
-          ∙ ap (λ (x : Served). phase_told x number events) h.along ∙ told_after config number h0 events;
+      number_is = n;
+      placed = s ∙ ap (λ (x : Served). placed_from (x.count + 1) events) h.along;
+      outputs = o ∙ ap (λ (x : Served). taken_along (along x events) (clients_to (length x.state.clients))) h.along ∙ taken_so config h0 events;
       served = record {
         along = served ∙ ap (λ (x : Served). along x (events ++ drains (clients_to config.clients))) h.along ∙ after-append config h0 (events ++ drains (clients_to config.clients))
             ∙ ap (device_after config) (sym (history-snoc config.clients bodies events));

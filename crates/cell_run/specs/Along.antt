@@ -1,6 +1,5 @@
--- A phase as the device serves it, and the text that it makes: the words of clauses inside the crate.
-use Rattle.std.specs.Prelude.{◌≡◌, ℕ, ◌+◌, List, [], ◌∷◌, fold, length}
-use Rattle.mms_types.specs.Actors.{clients_to}
+-- A phase as the device serves it: the words of clauses inside the crate.
+use Rattle.std.specs.Prelude.{◌≡◌, ℕ, List, [], ◌∷◌, fold}
 use Rattle.mms_types.specs.declared.event.What.{What}
 use Rattle.mms_types.specs.declared.event.CellEvent.{CellEvent}
 use Rattle.mms_types.specs.declared.event.CellEvent.TheVariants.{Drain}
@@ -9,7 +8,6 @@ use Rattle.cell_config.specs.declared.config.Config.{Config}
 use Rattle.cell_record.specs.EventLine.{IsRecorded}
 use Rattle.mms_step.specs.Step.{outbox_of}
 use Rattle.mms_device.specs.Served.{Served, served}
-use Rattle.cell_record.specs.Report.{placed_from, phase_text}
 
 -- events, one after the other
 abbrev pub along : Served → List CellEvent → Served
@@ -19,11 +17,6 @@ along device events = fold served device events
 abbrev pub taken_along : Served → List ℕ → List (List What)
 taken_along device [] = []
 taken_along device (c ∷ cs) = outbox_of device.state c ∷ taken_along (served device (Drain c)) cs
-
--- the text of a phase of this number, with this body
-abbrev pub phase_told : Served → ℕ → List CellEvent → List ℕ
-phase_told device number body =
-    phase_text number (placed_from (device.count + 1) body) (taken_along (along device body) (clients_to (length device.state.clients)))
 
 -- events that a recording of so many clients has
 pub record AreRecorded (clients : ℕ) (events : List CellEvent) : Type 0 where

@@ -5,10 +5,11 @@ use Rattle.std.specs.declared.option.Option.{Option}
 use Rattle.cell_io.specs.Faults.{Rose}
 use Rattle.cell_io.specs.Prefix.{AppendsPrefix}
 use Rattle.cell_words.specs.declared.words.Command.{Command}
-use Rattle.cell_words.specs.declared.words.Command.TheVariants.{Replay, Run}
+use Rattle.cell_words.specs.declared.words.Command.TheVariants.{Replay, Run, Stress}
 use Rattle.cell_run.specs.declared.status.Status.{Status}
 use Rattle.cell_run.specs.declared.status.Status.TheVariants as status
 use Rattle.cell_run.specs.Codes.{code_of}
+use Rattle.cell_run.specs.Counted.{WritesCounts, WritesSomeCounts}
 use Rattle.cell_run.specs.Outcome.{IsCut, IsFinal, WritesAll, WritesSome, status_of, usage_text}
 
 -- what is seen of a source or a sink: what is left there or held, where that is told, and the count of faults
@@ -34,6 +35,7 @@ MayReadAhead (Run workers) status.Memory = Unit {0}
 MayReadAhead (Run workers) status.WriteFault = Unit {0}
 MayReadAhead (Run workers) other = ⊥
 MayReadAhead Replay s = ⊥
+MayReadAhead (Stress seed clients rounds workers) s = ⊥
 
 -- a command that serves a recording ends so
 pub record EndsServing (command : Command) (s : Status) (input rest out after : Seen) : Type 0 where
@@ -51,13 +53,39 @@ pub record EndsServing (command : Command) (s : Status) (input rest out after : 
   pub write : s ≡ status.WriteFault → Rose out.faults after.faults
   pub accepted : s ≢ status.WriteFault → after.faults ≡ out.faults
 
--- how a run ends by its words
+-- `stress` ends so: its four lines were written whole, or else a prefix of them
+abbrev pub EndsStress : ℕ → ℕ → ℕ → Status → Seen → Seen → Type 0
+EndsStress seed clients rounds status.Done out after = after.faults ≡ out.faults × WritesCounts seed clients rounds out.octets after.octets
+EndsStress seed clients rounds status.Memory out after = after.faults ≡ out.faults × WritesSomeCounts seed clients rounds out.octets after.octets
+EndsStress seed clients rounds status.WriteFault out after = Rose out.faults after.faults × WritesSomeCounts seed clients rounds out.octets after.octets
+EndsStress seed clients rounds status.Usage out after = ⊥
+EndsStress seed clients rounds status.Bad out after = ⊥
+EndsStress seed clients rounds status.ReadFault out after = ⊥
+EndsStress seed clients rounds status.BadConfig out after = ⊥
+EndsStress seed clients rounds status.TooMuch out after = ⊥
+
+-- how a run ends by its words; `stress` leaves the source as it was
 abbrev pub Ends : Option Command → Status → Seen → Seen → Seen → Seen → Type 0
 Ends None s input rest out after = EndsUsage s out after
-Ends (Some command) s input rest out after = EndsServing command s input rest out after
+Ends (Some Replay) s input rest out after = EndsServing Replay s input rest out after
+Ends (Some (Run workers)) s input rest out after = EndsServing (Run workers) s input rest out after
+Ends (Some (Stress seed clients rounds workers)) s input rest out after = (rest ≡ input) × EndsStress seed clients rounds s out after
 
 -- by its exit status
 pub record EndsWith (command : Option Command) (code : ℕ) (input rest out after : Seen) : Type 0 where
   pub status : Status
   pub is : code ≡ code_of status
   pub ends : Ends command status input rest out after
+
+-- ---- inside the crate
+
+-- these lines were written whole, or else a prefix of them
+abbrev pub WritesLines : List ℕ → Status → Seen → Seen → Type 0
+WritesLines lines status.Done out after = after.faults ≡ out.faults × Appends out.octets after.octets lines
+WritesLines lines status.Memory out after = after ≡ out
+WritesLines lines status.WriteFault out after = Rose out.faults after.faults × AppendsPrefix out.octets after.octets lines
+WritesLines lines status.Usage out after = ⊥
+WritesLines lines status.Bad out after = ⊥
+WritesLines lines status.ReadFault out after = ⊥
+WritesLines lines status.BadConfig out after = ⊥
+WritesLines lines status.TooMuch out after = ⊥

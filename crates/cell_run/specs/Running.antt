@@ -11,7 +11,7 @@ use Rattle.cell_record.specs.Grammar.{all_ms}
 use Rattle.cell_record.specs.History.{Interleaves, history, events_of as acts_of}
 use Rattle.cell_run.specs.declared.crew.Crew.{Crew}
 use Rattle.cell_words.specs.declared.words.Command.{Command}
-use Rattle.cell_words.specs.declared.words.Command.TheVariants.{Replay, Run}
+use Rattle.cell_words.specs.declared.words.Command.TheVariants.{Replay, Run, Stress}
 use Rattle.cell_run.specs.Drained.{AreKnown}
 use Rattle.cell_run.specs.Laying.{Log}
 use Rattle.cell_run.specs.Bodies.{Serves}
@@ -68,6 +68,7 @@ pub record MayRun (crew : Crew) (events : List CellEvent) : Type 0 where
 abbrev pub IsRun : Command → Type 0
 IsRun Replay = ⊥
 IsRun (Run workers) = Unit {0}
+IsRun (Stress seed clients rounds workers) = ⊥
 
 pub run_interleaves : (crew : Crew) (config : Config) (phases bodies : List (List CellEvent)) → HasRun crew config phases bodies → Interleaves bodies phases
 run_interleaves crew config phases bodies h = h.interleave
@@ -75,3 +76,4 @@ run_interleaves crew config phases bodies h = h.interleave
 pub run_serves : (command : Command) (phases bodies : List (List CellEvent)) → IsRun command → Serves command bodies phases
 run_serves Replay phases bodies is = absurd is
 run_serves (Run workers) phases bodies is = tt
+run_serves (Stress seed clients rounds workers) phases bodies is = absurd is

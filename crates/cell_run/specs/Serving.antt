@@ -45,7 +45,9 @@ pub record MayServe (has_served : Config → List (List CellEvent) → List (Lis
 -- a phase of this number was served by a body: what is told of it, and what has been served then
 pub record ServesPhase (config : Config) (phases bodies : List (List CellEvent)) (number : ℕ) (events : List CellEvent) (told : Told) (has_served : Config → List (List CellEvent) → List (List CellEvent) → Type 0) : Type 0 where
   pub body : List CellEvent
-  pub text : phase_text told.number told.served told.outputs ≡ body_text config number (history config.clients bodies) body
+  pub number_is : told.number ≡ number
+  pub placed : told.served ≡ placed_from (length (history config.clients bodies) + 1) body
+  pub outputs : told.outputs ≡ taken (said config) (history config.clients bodies ++ body) (clients_to config.clients)
   pub served : has_served config (phases ++ events ∷ []) (bodies ++ body ∷ [])
 
 -- the device of one thread has served phases by themselves

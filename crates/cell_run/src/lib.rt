@@ -12,6 +12,7 @@ mod running;
 mod server;
 mod serving;
 mod status;
+mod stressing;
 mod top;
 mod workers;
 

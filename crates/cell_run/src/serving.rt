@@ -11,7 +11,7 @@ ghost use Rattle.cell_record.specs.EventLine.{IsRecorded};
 ghost use Rattle.cell_record.specs.Grammar.{phase_ms};
 ghost use Rattle.cell_record.specs.History.{drains};
 ghost use Rattle.cell_record.specs.Report.{placed_from};
-ghost use Rattle.cell_run.specs.Along.{AreRecorded, along, phase_told, taken_along};
+ghost use Rattle.cell_run.specs.Along.{AreRecorded, along, taken_along};
 
 use crate::server::Server;
 use cell_record::{ClientOutputs, Phase, PlacedEvents, Told};

@@ -1,17 +1,20 @@
 //! The top call.
 
-ghost use Rattle.std.specs.Prelude.{◌≡◌, ◌⊎◌, ◌∷◌, List, IfSome, Some, None};
+ghost use Rattle.std.specs.Prelude.{◌≡◌, ◌⊎◌, ◌∷◌, ℕ, List, IfSome, Some, None};
 ghost use Rattle.std.specs.Io.KnownBytes.{Appends};
 ghost use Rattle.cell_io.specs.Faults.{Rose};
 ghost use Rattle.mms_types.specs.declared.event.CellEvent.{CellEvent};
 ghost use Rattle.cell_config.specs.declared.config.Config.{Config};
 ghost use Rattle.cell_record.specs.Grammar.{ReadsRecording};
 ghost use Rattle.cell_words.specs.Words.{command_of as command_in, texts};
+ghost use Rattle.cell_run.specs.Bodies.{ReadsInput};
+ghost use Rattle.cell_run.specs.Counted.{WritesCounts};
 ghost use Rattle.cell_run.specs.Outcome.{Completes};
 ghost use Rattle.cell_run.specs.Ending.{Ends, EndsUsage, EndsWith};
 
 use crate::engine::serve_alone;
 use crate::status::Status;
+use crate::stressing::stress;
 use crate::workers::run;
 use cell_io::{Gate, Sink, Source, write_all};
 use cell_words::{Command, command_of};
@@ -44,25 +47,38 @@ fn serve<R: Threads + Wait + Sync, S: Source, K: Sink, G: Gate + Sync>(
     ensures ends { Ends (command_in (texts words.now)) result (record { octets = S.left input.old; faults = S.faults input.old }) (record { octets = S.left input.new; faults = S.faults input.new })
         (record { octets = K.held out.old; faults = K.faults out.old }) (record { octets = K.held out.new; faults = K.faults out.new }) }
     ensures nothing_read { command_in (texts words.now) ≡ None → input.new ≡ input.old }
+    ensures unread { (seed clients rounds workers : ℕ) → command_in (texts words.now) ≡ Some (Command.Stress seed clients rounds workers) → input.new ≡ input.old }
 {
     match command_of(alloc, words) {
         None => usage(out),
         Some(Command::Replay) => serve_alone(alloc, input, out),
         Some(Command::Run { workers }) => run(rt, alloc, workers, input, out, gate),
+        Some(
+            Command::Stress {
+                seed,
+                clients,
+                rounds,
+                workers,
+            },
+        ) => stress(rt, alloc, seed, clients, rounds, workers, out, gate),
     }
 }
 
 /// Does what the words after the program's name ask, and answers the exit status.
 ///
-/// The forms of the command are `replay` and `run --workers N`, or `--workers=N`, with 1 to 20 digits from 1 to 16. Each
-/// reads a recording from `input` to its end, serves it phase by phase, and writes the report to `out`. `replay` serves
-/// it on one thread in its own order: it is `serve_alone`, which waits for nobody. `run` serves each phase by N workers
-/// on threads of their own, and may wait; its report is that of the one history that came about. Each caller of the
-/// device passes `gate`.
+/// The forms of the command are `replay`, `run --workers N`, and `stress --seed N --clients N --rounds N --workers N`,
+/// with options in any order, each as `--name N` or `--name=N` with 1 to 20 digits: 1 to 16 workers, 1 to 64 clients, 1
+/// to 1,000 rounds, and any seed below 2^64. `replay` and `run` read a recording from `input` to its end, serve it
+/// phase by phase, and write the report to `out`. `replay` serves it on one thread in its own order: it is
+/// `serve_alone`, which waits for nobody. `run` serves each phase by N workers on threads of their own, and may wait;
+/// its report is that of the one history that came about. `stress` makes a recording in which clients contend by the
+/// random words of a seed (`cell_stress`), serves it as `run` does, and writes how many phases, events and confirmed
+/// requests its history has, and how many PDUs were sent along it. These numbers are the same whatever history came
+/// about, so that no clause tells that they were counted; a test does. Each caller of the device passes `gate`.
 ///
 /// | status | comes | written |
 /// |---|---|---|
-/// | 0 | the whole input was read, served and written | the report |
+/// | 0 | the whole input was read, but by `stress`, and all was served and written | the report, or the four lines of `stress` |
 /// | 1 | exactly where the words are no form of the command | the usage line |
 /// | 2 | exactly where a line of the recording breaks a rule | the complete phases before it, `bad <line> <word>` |
 /// | 3 | want of memory, where the words are a form of the command | a prefix of what was to be written |
@@ -85,13 +101,18 @@ pub fn run_cell<R: Threads + Wait + Sync, S: Source, K: Sink, G: Gate + Sync>(
     ensures ends { EndsWith (command_in (texts words.now)) result (record { octets = S.left input.old; faults = S.faults input.old }) (record { octets = S.left input.new; faults = S.faults input.new })
         (record { octets = K.held out.old; faults = K.faults out.old }) (record { octets = K.held out.new; faults = K.faults out.new }) }
 
-    // Words of no command read nothing.
+    // Words of no command read nothing, nor does `stress`.
     ensures nothing_read { command_in (texts words.now) ≡ None → input.new ≡ input.old }
+    ensures unread { (seed clients rounds workers : ℕ) → command_in (texts words.now) ≡ Some (Command.Stress seed clients rounds workers) → input.new ≡ input.old }
 
     // A recording without a fault is served and reported, unless memory runs out.
-    ensures complete { (command : Command) → command_in (texts words.now) ≡ Some command → IfSome (S.left input.old) (λ text. (config : Config) (phases : List (List CellEvent))
+    ensures complete { (command : Command) → ReadsInput command → command_in (texts words.now) ≡ Some command → IfSome (S.left input.old) (λ text. (config : Config) (phases : List (List CellEvent))
         → ReadsRecording text config phases → (Rose (S.faults input.old) (S.faults input.new) → ⊥) → (Rose (K.faults out.old) (K.faults out.new) → ⊥)
         → (result ≡ 3) ⊎ ((result ≡ 0) × Completes command config phases (K.held out.old) (K.held out.new))) }
+
+    // And where the sink doesn't fail, `stress` writes its four lines.
+    ensures counted { (seed clients rounds workers : ℕ) → command_in (texts words.now) ≡ Some (Command.Stress seed clients rounds workers) → (Rose (K.faults out.old) (K.faults out.new) → ⊥)
+        → (result ≡ 3) ⊎ ((result ≡ 0) × WritesCounts seed clients rounds (K.held out.old) (K.held out.new)) }
 {
     serve(rt, alloc, words, input, out, gate).code()
 }

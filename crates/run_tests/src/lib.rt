@@ -4,3 +4,5 @@
 
 #[cfg(test)]
 mod held;
+#[cfg(test)]
+mod tried;

@@ -4,7 +4,7 @@ use Rattle.cell_record.specs.Recording.{Reading, with_phase}
 use Rattle.cell_record.specs.Progress.{rest_of}
 use Rattle.cell_record.proofs.Readings.{then}
 use Rattle.cell_run.proofs.Fronts.{with_phases, phases-then, later_then, leads_phases}
-use Rattle.cell_run.proofs.Phases.{some_of, refusal_all, refusal_of, whole_report, body_whole, body_part, interleaves_length, all_ms-append}
+use Rattle.cell_run.proofs.Phases.{some_of, refusal_all, refusal_of, whole_report, body_whole, body_part, interleaves_length, all_ms-append, text_is}
 use Rattle.cell_run.proofs.Endings.{told_fault}
 use Rattle.cell_run.proofs.engine.serve_phases.Goals as goal
 
@@ -80,7 +80,7 @@ returns-in-Err-Fault-clause-part g c =
     let many : c.in-Ok-Some.phase.number ≡ 1 + length d.1 = omega (arith, number.0, c.loop-turn.invariant.number, d.2, interleaves_length d.1 d.0 before.0) in
     some_of g.V.Server.command config (rest_of c.args.recording.now (g.S.Source.left c.args.input.now)) (rest_of c.next_phase.new.self (g.S.Source.left c.next_phase.new.input)) (d.0 ++ es ∷ []) (d.1 ++ t.body ∷ []) _ _
     (then _ _ _ (with_phases d.0) (with_phase es) (with_phases (d.0 ++ es ∷ [])) (phases-then d.0 es) d.5 phase) serves
-    (body_part config d.1 c.in-Ok-Some.phase.number t.body _ _ _ _ t.text many d.4 c.in-Err-Fault.ensures.part)
+    (body_part config d.1 c.in-Ok-Some.phase.number t.body _ _ _ _ (text_is config d.0 d.1 _ _ _ _ t) many d.4 c.in-Err-Fault.ensures.part)
 
 pub returns-in-Err-Memory-clause-part : goal.returns-in-Err-Memory-clause-part
 returns-in-Err-Memory-clause-part g c =
@@ -95,7 +95,7 @@ returns-in-Err-Memory-clause-part g c =
     let many : c.in-Ok-Some.phase.number ≡ 1 + length d.1 = omega (arith, number.0, c.loop-turn.invariant.number, d.2, interleaves_length d.1 d.0 before.0) in
     some_of g.V.Server.command config (rest_of c.args.recording.now (g.S.Source.left c.args.input.now)) (rest_of c.next_phase.new.self (g.S.Source.left c.next_phase.new.input)) (d.0 ++ es ∷ []) (d.1 ++ t.body ∷ []) _ _
     (then _ _ _ (with_phases d.0) (with_phase es) (with_phases (d.0 ++ es ∷ [])) (phases-then d.0 es) d.5 phase) serves
-    (body_part config d.1 c.in-Ok-Some.phase.number t.body _ _ _ _ t.text many d.4 c.in-Err-Memory.ensures.part)
+    (body_part config d.1 c.in-Ok-Some.phase.number t.body _ _ _ _ (text_is config d.0 d.1 _ _ _ _ t) many d.4 c.in-Err-Memory.ensures.part)
 
 pub returns-in-Err-clause-unfailed : goal.returns-in-Err-clause-unfailed
 returns-in-Err-clause-unfailed g c = λ n. c.in-Err.ensures.steady (λ is. n (told_fault c.refuse.result c.in-Err.refusal _ c.refuse.ensures.unstated is)) ∙ c.loop-turn.invariant.reads
@@ -121,7 +121,7 @@ loop-turn-preserved g c =
         d.1 ++ t.body ∷ [],
         omega (arith, one, d.2),
         t.served,
-        body_whole config d.1 c.in-Ok-Some.phase.number t.body _ _ _ _ t.text many d.4 c.in-Ok-write_phase.ensures.whole,
+        body_whole config d.1 c.in-Ok-Some.phase.number t.body _ _ _ _ (text_is config d.0 d.1 _ _ _ _ t) many d.4 c.in-Ok-write_phase.ensures.whole,
         then _ _ _ (with_phases d.0) (with_phase es) (with_phases (d.0 ++ es ∷ [])) (phases-then d.0 es) d.5 phase,
         leads_phases c.args.recording.now c.loop-turn.recording c.next_phase.new.self _ _ _ d.0 es d.6 leads,
         omega (arith, moment, d.7, clock),

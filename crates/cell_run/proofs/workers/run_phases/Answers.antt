@@ -4,16 +4,14 @@ use Rattle.std.specs.Io.KnownBytes.{IsAtEnd}
 use Rattle.cell_record.specs.Recording.{Reading}
 use Rattle.cell_record.specs.Progress.{rest_of}
 use Rattle.cell_record.specs.History.{Interleaves}
-use Rattle.cell_run.specs.Ahead.{HasRead, ReadsEnd, ReadsPhase, text_told}
+use Rattle.cell_run.specs.Ahead.{text_told}
 use Rattle.cell_run.specs.Bodies.{Serves}
-use Rattle.cell_run.specs.Outcome.{IsFinal, report_of}
+use Rattle.cell_run.specs.Outcome.{IsFinal}
 use Rattle.cell_run.specs.Running.{run_interleaves, run_serves}
-use Rattle.cell_run.specs.declared.workers.Next.{Next}
-use Rattle.cell_run.specs.declared.workers.Next.TheVariants as next
-use Rattle.cell_run.proofs.Beside.{behind_more, behind_none, done_end, end_all, end_some, may_run, once_end, once_read, owes, then_some, then_told, unfailed_end}
-use Rattle.cell_run.proofs.Endings.{once_first, rose_first}
+use Rattle.cell_run.proofs.Beside.{behind_more, behind_none, done_end, end_all, end_some, may_run, once_read, owes, then_some, then_told, unfailed_end}
+use Rattle.cell_run.proofs.Endings.{rose_first}
 use Rattle.cell_run.proofs.Fronts.{later_then}
-use Rattle.cell_run.proofs.Phases.{interleaves_length, some_of, whole_report}
+use Rattle.cell_run.proofs.Phases.{interleaves_length, some_of, text_is, whole_report}
 use Rattle.cell_run.proofs.workers.run_phases.Goals as goal
 
 pub returns-in-End-clause-whole : goal.returns-in-End-clause-whole
@@ -177,7 +175,7 @@ loop-turn-preserved g c =
         d.1 ++ t.body ∷ [],
         omega (arith, one, d.2),
         t.served,
-        owes config d.1 phase.number t.body _ _ _ t.text many (then_told _ _ _ (text_told c.loop-turn.told) _ d.4 whole),
+        owes config d.1 phase.number t.body _ _ _ (text_is config d.0 d.1 _ _ _ _ t) many (then_told _ _ _ (text_told c.loop-turn.told) _ d.4 whole),
       );
       read = (c.loop-turn.recording, g.S.Source.left c.loop-turn.input, behind_more c.args.recording.now r.0 c.loop-turn.recording _ r.1 _ d.0 _ _ _ phase r.2 h.comes.0 h, rw h.comes.1 at read);
       few = omega (arith, h.comes.0.number.0, h.comes.0.number.2, r.2.number);
