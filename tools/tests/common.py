@@ -25,7 +25,7 @@ EXAMPLES = os.environ.get("MMS_EXAMPLES") or os.path.join(DATA, "examples")
 REPORTS = sorted(glob.glob(os.path.join(EXAMPLES, "*.report")))
 PROGRAM = os.environ.get("MMSCELL") or os.path.join(TOP, "crates", "mmscell", "out", "mmscell")
 ASK = bytes.fromhex("A826800300FDE881010A82010A830105A416800101810305F100820C03EE1C00000408000079EF18")
-YES = bytes.fromhex("A926800300FDE881010A82010A830105A416800101810305E100820C03EF3C1FFF0FFDB860000098")
+YES = bytes.fromhex("A926800300FDE881010A82010A830105A416800101810305E100820C03EF3C1FFF0FFDB8607E0098")
 IDENTIFY, NAMED = bytes.fromhex("A0050201018200"), bytes.fromhex("A113020101A20E8003564D44810443454C4C820131")
 
 needs_program = unittest.skipUnless(os.access(PROGRAM, os.X_OK), "no program: neither MMSCELL nor crates/mmscell/out")

@@ -10,6 +10,7 @@ from mmstools.grammar import Component, Form, Node
 from row_files import HERE, Step, rows
 
 PROFILE = [0, 1, 2, *range(4, 8), *range(10, 14), *range(19, 32), *range(36, 46), 47, 48, 50, 51, 52, 57, 58]
+PROFILE += range(65, 71)
 # ^ the services that are served
 BEYOND = """localDetail listOfAbstractSyntaxes scatteredAccess alternateAccess generalized-time bcd booleanArray objId
     mMSString utc-time ae-invocation-id application-reference time-resolution file others additionalCode

@@ -66,12 +66,14 @@ ALSO = {
     "executionArgument": "startargument",
     "priority": "prio_rity",
     "eventConditionTransitions": "eventconditiontransition",
+    "occurrenceTime": "occurencetime",
 }  # as tshark has them
 MISSPELLED = {"namedVariable": "nammedVariable", "unrunnable": "unrunable"}  # by tshark
 NOT_SHOWN = {"format-width", "exponent-width"}  # by tshark
 # what tshark objects to, by service, and why
 OBJECTED = {
     "reportSemaphoreEntryStatus": "no SEQUENCE stands under the tag of an ApplicationReference",
+    "readJournal": "no SEQUENCE stands under the tag of an ApplicationReference",
     "write": "a binary-time of no octets is one here",
     "defineNamedVariable": "tshark knows no components of the type of floating-point numbers",
     "status": "a BOOLEAN without octets, which the server rejects",

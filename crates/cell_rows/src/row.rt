@@ -62,12 +62,14 @@ impl Row {
         Ok(row)
     }
 
-    /// A row of a line `= <words> | read <k> fails | write <k> fails | room <n>`, given without its `= `.
+    /// A row of a line `= <words> | read <k> fails | write <k> fails | room <n>`, given without its `= `. The word `''`
+    /// is an empty one.
     pub(crate) fn headed(alloc: Global, file: &str, line: usize, head: &str) -> Result<Row> {
         let mut words = Vec::new(alloc);
         let mut limits = Limits::room(alloc, ROOM);
         let mut parts = head.split('|');
         for word in parts.next().unwrap_or("").split_whitespace() {
+            let word = if word == "''" { "" } else { word };
             words.push(String::from_str(alloc, word)?)?;
         }
         for part in parts {
