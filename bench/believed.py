@@ -4,8 +4,8 @@
     bench/believed.py [--of CRATE/FILE.rt] [--names] [--check PAGE]
 
 It begins with what the clauses of a source file name, and follows each definition to those that it names in turn,
-through the `specs/` of all crates. Laws and proofs aren't among them, nor what no definition so reached names. It prints
-the crates, each ahead of those that it stands on, with the files to read there in the same order, and with how many of
+through the `specs/` of all crates, with the lemmas there that a definition needs. What no definition so reached names
+isn't among them. It prints the crates, each ahead of those that it stands on, with the files to read there in the same order, and with how many of
 their definitions and lines are reached; --names lists the definitions. --check fails where the page doesn't have exactly
 these rows. What the sources declare themselves, types with their fields and variants, isn't counted.
 """
@@ -16,8 +16,8 @@ import re
 import sys
 
 TOP = os.path.join(os.path.dirname(os.path.abspath(__file__)), "..")
-HEADER = re.compile(r"^(?:(?:abbrev|unfoldable|opaque|pub|record|data|instance) )*(?:mutual$|module _|([^\s(){}.,:=]+)(?: [({].*)? :)")
-NESTED = re.compile(r"^ +(?:(?:abbrev|pub|data|record) )*([^\s(){}.,:=]+) : ", re.M)
+HEADER = re.compile(r"^(?:(?:abbrev|unfoldable|opaque|pub|record|data|instance) )*(?:mutual$|module _|([^\s(){}.,:]+)(?: [({].*)? :)")
+NESTED = re.compile(r"^ +(?:(?:abbrev|unfoldable|pub|data|record) )*([^\s(){}.,:]+) : ", re.M)
 WORDS = re.compile(r"[^\s(){},;\[\]]+")
 
 
@@ -83,9 +83,25 @@ class Module:
                 yield use
 
 
+def in_order(files, uses):
+    """The files, each behind those that it uses."""
+    order, seen = [], set()
+
+    def visit(path):
+        if path in files and path not in seen:
+            seen.add(path)
+            for other in sorted(filter(None, uses.get(path, ()))):
+                visit(other)
+            order.append(path)
+
+    for path in sorted(files):
+        visit(path)
+    return order
+
+
 def reached(start):
-    """The blocks that are reached, by file, with each file behind those that it stands on."""
-    modules, found, order = {}, {}, []
+    """The blocks that are reached, by file, and the files, each behind those that it stands on."""
+    modules, found, uses = {}, {}, {}
 
     def module_at(path):
         if path not in modules:
@@ -98,8 +114,9 @@ def reached(start):
             return
         it = module_at(path)
         if name not in it.defined:
-            if name in it.imports:
-                visit(*it.imports[name])
+            if name not in it.imports:
+                sys.exit(f"{path} has no {name}")
+            visit(*it.imports[name])
             return
         place = it.defined[name]
         if place in found.setdefault(path, set()):
@@ -109,15 +126,14 @@ def reached(start):
         for other in sorted(set(WORDS.findall(text)) & set(it.defined)):
             visit(module, other)
         for use in it.names(text):
+            uses.setdefault(path, set()).add(path_of(use[0]))
             visit(*use)
-        if path not in order:
-            order.append(path)
 
     for line in open(start, encoding="utf-8"):
         if line.strip().startswith("ghost use") and (use := imported(line)):
             for name in use[2].values():
                 visit(use[0], name)
-    return modules, found, order
+    return modules, found, in_order(found, uses)
 
 
 def crates():
