@@ -73,8 +73,9 @@ fn serve<R: Threads + Wait + Sync, S: Source, K: Sink, G: Gate + Sync>(
 /// `serve_alone`, which waits for nobody. `run` serves each phase by N workers on threads of their own, and may wait;
 /// its report is that of the one history that came about. `stress` makes a recording in which clients contend by the
 /// random words of a seed (`cell_stress`), serves it as `run` does, and writes how many phases, events and confirmed
-/// requests its history has, and how many PDUs were sent along it. These numbers are the same whatever history came
-/// about, so that no clause tells that they were counted; a test does. Each caller of the device passes `gate`.
+/// requests its history has, and how many PDUs were sent along it. The first three are the same whatever history came
+/// about, and any history keeps the clause, so that none tells that they were counted on the workers; a test does. Each
+/// caller of the device passes `gate`.
 ///
 /// | status | comes | written |
 /// |---|---|---|
@@ -82,13 +83,14 @@ fn serve<R: Threads + Wait + Sync, S: Source, K: Sink, G: Gate + Sync>(
 /// | 1 | exactly where the words are no form of the command | the usage line |
 /// | 2 | exactly where a line of the recording breaks a rule | the complete phases before it, `bad <line> <word>` |
 /// | 3 | want of memory, where the words are a form of the command | a prefix of what was to be written |
-/// | 4 | exactly where the source failed: its count of faults rose by one | the phases that are complete in what was read |
+/// | 4 | where the source failed, unless `run` had already to end with 3 or 5 | the phases that are complete in what was read |
 /// | 5 | exactly where the sink failed: its count of faults rose by one | a prefix of what was to be written |
 /// | 6 | exactly where the configuration breaks a rule | `bad config <rule>`, of the least one that it breaks |
 /// | 7 | exactly where a phase has its 16,385th event or its 67,108,865th octet of PDUs, or the input its 4,294,967,297th octet | the complete phases before it, `too much <line>` |
 ///
-/// What stands first in the input decides, and each yields to 3, 4 and 5 where these came first. With any other status
-/// than 4 and 5 both counts are as they were. What failed isn't tried again.
+/// What stands first in the input decides, and each yields to 3, 4 and 5 where these came first. Both counts are as they
+/// were, but with 4 that of the source rose by one, with 5 that of the sink, and where `run` ends with 3 or 5 that of
+/// the source may have risen by one, by a read ahead of the phase that it served. What failed isn't tried again.
 pub fn run_cell<R: Threads + Wait + Sync, S: Source, K: Sink, G: Gate + Sync>(
     rt: &R,
     alloc: Global,
