@@ -1,0 +1,12 @@
+pub mod Bodies
+pub mod Sending
+pub mod Balance
+pub mod Hearing
+pub mod Soon
+pub mod Ticking
+pub mod Trial
+pub mod Goes
+pub mod Along
+pub mod Ended
+pub mod Phases
+pub mod Whole

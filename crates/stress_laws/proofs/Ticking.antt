@@ -1,0 +1,166 @@
+-- Time that goes by sends one PDU to each whose request waits no more, and ends no association.
+use Rattle.std.proofs.Common.{◌≡◌, ℕ, inl, Bool, true, false, cond, List, [], ◌∷◌, ◌++◌, append-nil, Option, None, Some, option_and_then, option_to_list, if◌then◌else◌, refl, sym, ◌∙◌, ap, subst, arith}
+use Rattle.std.specs.Map.{lookup}
+use Rattle.mms_types.specs.Order.{key_eq}
+use Rattle.mms_types.specs.declared.key.Key.{Key}
+use Rattle.mms_types.specs.declared.moment.Moment.{Moment}
+use Rattle.association.specs.Client.{ClientRow}
+use Rattle.token_sem.specs.declared.entry.Expired.{Expired}
+use Rattle.token_sem.specs.declared.entry.Grant.{Grant}
+use Rattle.token_sem.specs.declared.entry.SemEntry.{SemEntry}
+use Rattle.token_sem.specs.Semaphore.{numbered}
+use Rattle.token_sem.proofs.Least.{Stands}
+use Rattle.mms_time.specs.Deadlines.{NamedDeadline, expired, expired_entry, expired_from, expired_in, expire_after}
+use Rattle.mms_time.specs.Semaphores.{IsSound, Rows, entries_in, entries_of}
+use Rattle.mms_time.specs.declared.row.Semaphore.{Semaphore}
+use Rattle.mms_time.specs.declared.row.SemaphoreRow.{SemaphoreRow}
+use Rattle.parted_state.specs.Served.{delivered}
+use Rattle.sem_ticks.specs.Granted.{granted}
+use Rattle.sem_ticks.specs.Sound.{AreSound}
+use Rattle.sem_ticks.specs.Ticks.{abort_told, after_abort, expiry_told, met_as}
+use Rattle.sem_ticks.specs.Ticks as ticks
+use Rattle.sem_ticks.specs.declared.ticks.Happening.{Happening}
+use Rattle.sem_ticks.specs.declared.ticks.Happening.TheVariants as happens
+use Rattle.sem_ticks.proofs.Kept.{row_found}
+use Rattle.event_cond.specs.Conditions as cond_rows
+use Rattle.event_cond.specs.Skips.{Saying}
+use Rattle.cell_ticks.specs.Ticks.{Ticking, aborted, evaluated, ticked_on, with_semaphores, without_clients}
+use Rattle.cell_client.specs.Association.{confirmed_error, timeout_error}
+use Rattle.cell_client.specs.Effects.{Effect}
+use Rattle.cell_services.specs.Serving.{all_told}
+use Rattle.mms_step.specs.Partition.{cell}
+use Rattle.cell_laws.specs.Linked.{asker, asker_of}
+use Rattle.cell_laws.proofs.Bound.{Bound}
+use Rattle.cell_laws.proofs.Entries.{asker_at, leaving}
+use Rattle.cell_laws.proofs.Happened.{at_semaphores, from_rows, keeps-ticked, sem_told, then-told}
+use Rattle.cell_laws.proofs.Hears.{RowsDistinct, distinct-told, waits_in}
+use Rattle.cell_laws.proofs.Linking.{OnDevice, device-evaluated, device-met}
+use Rattle.cell_laws.proofs.Meetings.{due-frees, expiry-is, expiry_by}
+use Rattle.cell_laws.proofs.Queues.{asker_in}
+use Rattle.stress_laws.proofs.Balance.{Even, Steady, even-answered, even-both, even-grant, even-none, steady-both}
+use Rattle.stress_laws.proofs.Soon.{RowsSoon, met_spares, soon_expired}
+
+-- ---- whose requests are answered where a deadline is met
+
+abbrev Asked : Rows → Key → ℕ → Expired → Type 0
+Asked rows key number x = (x.waited ≡ true → asker rows key number ≡ Some (x.client, x.invoke))
+    × (x.waited ≡ false → (g : Grant) → Stands (option_to_list x.grant) g → asker rows key g.entry ≡ Some (g.client, g.invoke))
+
+met-asks : (rows : Rows) → AreSound rows → (key : Key) (number : ℕ) (x : Expired) → expired key number rows ≡ Some x → Asked rows key number x
+met-asks rows sound key number x is = by_row (lookup (key_eq key) rows) refl is
+  where
+    in_semaphore : (s : Semaphore) → IsSound s → (o : Option SemEntry) → numbered number (entries_in s) ≡ o → expired_entry s o ≡ Some x
+        → (x.waited ≡ true → asker_at number (entries_in s) ≡ Some (x.client, x.invoke))
+        × (x.waited ≡ false → (g : Grant) → Stands (option_to_list x.grant) g → asker_at g.entry (entries_in s) ≡ Some (g.client, g.invoke))
+    in_semaphore s is_sound None e h = absurd (cc h)
+    in_semaphore s is_sound (Some e) at h =
+        let from : expired_from e s ≡ x = cc h in
+        let same : expiry_by (leaving s) e (entries_in s) ≡ x = sym (expiry-is e s) ∙ from in
+        subst (λ (y : Expired). (y.waited ≡ true → asker_at number (entries_in s) ≡ Some (y.client, y.invoke))
+        × (y.waited ≡ false → (g : Grant) → Stands (option_to_list y.grant) g → asker_at g.entry (entries_in s) ≡ Some (g.client, g.invoke))) same (
+          λ q. ap asker_of at ∙ ap (λ t. cond t (Some (e.client, e.invoke)) None) q,
+          λ q g t. (due-frees s number (record { 0 = 0 }) e is_sound at q).each g
+              (subst (λ (b : Bool). Stands (option_to_list (if b then None else (leaving s).heir e (entries_in s))) g) q t),
+        )
+
+    by_row : (p : Option SemaphoreRow) → lookup (key_eq key) rows ≡ p → option_and_then (expired_in number) p ≡ Some x
+        → (x.waited ≡ true → asker rows key number ≡ Some (x.client, x.invoke))
+        × (x.waited ≡ false → (g : Grant) → Stands (option_to_list x.grant) g → asker rows key g.entry ≡ Some (g.client, g.invoke))
+    by_row None e h = absurd (cc h)
+    by_row (Some row) e h =
+        let found = in_semaphore row.semaphore (row_found rows key row sound.each e) (numbered number (entries_of row)) refl h in
+        (λ q. ap (asker_in number) e ∙ found.0 q, λ q g t. ap (asker_in g.entry) e ∙ found.1 q g t)
+
+-- ---- one deadline is met
+
+module _ (c : ℕ) (rows : Rows) (clients : List ClientRow) (bound : Bound (asker rows) (waits_in clients)) (sound : AreSound rows) (distinct : RowsDistinct clients) where
+  expiry-even : (named : Rows) (key : Key) (number : ℕ) (x : Expired) → expired key number rows ≡ Some x
+      → Even c (sem_told (expiry_told named key x)) clients 0 × Steady (sem_told (expiry_told named key x))
+  expiry-even named key number x is = by_waited x.waited refl
+    where
+      asks : (x.waited ≡ true → asker rows key number ≡ Some (x.client, x.invoke))
+          × (x.waited ≡ false → (g : Grant) → Stands (option_to_list x.grant) g → asker rows key g.entry ≡ Some (g.client, g.invoke))
+      asks = met-asks rows sound key number x is
+
+      by_grant : (o : Option Grant) → ((g : Grant) → Stands (option_to_list o) g → asker rows key g.entry ≡ Some (g.client, g.invoke))
+          → Even c (sem_told (ticks.grant_told named key o)) clients 0 × Steady (sem_told (ticks.grant_told named key o))
+      by_grant None each = (even-none c clients, tt)
+      by_grant (Some g) each = (even-grant c (granted named (key, g)) clients _ (bound.waiting key g.entry g.client g.invoke (each g (inl refl))) distinct, (tt, (tt, tt)))
+
+      by_waited : (b : Bool) → x.waited ≡ b
+          → Even c (sem_told (if b then happens.WaitEnds x.client x.invoke ∷ [] else ticks.grant_told named key x.grant)) clients 0
+          × Steady (sem_told (if b then happens.WaitEnds x.client x.invoke ∷ [] else ticks.grant_told named key x.grant))
+      by_waited true q = (
+        even-answered c x.client x.invoke (confirmed_error x.invoke timeout_error) clients _ (bound.waiting key number x.client x.invoke (asks.0 q)) distinct,
+        (tt, (tt, tt)),
+      )
+      by_waited false q = by_grant x.grant (asks.1 q)
+
+-- ---- all that are met
+
+without_none : (lost : List ℕ) → without_clients lost [] ≡ []
+without_none [] = refl
+without_none (client ∷ lost) = without_none lost
+
+-- what holds meanwhile: who waits waits until then at most, there are no conditions, and what was told is even
+pub record EvenMeanwhile (c : ℕ) (until : Moment) (clients : List ClientRow) (s : Ticking) : Type 0 where
+  pub link : OnDevice clients s
+  pub soon : RowsSoon until s.semaphores
+  pub quiet : s.conditions ≡ []
+  pub even : Even c (all_told s.happened) clients 0
+  pub steady : Steady (all_told s.happened)
+
+module _ (c : ℕ) (until : Moment) (clients : List ClientRow) (distinct : RowsDistinct clients) (cells : Saying) where
+  even-met : (s : Ticking) (d : NamedDeadline) (x : Expired) → expired d.key d.entry s.semaphores ≡ Some x → EvenMeanwhile c until clients s
+      → EvenMeanwhile c until clients (with_semaphores s d.at (met_as (from_rows s.semaphores) d x))
+  even-met s d x is are = record {
+    link = device-met clients cells s d x is are.link;
+    soon = subst (λ (b : Bool). RowsSoon until (after_abort b x.client d.at rows)) (sym spares) (soon_expired until d.at d.key d.entry s.semaphores are.soon);
+    quiet = subst (λ (rows : cond_rows.Rows). without_clients clients_lost rows ≡ []) (sym are.quiet) (without_none clients_lost);
+    even = subst (λ (l : List (ℕ × Effect)). Even c l clients 0) (sym all) (let both = even-both c (all_told s.happened) (sem_told (expiry_told rows d.key x)) clients 0 0 are.even one.0 in omega (arith, both));
+    steady = subst Steady (sym all) (steady-both (all_told s.happened) (sem_told (expiry_told rows d.key x)) are.steady one.1);
+  }
+    where
+      rows : Rows
+      rows = expire_after d.key d.entry d.at s.semaphores
+
+      spares : x.abort ≡ false
+      spares = met_spares until d.key d.entry s.semaphores x are.soon is
+
+      happened : Bool → List Happening
+      happened b = expiry_told rows d.key x ++ abort_told b x.client d.at rows
+
+      clients_lost : List ℕ
+      clients_lost = aborted (happened x.abort)
+
+      told : List ClientRow
+      told = delivered cell (all_told s.happened) clients
+
+      one : Even c (sem_told (expiry_told rows d.key x)) told 0 × Steady (sem_told (expiry_told rows d.key x))
+      one = expiry-even c s.semaphores told are.link.bound are.link.sound (distinct-told (all_told s.happened) clients distinct) rows d.key d.entry x is
+
+      all : all_told (s.happened ++ at_semaphores d.at (happened x.abort)) ≡ all_told s.happened ++ sem_told (expiry_told rows d.key x)
+      all =
+          then-told s.happened d.at (happened x.abort)
+          ∙ ap (λ (b : Bool). all_told s.happened ++ sem_told (happened b)) spares
+          ∙ ap (λ (l : List Happening). all_told s.happened ++ sem_told l) (append-nil (expiry_told rows d.key x))
+
+  even-evaluated : (s : Ticking) (d : NamedDeadline) → EvenMeanwhile c until clients s → EvenMeanwhile c until clients (evaluated cells s d)
+  even-evaluated s d are = record {
+    link = device-evaluated clients cells s d are.link;
+    soon = are.soon;
+    quiet = conditions_same s.conditions are.quiet;
+    even = subst (λ (l : List (ℕ × Effect)). Even c l clients 0) (sym (told_same s.conditions are.quiet)) are.even;
+    steady = subst Steady (sym (told_same s.conditions are.quiet)) are.steady;
+  }
+    where
+      conditions_same : (rows : cond_rows.Rows) → rows ≡ [] → (evaluated cells (record s { conditions = rows }) d).conditions ≡ []
+      conditions_same rows is = subst (λ (r : cond_rows.Rows). (evaluated cells (record s { conditions = r }) d).conditions ≡ []) (sym is) refl
+
+      told_same : (rows : cond_rows.Rows) → rows ≡ [] → all_told (evaluated cells (record s { conditions = rows }) d).happened ≡ all_told s.happened
+      told_same rows is =
+          subst (λ (r : cond_rows.Rows). all_told (evaluated cells (record s { conditions = r }) d).happened ≡ all_told s.happened) (sym is)
+          (ap all_told (append-nil s.happened))
+
+  pub even_ticked : (later : Moment) (s : Ticking) → EvenMeanwhile c until clients s → EvenMeanwhile c until clients (ticked_on cells later s)
+  even_ticked later = keeps-ticked cells later (EvenMeanwhile c until clients) (λ s d x due is are. even-met s d x is are) even-evaluated
