@@ -73,9 +73,9 @@ fn serve<R: Threads + Wait + Sync, S: Source, K: Sink, G: Gate + Sync>(
 /// `serve_alone`, which waits for nobody. `run` serves each phase by N workers on threads of their own, and may wait;
 /// its report is that of the one history that came about. `stress` makes a recording in which clients contend by the
 /// random words of a seed (`cell_stress`), serves it as `run` does, and writes how many phases, events and confirmed
-/// requests its history has, and how many PDUs were sent along it. The first three are the same whatever history came
-/// about, and any history keeps the clause, so that none tells that they were counted on the workers; a test does. Each
-/// caller of the device passes `gate`.
+/// requests its history has, and how many PDUs were sent along it. These numbers are the same whatever history came
+/// about (`stress_laws`), and any history keeps the clause, so that none tells that they were counted on the workers; a
+/// test does. Each caller of the device passes `gate`.
 ///
 /// | status | comes | written |
 /// |---|---|---|
