@@ -1,0 +1,26 @@
+//! The entries of a semaphore by rank and by deadline: who is served first, and which deadline is met first
+//! (ISO 9506-1, semaphore management).
+//!
+//! `Ranks` is seen as a list of rows in order of number. Inside, the rows lie in a slab, and their keys stand in three
+//! orders: by number, by rank in the list of the token that is wanted, and by deadline. Room is made by `reserve` alone;
+//! after it a row comes and goes without memory.
+//!
+//! `find` counts the rows that it looks at: of n rows, 2 to that number is at most 2n + 1. That each look is counted is
+//! seen in the code, where one function looks and counts; no clause says it. Nothing here calls `find` and `after` yet:
+//! `insert` and `remove` search by the same loop, and have no bound.
+//!
+//! No row that wants a token is served before the least (`the_least_is_served_first`), and no deadline is met before the
+//! first (`the_first_deadline_is_the_least`).
+#![tactic(auto)]
+
+mod keys;
+mod laws;
+mod order;
+mod ranks;
+mod row;
+mod steps;
+
+pub use laws::{the_first_deadline_is_the_least, the_least_is_served_first};
+pub use ranks::Ranks;
+pub use row::{Due, Row};
+pub use steps::Steps;
