@@ -51,7 +51,7 @@ pub fn define_semaphore(
     let key = asked.name.key(alloc, client)?;
     let row = SemaphoreRow {
         configured: false,
-        semaphore: Semaphore::Token(TokenSem::new(alloc, asked.tokens)),
+        semaphore: Semaphore::Token(TokenSem::new(alloc, asked.tokens)?),
     };
     semaphores.insert(key, row)?;
     Ok(())

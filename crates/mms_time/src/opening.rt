@@ -36,7 +36,7 @@ fn pool(alloc: Global, row: &PoolRow) -> Result<SemaphoreRow, Memory>
     let tokens = in_order(copied(alloc, row.tokens.as_slice())?);
     Ok(SemaphoreRow {
         configured: true,
-        semaphore: Semaphore::Pool(PoolSem::new(alloc, tokens)),
+        semaphore: Semaphore::Pool(PoolSem::new(alloc, tokens)?),
     })
 }
 

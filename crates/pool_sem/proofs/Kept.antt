@@ -1,5 +1,5 @@
--- What is marked stays what the entries have, and whether one waits.
-use Rattle.std.proofs.Common.{◌≡◌, ℕ, ◌+◌, ◌<◌, ◌≤◌, Bool, true, false, not, cond, ◌==◌, ◌&&◌, ◌||◌, List, [], ◌∷◌, ◌++◌, filter, length, Option, None, Some, option_map, refl, sym, ◌∙◌, ap, subst, arith}
+-- What is marked stays what the entries have.
+use Rattle.std.proofs.Common.{◌≡◌, ℕ, ◌+◌, ◌<◌, ◌≤◌, Bool, true, false, not, cond, ◌==◌, ◌&&◌, ◌||◌, List, [], ◌∷◌, ◌++◌, length, Option, None, Some, option_map, refl, sym, ◌∙◌, ap, subst, arith}
 use Rattle.std.specs.Prelude.{count_by, nat_eq, nat_lt, is_some, IfSome}
 use Rattle.std.specs.Option.{option_eq}
 use Rattle.std.specs.List.{list_any}
@@ -7,19 +7,21 @@ use Rattle.std.proofs.lemmas.Bool.Decides.{nat_tests}
 use Rattle.mms_types.specs.declared.moment.Moment.{Moment}
 use Rattle.token_sem.specs.declared.entry.Ask.{Ask}
 use Rattle.token_sem.specs.declared.entry.SemEntry.{SemEntry}
-use Rattle.token_sem.specs.Semaphore.{Rises, before, holds, is_owner, is_queued, least, numbered, owned_by, waits_for, without}
+use Rattle.token_sem.specs.Semaphore.{Rises, before, holds, is_owner, is_queued, numbered, owned_by, without}
+use Rattle.token_sem.specs.Entries as of_any
+use Rattle.token_sem.specs.Entries.{lists_of, after_end}
+use Rattle.sem_queue.specs.Rows as q
 use Rattle.token_sem.proofs.Keeping.{Among, among-find, among-least, rises-without}
-use Rattle.token_sem.proofs.Losing.{waits-queued}
 use Rattle.token_sem.proofs.Serving.{numbered-at}
-use Rattle.pool_sem.specs.Pools.{IsPool, Pool, after_freeing, after_freeing_of, after_leaving, grant_freeing, grant_leaving, grant_of, granted_to, has, has_claim, heir_of, is_claim, is_place, names, next, outcome, owner_entry, owner_from, owner_of, queued_entry, wants}
+use Rattle.pool_sem.specs.Pools.{IsPool, Pool, after_cancel, after_freeing_of, after_leaving, grant_freeing, grant_leaving, grant_of, granted_to, expired_entry, has, has_claim, is_claim, is_place, loss_of, names, next, outcome, owner_entry, owner_from, owner_of, queued_entry, wants}
 use Rattle.pool_sem.specs.declared.marks.Marks.{Marks}
 use Rattle.pool_sem.specs.Marks.{AreMarks, is_marked}
-use Rattle.pool_sem.proofs.Counting.{weight, weight-yes, weight-no, count-cons, count-fewer, count-without, count-changed, count-kept, count-push, none-among, none-any, none-filtered}
+use Rattle.pool_sem.proofs.Counting.{weight, weight-yes, weight-no, count-cons, count-without, count-changed, count-push, none-among, none-any}
 use Rattle.pool_sem.proofs.Freeing.{owner-holds, queued-lacks, same-token, token-there, unplaced, wants-queued}
-use Rattle.pool_sem.proofs.Taking.{HungAt, outcome-gets}
+use Rattle.pool_sem.proofs.Taking.{HungAt, outcome-gets, outcome-preempts}
 use Rattle.pool_sem.proofs.Finding.{free-found}
 use Rattle.pool_sem.proofs.Backwards.{count-weaker}
-use Rattle.pool_sem.specs.declared.outcome.PoolOutcome.TheVariants.{Gets}
+use Rattle.pool_sem.specs.declared.outcome.PoolOutcome.TheVariants.{Gets, Preempts}
 
 -- one passes where the count isn't 0
 pub any-counted : (p : SemEntry → Bool) (es : List SemEntry) → list_any p es ≡ nat_lt 0 (count_by p es)
@@ -65,27 +67,17 @@ flip-eq a b = by_test (a == b) refl
 
 -- a new owner
 pub owner-marked : (m n : Marks) (es : List SemEntry) (number t : ℕ) (ask : Ask) (now : Moment) → AreMarks m es
-    → ((u : ℕ) → u < 256 → is_marked n u ≡ (nat_eq u t || is_marked m u)) → n.waits ≡ m.waits → AreMarks n (es ++ owner_entry number ask (Some t) now ∷ [])
-owner-marked m n es number t ask now a h w =
-    let new : SemEntry = owner_entry number ask (Some t) now in
-    record {
-      had = λ u lt. h u lt ∙ ap (λ b. nat_eq u t || b) (a.had u lt) ∙ ap (λ b. b || list_any (has u) es) (flip-eq u t) ∙ sym (any-push (has u) es new);
-      waits = w ∙ a.waits ∙ sym (any-push is_queued es new);
-    }
+    → ((u : ℕ) → u < 256 → is_marked n u ≡ (nat_eq u t || is_marked m u)) → AreMarks n (es ++ owner_entry number ask (Some t) now ∷ [])
+owner-marked m n es number t ask now a h u lt =
+    h u lt ∙ ap (λ b. nat_eq u t || b) (a u lt) ∙ ap (λ b. b || list_any (has u) es) (flip-eq u t) ∙ sym (any-push (has u) es (owner_entry number ask (Some t) now))
 
 -- a new waiter
-pub waiter-marked : (m : Marks) (es : List SemEntry) (number : ℕ) (ask : Ask) (deadline : Option Moment) → AreMarks m es
-    → AreMarks (record m { waits = true }) (es ++ queued_entry number ask deadline ∷ [])
-waiter-marked m es number ask deadline a =
-    let new : SemEntry = queued_entry number ask deadline in
-    record {
-      had = λ u lt. a.had u lt ∙ sym (any-push (has u) es new);
-      waits = sym (any-push is_queued es new);
-    }
+pub waiter-marked : (m : Marks) (es : List SemEntry) (number : ℕ) (ask : Ask) (deadline : Option Moment) → AreMarks m es → AreMarks m (es ++ queued_entry number ask deadline ∷ [])
+waiter-marked m es number ask deadline a u lt = a u lt ∙ sym (any-push (has u) es (queued_entry number ask deadline))
 
 -- where as many have each token
 same-had : (m : Marks) (es fs : List SemEntry) → AreMarks m es → ((u : ℕ) → count_by (has u) fs ≡ count_by (has u) es) → (u : ℕ) → u < 256 → is_marked m u ≡ list_any (has u) fs
-same-had m es fs a h u lt = a.had u lt ∙ sym (same-any (has u) es fs (h u))
+same-had m es fs a h u lt = a u lt ∙ sym (same-any (has u) es fs (h u))
 
 holder-weight : (u : ℕ) (o e : SemEntry) → has u e ≡ has u o → weight (has u) e ≡ weight (has u) o
 holder-weight u o e h = ap (λ b. cond {A = ℕ} b 1 0) h
@@ -94,24 +86,13 @@ holder-weight u o e h = ap (λ b. cond {A = ℕ} b 1 0) h
 pub preempted-marked : (m : Marks) (p : Pool) (number n : ℕ) (k : Option ℕ) (ask : Ask) (now : Moment) → IsPool p → HungAt p.entries n k → AreMarks m p.entries
     → AreMarks m (without n p.entries ++ owner_entry number ask k now ∷ [])
 preempted-marked m p number n k ask now is h a =
-    let new : SemEntry = owner_entry number ask k now in
     let goes = λ (test : SemEntry → Bool). count-without test 0 p.made p.entries h.hung is.rises h.among in
-    let rest : List SemEntry = without h.hung.number p.entries in
-    let queued : weight is_queued h.hung ≡ 0 = weight-no is_queued h.hung (not-true (is_queued h.hung) h.is_hung) in
-    let fresh : weight is_queued new ≡ 0 = refl in
-    let whole : AreMarks m (without h.hung.number p.entries ++ owner_entry number ask k now ∷ []) = record {
-      had = same-had m p.entries (without h.hung.number p.entries ++ owner_entry number ask k now ∷ []) a (λ u.
-          let same : weight (has u) (owner_entry number ask k now) ≡ weight (has u) h.hung = holder-weight u h.hung (owner_entry number ask k now) (has-same u) in
-          omega (arith, count-push (has u) (without h.hung.number p.entries) (owner_entry number ask k now), goes (has u), same));
-      waits = a.waits ∙ sym (same-any is_queued p.entries (without h.hung.number p.entries ++ owner_entry number ask k now ∷ [])
-          (omega (arith, count-push is_queued (without h.hung.number p.entries) (owner_entry number ask k now), goes is_queued, queued, fresh)));
-    } in
+    let whole : AreMarks m (without h.hung.number p.entries ++ owner_entry number ask k now ∷ []) =
+    same-had m p.entries (without h.hung.number p.entries ++ owner_entry number ask k now ∷ []) a (λ u.
+    let same : weight (has u) (owner_entry number ask k now) ≡ weight (has u) h.hung = holder-weight u h.hung (owner_entry number ask k now) (has-same u) in
+    omega (arith, count-push (has u) (without h.hung.number p.entries) (owner_entry number ask k now), goes (has u), same)) in
     subst (λ x. AreMarks m (without x p.entries ++ owner_entry number ask k now ∷ [])) h.number whole
   where
-    not-true : (b : Bool) → not b ≡ true → b ≡ false
-    not-true true g = absurd (cc g)
-    not-true false g = refl
-
     has-same : (u : ℕ) → has u (owner_entry number ask k now) ≡ has u h.hung
     has-same u = ap (λ x. option_eq nat_eq x (Some u)) (sym h.token) ∙ sym (ap (λ b. b && option_eq nat_eq h.hung.token (Some u)) h.is_hung)
 
@@ -120,29 +101,11 @@ preempted-marked m p number n k ask now is h a =
 has-token : (t u : ℕ) (o : SemEntry) → holds o ≡ true → o.token ≡ Some t → has u o ≡ nat_eq t u
 has-token t u o h k = ap (λ b. b && option_eq nat_eq o.token (Some u)) h ∙ ap (λ x. option_eq nat_eq x (Some u)) k
 
-unqueued : (o : SemEntry) → holds o ≡ true → weight is_queued o ≡ 0
-unqueued o h = weight-no is_queued o (by_test (is_queued o) h)
-  where
-    by_test : (b : Bool) → not b ≡ true → b ≡ false
-    by_test true g = absurd (cc g)
-    by_test false g = refl
-
-left-queued : (p : Pool) (o : SemEntry) → IsPool p → Among p.entries o → holds o ≡ true → count_by is_queued (without o.number p.entries) ≡ count_by is_queued p.entries
-left-queued p o is a h = omega (arith, count-without is_queued 0 p.made p.entries o is.rises a, unqueued o h)
-
--- whether one waits stays as it was
-pub left-waits : (m : Marks) (p : Pool) (o : SemEntry) → IsPool p → Among p.entries o → holds o ≡ true → AreMarks m p.entries → m.waits ≡ list_any is_queued (without o.number p.entries)
-left-waits m p o is a h k = k.waits ∙ sym (same-any is_queued p.entries (without o.number p.entries) (left-queued p o is a h))
-
 left-at : (m n : Marks) (p : Pool) (o : SemEntry) (t : ℕ) (now : Moment) → IsPool p → Among p.entries o → holds o ≡ true → o.token ≡ Some t → AreMarks m p.entries
     → (first : Option SemEntry) → next t (without o.number p.entries) ≡ first
     → ((u : ℕ) → u < 256 → is_marked n u ≡ ((is_some (option_map (grant_of t) first) || not (nat_eq t u)) && is_marked m u))
-    → n.waits ≡ cond (is_some (option_map (grant_of t) first)) (list_any is_queued (granted_to first t now (without o.number p.entries))) m.waits
     → AreMarks n (granted_to first t now (without o.number p.entries))
-left-at m n p o t now is a h k marks None f g w = record {
-  had = λ u lt. by_token u lt (t == u) refl (g u lt);
-  waits = w ∙ left-waits m p o is a h marks;
-}
+left-at m n p o t now is a h k marks None f g u lt = by_token u lt (t == u) refl (g u lt)
   where
     by_token : (u : ℕ) → u < 256 → (b : Bool) → (t == u) ≡ b → is_marked n u ≡ (not (t == u) && is_marked m u) → is_marked n u ≡ list_any (has u) (without o.number p.entries)
     by_token u lt true e r =
@@ -153,15 +116,12 @@ left-at m n p o t now is a h k marks None f g w = record {
     by_token u lt false e r =
         let zero_weight : weight (has u) o ≡ 0 = weight-no (has u) o (has-token t u o h k ∙ e) in
         let same : count_by (has u) (without o.number p.entries) ≡ count_by (has u) p.entries = omega (arith, count-without (has u) 0 p.made p.entries o is.rises a, zero_weight) in
-        r ∙ ap (λ b. not b && is_marked m u) e ∙ marks.had u lt ∙ sym (same-any (has u) p.entries (without o.number p.entries) same)
-left-at m n p o t now is a h k marks (Some x) f g w =
+        r ∙ ap (λ b. not b && is_marked m u) e ∙ marks u lt ∙ sym (same-any (has u) p.entries (without o.number p.entries) same)
+left-at m n p o t now is a h k marks (Some x) f g u lt =
     let rest : Rises 0 (without o.number p.entries) p.made = rises-without 0 p.made o.number p.entries is.rises in
     let among = among-least before (wants t) (without o.number p.entries) x f in
     let waits : is_queued x ≡ true = wants-queued t x among.1 in
-    record {
-      had = λ u lt. g u lt ∙ same-had m p.entries (granted_to (Some x) t now (without o.number p.entries)) marks (as-many rest among.0 waits) u lt;
-      waits = w;
-    }
+    g u lt ∙ same-had m p.entries (granted_to (Some x) t now (without o.number p.entries)) marks (as-many rest among.0 waits) u lt
   where
     as-many : Rises 0 (without o.number p.entries) p.made → Among (without o.number p.entries) x → is_queued x ≡ true
         → (u : ℕ) → count_by (has u) (granted_to (Some x) t now (without o.number p.entries)) ≡ count_by (has u) p.entries
@@ -175,17 +135,14 @@ left-at m n p o t now is a h k marks (Some x) f g w =
 
 pub left-marked : (m n : Marks) (p : Pool) (o : SemEntry) (now : Moment) → IsPool p → Among p.entries o → holds o ≡ true → AreMarks m p.entries
     → ((u : ℕ) → u < 256 → is_marked n u ≡ ((is_some (grant_leaving o p.entries) || not (option_eq nat_eq o.token (Some u))) && is_marked m u))
-    → n.waits ≡ cond (is_some (grant_leaving o p.entries)) (list_any is_queued (after_leaving o now p.entries)) m.waits
     → AreMarks n (after_leaving o now p.entries)
-left-marked m n p o now is a h marks g w =
+left-marked m n p o now is a h marks g =
     let there = token-there (length p.tokens) o (none-among (unplaced (length p.tokens)) p.entries o a is.placed) h in
     let rest : List SemEntry = without o.number p.entries in
     let had : (u : ℕ) → u < 256 → is_marked n u ≡ ((is_some (grant_freeing (Some there.0) (without o.number p.entries)) || not (nat_eq there.0 u)) && is_marked m u) =
     subst (λ (k : Option ℕ). (u : ℕ) → u < 256 → is_marked n u ≡ ((is_some (grant_freeing k (without o.number p.entries)) || not (option_eq nat_eq k (Some u))) && is_marked m u)) there.1 g in
-    let waits : n.waits ≡ cond (is_some (grant_freeing (Some there.0) (without o.number p.entries))) (list_any is_queued (after_freeing there.0 now (without o.number p.entries))) m.waits =
-    subst (λ (k : Option ℕ). n.waits ≡ cond (is_some (grant_freeing k (without o.number p.entries))) (list_any is_queued (after_freeing_of k now (without o.number p.entries))) m.waits) there.1 w in
     subst (λ k. AreMarks n (after_freeing_of k now (without o.number p.entries))) (sym there.1)
-    (left-at m n p o there.0 now is a h there.1 marks (next there.0 (without o.number p.entries)) refl had waits)
+    (left-at m n p o there.0 now is a h there.1 marks (next there.0 (without o.number p.entries)) refl had)
 
 -- the token of one that goes is one of the first
 pub left-place : (p : Pool) (o : SemEntry) → IsPool p → Among p.entries o → holds o ≡ true → is_place 256 o.token ≡ true
@@ -197,55 +154,22 @@ left-place p o is a h =
     ap (is_place 256) there.1 ∙ lt
 
 -- an entry that waited goes
-pub cancelled-marked : (m : Marks) (p : Pool) (o : SemEntry) → IsPool p → Among p.entries o → is_queued o ≡ true → AreMarks m p.entries
-    → AreMarks (record m { waits = list_any is_queued (without o.number p.entries) }) (without o.number p.entries)
-cancelled-marked m p o is a q marks = record {
-  had = same-had m p.entries (without o.number p.entries) marks (λ u.
-      let none : weight (has u) o ≡ 0 = weight-no (has u) o (queued-lacks u o q) in
-      omega (arith, count-without (has u) 0 p.made p.entries o is.rises a, none));
-  waits = refl;
-}
+pub cancelled-marked : (m : Marks) (p : Pool) (o : SemEntry) → IsPool p → Among p.entries o → is_queued o ≡ true → AreMarks m p.entries → AreMarks m (without o.number p.entries)
+cancelled-marked m p o is a q marks = same-had m p.entries (without o.number p.entries) marks (λ u.
+    let none : weight (has u) o ≡ 0 = weight-no (has u) o (queued-lacks u o q) in
+    omega (arith, count-without (has u) 0 p.made p.entries o is.rises a, none))
 
-pub cancel-marked : (m : Marks) (p : Pool) (number : ℕ) → IsPool p → option_map is_queued (numbered number p.entries) ≡ Some true → AreMarks m p.entries
-    → AreMarks (record m { waits = list_any is_queued (without number p.entries) }) (without number p.entries)
+pub cancel-marked : (m : Marks) (p : Pool) (number : ℕ) → IsPool p → option_map is_queued (numbered number p.entries) ≡ Some true → AreMarks m p.entries → AreMarks m (without number p.entries)
 cancel-marked m p number is f marks = by_entry (numbered number p.entries) refl f
   where
-    by_entry : (o : Option SemEntry) → numbered number p.entries ≡ o → option_map is_queued o ≡ Some true
-        → AreMarks (record m { waits = list_any is_queued (without number p.entries) }) (without number p.entries)
+    by_entry : (o : Option SemEntry) → numbered number p.entries ≡ o → option_map is_queued o ≡ Some true → AreMarks m (without number p.entries)
     by_entry None t g = absurd (cc g)
     by_entry (Some o) t g =
         let a = among-find (λ e. e.number == number) p.entries o t in
         let same : o.number ≡ number = same-token o.number number a.1 in
-        subst (λ n. AreMarks (record m { waits = list_any is_queued (without n p.entries) }) (without n p.entries)) same (cancelled-marked m p o is a.0 (cc g) marks)
-
--- the entries of a client that waits go
-pub unqueued-marked : (m : Marks) (client : ℕ) (es : List SemEntry) → AreMarks m es
-    → AreMarks (record m { waits = list_any is_queued (filter (λ e. not (waits_for client e)) es) }) (filter (λ e. not (waits_for client e)) es)
-unqueued-marked m client es marks = record {
-  had = same-had m es (filter (λ e. not (waits_for client e)) es) marks
-      (λ u. count-kept (has u) (λ e. not (waits_for client e)) (λ e f. queued-lacks u e (waits-queued client e f)) es);
-  waits = refl;
-}
+        subst (λ n. AreMarks m (without n p.entries)) same (cancelled-marked m p o is a.0 (cc g) marks)
 
 -- where none waits
-
-none-wants : (t : ℕ) (es : List SemEntry) → list_any is_queued es ≡ false → next t es ≡ None
-none-wants t es f =
-    let none : count_by is_queued es ≡ 0 = none-any is_queued es f in
-    let fewer : count_by (wants t) es ≤ count_by is_queued es = count-weaker (wants t) is_queued (wants-queued t) es in
-    ap (least before) (none-filtered (wants t) es (omega (arith, none, fewer)))
-
-pub none-freed : (k : Option ℕ) (now : Moment) (es : List SemEntry) → list_any is_queued es ≡ false → (grant_freeing k es ≡ None) × (after_freeing_of k now es ≡ es)
-none-freed None now es f = (refl, refl)
-none-freed (Some t) now es f = (ap (option_map (grant_of t)) (none-wants t es f), ap (λ first. granted_to first t now es) (none-wants t es f))
-
-pub no-heir : (o : Option SemEntry) (es : List SemEntry) → list_any is_queued es ≡ false → heir_of o es ≡ None
-no-heir None es f = refl
-no-heir (Some o) es f =
-    let none : count_by is_queued es ≡ 0 = none-any is_queued es f in
-    let fewer : count_by is_queued (without o.number es) ≤ count_by is_queued es = count-fewer is_queued (λ e. not (e.number == o.number)) es in
-    let now : Moment = record { 0 = 0 } in
-    (none-freed o.token now (without o.number es) (any-none is_queued (without o.number es) (omega (arith, none, fewer)))).0
 
 pub no-claim : (client : ℕ) (es : List SemEntry) → list_any is_queued es ≡ false → has_claim client None es ≡ false
 no-claim client es f =
@@ -277,3 +201,41 @@ owner-stands p client token None is f = (tt, tt)
 owner-stands p client token (Some o) is f =
     let a = among-find (λ e. owned_by client e && names token e.token) p.entries o f in
     (numbered-at 0 p.made p.entries o is.rises a.0, owner-holds client token o a.1)
+
+-- the entries of a pool are those of tokens that have names
+
+same-place : (count : ℕ) (o : Option ℕ) → q.is_placed count o ≡ is_place count o
+same-place count None = refl
+same-place count (Some t) = refl
+
+first : (b c : Bool) → not (b && c) ≡ false → b ≡ true
+first true c t = refl
+first false c t = absurd cc
+
+-- each token that an entry has or wants is there
+pub placed-in : (p : Pool) (tokens : Option ℕ) (e : SemEntry) → IsPool p → tokens ≡ Some (length p.tokens) → Among p.entries e → q.is_placed (lists_of tokens) e.token ≡ true
+placed-in p tokens e is named a =
+    ap (λ (o : Option ℕ). q.is_placed (lists_of o) e.token) named ∙ same-place (length p.tokens) e.token
+    ∙ first (is_place (length p.tokens) e.token) (is_queued e || is_some e.token) (none-among (unplaced (length p.tokens)) p.entries e a is.placed)
+
+pub got-in : (p : Pool) (tokens : Option ℕ) (ask : Ask) (now : Moment) (t : ℕ) → IsPool p → tokens ≡ Some (length p.tokens) → outcome p ask now ≡ Gets t → q.is_placed (lists_of tokens) (Some t) ≡ true
+got-in p tokens ask now t is named e =
+    let free = free-found ask.token (length p.tokens) t p.entries (outcome-gets p ask now t e) in
+    let lt : t < length p.tokens = free.0 in
+    let below : nat_lt t (length p.tokens) ≡ true = grind (arith, nat_tests) in
+    ap (λ (o : Option ℕ). q.is_placed (lists_of o) (Some t)) named ∙ below
+
+pub preempted-in : (p : Pool) (tokens : Option ℕ) (ask : Ask) (now : Moment) (n : ℕ) (k : Option ℕ) → IsPool p → tokens ≡ Some (length p.tokens) → outcome p ask now ≡ Preempts n k → q.is_placed (lists_of tokens) k ≡ true
+preempted-in p tokens ask now n k is named e =
+    let h = outcome-preempts p ask now n k e in
+    ap (q.is_placed (lists_of tokens)) (sym h.token) ∙ placed-in p tokens h.hung is named h.among
+
+pub ended-in : (tokens : Option ℕ) (count : ℕ) (p : Pool) (e : SemEntry) (now : Moment) → tokens ≡ Some count → record p { entries = after_end tokens e now p.entries } ≡ expired_entry (Some e) now p
+ended-in tokens count p e now named = ap (λ (o : Option ℕ). record p { entries = after_end o e now p.entries }) named ∙ by_test (is_queued e)
+  where
+    by_test : (b : Bool) → record p { entries = cond b (without e.number p.entries) (after_leaving e now p.entries) } ≡ cond b (after_cancel p e.number) (record p { entries = after_leaving e now p.entries })
+    by_test true = refl
+    by_test false = refl
+
+pub loss-in : (tokens : Option ℕ) (count client : ℕ) (now : Moment) (es : List SemEntry) → tokens ≡ Some count → of_any.loss_of tokens client now es ≡ loss_of client now es
+loss-in tokens count client now es named = ap (λ (o : Option ℕ). of_any.loss_of o client now es) named

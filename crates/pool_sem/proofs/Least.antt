@@ -31,7 +31,7 @@ none-found p n fails = by_found (find p (range_with_len 0 n)) refl
         absurd (let it = is.0 in cc (it, not_it))
 
 pub free-marked : (m : Marks) (es : List SemEntry) (t : ℕ) (b : Bool) → AreMarks m es → t < 256 → is_marked m t ≡ b → is_free t es ≡ not b
-free-marked m es t b a lt e = ap not (sym (a.had t lt) ∙ e)
+free-marked m es t b a lt e = ap not (sym (a t lt) ∙ e)
 
 pub least-found : (m : Marks) (es : List SemEntry) (count r : ℕ) → AreMarks m es → count ≤ 256 → ((t : ℕ) → t < r → is_marked m t ≡ true) → (r < 256 → is_marked m r ≡ false) → r < count
     → free_token None count es ≡ Some r

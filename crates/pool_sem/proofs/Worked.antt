@@ -1,9 +1,11 @@
 -- Worked examples of a pool: what each call answers and does, typed by hand from its definition.
-use Rattle.std.specs.Prelude.{◌≡◌, ℕ, true, false, List, [], ◌∷◌, map, Option, Some, None, Ok, Err}
+use Rattle.std.specs.Prelude.{◌≡◌, ℕ, zero, suc, ◌+◌, ◌*◌, ◌%◌, ◌==◌, true, false, List, [], ◌∷◌, ◌++◌, map, filter, Option, Some, None, Result, Ok, Err}
+use Rattle.std.specs.List.{range_with_len}
 use Rattle.std.proofs.Common.{refl}
 use Rattle.mms_types.specs.declared.moment.Moment.{Moment}
 use Rattle.token_sem.specs.declared.entry.Ask.{Ask}
 use Rattle.token_sem.specs.declared.entry.Grant.{Grant}
+use Rattle.token_sem.specs.declared.entry.NotOwner.{NotOwner}
 use Rattle.token_sem.specs.declared.entry.SemEntry.{SemEntry}
 use Rattle.token_sem.specs.declared.entry.SemState.{SemState}
 use Rattle.token_sem.specs.declared.entry.SemState.TheVariants.{Queued, Owner, Hung}
@@ -211,3 +213,33 @@ places : Answers (λ name. place_of name both.tokens) (
     (82 ∷ 51 ∷ [], None) ∷
     (82 ∷ [], None) ∷ [])
 places = refl
+
+-- three tokens, of which three clients are owners, and 120 more clients that wait for any, with priorities from 0 to 6
+-- that rise and fall: the token at place 0 is given back again and again by whoever got it
+
+abbrev waiting : ℕ → SemEntry
+waiting n = at_priority ((n * 5) % 7) (waiter (n + 3) (n + 3) None)
+
+abbrev crowd : ℕ → Pool
+crowd n = record {
+  tokens = (82 ∷ 49 ∷ []) ∷ (82 ∷ 50 ∷ []) ∷ (82 ∷ 51 ∷ []) ∷ [];
+  made = n + 3;
+  entries = owner 1 1 0 ∷ owner 2 2 1 ∷ owner 3 3 2 ∷ map waiting (range_with_len 1 n);
+}
+
+abbrev client_of : Result (Option Grant) NotOwner → ℕ
+client_of (Ok (Some g)) = g.client
+client_of (Ok None) = 0
+client_of (Err e) = 0
+
+-- the clients that get the token, one after the other, when it is given back so often
+abbrev served : ℕ → ℕ → Pool → List ℕ
+served zero client p = []
+served (suc n) client p = let next = client_of (relinquish_answer p client (Some 0)) in next ∷ served n next (after_relinquish p client (Some 0) (at 7))
+
+-- the clients of one priority, in order of arrival
+abbrev of_priority : ℕ → ℕ → List ℕ
+of_priority n priority = map (λ k. k + 3) (filter (λ k. (k * 5) % 7 == priority) (range_with_len 1 n))
+
+granted_by_rank : served 120 1 (crowd 120) ≡ of_priority 120 0 ++ of_priority 120 1 ++ of_priority 120 2 ++ of_priority 120 3 ++ of_priority 120 4 ++ of_priority 120 5 ++ of_priority 120 6
+granted_by_rank = refl

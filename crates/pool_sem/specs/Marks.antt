@@ -4,7 +4,6 @@ use Rattle.std.specs.Prelude.{slice_index}
 use Rattle.std.specs.Int.{bit_at}
 use Rattle.std.specs.List.{list_any}
 use Rattle.token_sem.specs.declared.entry.SemEntry.{SemEntry}
-use Rattle.token_sem.specs.Semaphore.{is_queued}
 use Rattle.pool_sem.specs.declared.marks.Marks.{Marks}
 use Rattle.pool_sem.specs.Pools.{has}
 
@@ -12,7 +11,6 @@ use Rattle.pool_sem.specs.Pools.{has}
 abbrev pub is_marked : Marks → ℕ → Bool
 is_marked marks token = nat_eq (bit_at (slice_index marks.had (token / 64)) (token % 64)) 1
 
--- what is marked is what these entries have, and whether one of them waits
-pub record AreMarks (marks : Marks) (entries : List SemEntry) : Type 0 where
-  pub had : (token : ℕ) → token < 256 → is_marked marks token ≡ list_any (has token) entries
-  pub waits : marks.waits ≡ list_any is_queued entries
+-- the tokens that are marked are those that an entry has
+abbrev pub AreMarks : Marks → List SemEntry → Type 0
+AreMarks marks entries = (token : ℕ) → token < 256 → is_marked marks token ≡ list_any (has token) entries

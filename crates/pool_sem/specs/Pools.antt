@@ -1,6 +1,7 @@
 -- A pool, tokens that have names and a list of entries: ISO 9506-1, semaphore management. What a pool has in common
--- with equal tokens, as entries, their rank and their deadlines, stands in `token_sem`.
-use Rattle.std.specs.Prelude.{◌≡◌, ℕ, ◌+◌, ◌<◌, ◌≤◌, Bool, true, false, not, ◌&&◌, ◌||◌, ◌==◌, nat_eq, nat_lt, if◌then◌else◌, List, [], ◌∷◌, ◌++◌, map, filter, find, fold, count_by, length, position, Option, None, Some, is_none, is_some, option_map, option_to_list, Result, Ok, Err}
+-- with equal tokens, as entries, their rank and their deadlines, and who gets a token that is freed, stands in
+-- `token_sem`.
+use Rattle.std.specs.Prelude.{◌≡◌, ℕ, ◌+◌, ◌<◌, ◌≤◌, Bool, true, false, not, ◌&&◌, ◌||◌, ◌==◌, nat_eq, nat_lt, if◌then◌else◌, List, [], ◌∷◌, ◌++◌, map, filter, find, fold, count_by, length, position, Option, None, Some, is_some, option_to_list, Result, Ok, Err}
 use Rattle.std.specs.List.{list_any, range_with_len, AllAdjacentBelow}
 use Rattle.std.specs.Option.{option_eq, option_cmp}
 use Rattle.std.specs.Cmp.Lexicographic.{pointwise}
@@ -20,6 +21,7 @@ use Rattle.token_sem.specs.declared.entry.TakeRefused.{TakeRefused}
 use Rattle.token_sem.specs.declared.entry.TakeRefused.TheVariants.{Twice}
 use Rattle.token_sem.specs.Semaphore as of_tokens
 use Rattle.token_sem.specs.Semaphore.{is_queued, is_owner, is_hung, holds, before, least, without, numbered, after, deadline_after, hung_entry, waits_for, owned_by, aborts, Loss, Rises}
+pub use Rattle.token_sem.specs.Named.{suits, wants, next, token_told, owner_from, granted_entry, granted_to, after_freeing, grant_of, after_freeing_of, after_leaving, grant_freeing, grant_leaving}
 use Rattle.pool_sem.specs.declared.outcome.PoolOutcome.{PoolOutcome}
 use Rattle.pool_sem.specs.declared.outcome.PoolOutcome.TheVariants.{Refused, Preempts, Gets, TimesOut, WaitsUntil, WaitsForEver}
 use Rattle.pool_sem.specs.declared.outcome.TokenState.{TokenState}
@@ -36,65 +38,13 @@ pub record Pool : Type 0 where
 abbrev pub names : Option ℕ → Option ℕ → Bool
 names asked token = is_some asked && option_eq nat_eq asked token
 
--- no token was named, or it is that one
-abbrev pub suits : Option ℕ → Option ℕ → Bool
-suits asked token = is_none asked || option_eq nat_eq asked token
-
 -- the entry is owner of that token, or hung with it
 abbrev pub has : ℕ → SemEntry → Bool
 has token e = holds e && option_eq nat_eq e.token (Some token)
 
--- the entry waits for that token, or for any
-abbrev pub wants : ℕ → SemEntry → Bool
-wants token e = is_queued e && suits e.token (Some token)
-
 -- nobody has the token
 abbrev pub is_free : ℕ → List SemEntry → Bool
 is_free token entries = not (list_any (has token) entries)
-
--- the queued entry that is served first with that token
-abbrev pub next : ℕ → List SemEntry → Option SemEntry
-next token entries = least before (filter (wants token) entries)
-
--- which token an answer names: the one that was got, where none was named (ISO 9506-1, TakeControl, namedToken)
-abbrev pub token_told : Option ℕ → Option ℕ → Option ℕ
-token_told asked got = if is_some asked then None else got
-
--- the entry, when it becomes owner of that token
-abbrev pub owner_from : ℕ → Moment → SemEntry → SemEntry
-owner_from token now e = record (of_tokens.owner_from now e) { token = Some token }
-
--- the entry of that number becomes owner of that token
-abbrev pub granted_entry : ℕ → ℕ → Moment → SemEntry → SemEntry
-granted_entry number token now e = if e.number == number then owner_from token now e else e
-
-abbrev pub granted_to : Option SemEntry → ℕ → Moment → List SemEntry → List SemEntry
-granted_to None token now entries = entries
-granted_to (Some first) token now entries = map (granted_entry first.number token now) entries
-
--- a token is freed: the entry that is served first with it becomes its owner, or the token is free
-abbrev pub after_freeing : ℕ → Moment → List SemEntry → List SemEntry
-after_freeing token now entries = granted_to (next token entries) token now entries
-
--- who is told that a token was granted
-abbrev pub grant_of : ℕ → SemEntry → Grant
-grant_of token e = record (of_tokens.grant_of e) { token = token_told e.token (Some token) }
-
--- an entry goes, and the token that it has is freed
-
-abbrev pub after_freeing_of : Option ℕ → Moment → List SemEntry → List SemEntry
-after_freeing_of None now entries = entries
-after_freeing_of (Some token) now entries = after_freeing token now entries
-
-abbrev pub after_leaving : SemEntry → Moment → List SemEntry → List SemEntry
-after_leaving e now entries = after_freeing_of e.token now (without e.number entries)
-
-abbrev pub grant_freeing : Option ℕ → List SemEntry → Option Grant
-grant_freeing None entries = None
-grant_freeing (Some token) entries = option_map (grant_of token) (next token entries)
-
-abbrev pub grant_leaving : SemEntry → List SemEntry → Option Grant
-grant_leaving e entries = grant_freeing e.token (without e.number entries)
 
 -- RelinquishControl: the client's owner entry of that token goes, and the token is freed
 

@@ -1,14 +1,13 @@
 //! What is done on the entries of a pool. What equal tokens have in common with it stands in `token_sem`.
 
-ghost use Rattle.std.specs.Prelude.{◌≡◌, ℕ, ◌+◌, ◌≤◌, ◌<◌, None, Some, [], count_by, find, fold, length, map, option_map, reverse, vec_capacity, vec_len};
+ghost use Rattle.std.specs.Prelude.{◌≡◌, ℕ, ◌≤◌, Some, count_by, find, reverse};
 ghost use Rattle.mms_types.specs.Moments.{IsDated};
-ghost use Rattle.token_sem.specs.Semaphore.{earlier, is_queued, without};
-ghost use Rattle.std.specs.List.{list_any};
-ghost use Rattle.pool_sem.specs.Pools.{NamesRise, after_freeing, after_freeing_of, grant_freeing, grant_leaving, grant_of, grant_to, granted_entry, has, has_claim, hung_to_preempt, is_claim, is_hung_of, loss_of_one, lower, names, next, outcome_later, owner_entry, owner_of, place_of, queued_entry, suits, token_state, token_told, wants};
+ghost use Rattle.token_sem.specs.Semaphore.{earlier};
+ghost use Rattle.pool_sem.specs.Pools.{NamesRise, grant_to, has, has_claim, hung_to_preempt, is_claim, is_hung_of, lower, names, outcome_later, owner_entry, owner_of, place_of, queued_entry, suits, token_state, token_told};
 
 use crate::{PoolOutcome, TokenState};
 use mms_types::{Identifier, Moment};
-use token_sem::entries::{after, earlier, hang, remove};
+use token_sem::entries::after;
 use token_sem::{Ask, Grant, SemEntry, entries as of_tokens};
 
 /// Whether a token was named, and it is that one.
@@ -32,128 +31,11 @@ fn has(token: u32, entry: &SemEntry) -> bool
     entry.holds() && entry.token == Some(token)
 }
 
-/// Whether the entry waits for that token, or for any.
-fn wants(token: u32, entry: &SemEntry) -> bool
-    ensures { result ≡ wants token entry.now }
-{
-    entry.is_queued() && suits(entry.token, Some(token))
-}
-
-/// The entry that gets the token where it is freed.
-fn next_of(token: u32, entries: &[SemEntry]) -> Option<SemEntry>
-    ensures { result ≡ next token entries.now }
-{
-    entries
-        .iter()
-        .filter(|entry| wants(token, entry))
-        .fold(None, |best, entry| earlier(best, entry))
-}
-
-/// The entry that gets the token where the entry of that number goes.
-fn next_without(number: u64, token: u32, entries: &[SemEntry]) -> Option<SemEntry>
-    ensures { result ≡ next token (without number entries.now) }
-{
-    entries
-        .iter()
-        .filter(|entry| entry.number != number)
-        .filter(|entry| wants(token, entry))
-        .fold(None, |best, entry| earlier(best, entry))
-}
-
-/// Who is told that the token was granted.
-fn granted(token: u32, entry: &SemEntry) -> Grant
-    ensures { result ≡ grant_of token entry.now }
-{
-    Grant {
-        client: entry.client,
-        invoke: entry.invoke,
-        entry: entry.number,
-        token: token_told(entry.token, Some(token)),
-    }
-}
-
-/// Who gets the token of an entry where it goes.
-pub(crate) fn heir(entry: &SemEntry, entries: &[SemEntry]) -> Option<Grant>
-    ensures { result ≡ grant_leaving entry.now entries.now }
-{
-    let token = entry.token?;
-    let first = next_without(entry.number, token, entries)?;
-    Some(granted(token, &first))
-}
-
-/// The entry, where it is the one of that number as owner of that token.
-fn granted_entry(number: u64, token: u32, now: Moment, entry: &SemEntry) -> SemEntry
-    requires { IsDated now }
-    ensures { result ≡ granted_entry number token now entry.now }
-{
-    let mut granted = of_tokens::granted_entry(number, now, entry);
-    if granted.number == number {
-        granted.token = Some(token);
-    }
-    granted
-}
-
-/// The entry of that number becomes owner of that token.
-fn grant(entries: &mut [SemEntry], number: u64, token: u32, now: Moment)
-    requires { IsDated now }
-    ensures { entries.new ≡ map (granted_entry number token now) entries.old }
-{
-    for place in 0..entries.len() {
-        entries[place] = granted_entry(number, token, now, &entries[place]);
-    }
-}
-
 /// Which token an answer names.
 fn token_told(asked: Option<u32>, got: Option<u32>) -> Option<u32>
     ensures { result ≡ token_told asked got }
 {
     if asked.is_some() { None } else { got }
-}
-
-/// A token is freed: who gets it.
-fn free(entries: &mut Vec<SemEntry>, token: u32, now: Moment) -> Option<Grant>
-    requires { IsDated now }
-    ensures grant { result ≡ option_map (grant_of token) (next token entries.old.items) }
-    ensures entries { entries.new.items ≡ after_freeing token now entries.old.items }
-{
-    match next_of(token, entries) {
-        None => None,
-        Some(first) => {
-            grant(entries, first.number, token, now);
-            Some(granted(token, &first))
-        }
-    }
-}
-
-/// The token that an entry had is freed: who gets it.
-fn free_of(entries: &mut Vec<SemEntry>, token: Option<u32>, now: Moment) -> Option<Grant>
-    requires { IsDated now }
-    ensures grant { result ≡ grant_freeing token entries.old.items }
-    ensures entries { entries.new.items ≡ after_freeing_of token now entries.old.items }
-{
-    match token {
-        None => None,
-        Some(token) => free(entries, token, now),
-    }
-}
-
-/// The same, where it is known whether an entry waits.
-pub(crate) fn free_where(
-    entries: &mut Vec<SemEntry>,
-    token: Option<u32>,
-    waits: bool,
-    now: Moment,
-) -> Option<Grant>
-    requires waits { waits ≡ list_any is_queued entries.old.items }
-    requires now { IsDated now }
-    ensures grant { result ≡ grant_freeing token entries.old.items }
-    ensures entries { entries.new.items ≡ after_freeing_of token now entries.old.items }
-{
-    if waits {
-        free_of(entries, token, now)
-    } else {
-        None
-    }
 }
 
 /// The client's last owner entry of that token: one that was made lately is met first.
@@ -299,46 +181,6 @@ fn holder(token: u32, entries: &[SemEntry]) -> Option<SemEntry>
     ensures { result ≡ find (has token) entries.now }
 {
     entries.iter().copied().find(|entry| has(token, entry))
-}
-
-/// The client of an owner is lost. Who gets its token is appended, for which there is room.
-fn lose_one(entries: &mut Vec<SemEntry>, grants: &mut Vec<Grant>, owner: &SemEntry, now: Moment)
-    requires room { vec_len grants.old < vec_capacity grants.old }
-    requires now { IsDated now }
-    ensures is { loss_of_one now (record { entries = entries.old.items; grants = grants.old.items })
-        owner.now
-        ≡ record { entries = entries.new.items; grants = grants.new.items } }
-    ensures len { vec_len grants.new ≤ vec_len grants.old + 1 }
-    ensures capacity { vec_capacity grants.new ≡ vec_capacity grants.old }
-{
-    if owner.keep {
-        hang(entries, owner.number);
-    } else {
-        remove(entries, owner.number);
-        if let Some(grant) = free_of(entries, owner.token, now) {
-            grants.push_reserved(grant);
-        }
-    }
-}
-
-/// The client of these owners is lost.
-pub(crate) fn lose_owners(
-    entries: &mut Vec<SemEntry>,
-    grants: &mut Vec<Grant>,
-    owners: &[SemEntry],
-    now: Moment,
-)
-    requires empty { grants.old.items ≡ [] }
-    requires len { vec_len grants.old ≡ 0 }
-    requires room { length owners.now ≤ vec_capacity grants.old }
-    requires now { IsDated now }
-    ensures { fold (loss_of_one now) (record { entries = entries.old.items; grants = [] })
-        owners.now
-        ≡ record { entries = entries.new.items; grants = grants.new.items } }
-{
-    for owner in owners {
-        lose_one(entries, grants, owner, now);
-    }
 }
 
 /// The place of the token of that name.

@@ -1,10 +1,8 @@
-//! What is marked beside the entries of a pool: which tokens they have, and whether any waits.
+//! Which tokens of a pool entries have, as bits.
 
-ghost use Rattle.std.specs.Prelude.{◌≡◌, ◌≢◌, ◌≤◌, ◌<◌, ◌||◌, ◌&&◌, ℕ, Some, [], false, if◌then◌else◌, nat_eq, not, true};
+ghost use Rattle.std.specs.Prelude.{◌≡◌, ◌≢◌, ◌≤◌, ◌<◌, ◌||◌, ◌&&◌, ℕ, Some, [], false, nat_eq, not, true};
 ghost use Rattle.std.specs.Int.{bit_at};
 ghost use Rattle.std.specs.Option.{option_eq};
-ghost use Rattle.std.specs.List.{list_any};
-ghost use Rattle.token_sem.specs.Semaphore.{is_queued};
 ghost use Rattle.pool_sem.specs.Marks.{AreMarks, is_marked};
 ghost use Rattle.pool_sem.specs.Pools.{has, is_place};
 
@@ -16,18 +14,10 @@ const MARKED: u32 = 256;
 /// A word of which each bit is set.
 const FULL: u64 = u64::MAX;
 
-/// A bit for each token that an entry has, and whether an entry waits.
+/// A bit for each token that an entry has.
 #[derive(Clone, Copy)]
 pub struct Marks {
     had: [u64; 4],
-    waits: bool,
-}
-
-/// Whether any entry waits.
-fn any_waits(entries: &[SemEntry]) -> bool
-    ensures { result ≡ list_any is_queued entries.now }
-{
-    entries.iter().any(|entry| entry.is_queued())
 }
 
 /// The lowest bit that isn't set of a word that has one.
@@ -45,20 +35,14 @@ impl Marks {
     pub(crate) fn new() -> Marks
         ensures { AreMarks result [] }
     {
-        Marks {
-            had: [0; 4],
-            waits: false,
-        }
+        Marks { had: [0; 4] }
     }
 
     /// The marks of these entries.
     pub(crate) fn of(entries: &[SemEntry]) -> Marks
         ensures { AreMarks result entries.now }
     {
-        let mut marks = Marks {
-            had: [0; 4],
-            waits: any_waits(entries),
-        };
+        let mut marks = Marks::new();
         for entry in entries {
             marks.see(entry);
         }
@@ -67,36 +51,14 @@ impl Marks {
 
     /// Marks the token that the entry has.
     fn see(&mut self, entry: &SemEntry)
-        ensures had { (token : ℕ) → token < MARKED
+        ensures { (token : ℕ) → token < MARKED
             → is_marked self.new token ≡ (is_marked self.old token || has token entry.now) }
-        ensures waits { self.new.waits ≡ self.old.waits }
     {
         if let Some(token) = entry.token {
             if token < MARKED && entry.holds() {
                 self.set(token);
             }
         }
-    }
-
-    /// Whether an entry waits.
-    pub(crate) fn waits(&self) -> bool
-        ensures { result ≡ self.now.waits }
-    {
-        self.waits
-    }
-
-    /// An entry waits.
-    pub(crate) fn wait(&mut self)
-        ensures { self.new ≡ record self.old { waits = true } }
-    {
-        self.waits = true;
-    }
-
-    /// A waiting entry went, or waits no longer. These are left.
-    pub(crate) fn look(&mut self, entries: &[SemEntry])
-        ensures { self.new ≡ record self.old { waits = list_any is_queued entries.now } }
-    {
-        self.waits = any_waits(entries);
     }
 
     /// Whether an entry has the token.
@@ -110,9 +72,8 @@ impl Marks {
     /// An entry has the token.
     pub(crate) fn set(&mut self, token: u32)
         requires { token < MARKED }
-        ensures had { (other : ℕ) → other < MARKED
+        ensures { (other : ℕ) → other < MARKED
             → is_marked self.new other ≡ (nat_eq other token || is_marked self.old other) }
-        ensures waits { self.new.waits ≡ self.old.waits }
     {
         let place = (token / 64) as usize;
         self.had[place] |= 1 << (token % 64);
@@ -121,25 +82,23 @@ impl Marks {
     /// No entry has the token.
     pub(crate) fn clear(&mut self, token: u32)
         requires { token < MARKED }
-        ensures had { (other : ℕ) → other < MARKED
+        ensures { (other : ℕ) → other < MARKED
             → is_marked self.new other ≡ (not (nat_eq other token) && is_marked self.old other) }
-        ensures waits { self.new.waits ≡ self.old.waits }
     {
         let place = (token / 64) as usize;
         self.had[place] &= !(1 << (token % 64));
     }
 
-    /// The token of an entry that went is granted, or free where one is told; these entries are left.
-    pub(crate) fn free(&mut self, token: Option<u32>, granted: bool, entries: &[SemEntry])
+    /// The token of an entry that went is granted, or free.
+    pub(crate) fn free(&mut self, token: Option<u32>, granted: bool)
         requires { is_place MARKED token ≡ true }
-        ensures had { (other : ℕ) → other < MARKED → is_marked self.new other
+        ensures { (other : ℕ) → other < MARKED → is_marked self.new other
             ≡ ((granted || not (option_eq nat_eq token (Some other))) && is_marked self.old other) }
-        ensures waits { self.new.waits
-            ≡ (if granted then list_any is_queued entries.now else self.old.waits) }
     {
         if granted {
-            self.look(entries);
-        } else if let Some(token) = token {
+            return;
+        }
+        if let Some(token) = token {
             self.clear(token);
         }
     }

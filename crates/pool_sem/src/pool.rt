@@ -8,18 +8,16 @@ ghost use Rattle.token_sem.specs.Semaphore.{deadline_at, first_deadline, holds, 
 ghost use Rattle.pool_sem.specs.Pools.{IsPool, NamesRise, after_cancel, after_expire, after_leaving, after_lose, after_relinquish, after_take, expired_of, free_token, grant_leaving, has_claim, has_token, heir_of, is_place, is_placed, loss_of, makes_entry, outcome, owner_of, place_of, relinquish_answer, take_answer, token_got, token_state};
 
 use crate::entries::{
-    free_where, grant_to, has_claim, heir, hung_to_preempt, lose_owners, outcome_later,
-    owner_entry, owner_of, place_of, queued_entry, token_state,
+    grant_to, has_claim, hung_to_preempt, outcome_later, owner_entry, owner_of, place_of,
+    queued_entry, token_state,
 };
 use crate::marks::Marks;
 use crate::{PoolOutcome, TokenState};
 use mms_types::{Identifier, Identifiers, Memory, Moment};
 use std::alloc::Global;
 use std::marker::Model;
-use token_sem::entries::{
-    aborts, add, first_deadline, hung, lose_waiters, numbered, owned, owners_of, remove,
-};
-use token_sem::{Ask, Deadline, Expired, Grant, NotOwner, SemEntry, TakeRefused, Taken};
+use token_sem::entries::{hung, owned};
+use token_sem::{Ask, Deadline, Entries, Expired, Grant, NotOwner, SemEntry, TakeRefused, Taken};
 
 /// A semaphore whose tokens have names (ISO 9506-1, pool semaphore). A token is told by its place in the list of their
 /// names, counted from 0 in order of octets. Contracts see the names, how many entries were made, and the entries in
@@ -29,8 +27,8 @@ use token_sem::{Ask, Deadline, Expired, Grant, NotOwner, SemEntry, TakeRefused, 
 pub struct PoolSem {
     tokens: Identifiers,
     made: u64,
-    entries: Vec<SemEntry>,
-    /// Which tokens entries have, and whether any waits.
+    entries: Entries,
+    /// Which tokens entries have.
     marks: Marks,
 }
 
@@ -39,29 +37,31 @@ impl Model for PoolSem {
 
     ghost Value = { Pool };
 
-    ghost view = { λ p. record { tokens = p.tokens; made = p.made; entries = p.entries.items } };
+    ghost view = { λ p. record { tokens = p.tokens; made = p.made; entries = p.entries.list } };
 
     ghost use Rattle.pool_sem.specs.Marks.{AreMarks};
+    ghost use Rattle.std.specs.Prelude.{◌≡◌, Some, length};
 
     ghost invariant = { λ p.
-        IsPool (record { tokens = p.tokens; made = p.made; entries = p.entries.items })
-        × AreMarks p.marks p.entries.items };
+        IsPool (record { tokens = p.tokens; made = p.made; entries = p.entries.list })
+        × AreMarks p.marks p.entries.list × (p.entries.named ≡ Some (length p.tokens)) };
 }
 
 impl PoolSem {
-    /// A pool whose tokens are free. Nothing is allocated.
-    pub fn new(alloc: Global, tokens: Vec<Identifier>) -> PoolSem
+    /// A pool whose tokens are free. The one refusal is want of memory.
+    pub fn new(alloc: Global, tokens: Vec<Identifier>) -> Result<PoolSem, Memory>
         requires sorted { NamesRise tokens.items }
         requires some { 1 ≤ length tokens.items }
         requires few { length tokens.items ≤ 256 }
-        ensures { result ≡ record { tokens = tokens.items; made = 0; entries = [] } }
+        ensures { IfOk result (λ p. p ≡ record { tokens = tokens.items; made = 0; entries = [] }) }
     {
-        PoolSem {
+        let entries = Entries::new(alloc, Some(tokens.len() as u32))?;
+        Ok(PoolSem {
             tokens: Identifiers::from(tokens),
             made: 0,
-            entries: Vec::new(alloc),
+            entries,
             marks: Marks::new(),
-        }
+        })
     }
 
     /// The names of its tokens, owned, hung and free, from 1 to 256 of them in order of octets. Of every pool it holds
@@ -133,7 +133,7 @@ impl PoolSem {
         ensures there { IfSome result (λ e. numbered e.number self.now.entries ≡ Some e) }
         ensures holds { IfSome result (λ e. holds e ≡ true) }
     {
-        owner_of(client, token, &self.entries)
+        owner_of(client, token, self.entries.as_slice())
     }
 
     /// The entry of one that has a token goes, and its token is freed: who gets it.
@@ -145,10 +145,8 @@ impl PoolSem {
         ensures state { self.new
             ≡ record self.old { entries = after_leaving entry.now now self.old.entries } }
     {
-        remove(&mut self.entries, entry.number);
-        let waits = self.marks.waits();
-        let grant = free_where(&mut self.entries, entry.token, waits, now);
-        self.marks.free(entry.token, grant.is_some(), &self.entries);
+        let grant = self.entries.leave(entry, now);
+        self.marks.free(entry.token, grant.is_some());
         grant
     }
 
@@ -160,7 +158,7 @@ impl PoolSem {
         if self.has_claim(ask.client, ask.token) {
             return PoolOutcome::Refused;
         }
-        if let Some(hung) = hung_to_preempt(ask.preempt, ask.token, &self.entries) {
+        if let Some(hung) = hung_to_preempt(ask.preempt, ask.token, self.entries.as_slice()) {
             return PoolOutcome::Preempts(hung.number, hung.token);
         }
         match self.free_token(ask.token) {
@@ -208,29 +206,25 @@ impl PoolSem {
             PoolOutcome::Refused => Err(TakeRefused::Twice),
             PoolOutcome::TimesOut => Ok(Taken::TimedOut),
             PoolOutcome::Gets(token) => {
-                add(
-                    &mut self.entries,
-                    owner_entry(number, ask, Some(token), now),
-                )?;
+                self.entries
+                    .add(owner_entry(number, ask, Some(token), now))?;
                 self.marks.set(token);
                 self.made = number;
                 Ok(Taken::Granted(grant_to(number, ask, Some(token))))
             }
             PoolOutcome::Preempts(hung, token) => {
-                add(&mut self.entries, owner_entry(number, ask, token, now))?;
-                remove(&mut self.entries, hung);
+                self.entries.add(owner_entry(number, ask, token, now))?;
+                self.entries.remove(hung);
                 self.made = number;
                 Ok(Taken::Granted(grant_to(number, ask, token)))
             }
             PoolOutcome::WaitsUntil(deadline) => {
-                add(&mut self.entries, queued_entry(number, ask, Some(deadline)))?;
-                self.marks.wait();
+                self.entries.add(queued_entry(number, ask, Some(deadline)))?;
                 self.made = number;
                 Ok(Taken::Waits(number))
             }
             PoolOutcome::WaitsForEver => {
-                add(&mut self.entries, queued_entry(number, ask, None))?;
-                self.marks.wait();
+                self.entries.add(queued_entry(number, ask, None))?;
                 self.made = number;
                 Ok(Taken::Waits(number))
             }
@@ -261,14 +255,9 @@ impl PoolSem {
     pub fn heir(&self, client: u32, token: Option<u32>) -> Option<Grant>
         ensures { result ≡ heir_of (owner_of client token self.now.entries) self.now.entries }
     {
-        let waits = self.marks.waits();
-        if waits {
-            match self.owner_of(client, token) {
-                None => None,
-                Some(owner) => heir(&owner, &self.entries),
-            }
-        } else {
-            None
+        match self.owner_of(client, token) {
+            None => None,
+            Some(owner) => self.entries.heir(&owner),
         }
     }
 
@@ -277,8 +266,7 @@ impl PoolSem {
         requires queued { option_map is_queued (numbered entry self.old.entries) ≡ Some true }
         ensures { self.new ≡ after_cancel self.old entry }
     {
-        remove(&mut self.entries, entry);
-        self.marks.look(&self.entries);
+        self.entries.remove(entry);
     }
 
     /// An entry's deadline ends: the entry goes, and where it had a token, that is granted to the entry that is served
@@ -291,26 +279,16 @@ impl PoolSem {
             → result ≡ expired_of e self.old.entries }
         ensures state { self.new ≡ after_expire self.old entry now }
     {
-        let Some(ended) = numbered(entry, &self.entries) else {
+        let Some(ended) = self.entries.numbered(entry) else {
             unreachable!()
         };
-        let waited = ended.is_queued();
-        let grant = if waited {
-            self.cancel(ended.number);
-            None
-        } else {
-            self.leave(&ended, now)
-        };
-        Expired {
-            client: ended.client,
-            invoke: ended.invoke,
-            waited,
-            abort: ended.is_owner() && aborts(ended.abort),
-            grant,
+        let expired = self.entries.end(&ended, now);
+        if !expired.waited {
+            self.marks.free(ended.token, expired.grant.is_some());
         }
+        expired
     }
 
-    #[tactic(auto, using(crate::proofs::Unowned::none_lost))]
     /// A client is lost: its queued entries go. Then each of its owner entries, in order of number, becomes hung where
     /// its token is kept, and else goes, and its token is freed. Who is granted a token is told in that order. The one
     /// refusal is want of memory, only where the client has an owner entry; then all is as before.
@@ -322,16 +300,8 @@ impl PoolSem {
         ensures err { OnErr result (self.new ≡ self.old) }
         ensures wants { OnErr result (list_any (owned_by client) self.old.entries ≡ true) }
     {
-        if !self.owns(client) {
-            lose_waiters(&mut self.entries, client);
-            self.marks.look(&self.entries);
-            return Ok(Vec::new(alloc));
-        }
-        let owners = owners_of(alloc, client, &self.entries)?;
-        let mut grants = Vec::with_capacity(alloc, owners.len())?;
-        lose_waiters(&mut self.entries, client);
-        lose_owners(&mut self.entries, &mut grants, &owners, now);
-        self.marks = Marks::of(&self.entries);
+        let grants = self.entries.lose(alloc, client, now)?;
+        self.marks = Marks::of(self.entries.as_slice());
         Ok(grants)
     }
 
@@ -346,16 +316,16 @@ impl PoolSem {
     pub fn entries(&self) -> &[SemEntry]
         ensures { result.now ≡ self.now.entries }
     {
-        &self.entries
+        self.entries.as_slice()
     }
 
     /// Whether the client waits for a token of the pool.
     fn is_waiting(&self, client: u32) -> bool
         ensures { result ≡ has_claim client None self.now.entries }
     {
-        let waits = self.marks.waits();
+        let waits = self.entries.waits();
         if waits {
-            has_claim(client, None, &self.entries)
+            has_claim(client, None, self.entries.as_slice())
         } else {
             false
         }
@@ -367,7 +337,7 @@ impl PoolSem {
     {
         match asked {
             None => self.is_waiting(client),
-            Some(_) => has_claim(client, asked, &self.entries),
+            Some(_) => has_claim(client, asked, self.entries.as_slice()),
         }
     }
 
@@ -376,7 +346,8 @@ impl PoolSem {
     pub fn has_token(&self, preempt: Option<u32>, asked: Option<u32>) -> bool
         ensures { result ≡ has_token preempt asked self.now }
     {
-        hung_to_preempt(preempt, asked, &self.entries).is_some() || self.free_token(asked).is_some()
+        hung_to_preempt(preempt, asked, self.entries.as_slice()).is_some()
+            || self.free_token(asked).is_some()
     }
 
     /// Which token a request for that token, or for any, that may preempt that client gets at once. None where none is
@@ -384,7 +355,7 @@ impl PoolSem {
     pub fn token_got(&self, preempt: Option<u32>, asked: Option<u32>) -> Option<u32>
         ensures { result ≡ token_got preempt asked self.now }
     {
-        match hung_to_preempt(preempt, asked, &self.entries) {
+        match hung_to_preempt(preempt, asked, self.entries.as_slice()) {
             Some(hung) => hung.token,
             None => self.free_token(asked),
         }
@@ -401,9 +372,7 @@ impl PoolSem {
     pub fn owns(&self, client: u32) -> bool
         ensures { result ≡ list_any (owned_by client) self.now.entries }
     {
-        self.entries
-            .iter()
-            .any(|entry| entry.client == client && entry.is_owner())
+        self.entries.owns(client)
     }
 
     /// Whether there is any entry.
@@ -418,19 +387,15 @@ impl PoolSem {
     pub fn first_deadline(&self) -> Option<(Moment, u64)>
         ensures { result ≡ option_map moment_and_entry (first_deadline self.now.entries) }
     {
-        match first_deadline(&self.entries) {
-            None => None,
-            Some(first) => Some((first.at, first.number)),
-        }
+        self.entries.first_deadline()
     }
 
     /// The least deadline, with its kind: that of the entry of that number. None exactly where no entry has one.
-    #[tactic(auto, using(crate::proofs::Serving::first_stands))]
     pub fn deadline(&self) -> Option<Deadline>
         ensures least { result ≡ first_deadline self.now.entries }
         ensures stands { IfSome result (λ d. deadline_at d.number self.now.entries ≡ Some d.at) }
     {
-        first_deadline(&self.entries)
+        self.entries.deadline()
     }
 
     /// The entry at a place of the list, counted from 0 in order of number. None exactly where the place isn't below
@@ -441,35 +406,35 @@ impl PoolSem {
         ensures placed { (e : SemEntry) → option_copied result ≡ Some e
             → is_placed (length self.now.tokens) e ≡ true }
     {
-        self.entries.get(place)
+        self.entries.as_slice().get(place)
     }
 
     /// How many tokens are owned (ISO 9506-1, ReportSemaphoreStatus).
     pub fn owned(&self) -> u16
         ensures { result ≡ count_by is_owner self.now.entries }
     {
-        owned(&self.entries) as u16
+        owned(self.entries.as_slice()) as u16
     }
 
     /// How many tokens are hung (ISO 9506-1, ReportSemaphoreStatus).
     pub fn hung(&self) -> u16
         ensures { result ≡ count_by is_hung self.now.entries }
     {
-        hung(&self.entries) as u16
+        hung(self.entries.as_slice()) as u16
     }
 
     /// Whether the token at a place of the list is owned, hung or free (ISO 9506-1, ReportPoolSemaphoreStatus).
     pub fn token_state(&self, token: u32) -> TokenState
         ensures { result ≡ token_state token self.now.entries }
     {
-        token_state(token, &self.entries)
+        token_state(token, self.entries.as_slice())
     }
 
     /// A copy. The one refusal is want of memory.
     pub fn copy(&self, alloc: Global) -> Result<PoolSem, Memory>
         ensures { IfOk result (λ p. p ≡ self.now) }
     {
-        let entries: Vec<SemEntry> = self.entries.iter().copied().collect(alloc)?;
+        let entries = self.entries.copy(alloc)?;
         Ok(PoolSem {
             tokens: self.tokens.copy(alloc)?,
             made: self.made,

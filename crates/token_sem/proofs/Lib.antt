@@ -4,4 +4,7 @@ pub mod Losing
 pub mod Least
 pub mod Serving
 pub mod Unowned
+pub mod Positions
+pub mod Ranked
+pub mod Tabled
 mod Worked

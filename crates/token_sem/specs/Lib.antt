@@ -1,1 +1,3 @@
 pub mod Semaphore
+pub mod Named
+pub mod Entries

@@ -1,41 +1,15 @@
 //! What is done on the entries of a semaphore, of equal tokens or of a pool.
 
-ghost use Rattle.std.specs.Prelude.{◌≡◌, ◌+◌, ◌≤◌, ◌<◌, [], ◌∷◌, ◌++◌, Err, IfOk, IsOk, OnErr, OnOk, count_by, filter, fold, length, map, not, option_map, vec_capacity, vec_len};
+ghost use Rattle.std.specs.Prelude.{◌≡◌, ◌<◌, [], ◌∷◌, ◌++◌, Err, IfOk, IsOk, OnErr, OnOk, count_by, filter, vec_capacity, vec_len};
 ghost use Rattle.mms_types.specs.Moments.{IsDated};
-ghost use Rattle.token_sem.specs.Semaphore.{aborts, after, after_freeing, before, deadline_after, earlier, entry_of, first_deadline, grant_of, grant_to, granted_entry, has_claim, hung_entry, hung_of, hung_to_preempt, is_hung, is_owner, loss_of_one, next, numbered, outcome_later, owned_by, owner_of, sooner, tokens_held, waits_for, without};
+ghost use Rattle.token_sem.specs.Entries.{grant_of, owner_from};
+ghost use Rattle.token_sem.specs.Semaphore.{aborts, after, deadline_after, entry_of, grant_to, has_claim, hung_of, hung_to_preempt, is_hung, is_owner, numbered, outcome_later, owned_by, owner_of, tokens_held};
 ghost use Rattle.token_sem.specs.declared.entry.SemState.TheVariants.{Owner, Queued};
 ghost use Rattle.token_sem.specs.declared.entry.TakeRefused.TheVariants.{Memory as OutOfMemory};
 
-use crate::{Ask, Deadline, Grant, Outcome, SemEntry, SemState, TakeRefused};
+use crate::{Ask, Grant, Outcome, SemEntry, SemState, TakeRefused};
 use mms_types::{Memory, Moment};
 use std::alloc::Global;
-
-/// The earlier of the best so far and one more.
-pub fn earlier(best: Option<SemEntry>, entry: &SemEntry) -> Option<SemEntry>
-    ensures { result ≡ earlier before best entry.now }
-{
-    match best {
-        None => Some(*entry),
-        Some(found) => Some(if entry.before(&found) { *entry } else { found }),
-    }
-}
-
-/// The entry that gets the next token.
-fn next_of(entries: &[SemEntry]) -> Option<SemEntry>
-    ensures { result ≡ next entries.now }
-{
-    entries
-        .iter()
-        .filter(|entry| entry.is_queued())
-        .fold(None, |best, entry| earlier(best, entry))
-}
-
-/// The entry of that number goes.
-pub fn remove(entries: &mut Vec<SemEntry>, number: u64)
-    ensures { entries.new.items ≡ without number entries.old.items }
-{
-    entries.retain(|entry| entry.number != number);
-}
 
 /// So many milliseconds later.
 pub fn after(now: Moment, ms: u32) -> Moment
@@ -56,53 +30,29 @@ fn deadline_after(now: Moment, control: Option<u32>) -> Option<Moment>
     }
 }
 
-/// The entry, where it is the one of that number as owner.
-pub fn granted_entry(number: u64, now: Moment, entry: &SemEntry) -> SemEntry
+/// The entry, when it becomes owner, of that token where tokens have names.
+pub(crate) fn owner_from(token: Option<u32>, now: Moment, entry: &SemEntry) -> SemEntry
     requires { IsDated now }
-    ensures { result ≡ granted_entry number now entry.now }
+    ensures { result ≡ owner_from token now entry.now }
 {
-    let mut granted = *entry;
-    if granted.number == number {
-        granted.state = SemState::Owner;
-        granted.deadline = deadline_after(now, granted.control);
+    let mut owner = *entry;
+    owner.state = SemState::Owner;
+    owner.deadline = deadline_after(now, owner.control);
+    if token.is_some() {
+        owner.token = token;
     }
-    granted
+    owner
 }
 
-/// The entry of that number becomes owner.
-fn grant(entries: &mut [SemEntry], number: u64, now: Moment)
-    requires { IsDated now }
-    ensures { entries.new ≡ map (granted_entry number now) entries.old }
-{
-    for place in 0..entries.len() {
-        entries[place] = granted_entry(number, now, &entries[place]);
-    }
-}
-
-/// Who is told that a token was granted.
-fn granted(entry: &SemEntry) -> Grant
-    ensures { result ≡ grant_of entry.now }
+/// Who is told that a token was granted: the token is named where it has a name and none was asked for.
+pub(crate) fn granted(token: Option<u32>, entry: &SemEntry) -> Grant
+    ensures { result ≡ grant_of token entry.now }
 {
     Grant {
         client: entry.client,
         invoke: entry.invoke,
         entry: entry.number,
-        token: None,
-    }
-}
-
-/// A token is freed: who gets it.
-pub(crate) fn free(entries: &mut Vec<SemEntry>, now: Moment) -> Option<Grant>
-    requires { IsDated now }
-    ensures grant { result ≡ option_map grant_of (next entries.old.items) }
-    ensures entries { entries.new.items ≡ after_freeing now entries.old.items }
-{
-    match next_of(entries) {
-        None => None,
-        Some(first) => {
-            grant(entries, first.number, now);
-            Some(granted(&first))
-        }
+        token: if entry.token.is_some() { None } else { token },
     }
 }
 
@@ -121,27 +71,6 @@ pub(crate) fn tokens_held(entries: &[SemEntry]) -> usize
     ensures { result ≡ tokens_held entries.now }
 {
     entries.iter().filter(|entry| entry.holds()).count()
-}
-
-/// The entry that gets the next token but for the entry of that number.
-fn next_without(number: u64, entries: &[SemEntry]) -> Option<SemEntry>
-    ensures { result ≡ next (without number entries.now) }
-{
-    entries
-        .iter()
-        .filter(|entry| entry.number != number)
-        .filter(|entry| entry.is_queued())
-        .fold(None, |best, entry| earlier(best, entry))
-}
-
-/// Who gets the token where the entry of that number goes.
-pub(crate) fn heir(number: u64, entries: &[SemEntry]) -> Option<Grant>
-    ensures { result ≡ option_map grant_of (next (without number entries.now)) }
-{
-    match next_without(number, entries) {
-        None => None,
-        Some(first) => Some(granted(&first)),
-    }
 }
 
 /// How many tokens are owned.
@@ -247,7 +176,7 @@ pub fn grant_to(number: u64, ask: &Ask) -> Grant
 
 /// Appends an entry. It takes no memory where there is room. The one refusal is want of memory; then the entries are as
 /// before.
-pub fn add(entries: &mut Vec<SemEntry>, entry: SemEntry) -> Result<(), TakeRefused>
+pub(crate) fn push(entries: &mut Vec<SemEntry>, entry: SemEntry) -> Result<(), TakeRefused>
     ensures ok { OnOk result (entries.new.items ≡ entries.old.items ++ entry ∷ []) }
     ensures err { OnErr result (entries.new.items ≡ entries.old.items) }
     ensures memory { OnErr result (result ≡ Err OutOfMemory) }
@@ -276,30 +205,6 @@ pub fn aborts(abort: Option<bool>) -> bool
     }
 }
 
-/// The sooner of the best so far and one more.
-fn soonest(best: Option<Deadline>, deadline: Deadline) -> Option<Deadline>
-    ensures { result ≡ earlier sooner best deadline }
-{
-    match best {
-        None => Some(deadline),
-        Some(found) => Some(if deadline.sooner(&found) {
-            deadline
-        } else {
-            found
-        }),
-    }
-}
-
-/// The least deadline.
-pub fn first_deadline(entries: &[SemEntry]) -> Option<Deadline>
-    ensures { result ≡ first_deadline entries.now }
-{
-    entries
-        .iter()
-        .filter_map(|entry| entry.deadline_of())
-        .fold(None, |best, deadline| soonest(best, deadline))
-}
-
 /// The owner entries of the client. The one refusal is want of memory.
 pub fn owners_of(alloc: Global, client: u32, entries: &[SemEntry]) -> Result<Vec<SemEntry>, Memory>
     ensures { IfOk result (λ owners. owners.items ≡ filter (owned_by client) entries.now) }
@@ -310,71 +215,4 @@ pub fn owners_of(alloc: Global, client: u32, entries: &[SemEntry]) -> Result<Vec
         .filter(|entry| entry.client == client && entry.is_owner())
         .collect(alloc)?;
     Ok(owners)
-}
-
-/// The client's queued entries go.
-pub fn lose_waiters(entries: &mut Vec<SemEntry>, client: u32)
-    ensures { entries.new.items ≡ filter (λ e. not (waits_for client e)) entries.old.items }
-{
-    entries.retain(|entry| !(entry.client == client && entry.is_queued()));
-}
-
-/// The entry, where it is the one of that number as hung.
-fn hung_entry(number: u64, entry: &SemEntry) -> SemEntry
-    ensures { result ≡ hung_entry number entry.now }
-{
-    let mut hung = *entry;
-    if hung.number == number {
-        hung.state = SemState::Hung;
-    }
-    hung
-}
-
-/// The entry of that number becomes hung.
-pub fn hang(entries: &mut [SemEntry], number: u64)
-    ensures { entries.new ≡ map (hung_entry number) entries.old }
-{
-    for place in 0..entries.len() {
-        entries[place] = hung_entry(number, &entries[place]);
-    }
-}
-
-/// The client of an owner is lost. Who gets its token is appended, for which there is room.
-fn lose_one(entries: &mut Vec<SemEntry>, grants: &mut Vec<Grant>, owner: &SemEntry, now: Moment)
-    requires room { vec_len grants.old < vec_capacity grants.old }
-    requires now { IsDated now }
-    ensures is { loss_of_one now (record { entries = entries.old.items; grants = grants.old.items })
-        owner.now
-        ≡ record { entries = entries.new.items; grants = grants.new.items } }
-    ensures len { vec_len grants.new ≤ vec_len grants.old + 1 }
-    ensures capacity { vec_capacity grants.new ≡ vec_capacity grants.old }
-{
-    if owner.keep {
-        hang(entries, owner.number);
-    } else {
-        remove(entries, owner.number);
-        if let Some(grant) = free(entries, now) {
-            grants.push_reserved(grant);
-        }
-    }
-}
-
-/// The client of these owners is lost.
-pub(crate) fn lose_owners(
-    entries: &mut Vec<SemEntry>,
-    grants: &mut Vec<Grant>,
-    owners: &[SemEntry],
-    now: Moment,
-)
-    requires empty { grants.old.items ≡ [] }
-    requires len { vec_len grants.old ≡ 0 }
-    requires room { length owners.now ≤ vec_capacity grants.old }
-    requires now { IsDated now }
-    ensures { fold (loss_of_one now) (record { entries = entries.old.items; grants = [] })
-        owners.now
-        ≡ record { entries = entries.new.items; grants = grants.new.items } }
-{
-    for owner in owners {
-        lose_one(entries, grants, owner, now);
-    }
 }

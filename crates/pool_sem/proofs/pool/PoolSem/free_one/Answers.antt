@@ -6,7 +6,7 @@ use Rattle.pool_sem.proofs.pool.PoolSem.free_one.Goals as goal
 
 pub has-requires : goal.has-requires
 has-requires c =
-    let p : Pool = record { tokens = c.self.inside.tokens; made = c.self.inside.made; entries = c.self.inside.entries.items } in
+    let p : Pool = record { tokens = c.self.inside.tokens; made = c.self.inside.made; entries = c.self.inside.entries.list } in
     let few : length p.tokens ≤ 256 = c.self.invariant.0.few in
     let count : c.count.result ≡ length p.tokens = c.count.ensures ∙ sym (ap (λ (q : Pool). length q.tokens) c.self.view_is) in
     omega arith
@@ -18,7 +18,7 @@ returns-then-token-count c =
 
 pub returns-then-has : goal.returns-then-has
 returns-then-has c =
-    let p : Pool = record { tokens = c.self.inside.tokens; made = c.self.inside.made; entries = c.self.inside.entries.items } in
+    let p : Pool = record { tokens = c.self.inside.tokens; made = c.self.inside.made; entries = c.self.inside.entries.list } in
     let few : length p.tokens ≤ 256 = c.self.invariant.0.few in
     let count : c.count.result ≡ length p.tokens = c.count.ensures ∙ sym (ap (λ (q : Pool). length q.tokens) c.self.view_is) in
     let below : c.args.token < 256 = (let lt = c.if-token-count.false in omega arith) in
@@ -28,7 +28,7 @@ returns-then-has c =
 
 pub returns : goal.returns
 returns c =
-    let p : Pool = record { tokens = c.self.inside.tokens; made = c.self.inside.made; entries = c.self.inside.entries.items } in
+    let p : Pool = record { tokens = c.self.inside.tokens; made = c.self.inside.made; entries = c.self.inside.entries.list } in
     let few : length p.tokens ≤ 256 = c.self.invariant.0.few in
     let count : c.count.result ≡ length p.tokens = c.count.ensures ∙ sym (ap (λ (q : Pool). length q.tokens) c.self.view_is) in
     let there : c.args.token < length p.tokens = (let lt = c.if-token-count.false in omega arith) in

@@ -1,12 +1,14 @@
-use Rattle.std.proofs.Common.{◌≡◌, ◌∙◌, false, subst, sym}
-use Rattle.std.specs.List.{list_any}
-use Rattle.token_sem.specs.Semaphore.{is_queued}
-use Rattle.pool_sem.specs.Pools.{Pool, owner_of}
-use Rattle.pool_sem.proofs.Kept.{no-heir}
+use Rattle.std.proofs.Common.{◌≡◌, ◌==◌, Some, sym, subst}
+use Rattle.token_sem.specs.declared.entry.SemEntry.{SemEntry}
+use Rattle.token_sem.specs.Semaphore.{numbered}
+use Rattle.token_sem.proofs.Keeping.{among-find}
+use Rattle.pool_sem.specs.Pools.{Pool}
+use Rattle.pool_sem.proofs.Kept.{placed-in}
 use Rattle.pool_sem.proofs.pool.PoolSem.heir.Goals as goal
 
-pub returns-else-waits : goal.returns-else-waits
-returns-else-waits c =
-    let none : list_any is_queued c.self.inside.entries.items ≡ false = sym c.self.invariant.1.waits ∙ sym c.waits-waits.ensures ∙ c.if-waits.false in
-    sym (no-heir (owner_of c.args.client c.args.token c.args.self.now.entries) c.args.self.now.entries
-    (subst (λ (q : Pool). list_any is_queued q.entries ≡ false) c.self.view_is none))
+pub heir-requires-clause-placed : goal.heir-requires-clause-placed
+heir-requires-clause-placed c =
+    let p : Pool = record { tokens = c.self.inside.tokens; made = c.self.inside.made; entries = c.self.inside.entries.list } in
+    let e : SemEntry = c.in-Some.owner in
+    let there : numbered e.number p.entries ≡ Some e = subst (λ (q : Pool). numbered e.number q.entries ≡ Some e) (sym c.self.view_is) c.in-Some.ensures.there in
+    placed-in p c.self.inside.entries.named e c.self.invariant.0 c.self.invariant.2 (among-find (λ x. x.number == e.number) p.entries e there).0

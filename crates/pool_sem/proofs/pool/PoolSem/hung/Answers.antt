@@ -5,7 +5,7 @@ use Rattle.pool_sem.proofs.pool.PoolSem.hung.Goals as goal
 
 pub overflow_cast-result : goal.overflow_cast-result
 overflow_cast-result c =
-    let most : count_by is_owner c.self.inside.entries.items + count_by is_hung c.self.inside.entries.items ≤ length c.self.inside.tokens = held-most _ c.self.invariant.0 in
+    let most : count_by is_owner c.self.inside.entries.list + count_by is_hung c.self.inside.entries.list ≤ length c.self.inside.tokens = held-most _ c.self.invariant.0 in
     let few : length c.self.inside.tokens ≤ 256 = c.self.invariant.0.few in
-    let is : c.hung.result ≡ count_by is_hung c.self.inside.entries.items = cc in
+    let is : c.hung.result ≡ count_by is_hung c.self.inside.entries.list = cc in
     omega arith

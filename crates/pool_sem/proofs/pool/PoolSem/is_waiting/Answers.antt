@@ -7,5 +7,5 @@ use Rattle.pool_sem.proofs.pool.PoolSem.is_waiting.Goals as goal
 
 pub returns-else-waits : goal.returns-else-waits
 returns-else-waits c =
-    let none : list_any is_queued c.self.inside.entries.items ≡ false = sym c.self.invariant.1.waits ∙ sym c.waits-waits.ensures ∙ c.if-waits.false in
+    let none : list_any is_queued c.self.inside.entries.list ≡ false = sym c.waits-waits.ensures ∙ c.if-waits.false in
     sym (no-claim c.args.client c.args.self.now.entries (subst (λ (q : Pool). list_any is_queued q.entries ≡ false) c.self.view_is none))

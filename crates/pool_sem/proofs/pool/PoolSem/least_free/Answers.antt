@@ -5,7 +5,7 @@ use Rattle.pool_sem.proofs.pool.PoolSem.least_free.Goals as goal
 
 pub returns-then-token-count : goal.returns-then-token-count
 returns-then-token-count c =
-    let p : Pool = record { tokens = c.self.inside.tokens; made = c.self.inside.made; entries = c.self.inside.entries.items } in
+    let p : Pool = record { tokens = c.self.inside.tokens; made = c.self.inside.made; entries = c.self.inside.entries.list } in
     let token = c.first_free-token in
     let count : c.count.result ≡ length p.tokens = c.count.ensures ∙ sym (ap (λ (q : Pool). length q.tokens) c.self.view_is) in
     let below : token.result < length p.tokens = (let lt = c.if-token-count.true in omega arith) in
@@ -14,7 +14,7 @@ returns-then-token-count c =
 
 pub returns-else-token-count : goal.returns-else-token-count
 returns-else-token-count c =
-    let p : Pool = record { tokens = c.self.inside.tokens; made = c.self.inside.made; entries = c.self.inside.entries.items } in
+    let p : Pool = record { tokens = c.self.inside.tokens; made = c.self.inside.made; entries = c.self.inside.entries.list } in
     let token = c.first_free-token in
     let count : c.count.result ≡ length p.tokens = c.count.ensures ∙ sym (ap (λ (q : Pool). length q.tokens) c.self.view_is) in
     let past : length p.tokens ≤ token.result = (let le = c.if-token-count.false in omega arith) in
