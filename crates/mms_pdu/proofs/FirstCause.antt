@@ -302,6 +302,17 @@ refuses_first {X} lengths edition octets view (Err e) fits h = by_memory e h
 
 -- ---- what octets are heard as
 
+module _ (lengths : Lengths) (edition : Edition) (octets : List ℕ) (e : Refusal) (fits : IsBytes octets) where
+  refused_by : {X : Type 0} (r : Result X Refusal) → Tells (IsRefused lengths edition octets) (refusal_in r) → (r ≡ Err e) ↔ IsRefused lengths edition octets e
+  refused_by {X} (Ok v) tells = (λ is. absurd (cc is), λ c. absurd (tells e c))
+  refused_by {X} (Err r) tells = (
+    λ is. subst (λ (t : Refusal). IsRefused lengths edition octets t) (err_is {X = X} r e is) tells.0,
+    λ c. ap (λ (t : Refusal). Err t) (sym (tells.1 e c)),
+  )
+
+  pub refused_is_heard : (heard lengths edition octets ≡ Err e) ↔ IsRefused lengths edition octets e
+  refused_is_heard = refused_by (heard lengths edition octets) (heard_tells lengths edition octets fits)
+
 pub heard_refused : (edition : Edition) (octets : List ℕ) (e : Refusal) → IsBytes octets → (pdu_heard edition octets ≡ Err e) ↔ IsRefused (lengths_of edition) edition octets e
 heard_refused edition octets e fits = by_result (heard (lengths_of edition) edition octets) (heard_tells (lengths_of edition) edition octets fits)
   where

@@ -26,17 +26,17 @@ use Rattle.mms_pdu.proofs.Whole.{with_service, invoke_is}
 
 -- ---- steps
 
-abbrev heard_as : {A : Type 0} → A → Result A Refusal
+abbrev pub heard_as : {A : Type 0} → A → Result A Refusal
 heard_as x = Ok x
 
-told_is : {A : Type 0} (x y : A) → heard_as x ≡ heard_as y → x ≡ y
+pub told_is : {A : Type 0} (x y : A) → heard_as x ≡ heard_as y → x ≡ y
 told_is x y e = cc
 
-stepped : {A B : Type 0} (r : Result A Refusal) (f : A → Result B Refusal) (y : B) → and_then r f ≡ Ok y → (x : A) × (r ≡ Ok x) × (f x ≡ Ok y)
+pub stepped : {A B : Type 0} (r : Result A Refusal) (f : A → Result B Refusal) (y : B) → and_then r f ≡ Ok y → (x : A) × (r ≡ Ok x) × (f x ≡ Ok y)
 stepped (Ok x) f y e = (x, refl, e)
 stepped (Err d) f y e = absurd cc
 
-valid_is : {A : Type 0} (r : Result A Fault) (x : A) → valid r ≡ Ok x → r ≡ Ok x
+pub valid_is : {A : Type 0} (r : Result A Fault) (x : A) → valid r ≡ Ok x → r ≡ Ok x
 valid_is (Ok y) x e = cc
 valid_is (Err d) x e = absurd cc
 
@@ -156,7 +156,7 @@ module _ (lengths : Lengths) (edition : Edition) where
             is = told_is (chosen 0 (with_service a.invoke s.0)) v s.2;
           }
 
-  request_of : (c : List ℕ) (v : Value) → and_then (valid (asked_at lengths c)) (request_told lengths edition) ≡ Ok v → (reading lengths (asked.form edition) c >>= λ w. Ok (chosen 0 w)) ≡ Ok v
+  pub request_of : (c : List ℕ) (v : Value) → and_then (valid (asked_at lengths c)) (request_told lengths edition) ≡ Ok v → (reading lengths (asked.form edition) c >>= λ w. Ok (chosen 0 w)) ≡ Ok v
   request_of c v e =
       let s = stepped (valid (asked_at lengths c)) (request_told lengths edition) v e in
       let a = parted lengths c s.0 (valid_is (asked_at lengths c) s.0 s.1) in

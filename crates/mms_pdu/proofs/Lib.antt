@@ -5,6 +5,7 @@ pub mod AnswerTold
 pub mod SentAgain
 pub mod Invokes
 pub mod FormOf
+pub mod KeptAs
 pub mod HeardAgain
 pub mod Causes
 pub mod FirstCause

@@ -2,6 +2,7 @@ pub mod Services
 pub mod Pdus
 pub mod Hearing
 pub mod Refused
+pub mod ClientPdus
 pub mod Rejects
 pub mod Asking
 pub mod Answering

@@ -15,6 +15,7 @@ ghost use Rattle.mms_pdu.specs.declared.refusal.Refusal.TheVariants.{Memory};
 ghost use Rattle.mms_pdu.specs.Pdus.{pdu_value, pdu_octets};
 ghost use Rattle.mms_pdu.specs.Hearing.{whole_pdus, heard};
 ghost use Rattle.mms_pdu.specs.Heard.{pdu_heard};
+ghost use Rattle.mms_pdu.specs.ClientPdus.{IsKeptAs};
 ghost use Rattle.mms_pdu.specs.Refused.{IsRefused};
 ghost use Rattle.mms_pdu.specs.Asking.{IsAsking};
 ghost use Rattle.mms_pdu.specs.Answering.{IsAnswer, is_answer, HasUnsigned32, IsSent};
@@ -47,6 +48,18 @@ pub fn spells_each_asking()
     ensures whole { (edition : Edition) (p q : Pdu) (a b : List ℕ) → IsAsking edition p
         → IsAsking edition q → length (pdu_octets p) < 2 ^ 64 → length (pdu_octets q) < 2 ^ 64
         → pdu_octets p ++ a ≡ pdu_octets q ++ b → pdu_octets p ≡ pdu_octets q }
+{}
+
+/// What octets are heard as, of each edition and whichever forms of lengths are read, is told by conditions on the whole
+/// octets, and not by how they are read: they are heard as a PDU exactly where they are one that a client may send, and
+/// as what is kept of it, and refused exactly by the first cause that holds of them.
+pub fn hears_what_the_octets_are()
+    ensures kept { (lengths : Lengths) (edition : Edition) (c : List ℕ) (v : Value)
+        → ((i : ℕ) → slice_index c i < 256)
+        → (heard lengths edition c ≡ Ok v) ↔ IsKeptAs lengths edition c v }
+    ensures refused { (lengths : Lengths) (edition : Edition) (c : List ℕ) (refusal : Refusal)
+        → ((i : ℕ) → slice_index c i < 256)
+        → (heard lengths edition c ≡ Err refusal) ↔ IsRefused lengths edition c refusal }
 {}
 
 /// What octets are heard as is a refusal exactly where it is that of the first cause that holds of them. Want of memory

@@ -1,4 +1,10 @@
 //! Whole PDUs in octets, both ways (ISO 9506-2, MMSpdu), and the order in which what a client sends is refused.
+//!
+//! What octets a client sends are, a PDU or a refusal, is told exactly, and a refusal exactly where its cause is the first
+//! that holds of the octets (`read_pdu`; `hears_each_form`, `refusals_have_the_first_cause`). Each PDU is written in its
+//! one spelling. Requests by a client are read back, say one PDU, and none begins another (`spells_each_asking`); what a
+//! server sends says one PDU as well (`spells_each_sent`). Octets alone tell whether they answer a request, and of which
+//! invokeID (`an_answer_is_told_by_its_octets`).
 #![tactic(auto)]
 
 mod depth;
@@ -11,8 +17,8 @@ mod writing;
 
 pub use ber_core::Writer;
 pub use laws::{
-    an_answer_is_told_by_its_octets, hears_each_form, refusals_have_the_first_cause,
-    spells_each_asking, spells_each_sent,
+    an_answer_is_told_by_its_octets, hears_each_form, hears_what_the_octets_are,
+    refusals_have_the_first_cause, spells_each_asking, spells_each_sent,
 };
 pub use mms_types::{Edition, Memory, Pdu};
 pub use reading::{Read, read_pdu, read_pdu_to};
