@@ -18,9 +18,9 @@ use Rattle.cell_client.specs.declared.verdict.Came.{Came as Borrowed}
 use Rattle.cell_client.specs.Association.{Verdict, Tells, Takes, Replies, Exhausts, Concludes, Cancels, Aborts}
 use Rattle.cell_services.specs.Services.{Outcome, answers, area_of, cause, effect, lacks_number}
 use Rattle.cell_client.specs.Requests.{plain_answer, fits, is_done, request_told, size_of}
-use Rattle.cell_services.specs.Serving.{comes_of, hears, own_told}
+use Rattle.cell_services.specs.Serving.{comes_of, hears, loses, own_told}
 use Rattle.cell_services.specs.Meant.{no_tables, IsPlainlyHeard}
-use Rattle.cell_services.specs.Acts.{IsActOf}
+use Rattle.cell_services.specs.Acts.{IsActOf, act_done}
 
 pub append_none : {A : Type 0} (xs : List A) → xs ++ [] ≡ xs
 append_none [] = refl
@@ -141,3 +141,13 @@ left_of row v act.Conclusion is = conclusion_left row v (cc is)
 left_of row v (act.Cancel invoke) is = cancel_left row invoke v (cc is)
 left_of row v act.Abort is = abort_left row v (cc is)
 left_of row v act.Loss is = absurd (cc is)
+
+-- and what is of no verdict is a loss
+pub lost_of : (t : Tables) (row : ClientRow) (client : ℕ) (a : Act) → act_verdict a ≡ None → act_done t row client a ≡ loses t row client
+lost_of t row client (act.Request invoke asked) is = absurd (cc is)
+lost_of t row client (act.Reply number answer) is = absurd (cc is)
+lost_of t row client (act.Exhausts invoke) is = absurd (cc is)
+lost_of t row client act.Conclusion is = absurd (cc is)
+lost_of t row client (act.Cancel invoke) is = absurd (cc is)
+lost_of t row client act.Abort is = absurd (cc is)
+lost_of t row client act.Loss is = refl

@@ -1,5 +1,6 @@
 pub mod Bounds
 pub mod Deadlines
+pub mod Entered
 pub mod Guards
 pub mod Loss
 pub mod Opening

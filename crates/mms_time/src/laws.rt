@@ -1,16 +1,19 @@
 //! Laws over all semaphores of a device.
 
-ghost use Rattle.std.specs.Prelude.{◌≡◌, ◌+◌, ◌<◌, ◌≤◌, ℕ, All, None, Ok, Some, false, if◌then◌else◌};
+ghost use Rattle.std.specs.Prelude.{◌≡◌, ◌⊎◌, ◌+◌, ◌<◌, ◌≤◌, ℕ, All, None, Ok, Some, false, if◌then◌else◌};
 ghost use Rattle.mms_types.specs.Errors.{first_of};
 ghost use Rattle.mms_types.specs.declared.moment.Moment.{Moment as Instant};
 ghost use Rattle.mms_types.specs.declared.semaphore.RelinquishControl.{RelinquishControl};
 ghost use Rattle.mms_types.specs.declared.semaphore.TakeControl.{TakeControl};
-ghost use Rattle.token_sem.specs.Semaphore.{Sem, grant_to, has_token, relinquish_answer, take_answer};
+ghost use Rattle.token_sem.specs.Semaphore.{Sem, grant_to, has_token, numbered, relinquish_answer, take_answer};
+ghost use Rattle.token_sem.specs.declared.entry.SemEntry.{SemEntry};
 ghost use Rattle.token_sem.specs.declared.entry.Taken.TheVariants.{Granted, Waits};
 ghost use Rattle.mms_time.specs.Deadlines.{NamedDeadline, all_deadlines, due_sooner, next_due};
-ghost use Rattle.mms_time.specs.Semaphores.{IsSound, Rows};
+ghost use Rattle.mms_time.specs.Entered.{IsTaken, MayBePreempted};
+ghost use Rattle.mms_time.specs.Semaphores.{IsSound, Rows, entries_in, made_in};
 ghost use Rattle.pool_sem.specs.Pools as pool;
-ghost use Rattle.mms_time.specs.Services.{ask_of, place_asked, relinquish_conditions_in, relinquish_grant_in, take_conditions_in};
+ghost use Rattle.mms_time.specs.Services.{ask_of, place_asked, relinquish_conditions_in, relinquish_grant_in, take_conditions_in, take_told_in, with_take};
+ghost use Rattle.mms_time.specs.declared.row.Semaphore.{Semaphore as AnySemaphore};
 ghost use Rattle.mms_time.specs.declared.row.Semaphore.TheVariants.{Token, Pool};
 
 use crate::{Semaphore, SemaphoreRow, Semaphores};
@@ -71,6 +74,24 @@ pub fn a_take_is_as_told()
         (ask_of client invoke (place_asked asked.token p.tokens) asked)
         (pool.token_got asked.preempt (place_asked asked.token p.tokens) p))
         else Waits (p.made + 1)) }
+{}
+
+/// A request for a token that nothing stands against enters the client into the semaphore, under the next number. Where
+/// the client is answered its entry owns a token, the one that the request names where it names one of a pool, and else
+/// the one whose name the client is told; where it is not answered yet, the entry waits, and the client is told its
+/// number. Every other entry stays as it was, but for a hung one of the client whose token the request may take, and no
+/// other comes.
+pub fn a_take_is_entered()
+    ensures taken { (s : AnySemaphore) (client invoke : ℕ) (asked : TakeControl) (now : Instant)
+        → IsSound s → first_of (take_conditions_in client asked s) ≡ None
+        → IsTaken client invoke asked (take_told_in asked s) s (with_take client invoke asked now s) }
+    ensures stays { (s : AnySemaphore) (client invoke : ℕ) (asked : TakeControl) (now : Instant)
+        (e : SemEntry) → IsSound s → numbered e.number (entries_in s) ≡ Some e
+        → (numbered e.number (entries_in (with_take client invoke asked now s)) ≡ Some e)
+        ⊎ MayBePreempted asked e }
+    ensures no_other { (s : AnySemaphore) (client invoke : ℕ) (asked : TakeControl) (now : Instant)
+        (e : SemEntry) → numbered e.number (entries_in (with_take client invoke asked now s)) ≡ Some e
+        → (numbered e.number (entries_in s) ≡ Some e) ⊎ (e.number ≡ made_in s + 1) }
 {}
 
 /// And where nothing stands against a token that is given back, it is granted to whom it is told.

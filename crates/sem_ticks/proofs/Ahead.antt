@@ -92,7 +92,7 @@ is_numbered (Token s) number sound of =
 is_numbered (Pool p) number sound of =
     (of.entry, ap (λ (n : ℕ). numbered n p.entries) (sym of.same) ∙ numbered-at 0 p.made p.entries of.entry sound.rises of.there)
 
-not_none : (rows : Rows) (d : NamedDeadline) → AreSound rows → Stands (all_deadlines rows) d → expired d.key d.entry rows ≢ None
+pub not_none : (rows : Rows) (d : NamedDeadline) → AreSound rows → Stands (all_deadlines rows) d → expired d.key d.entry rows ≢ None
 not_none rows d is stands none =
     let r = in_rows rows d stands in
     let found : lookup (key_eq d.key) rows ≡ Some r.row = lookup_from_place keys_equal rows r.place d.key r.row is.names r.there in

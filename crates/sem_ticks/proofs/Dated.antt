@@ -83,7 +83,7 @@ undated_is until s = undated_settled until (entries_left s.rows) s
 
 -- ---- one deadline, and then on
 
-dated_falls : (until : Moment) (s t : Dating) → next_dated until s ≡ Some t → entries_left t.rows < entries_left s.rows
+pub dated_falls : (until : Moment) (s t : Dating) → next_dated until s ≡ Some t → entries_left t.rows < entries_left s.rows
 dated_falls until s t h = falls until (undated s) (undated t) (sym (undated_next until s) ∙ ap (option_map undated) h)
 
 pub dated_rests : (until : Moment) (s : Dating) → next_dated until s ≡ None → dated_on until s ≡ s

@@ -15,6 +15,7 @@ pub mod MetIn
 pub mod NextOf
 pub mod Requests
 pub mod Settling
+pub mod Turns
 pub mod Twice
 pub mod Unowned
 mod Worked

@@ -1,16 +1,39 @@
 //! Laws of time. Each function has no body: its contract is the law.
 
-ghost use Rattle.std.specs.Prelude.{◌≡◌, ◌≤◌, ℕ, Bool, List, None, Option, []};
+ghost use Rattle.std.specs.Prelude.{◌≡◌, ◌≢◌, ◌≤◌, ℕ, Bool, List, None, Option, Some, []};
 ghost use Rattle.mms_types.specs.declared.key.Key.{Key};
 ghost use Rattle.mms_types.specs.declared.semaphore.DefineSemaphore.{DefineSemaphore};
 ghost use Rattle.mms_types.specs.declared.semaphore.TakeControl.{TakeControl};
+ghost use Rattle.token_sem.specs.declared.entry.Expired.{Expired};
+ghost use Rattle.mms_time.specs.Deadlines.{NamedDeadline, expired, next_due};
 ghost use Rattle.mms_time.specs.Loss.{lost};
 ghost use Rattle.mms_time.specs.Services.{cancelled, define_after, define_cause, deleted, relinquished, take_after};
 ghost use Rattle.mms_types.specs.declared.moment.Moment.{Moment};
 ghost use Rattle.mms_time.specs.Semaphores.{Rows};
-ghost use Rattle.sem_ticks.specs.Dated.{HappenBy, HappenFrom, IsInOrder, LieFrom, dated, undated};
+ghost use Rattle.sem_ticks.specs.Dated.{Dating, HappenBy, HappenFrom, IsInOrder, LieFrom, dated, dated_on, next_dated, undated};
+ghost use Rattle.sem_ticks.specs.Settling.{settle};
 ghost use Rattle.sem_ticks.specs.Sound.{AreSound, LieAhead};
-ghost use Rattle.sem_ticks.specs.Ticks.{ticked, ticked_on, Ticking};
+ghost use Rattle.sem_ticks.specs.Ticks.{entries_left, met_as, next_met, ticked, ticked_on, Ticking};
+
+/// A tick is what comes next, again and again, and no number of turns shows: where no deadline is due up to its end, all
+/// stays as it is; else the least of them is met, and then the tick goes on. What is due is there to be met, and at the
+/// end nothing is due any more. As many turns as there are entries always suffice: with more it comes to the same, without
+/// moments and with them.
+pub fn a_tick_meets_what_comes_next()
+    ensures none { (until : Moment) (s : Ticking) → next_due until s.rows ≡ None
+        → ticked_on until s ≡ s }
+    ensures next { (until : Moment) (s : Ticking) (d : NamedDeadline) (x : Expired)
+        → next_due until s.rows ≡ Some d → expired d.key d.entry s.rows ≡ Some x
+        → ticked_on until s ≡ ticked_on until (met_as s d x) }
+    ensures there { (until : Moment) (rows : Rows) (d : NamedDeadline)
+        → AreSound rows → next_due until rows ≡ Some d → expired d.key d.entry rows ≢ None }
+    ensures left { (until : Moment) (s : Ticking)
+        → AreSound s.rows → next_due until (ticked_on until s).rows ≡ None }
+    ensures enough { (until : Moment) (s : Ticking) (turns : ℕ)
+        → entries_left s.rows ≤ turns → settle (next_met until) turns s ≡ ticked_on until s }
+    ensures enough_dated { (until : Moment) (s : Dating) (turns : ℕ)
+        → entries_left s.rows ≤ turns → settle (next_dated until) turns s ≡ dated_on until s }
+{}
 
 /// Time that goes by up to one moment and then up to a later one is time that goes by up to the later: the same happens in
 /// the same order, and the semaphores are the same.

@@ -6,7 +6,7 @@ use Rattle.std.specs.Map.{lookup}
 use Rattle.std.specs.Option.{option_map}
 use Rattle.std.proofs.Common.{ap, ap₂, sym, ◌∙◌, arith, subst}
 use Rattle.std.proofs.lemmas.Bool.Decides.{nat_tests}
-use Rattle.mms_types.specs.Errors.{first_of}
+use Rattle.mms_types.specs.Errors.{first_of, object_non_existent}
 use Rattle.mms_types.specs.Order.{key_eq, key_of}
 use Rattle.mms_types.specs.declared.area.SemaphoreRequest.{SemaphoreRequest}
 use Rattle.mms_types.specs.declared.area.SemaphoreRequest.TheVariants as request
@@ -28,8 +28,8 @@ use Rattle.cell_client.specs.Areas.{also_in, is_done_in}
 use Rattle.cell_client.specs.Effects.{Effect}
 use Rattle.cell_client.specs.Facts.{Facts}
 use Rattle.cell_client.specs.Requests.{fits, is_done, size_of}
-use Rattle.serve_semaphores.specs.Semaphores.{given_back, relinquish_control, request_in, taken}
-use Rattle.serve_semaphores.specs.Tokens.{grants_nobody, grants_nobody_among, is_the_one}
+use Rattle.serve_semaphores.specs.Semaphores.{given_back, grant_told, relinquish_control, request_in, taken}
+use Rattle.serve_semaphores.specs.Tokens.{GrantsTo, grants_nobody, grants_nobody_among, is_the_one, relinquish_cause_on, tells_alone}
 
 -- a client is told something
 abbrev tells_it : List (ℕ × Effect) → ℕ → Bool
@@ -137,7 +137,7 @@ module _ (rows : Rows) (row : ClientRow) (invoke : ℕ) where
   GivesNone (request.RelinquishControl x) = ⊥
   GivesNone other = Unit {0}
 
-  others_none : (asked : SemaphoreRequest) → GivesNone asked → (facts : Facts) (k : ℕ) → row.client ≢ k
+  pub others_none : (asked : SemaphoreRequest) → GivesNone asked → (facts : Facts) (k : ℕ) → row.client ≢ k
       → tells_it (also_in (request_in asked) facts row invoke rows) k ≡ false
   others_none (request.RelinquishControl x) never facts k other = absurd never
   others_none (request.TakeControl x) never facts k other =
@@ -147,3 +147,74 @@ module _ (rows : Rows) (row : ClientRow) (invoke : ℕ) where
   pub none_if_other : (asked : SemaphoreRequest) (one : Option ℕ) → GivesNone asked → one ≡ None → (facts : Facts) (k : ℕ) → row.client ≢ k
       → tells_it (also_in (request_in asked) facts row invoke rows) k ≡ is_the_one one k
   none_if_other asked one never none facts k other = others_none asked never facts k other ∙ ap (λ (o : Option ℕ). is_the_one o k) (sym none)
+
+-- ---- so it is told whom a request tells
+
+module _ (facts : Facts) (row : ClientRow) (invoke : ℕ) (rows : Rows) where
+  back_alone : (x : RelinquishControl) → grants_nobody row.client x rows ≡ true → (k : ℕ) → tells_it (also_in (relinquish_control x) facts row invoke rows) k ≡ false
+  back_alone x alone k = by_row (lookup (key_eq (key_of row.client x.name)) rows) refl alone
+    where
+      by_row : (o : Option SemaphoreRow) → lookup (key_eq (key_of row.client x.name)) rows ≡ o → grants_nobody_among row.client x o ≡ true
+          → tells_it (also_in (relinquish_control x) facts row invoke rows) k ≡ false
+      by_row None there none =
+          none_if_refused rows row invoke x None object_non_existent (ap (λ (o : Option SemaphoreRow). first_of (relinquish_conditions row.client x o)) there) refl facts k
+      by_row (Some s) there none = by_cause (relinquish_cause_on row.client x s) (relinquish_grant_in row.client x s.semaphore) refl refl none
+        where
+          by_cause : (why : Option ServiceError) (g : Option Grant) → relinquish_cause_on row.client x s ≡ why → relinquish_grant_in row.client x s.semaphore ≡ g → (is_some why || is_none g) ≡ true
+              → tells_it (also_in (relinquish_control x) facts row invoke rows) k ≡ false
+          by_cause (Some e) g cause grant is =
+              none_if_refused rows row invoke x None e (ap (λ (o : Option SemaphoreRow). first_of (relinquish_conditions row.client x o)) there ∙ cause) refl facts k
+          by_cause None None cause grant is =
+              none_if_free rows row invoke x None (ap (λ (o : Option SemaphoreRow). first_of (relinquish_conditions row.client x o)) there ∙ cause)
+              (ap (relinquish_grant_of row.client x) there ∙ ap (λ (g : Option Grant). Some g) grant) refl facts k
+          by_cause None (Some g) cause grant is = absurd (cc is)
+
+  pub told_alone : (asked : SemaphoreRequest) (k : ℕ) → tells_alone row.client asked rows ≡ true → row.client ≢ k → tells_it (also_in (request_in asked) facts row invoke rows) k ≡ false
+  told_alone (request.RelinquishControl x) k alone other = back_alone x.now alone k
+  told_alone (request.TakeControl x) k alone other = others_none rows row invoke (request.TakeControl x) tt facts k other
+  told_alone (request.DefineSemaphore x) k alone other = others_none rows row invoke (request.DefineSemaphore x) tt facts k other
+  told_alone (request.DeleteSemaphore x) k alone other = others_none rows row invoke (request.DeleteSemaphore x) tt facts k other
+  told_alone (request.ReportSemaphoreStatus x) k alone other = others_none rows row invoke (request.ReportSemaphoreStatus x) tt facts k other
+  told_alone (request.ReportPoolSemaphoreStatus x) k alone other = others_none rows row invoke (request.ReportPoolSemaphoreStatus x) tt facts k other
+  told_alone (request.ReportSemaphoreEntryStatus x) k alone other = others_none rows row invoke (request.ReportSemaphoreEntryStatus x) tt facts k other
+
+  abbrev IsToldTo : SemaphoreRequest → Granted → Type 0
+  IsToldTo asked g = GrantsTo row.client asked rows g × (also_in (request_in asked) facts row invoke rows ≡ grant_told g)
+
+  back_granted : (x : Bor RelinquishControl) → grants_nobody row.client x.now rows ≡ false → fits (size_of row.association) invoke (Some answer.RelinquishControl) ≡ true
+      → (g : Granted) × IsToldTo (request.RelinquishControl x) g
+  back_granted x grants fit = by_row (lookup (key_eq (key_of row.client x.now.name)) rows) refl grants
+    where
+      by_row : (o : Option SemaphoreRow) → lookup (key_eq (key_of row.client x.now.name)) rows ≡ o → grants_nobody_among row.client x.now o ≡ false
+          → (g : Granted) × IsToldTo (request.RelinquishControl x) g
+      by_row None there none = absurd (cc none)
+      by_row (Some s) there none = by_cause (relinquish_cause_on row.client x.now s) (relinquish_grant_in row.client x.now s.semaphore) refl refl none
+        where
+          by_cause : (why : Option ServiceError) (g : Option Grant) → relinquish_cause_on row.client x.now s ≡ why → relinquish_grant_in row.client x.now s.semaphore ≡ g → (is_some why || is_none g) ≡ false
+              → (g : Granted) × IsToldTo (request.RelinquishControl x) g
+          by_cause (Some e) g cause grant is = absurd (cc is)
+          by_cause None None cause grant is = absurd (cc is)
+          by_cause None (Some g) cause grant is =
+              let why : relinquish_cause row.client x.now rows ≡ None = ap (λ (o : Option SemaphoreRow). first_of (relinquish_conditions row.client x.now o)) there ∙ cause in
+              let who : relinquish_grant row.client x.now rows ≡ Some (Some g) = ap (relinquish_grant_of row.client x.now) there ∙ ap (λ (h : Option Grant). Some h) grant in (
+                granted rows (key_of row.client x.now.name, g),
+                (
+                  record {
+                    back = x;
+                    is = refl;
+                    to = ap (option_map (option_map (λ (h : Grant). granted rows (key_of row.client x.now.name, h)))) who;
+                  },
+                  also_is rows row invoke x.now None facts None (Some (Some g)) why who
+                      ∙ ap (λ (b : Bool). if b then (given_back facts.now row.client x.now rows (as_told rows row invoke x.now None (Some (Some g)))).also else []) fit,
+                ),
+              )
+
+  pub told_to : (asked : SemaphoreRequest) → tells_alone row.client asked rows ≡ false → fits (size_of row.association) invoke (Some answer.RelinquishControl) ≡ true
+      → (g : Granted) × GrantsTo row.client asked rows g × (also_in (request_in asked) facts row invoke rows ≡ grant_told g)
+  told_to (request.RelinquishControl x) other fit = let told = back_granted x other fit in (told.0, told.1.0, told.1.1)
+  told_to (request.TakeControl x) other fit = absurd (cc other)
+  told_to (request.DefineSemaphore x) other fit = absurd (cc other)
+  told_to (request.DeleteSemaphore x) other fit = absurd (cc other)
+  told_to (request.ReportSemaphoreStatus x) other fit = absurd (cc other)
+  told_to (request.ReportPoolSemaphoreStatus x) other fit = absurd (cc other)
+  told_to (request.ReportSemaphoreEntryStatus x) other fit = absurd (cc other)

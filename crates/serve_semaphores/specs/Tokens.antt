@@ -1,5 +1,6 @@
 -- What comes of a request for a token on the one semaphore that it names (ISO 9506-1, TakeControl and RelinquishControl).
-use Rattle.std.specs.Prelude.{ℕ, Bool, true, false, ◌||◌, ◌==◌, find, is_none, is_some, List, [], ◌∷◌, Option, None, Some, if◌then◌else◌}
+use Rattle.std.specs.Prelude.{◌≡◌, ℕ, Bool, true, false, ◌||◌, ◌==◌, find, is_none, is_some, List, [], ◌∷◌, Option, None, Some, if◌then◌else◌}
+use Rattle.std.specs.Borrow.{Bor}
 use Rattle.std.specs.Map.{lookup}
 use Rattle.mms_types.specs.Errors.{first_of}
 use Rattle.mms_types.specs.Order.{key_eq, key_of}
@@ -17,6 +18,8 @@ use Rattle.mms_time.specs.Services.{cancelled, relinquish_after, relinquish_cond
 use Rattle.mms_time.specs.declared.row.SemaphoreRow.{SemaphoreRow}
 use Rattle.mms_time.specs.declared.taking.TakeDone.{TakeDone}
 use Rattle.mms_time.specs.declared.taking.TakeDone.TheVariants.{Answered, Waits as Waits-in}
+use Rattle.sem_ticks.specs.Granted.{relinquish_granted}
+use Rattle.sem_ticks.specs.declared.granted.Granted.{Granted}
 use Rattle.cell_client.specs.Effects.{Effect, Waits}
 use Rattle.cell_client.specs.Requests.{fits, is_done, refuses, request_told, size_of}
 
@@ -84,6 +87,12 @@ grants_nobody client x rows = grants_nobody_among client x (lookup (key_eq (key_
 abbrev pub tells_alone : ℕ → SemaphoreRequest → Rows → Bool
 tells_alone client (request.RelinquishControl x) rows = grants_nobody client x.now rows
 tells_alone client other rows = true
+
+-- a client's request gives a token back that this client is granted
+pub record GrantsTo (client : ℕ) (asked : SemaphoreRequest) (rows : Rows) (g : Granted) : Type 0 where
+  pub back : Bor RelinquishControl
+  pub is : asked ≡ request.RelinquishControl back
+  pub to : relinquish_granted client back.now rows ≡ Some (Some g)
 
 -- what a request of a client that tells others something makes of the semaphores
 abbrev pub told_after : ℕ → Moment → SemaphoreRequest → Rows → Rows
