@@ -1,4 +1,4 @@
--- What the history and the report are of a few phases.
+-- What the history and the report are of a few phases, and which phases end in a few lines.
 use Rattle.std.specs.Prelude.{ℕ, suc, zero, ◌≡◌, List, [], ◌∷◌, codes, refl}
 use Rattle.std.proofs.Common.{arith}
 use Rattle.std.proofs.lemmas.Fmt.{decimal_digit}
@@ -7,8 +7,11 @@ use Rattle.mms_types.specs.declared.event.What.TheVariants.{Octets, Abort}
 use Rattle.mms_types.specs.declared.event.CellEvent.{CellEvent}
 use Rattle.mms_types.specs.declared.event.CellEvent.TheVariants.{Heard, Lost, Tick, Ends, Drain}
 use Rattle.mms_types.specs.Actors.{clients_to}
+use Rattle.cell_record.specs.Grammar.{phases_of}
 use Rattle.cell_record.specs.History.{drains, events_of, history}
+use Rattle.cell_record.specs.Refused.{all_but_last}
 use Rattle.cell_record.specs.Report.{report}
+use Rattle.cell_record.specs.declared.said.Said.TheVariants.{Nothing, Phase, Happens}
 
 three_clients : clients_to 3 ≡ 1 ∷ 2 ∷ 3 ∷ []
 three_clients = refl
@@ -24,6 +27,16 @@ of_the_cell = refl
 
 two_phases : history 2 ((Tick 5 ∷ []) ∷ [] ∷ []) ≡ Tick 5 ∷ Drain 1 ∷ Drain 2 ∷ Drain 1 ∷ Drain 2 ∷ []
 two_phases = refl
+
+-- the phase that was begun last doesn't end in these lines
+one_ended : all_but_last (phases_of (Happens (Tick 5) ∷ Phase ∷ Happens (Lost 1) ∷ [])) ≡ (Tick 5 ∷ []) ∷ []
+one_ended = refl
+
+none_ended : all_but_last (phases_of (Happens (Tick 5) ∷ Nothing ∷ [])) ≡ []
+none_ended = refl
+
+two_ended : all_but_last (phases_of (Phase ∷ Phase ∷ Happens (Tick 5) ∷ [])) ≡ [] ∷ [] ∷ []
+two_ended = refl
 
 -- client 2 is sent two octets and an abort after three events
 abbrev sent : List CellEvent → ℕ → List What

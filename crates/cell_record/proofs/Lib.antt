@@ -15,3 +15,5 @@ pub mod Placing
 pub mod LineCauses
 pub mod FirstCause
 pub mod FirstRefused
+pub mod Following
+pub mod BeforeRefusal

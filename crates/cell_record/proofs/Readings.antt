@@ -49,10 +49,6 @@ pub still : {T : Type 0} (a : Option T) → Becomes a (λ r. r) a
 still None = tt
 still (Some r) = refl
 
--- nothing more or less
-pub same_same : {T : Type 0} (a b c : Option T) → Becomes a (λ r. r) b → Becomes b (λ r. r) c → Becomes a (λ r. r) c
-same_same a b c p q = then a b c (λ r. r) (λ r. r) (λ r. r) (λ r. refl) p q
-
 pub same_is : {T : Type 0} (a b : Option T) (t : T) → Becomes a (λ r. r) b → IfSome b (λ s. s ≡ t) → IfSome a (λ s. s ≡ t)
 same_is a b t p q = then_is a b (λ r. r) t t refl p q
 
@@ -64,14 +60,6 @@ phase_after es r = ap (λ (l : List CellEvent). record { phases = l ∷ r.phases
 
 pub whole_after : (es : List CellEvent) → with_events es whole ≡ with_phase es ended
 whole_after es = ap (λ (l : List CellEvent). with_phase l ended) (append-nil es)
-
--- a line more, which says nothing
-pub same_events : (a b c : Option Reading) (es : List CellEvent) → Becomes a (with_events es) b → Becomes b (λ r. r) c → Becomes a (with_events es) c
-same_events a b c es p q = then a b c (with_events es) (λ r. r) (with_events es) (λ r. refl) p q
-
--- a line more, which is an event
-pub same_next : (a b c : Option Reading) (es : List CellEvent) (e : CellEvent) → Becomes a (with_events es) b → Becomes b (with_event e) c → Becomes a (with_events (es ++ e ∷ [])) c
-same_next a b c es e p q = then a b c (with_events es) (with_event e) (with_events (es ++ e ∷ [])) (λ r. event_after es e r) p q
 
 one_recorded : (config : Config) (e : CellEvent) → IsRecorded config e → All (IsRecorded config) (e ∷ [])
 one_recorded config e p zero d h = p

@@ -80,10 +80,6 @@ missing_both f r (Some text) b p q h e k = rw (h.0, h.1) (e, ap Some (k ∙ sym 
 
 -- ---- the same is said of all lines
 
-pub same_told : {T : Type 0} (f g : List (List ℕ) → Place → T) (p : Place) (a : Option (List ℕ)) → ((lines : List (List ℕ)) (q : Place) → f lines q ≡ g lines q) → Becomes (told f p a) (λ r. r) (told g p a)
-same_told f g p None e = tt
-same_told f g p (Some text) e = ap Some (sym (e (lines_of text) p))
-
 pub all_told : {T : Type 0} (f : List (List ℕ) → Place → T) (r : T) (p : Place) (a : Option (List ℕ)) → ((lines : List (List ℕ)) (q : Place) → f lines q ≡ r) → IfSome (told f p a) (λ x. x ≡ r)
 all_told f r p None e = tt
 all_told f r p (Some text) e = e (lines_of text) p

@@ -8,9 +8,9 @@ use Rattle.cell_io.specs.Held.{Held, ahead, FailsInLine, IsLaterPart}
 use Rattle.cell_io.proofs.Texts.{first-after, whole_none, whole_first, lines_here}
 use Rattle.mms_types.specs.declared.event.CellEvent.{CellEvent}
 use Rattle.cell_config.specs.declared.config.Config.{Config}
-use Rattle.cell_record.specs.Recording.{Place, Reading, Opening, behind, fits, whole, front, opening_of, opening_of_text, opened, with_phase, reading_of, fresh, config_in, after_opening}
+use Rattle.cell_record.specs.Recording.{Place, Reading, Opening, behind, fits, whole, front, opening_of, opening_of_text, opened, reading_of, fresh, config_in, after_opening}
 use Rattle.cell_record.specs.Numbered.{Gives, phases, after_phase}
-use Rattle.cell_record.specs.Progress.{Progress, place_of, rest_in}
+use Rattle.cell_record.specs.Progress.{Progress, rest_in}
 use Rattle.cell_record.specs.declared.counts.Counts.{Counts}
 use Rattle.cell_record.specs.Stops.{lines_in, ReadsTo, ReadsText, IsCutInOpening, Stops, Leads, LeadsText, StopsOpening, StopsInPhase}
 use Rattle.cell_record.specs.declared.refusal.BadWord.{BadWord}
@@ -60,10 +60,6 @@ leads_there {T} f g h old new left left' line p unended m s feed e = λ last end
 pub leads_then : {T : Type 0} (f g k : List (List ℕ) → Place → T) (h i j : T → T) (a b c : Held) (p q s : Place) (left left' left'' : Option (List ℕ)) → ((r : T) → h (i r) ≡ j r)
     → Leads f a p left h g b q left' → Leads g b q left' i k c s left'' → Leads f a p left j k c s left''
 leads_then {T} f g k h i j a b c p q s left left' left'' e x y = λ last end r z. subst (Stops f a p left last end) (e r) (x last end (i r) (y last end r z))
-
-pub leads_same : {T : Type 0} (f g k : List (List ℕ) → Place → T) (a b c : Held) (p q s : Place) (left left' left'' : Option (List ℕ))
-    → Leads f a p left (λ r. r) g b q left' → Leads g b q left' (λ r. r) k c s left'' → Leads f a p left (λ r. r) k c s left''
-leads_same f g k a b c p q s left left' left'' x y = λ last end r z. x last end r (y last end r z)
 
 pub leads_begun : {T : Type 0} (f : List (List ℕ) → Place → T) (a : Held) (p : Place) (left : Option (List ℕ)) → Leads f a p left (λ r. r) f a p left
 leads_begun f a p left = λ last end r z. z
@@ -133,33 +129,13 @@ phase_then f g es a b p q left left' last x s = record { end = s.end; events = e
 pub leads_begin : (f : List (List ℕ) → Place → Reading) (a : Held) (p : Place) (left : Option (List ℕ)) → Leads f a p left (with_events []) f a p left
 leads_begin f a p left = λ last end r z. subst (Stops f a p left last end) (sym (ap (λ (ps : List (List CellEvent)). record { phases = ps; refusal = r.refusal }) (join-nil r.phases))) z
 
--- a line more, which says this
-pub leads_more : (f g k : List (List ℕ) → Place → Reading) (es fs : List CellEvent) (i : Reading → Reading) (a b c : Held) (p q s : Place) (left left' left'' : Option (List ℕ)) → ((r : Reading) → with_events es (i r) ≡ with_events fs r)
-    → Leads f a p left (with_events es) g b q left' → Leads g b q left' i k c s left'' → Leads f a p left (with_events fs) k c s left''
-leads_more f g k es fs i a b c p q s left left' left'' e x y = leads_then f g k (with_events es) i (with_events fs) a b c p q s left left' left'' e x y
-
 -- ---- a recording that is being read
 
-rest_told : (s : Progress) (c : Counts) (lines : List (List ℕ)) (q : Place) → s.over ≡ false → s.refusal ≡ None → c ≡ fresh s.moment → rest_in s lines q ≡ phases s.config c lines q
+pub rest_told : (s : Progress) (c : Counts) (lines : List (List ℕ)) (q : Place) → s.over ≡ false → s.refusal ≡ None → c ≡ fresh s.moment → rest_in s lines q ≡ phases s.config c lines q
 rest_told s c lines q o r m = rw (o, r, m) refl
 
-rest_after : (s t : Progress) (last : Bool) (lines : List (List ℕ)) (q : Place) → t.refusal ≡ None → t.config ≡ s.config → t.over ≡ last → after_phase s.config last t.moment lines q ≡ rest_in t lines q
+pub rest_after : (s t : Progress) (last : Bool) (lines : List (List ℕ)) (q : Place) → t.refusal ≡ None → t.config ≡ s.config → t.over ≡ last → after_phase s.config last t.moment lines q ≡ rest_in t lines q
 rest_after s t last lines q r c o = rw (r, o, c) refl
-
-pub read_stops : (s : Progress) (c : Counts) (left last : Option (List ℕ)) → s.over ≡ false → s.refusal ≡ None → c ≡ fresh s.moment → StopsInPhase (phases s.config c) s.held (place_of s) left last
-    → StopsInPhase (rest_in s) s.held (place_of s) left last
-read_stops s c left last o r m k =
-    let same = leads_told (rest_in s) (phases s.config c) s.held (place_of s) left (λ lines q. rest_told s c lines q o r m) in
-    record { end = k.end; events = k.events; most = k.most; stops = same last k.end (record { phases = k.events ∷ []; refusal = None }) k.stops }
-
-pub read_leads : (s t : Progress) (c : Counts) (es : List CellEvent) (last : Bool) (left left' : Option (List ℕ)) → s.over ≡ false → s.refusal ≡ None → c ≡ fresh s.moment
-    → t.refusal ≡ None → t.config ≡ s.config → t.over ≡ last
-    → Leads (phases s.config c) s.held (place_of s) left (with_phase es) (after_phase s.config last t.moment) t.held (place_of t) left'
-    → Leads (rest_in s) s.held (place_of s) left (with_phase es) (rest_in t) t.held (place_of t) left'
-read_leads s t c es last left left' o r m u config over x =
-    let first = leads_told (rest_in s) (phases s.config c) s.held (place_of s) left (λ lines q. rest_told s c lines q o r m) in
-    let then = leads_told (after_phase s.config last t.moment) (rest_in t) t.held (place_of t) left' (λ lines q. rest_after s t last lines q u config over) in
-    λ stop end k z. first stop end (with_phase es k) (x stop end k (then stop end k z))
 
 -- ---- a whole text
 
@@ -171,7 +147,7 @@ told_one x None p = absurd p.1
 told_one x (Some tail) p = (tail, refl)
 
 -- the reader holds nothing yet
-fresh_held : (held : Held) (left : Option (List ℕ)) → held.octets ≡ [] → held.ended ≡ false → ahead held left ≡ left
+pub fresh_held : (held : Held) (left : Option (List ℕ)) → held.octets ≡ [] → held.ended ≡ false → ahead held left ≡ left
 fresh_held held None o e = rw e refl
 fresh_held held (Some x) o e = rw (e, o) refl
 

@@ -263,6 +263,7 @@ pub record IsSetup (edition : Edition) (lines : List (List ℕ)) (p : Place) (te
   pub is_end : content last ≡ codes "end"
   pub rules : least_broken edition (text ++ text_of setup) ≡ None
   pub says : option_map (config_of edition) (document_of (text ++ text_of setup)) ≡ Some o.config
+  pub count : o.place.lines ≡ p.lines + length setup + 1
   pub octets : o.place.octets + total o.rest ≡ p.octets + total lines
   pub most : o.place.octets ≤ 4294967296
 
@@ -298,7 +299,7 @@ is_configured edition text lines p o h = by_rule (least_broken edition text) (op
           place = ap place_in e;
         }
 
-read_setup : (edition : Edition) (lines : List (List ℕ)) (p : Place) (text : List ℕ) (o : Opened) → length text ≤ 1048576 → setup_of edition lines p text ≡ Ok o → IsSetup edition lines p text o
+pub read_setup : (edition : Edition) (lines : List (List ℕ)) (p : Place) (text : List ℕ) (o : Opened) → length text ≤ 1048576 → setup_of edition lines p text ≡ Ok o → IsSetup edition lines p text o
 read_setup edition [] p text o s h = cc
 read_setup edition (l ∷ ls) p text o s h =
     let f = if_ok (fits p l) (if same (content l) (codes "end") then configured edition text ls (behind p l) else unless_word (p.lines + 1) (setup_word (length text + size_in_text l) l) (setup_of edition ls (behind p l) (text ++ in_text l))) (TooMuch (p.lines + 1)) o h in
@@ -318,6 +319,7 @@ read_setup edition (l ∷ ls) p text o s h =
           is_end = (same_text (content l) (codes "end")).0 e;
           rules = ap (least_broken edition) none ∙ x.rules;
           says = ap (λ (t : List ℕ). option_map (config_of edition) (document_of t)) none ∙ x.says;
+          count = let a = ap (λ (q : Place). q.lines) x.place in omega (arith, a);
           octets = let a = ap (λ (q : Place). q.octets) x.place in let b = ap total x.rest in omega (arith, a, b);
           most = let a = ap (λ (q : Place). q.octets) x.place in omega (arith, a, f);
         }
@@ -336,6 +338,7 @@ read_setup edition (l ∷ ls) p text o s h =
           is_end = i.is_end;
           rules = ap (least_broken edition) (sym more) ∙ i.rules;
           says = ap (λ (t : List ℕ). option_map (config_of edition) (document_of t)) (sym more) ∙ i.says;
+          count = omega (arith, i.count);
           octets = omega (arith, i.octets);
           most = i.most;
         }
@@ -347,7 +350,7 @@ pub record IsExpected (want : List ℕ) (next : List (List ℕ) → Place → Op
   pub is : content line ≡ want
   pub next_is : next rest (behind p line) ≡ Ok o
 
-read_expected : (want : List ℕ) (word : BadWord) (next : List (List ℕ) → Place → Opening) (lines : List (List ℕ)) (p : Place) (o : Opened) → expected want word next lines p ≡ Ok o → IsExpected want next lines p o
+pub read_expected : (want : List ℕ) (word : BadWord) (next : List (List ℕ) → Place → Opening) (lines : List (List ℕ)) (p : Place) (o : Opened) → expected want word next lines p ≡ Ok o → IsExpected want next lines p o
 read_expected want word next [] p o h = cc
 read_expected want word next (l ∷ ls) p o h =
     let f = if_ok (fits p l) (if same (content l) want then next ls (behind p l) else Err (Bad (p.lines + 1) word)) (TooMuch (p.lines + 1)) o h in
@@ -362,7 +365,7 @@ pub record IsHeaded (next : Edition → List (List ℕ) → Place → Opening) (
   pub is : header_of (content line) ≡ Some edition
   pub next_is : next edition rest (behind p line) ≡ Ok o
 
-read_headed : (next : Edition → List (List ℕ) → Place → Opening) (lines : List (List ℕ)) (p : Place) (o : Opened) → headed next lines p ≡ Ok o → IsHeaded next lines p o
+pub read_headed : (next : Edition → List (List ℕ) → Place → Opening) (lines : List (List ℕ)) (p : Place) (o : Opened) → headed next lines p ≡ Ok o → IsHeaded next lines p o
 read_headed next [] p o h = cc
 read_headed next (l ∷ ls) p o h =
     let f = if_ok (fits p l) (under (header_of (content l)) next ls (p.lines + 1) (behind p l)) (TooMuch (p.lines + 1)) o h in

@@ -1,5 +1,6 @@
 -- What a recording is, said of its whole text (this profile's choice).
-use Rattle.std.specs.Prelude.{ℕ, ◌+◌, ◌≡◌, ◌≢◌, ◌≤◌, ◌++◌, false, List, [], ◌∷◌, length, codes, Ok, Some, None}
+use Rattle.std.specs.Prelude.{ℕ, ◌+◌, ◌≡◌, ◌≢◌, ◌≤◌, ◌++◌, false, List, [], ◌∷◌, length, codes, Ok}
+use Rattle.std.specs.Prelude.{Some, None}
 use Rattle.std.specs.Option.{option_map}
 use Rattle.cell_io.specs.Lines.{lines_of}
 use Rattle.mms_types.specs.declared.event.CellEvent.{CellEvent}
@@ -25,7 +26,8 @@ text_of (line ∷ lines) = in_text line ++ text_of lines
 -- each event line says this
 abbrev pub Says : Config → List (List ℕ) → List Said → Type 0
 Says config [] [] = Unit {0}
-Says config (line ∷ lines) (said ∷ more) = (said_of config (content line) ≡ Ok said) × Says config lines more
+Says config (line ∷ lines) (said ∷ more) = (said_of config (content line) ≡ Ok said)
+    × Says config lines more
 Says config lines said = ⊥
 
 -- a line `phase` stands between two phases
@@ -50,13 +52,16 @@ abbrev pub all_ms : List (List CellEvent) → ℕ
 all_ms [] = 0
 all_ms (phase ∷ rest) = phase_ms phase + all_ms rest
 
--- no phase has more than 16,384 events and 67,108,864 octets of PDUs, where so much stands before the first of these
+-- no phase has more than 16,384 events and 67,108,864 octets of PDUs, where so much stands before
+-- the first of these
 abbrev pub AreFew : ℕ → ℕ → List (List CellEvent) → Type 0
 AreFew events octets [] = Unit {0}
-AreFew events octets (phase ∷ rest) = (events + length phase ≤ 16384) × (octets + pdu_octets phase ≤ 67108864) × AreFew 0 0 rest
+AreFew events octets (phase ∷ rest) = (events + length phase ≤ 16384)
+    × (octets + pdu_octets phase ≤ 67108864) × AreFew 0 0 rest
 
 -- a text that is a recording, its configuration and its phases
-pub record ReadsRecording (text : List ℕ) (configured : Config) (phases : List (List CellEvent)) : Type 0 where
+pub record ReadsRecording (text : List ℕ) (configured : Config)
+    (phases : List (List CellEvent)) : Type 0 where
   pub header : List ℕ
   pub config : List ℕ
   pub setup : List (List ℕ)
@@ -69,7 +74,8 @@ pub record ReadsRecording (text : List ℕ) (configured : Config) (phases : List
   pub short : AreShort setup
   pub small : length (text_of setup) ≤ 1048576
   pub rules : least_broken configured.edition (text_of setup) ≡ None
-  pub says : option_map (config_of configured.edition) (document_of (text_of setup)) ≡ Some configured
+  pub says : option_map (config_of configured.edition) (document_of (text_of setup))
+      ≡ Some configured
   pub is_end : content last ≡ codes "end"
   pub each : Says configured body said
   pub split : phases ≡ phases_of said

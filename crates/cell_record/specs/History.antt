@@ -11,9 +11,11 @@ drains clients = map Drain clients
 -- the events of an actor, in order
 abbrev pub events_of : ℕ → List CellEvent → List CellEvent
 events_of actor [] = []
-events_of actor (event ∷ rest) = if actor_of event == actor then event ∷ events_of actor rest else events_of actor rest
+events_of actor (event ∷ rest) = if actor_of event == actor then event ∷ events_of actor rest
+    else events_of actor rest
 
--- the body of a served phase: for each actor just the recorded events, in that actor's order, and no others
+-- the body of a served phase: for each actor just the recorded events, in that actor's order, and
+-- no others
 pub record IsBodyOf (body phase : List CellEvent) : Type 0 where
   pub each : (actor : ℕ) → events_of actor body ≡ events_of actor phase
 

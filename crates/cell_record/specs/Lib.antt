@@ -10,3 +10,5 @@ pub mod Grammar
 pub mod Placed
 pub mod Refused
 pub mod Turned
+pub mod ToRead
+pub mod PhaseLines

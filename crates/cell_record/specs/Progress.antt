@@ -7,9 +7,11 @@ use Rattle.cell_io.specs.Held.{Held, ahead}
 use Rattle.cell_config.specs.declared.config.Config.{Config}
 use Rattle.cell_record.specs.Recording.{Place, Reading, reading_of, refused, ended, fresh}
 use Rattle.cell_record.specs.declared.refusal.RecordError.{RecordError}
-use Rattle.cell_record.specs.declared.refusal.RecordError.TheVariants.{ReadFault, Bad, BadConfig, TooMuch, Memory}
+use Rattle.cell_record.specs.declared.refusal.RecordError.TheVariants.{ReadFault, Bad, BadConfig}
+use Rattle.cell_record.specs.declared.refusal.RecordError.TheVariants.{TooMuch, Memory}
 
--- what the reader of lines holds, the configuration, the lines so far, the moment, the phases given, whether the last one was, and the refusal that is kept
+-- what the reader of lines holds, the configuration, the lines so far, the moment, the phases
+-- given, whether the last one was, and the refusal that is kept
 pub record Progress : Type 0 where
   pub held : Held
   pub config : Config
@@ -33,7 +35,8 @@ rest_in p lines q = rest_by p.refusal p.over (reading_of p.config lines q (fresh
 
 -- what a recording still says, where so much is left in the source
 abbrev pub rest_of : Progress → Option (List ℕ) → Option Reading
-rest_of p left = option_map (λ text. rest_by p.refusal p.over (reading_of p.config (lines_of text) (place_of p) (fresh p.moment))) (ahead p.held left)
+rest_of p left = option_map (λ text. rest_by p.refusal p.over
+    (reading_of p.config (lines_of text) (place_of p) (fresh p.moment))) (ahead p.held left)
 
 -- where it is told, the one is what `f` makes of the other
 abbrev pub Becomes : {T : Type 0} → Option T → (T → T) → Option T → Type 0

@@ -1,5 +1,6 @@
 -- What a recording says: the lines up to `end`, and then its phases (this profile's choice).
-use Rattle.std.specs.Prelude.{ℕ, ◌+◌, ◌||◌, Bool, if◌then◌else◌, List, [], ◌∷◌, ◌++◌, length, codes, Result, Ok, Err, Some, None, nat_le, nat_lt}
+use Rattle.std.specs.Prelude.{ℕ, ◌+◌, ◌||◌, Bool, if◌then◌else◌, List, [], ◌∷◌, ◌++◌, length, codes}
+use Rattle.std.specs.Prelude.{Result, Ok, Err, Some, None, nat_le, nat_lt}
 use Rattle.std.specs.Option.{option_map}
 use Rattle.std.specs.declared.option.Option.{Option}
 use Rattle.cell_io.specs.Lines.{lines_of}
@@ -85,7 +86,11 @@ fresh moment = record { events = 0; octets = 0; moment = moment }
 
 -- an event more
 abbrev pub counted : Counts → CellEvent → Counts
-counted c event = record { events = c.events + 1; octets = c.octets + octets_in event; moment = c.moment + ms_in event }
+counted c event = record {
+  events = c.events + 1;
+  octets = c.octets + octets_in event;
+  moment = c.moment + ms_in event;
+}
 
 -- a phase has at most 16,384 events and 67,108,864 octets of PDUs
 abbrev pub is_much : Counts → Bool
@@ -97,7 +102,8 @@ is_past c = nat_lt 5662310399999 c.moment
 
 -- why the line of this number is refused, with which there would be so much
 abbrev pub excess : ℕ → Counts → Option RecordError
-excess line c = if is_past c then Some (Bad line bad.Clock) else if is_much c then Some (TooMuch line) else None
+excess line c =
+    if is_past c then Some (Bad line bad.Clock) else if is_much c then Some (TooMuch line) else None
 
 abbrev pub unless : Option RecordError → Reading → Reading
 unless None r = r
@@ -124,14 +130,16 @@ makes (Happens event) r = with_event event r
 -- what a line of this number makes of what the rest says
 abbrev pub with_said : ℕ → Counts → Result Said BadWord → (Counts → Reading) → Reading
 with_said line c (Err word) rest = refused (Bad line word)
-with_said line c (Ok said) rest = unless (refusal_of line (moved c said) said) (makes said (rest (moved c said)))
+with_said line c (Ok said) rest = unless (refusal_of line (moved c said) said)
+    (makes said (rest (moved c said)))
 
 -- what event lines say under a configuration from a place on, with so much of the phase before them
 abbrev pub reading_of : Config → List (List ℕ) → Place → Counts → Reading
 reading_of config [] p c = whole
 reading_of config (line ∷ rest) p c =
     if fits p line
-    then with_said (p.lines + 1) c (said_of config (content line)) (λ d. reading_of config rest (behind p line) d)
+    then with_said (p.lines + 1) c (said_of config (content line))
+    (λ d. reading_of config rest (behind p line) d)
     else refused (TooMuch (p.lines + 1))
 
 -- ---- the lines before them
@@ -146,11 +154,13 @@ abbrev pub Opening : Type 0
 Opening = Result Opened RecordError
 
 -- the line that is to stand here, or else the word that refuses it
-abbrev pub expected : List ℕ → BadWord → (List (List ℕ) → Place → Opening) → List (List ℕ) → Place → Opening
+abbrev pub expected : List ℕ → BadWord → (List (List ℕ) → Place → Opening)
+    → List (List ℕ) → Place → Opening
 expected want word next [] p = Err (Bad (p.lines + 1) word)
 expected want word next (line ∷ rest) p =
     if fits p line
-    then (if same (content line) want then next rest (behind p line) else Err (Bad (p.lines + 1) word))
+    then (if same (content line) want then next rest (behind p line)
+    else Err (Bad (p.lines + 1) word))
     else Err (TooMuch (p.lines + 1))
 
 -- the edition of which the recording is that begins with this line
@@ -158,7 +168,8 @@ abbrev pub header_of : List ℕ → Option Edition
 header_of line = if same line (codes "mms-recording 1") then Some One else None
 
 -- what stands behind a header of that edition
-abbrev pub under : Option Edition → (Edition → List (List ℕ) → Place → Opening) → List (List ℕ) → ℕ → Place → Opening
+abbrev pub under : Option Edition → (Edition → List (List ℕ) → Place → Opening)
+    → List (List ℕ) → ℕ → Place → Opening
 under None next rest line p = Err (Bad line bad.Header)
 under (Some edition) next rest line p = next edition rest p
 
@@ -166,7 +177,8 @@ under (Some edition) next rest line p = next edition rest p
 abbrev pub in_text : List ℕ → List ℕ
 in_text line = content line ++ 10 ∷ []
 
--- how much that is, of a line that has so many octets as it stands; a line that is too long counts with all that it has
+-- how much that is, of a line that has so many octets as it stands; a line that is too long counts
+-- with all that it has
 abbrev pub size_by : ℕ → List ℕ → ℕ
 size_by size line = if is_long line then size else length (content line) + 1
 
@@ -188,7 +200,8 @@ unless_word line (Some word) r = Err (Bad line word)
 abbrev pub opened : Config → List (List ℕ) → Place → Opening
 opened config lines p = Ok (record { config = config; rest = lines; place = p })
 
--- the least rule that the configuration's text breaks refuses the recording; one that breaks none is a document, so that the second case never comes
+-- the least rule that the configuration's text breaks refuses the recording; one that breaks none
+-- is a document, so that the second case never comes
 abbrev pub opened_unless : Option ℕ → Option Config → List (List ℕ) → Place → Opening
 opened_unless (Some rule) config lines p = Err (BadConfig rule)
 opened_unless None None lines p = Err (BadConfig 0)
@@ -196,7 +209,8 @@ opened_unless None (Some config) lines p = opened config lines p
 
 -- the line `end` was read, behind a configuration's text
 abbrev pub configured : Edition → List ℕ → List (List ℕ) → Place → Opening
-configured edition text = opened_unless (least_broken edition text) (option_map (config_of edition) (document_of text))
+configured edition text = opened_unless (least_broken edition text)
+    (option_map (config_of edition) (document_of text))
 
 -- the configuration's lines, up to the line `end`, behind those that have this text
 abbrev pub setup_of : Edition → List (List ℕ) → Place → List ℕ → Opening
@@ -205,14 +219,17 @@ setup_of edition (line ∷ rest) p text =
     if fits p line
     then (if same (content line) (codes "end")
     then configured edition text rest (behind p line)
-    else unless_word (p.lines + 1) (setup_word (length text + size_in_text line) line) (setup_of edition rest (behind p line) (text ++ in_text line)))
+    else unless_word (p.lines + 1) (setup_word (length text + size_in_text line) line)
+    (setup_of edition rest (behind p line) (text ++ in_text line)))
     else Err (TooMuch (p.lines + 1))
 
 -- the header in line 1, and what stands behind it
 abbrev pub headed : (Edition → List (List ℕ) → Place → Opening) → List (List ℕ) → Place → Opening
 headed next [] p = Err (Bad (p.lines + 1) bad.Header)
 headed next (line ∷ rest) p =
-    if fits p line then under (header_of (content line)) next rest (p.lines + 1) (behind p line) else Err (TooMuch (p.lines + 1))
+    if fits p line
+    then under (header_of (content line)) next rest (p.lines + 1) (behind p line)
+    else Err (TooMuch (p.lines + 1))
 
 -- the line `config`, and the configuration's lines up to `end`
 abbrev pub setup_in : Edition → List (List ℕ) → Place → Opening

@@ -1,6 +1,7 @@
--- Why a text is refused: the causes in their order, each a condition on a line and the lines before it (this
--- profile's choice).
-use Rattle.std.specs.Prelude.{ℕ, ◌+◌, ◌≡◌, ◌≢◌, ◌<◌, ◌≤◌, ◌++◌, ◌⊎◌, true, false, List, [], ◌∷◌, length, codes, Some, None, IfSome, Ok}
+-- Why a text is refused: the causes in their order, each a condition on a line and the lines before
+-- it (this profile's choice).
+use Rattle.std.specs.Prelude.{ℕ, ◌+◌, ◌≡◌, ◌≢◌, ◌<◌, ◌≤◌, ◌++◌, ◌⊎◌, true, false, List, [], ◌∷◌}
+use Rattle.std.specs.Prelude.{length, codes, Some, None, IfSome, Ok}
 use Rattle.std.specs.Option.{option_map}
 use Rattle.std.specs.declared.option.Option.{Option}
 use Rattle.cell_io.specs.Lines.{lines_of}
@@ -11,7 +12,8 @@ use Rattle.mms_types.specs.declared.event.CellEvent.{CellEvent}
 use Rattle.cell_config.specs.declared.config.Config.{Config}
 use Rattle.cell_config.specs.Rules.{document_of, least_broken}
 use Rattle.cell_config.specs.Said.{config_of}
-use Rattle.cell_record.specs.Words.{content, is_long, trim, word_of, argument_of, is_remark, begins_with_digit, number_of, pairs_of}
+use Rattle.cell_record.specs.Words.{content, is_long, trim, word_of, argument_of, is_remark}
+use Rattle.cell_record.specs.Words.{begins_with_digit, number_of, pairs_of}
 use Rattle.cell_record.specs.EventLine.{said_of}
 use Rattle.cell_record.specs.Recording.{header_of, size_in_text, ms_in, octets_in}
 use Rattle.cell_record.specs.Grammar.{text_of, Says, phases_of, pdu_octets, all_ms}
@@ -19,7 +21,8 @@ use Rattle.cell_record.specs.declared.said.Said.{Said}
 use Rattle.cell_record.specs.declared.said.Said.TheVariants.{Happens}
 use Rattle.cell_record.specs.declared.refusal.BadWord.TheVariants as bad
 use Rattle.cell_record.specs.declared.refusal.RecordError.{RecordError}
-use Rattle.cell_record.specs.declared.refusal.RecordError.TheVariants.{Bad, BadConfig, TooMuch}
+use Rattle.cell_record.specs.declared.refusal.RecordError.TheVariants.{Bad, BadConfig, Memory}
+use Rattle.cell_record.specs.declared.refusal.RecordError.TheVariants.{ReadFault, TooMuch}
 
 -- ---- where a line stands
 
@@ -33,14 +36,16 @@ abbrev pub HaveNoEnd : List (List ℕ) → Type 0
 HaveNoEnd [] = Unit {0}
 HaveNoEnd (line ∷ lines) = (content line ≢ codes "end") × HaveNoEnd lines
 
--- a line of the configuration stands behind these lines: the header, `config`, and lines of which none is `end`
+-- a line of the configuration stands behind these lines: the header, `config`, and lines of which
+-- none is `end`
 pub record InSetup (before setup : List (List ℕ)) : Type 0 where
   pub header : List ℕ
   pub second : List ℕ
   pub lines : before ≡ header ∷ second ∷ setup
   pub endless : HaveNoEnd setup
 
--- an event line stands behind these lines: they tell a configuration, and the event lines among them say this
+-- an event line stands behind these lines: they tell a configuration, and the event lines among
+-- them say this
 pub record InEvents (before : List (List ℕ)) (config : Config) (said : List Said) : Type 0 where
   pub header : List ℕ
   pub second : List ℕ
@@ -76,17 +81,19 @@ IsLost client line = (word_of line ≡ codes "lost") × (number_of (argument_of 
 -- `tick <ms>`, with 1 to 3,600,000 milliseconds
 abbrev pub IsTick : List ℕ → Type 0
 IsTick line =
-    (word_of line ≡ codes "tick") × (ms : ℕ) × (number_of (argument_of line) ≡ Some ms) × (1 ≤ ms) × (ms ≤ 3600000)
+    (word_of line ≡ codes "tick")
+    × (ms : ℕ) × (number_of (argument_of line) ≡ Some ms) × (1 ≤ ms) × (ms ≤ 3600000)
 
 -- `ends <name>`
 abbrev pub IsEnds : Edition → List ℕ → Type 0
 IsEnds edition line = (word_of line ≡ codes "ends") × IsIdentifier edition (argument_of line)
 
--- a line that begins with no digit and is of some form: empty or a comment, `phase`, `lost`, `tick` or `ends`
+-- a line that begins with no digit and is of some form: empty or a comment, `phase`, `lost`, `tick`
+-- or `ends`
 abbrev pub IsWorded : Edition → List ℕ → Type 0
 IsWorded edition line =
-    (is_remark line ≡ true) ⊎ (line ≡ codes "phase") ⊎ ((client : ℕ) × IsLost client line) ⊎ IsTick line
-    ⊎ IsEnds edition line
+    (is_remark line ≡ true) ⊎ (line ≡ codes "phase") ⊎ ((client : ℕ) × IsLost client line)
+    ⊎ IsTick line ⊎ IsEnds edition line
 
 -- the line is of a form with a client's number
 abbrev pub Names : ℕ → List ℕ → Type 0
@@ -96,7 +103,8 @@ Names client line = ((octets : List ℕ) × IsHeard client octets line) ⊎ IsLo
 
 -- with the line the input has more than 4,294,967,296 octets
 abbrev pub IsOver : List (List ℕ) → Option (List ℕ) → Type 0
-IsOver before here = (line : List ℕ) × (here ≡ Some line) × (4294967296 < octets_of before + length line)
+IsOver before here = (line : List ℕ) × (here ≡ Some line)
+    × (4294967296 < octets_of before + length line)
 
 -- line 1 names no edition, or is missing
 abbrev pub LacksHeader : List (List ℕ) → Option (List ℕ) → Type 0
@@ -120,14 +128,17 @@ IsMuchSetup before here = (setup : List (List ℕ)) × InSetup before setup
 abbrev pub IsLong : Option (List ℕ) → Type 0
 IsLong here = (line : List ℕ) × (here ≡ Some line) × (is_long line ≡ true)
 
--- an event line stands there of whose content this holds, by the configuration and what is said before it
-abbrev pub OfEventLine : (Config → List Said → List ℕ → Type 0) → List (List ℕ) → Option (List ℕ) → Type 0
+-- an event line stands there of whose content this holds, by the configuration and what is said
+-- before it
+abbrev pub OfEventLine : (Config → List Said → List ℕ → Type 0) → List (List ℕ) → Option (List ℕ)
+    → Type 0
 OfEventLine Cause before here = (config : Config) × (said : List Said) × InEvents before config said
     × (line : List ℕ) × (here ≡ Some line) × Cause config said (content line)
 
 -- it begins with no digit and is of no form
 abbrev pub HasNoForm : Config → List Said → List ℕ → Type 0
-HasNoForm config said line = (begins_with_digit (trim line) ≡ false) × (IsWorded config.edition (trim line) → ⊥)
+HasNoForm config said line = (begins_with_digit (trim line) ≡ false)
+    × (IsWorded config.edition (trim line) → ⊥)
 
 -- it begins with a digit and is not of the form
 abbrev pub HasNoOctets : Config → List Said → List ℕ → Type 0
@@ -150,7 +161,8 @@ IsMuchPhase config said line = (event : CellEvent) × (said_of config line ≡ O
     × ((16384 < length (last_phase (phases_of said)) + 1)
     ⊎ (67108864 < pdu_octets (last_phase (phases_of said)) + octets_in event))
 
--- the line is the first `end`, and the configuration's text breaks rules in the edition of the header, the least of them this one
+-- the line is the first `end`, and the configuration's text breaks rules in the edition of the
+-- header, the least of them this one
 abbrev pub BreaksRule : List (List ℕ) → Option (List ℕ) → RecordError → Type 0
 BreaksRule before here e = (setup : List (List ℕ)) × (behind : InSetup before setup)
     × (line : List ℕ) × (here ≡ Some line) × (content line ≡ codes "end")
@@ -184,7 +196,8 @@ abbrev pub NoneRefused : List (List ℕ) → Type 0
 NoneRefused lines = (before rest : List (List ℕ)) (line : List ℕ)
     → lines ≡ before ++ line ∷ rest → Holds (Refuses before (Some line)) → ⊥
 
--- a line of these, or a missing one behind the last, is the first that is refused, and this is its refusal
+-- a line of these, or a missing one behind the last, is the first that is refused, and this is its
+-- refusal
 pub record IsFirstRefusal (lines : List (List ℕ)) (e : RecordError) : Type 0 where
   pub before : List (List ℕ)
   pub here : Option (List ℕ)
@@ -195,3 +208,31 @@ pub record IsFirstRefusal (lines : List (List ℕ)) (e : RecordError) : Type 0 w
 -- so a text is refused
 abbrev pub IsRefused : List ℕ → RecordError → Type 0
 IsRefused text e = IsFirstRefusal (lines_of text) e
+
+-- ---- the phases before it
+
+-- the line that a refusal names
+abbrev pub NamesLine : RecordError → ℕ → Type 0
+NamesLine (Bad line word) n = line ≡ n
+NamesLine (TooMuch line) n = line ≡ n
+NamesLine (BadConfig rule) n = ⊥
+NamesLine ReadFault n = ⊥
+NamesLine Memory n = ⊥
+
+-- the phases that end in event lines: all but the one that was begun last
+abbrev pub all_but_last : List (List CellEvent) → List (List CellEvent)
+all_but_last [] = []
+all_but_last (phase ∷ []) = []
+all_but_last (phase ∷ next ∷ rest) = phase ∷ all_but_last (next ∷ rest)
+
+-- the phases are those that end in the lines before the one that the refusal names
+pub record EndBefore (lines : List (List ℕ)) (config : Config) (e : RecordError)
+    (phases : List (List CellEvent)) : Type 0 where
+  pub before : List (List ℕ)
+  pub here : List ℕ
+  pub rest : List (List ℕ)
+  pub stands : lines ≡ before ++ here ∷ rest
+  pub number : NamesLine e (length before + 1)
+  pub said : List Said
+  pub events : InEvents before config said
+  pub ends : phases ≡ all_but_last (phases_of said)

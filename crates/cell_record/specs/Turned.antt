@@ -10,7 +10,8 @@ use Rattle.cell_record.specs.declared.said.LineError.{LineError}
 use Rattle.cell_record.specs.declared.said.LineError.TheVariants as line
 use Rattle.cell_record.specs.declared.refusal.BadWord.TheVariants as bad
 use Rattle.cell_record.specs.declared.refusal.RecordError.{RecordError}
-use Rattle.cell_record.specs.declared.refusal.RecordError.TheVariants.{ReadFault, Bad, BadConfig, TooMuch, Memory}
+use Rattle.cell_record.specs.declared.refusal.RecordError.TheVariants.{ReadFault, Bad, BadConfig}
+use Rattle.cell_record.specs.declared.refusal.RecordError.TheVariants.{TooMuch, Memory}
 
 -- why the line of this number wasn't given
 abbrev pub stop_told : ℕ → Stop → RecordError

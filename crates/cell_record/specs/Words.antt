@@ -1,5 +1,7 @@
 -- A line's content and its words (this profile's choice).
-use Rattle.std.specs.Prelude.{ℕ, ◌+◌, ◌-◌, ◌*◌, ◌==◌, ◌&&◌, ◌||◌, not, true, false, Bool, if◌then◌else◌, List, [], ◌∷◌, length, drop, take, fold, slice_index, Some, None, nat_le, nat_lt}
+use Rattle.std.specs.Prelude.{ℕ, ◌+◌, ◌-◌, ◌*◌, ◌==◌, ◌&&◌, ◌||◌, not, true, false, Bool}
+use Rattle.std.specs.Prelude.{if◌then◌else◌, List, [], ◌∷◌, length, drop, take, fold, slice_index}
+use Rattle.std.specs.Prelude.{Some, None, nat_le, nat_lt}
 use Rattle.std.specs.List.{prefix_len, list_all}
 use Rattle.std.specs.declared.option.Option.{Option}
 
@@ -75,13 +77,16 @@ value_of digits = fold (λ n d. n * 10 + (d - 48)) 0 digits
 
 -- the number that 1 to 9 decimal digits say, also with zeros in front
 abbrev pub number_of : List ℕ → Option ℕ
-number_of digits = if between 1 9 (length digits) && list_all is_digit digits then Some (value_of digits) else None
+number_of digits = if between 1 9 (length digits) && list_all is_digit digits
+    then Some (value_of digits) else None
 
 -- ---- octets
 
 -- the value of a hexadecimal digit of either case, and 255 for other octets
 abbrev pub nibble_of : ℕ → ℕ
-nibble_of b = if between 48 57 b then b - 48 else (if between 65 70 b then b - 55 else (if between 97 102 b then b - 87 else 255))
+nibble_of b =
+    if between 48 57 b then b - 48
+    else (if between 65 70 b then b - 55 else (if between 97 102 b then b - 87 else 255))
 
 -- a hexadecimal digit of either case
 abbrev pub is_hex : ℕ → Bool
@@ -90,10 +95,12 @@ is_hex b = nat_le (nibble_of b) 15
 -- the octet of two digits in front of the others
 abbrev pub with_octet : ℕ → ℕ → Option (List ℕ) → Option (List ℕ)
 with_octet high low None = None
-with_octet high low (Some octets) = if nat_lt 15 high || nat_lt 15 low then None else Some ((high * 16 + low) ∷ octets)
+with_octet high low (Some octets) = if nat_lt 15 high || nat_lt 15 low then None
+    else Some ((high * 16 + low) ∷ octets)
 
 -- the octets of pairs of hexadecimal digits, with or without spaces (32) between pairs
 abbrev pub pairs_of : List ℕ → Option (List ℕ)
 pairs_of [] = Some []
 pairs_of (a ∷ []) = if a == 32 then Some [] else None
-pairs_of (a ∷ b ∷ rest) = if a == 32 then pairs_of (b ∷ rest) else with_octet (nibble_of a) (nibble_of b) (pairs_of rest)
+pairs_of (a ∷ b ∷ rest) = if a == 32 then pairs_of (b ∷ rest)
+    else with_octet (nibble_of a) (nibble_of b) (pairs_of rest)

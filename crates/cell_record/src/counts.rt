@@ -1,7 +1,8 @@
 //! How much there is of a phase, and the moment.
 
 ghost use Rattle.std.specs.Prelude.{◌≡◌, ◌≤◌, IfSome, MatchOption, ⊤};
-ghost use Rattle.cell_record.specs.Recording.{moved, refusal_of, fresh, counted, excess, ms_in, octets_in};
+ghost use Rattle.cell_record.specs.Recording.{moved, refusal_of, fresh, counted, excess};
+ghost use Rattle.cell_record.specs.Recording.{ms_in, octets_in};
 ghost use Rattle.cell_record.specs.Numbered.{IsWithin};
 
 use crate::said::Said;

@@ -1,11 +1,9 @@
 //! A line that is cut and decoded where it is held, in one pass.
 
-ghost use Rattle.std.specs.Prelude.{◌≡◌, ◌+◌, ◌*◌, ◌<◌, ◌≤◌, ◌^◌, length, take, drop, true, IfOk, IfSome, Some};
+ghost use Rattle.std.specs.Prelude.{◌≡◌, ◌+◌, ◌*◌, ◌≤◌, length, take, true, IfOk, IfSome, Some};
 ghost use Rattle.std.specs.List.{list_all};
-ghost use Rattle.cell_io.specs.Lines.{first_line, after_line, has_feed};
-ghost use Rattle.cell_config.specs.declared.config.Config.{Config};
-ghost use Rattle.cell_record.specs.Words.{content, is_digit, is_hex, value_of, pairs_of};
-ghost use Rattle.cell_record.specs.EventLine.{said_of, heard_of};
+ghost use Rattle.cell_record.specs.Words.{is_digit, is_hex, value_of, pairs_of};
+ghost use Rattle.cell_record.specs.PhaseLines.{BeginsWithLine, SaysSent};
 
 use crate::digits::{is_broken, nibble};
 use crate::words::is_digit;
@@ -60,7 +58,8 @@ fn front_number(text: &[u8]) -> Front
     Front { value, count }
 }
 
-/// Decodes the pairs of digits that a text begins with, as many as there is room for: how many there are.
+/// Decodes the pairs of digits that a text begins with, as many as there is room for: how many
+/// there are.
 fn front_pairs(text: &[u8], to: &mut [u8]) -> usize
     ensures within { 2 * result ≤ length text.now }
     ensures room { result ≤ length to.new }
@@ -82,19 +81,16 @@ fn front_pairs(text: &[u8], to: &mut [u8]) -> usize
     count
 }
 
-/// Cuts the first line off a text, where it is a client's number, one blank and pairs of digits for which there is
-/// room. None tells nothing of the line. It is a function of its own in the program too, so that its loops have the
-/// registers for themselves.
+/// Cuts the first line off a text, where it is a client's number, one blank and pairs of digits for
+/// which there is room. None tells nothing of the line. It is a function of its own in the program
+/// too, so that its loops have the registers for themselves.
 #[inline(never)]
 fn cut_line(text: &[u8], to: &mut [u8]) -> Option<Cut>
-    ensures feed { IfSome result (λ _. has_feed text.now ≡ true) }
-    ensures within { IfSome result (λ cut. (1 ≤ cut.size) × (cut.size ≤ length text.now) × (cut.size ≤ 196608)) }
-    ensures line { IfSome result (λ cut. first_line text.now ≡ take cut.size text.now) }
-    ensures rest { IfSome result (λ cut. after_line text.now ≡ drop cut.size text.now) }
+    ensures line { IfSome result (λ cut. BeginsWithLine text.now cut.size) }
+    ensures says { IfSome result (λ cut.
+        SaysSent text.now cut.client (take cut.count to.new)) }
     ensures room { IfSome result (λ cut. cut.count ≤ length to.new) }
     ensures size { length to.new ≡ length to.old }
-    ensures says { IfSome result (λ cut. (config : Config)
-        → said_of config (content (first_line text.now)) ≡ heard_of config (Some cut.client) (Some (take cut.count to.new))) }
 {
     let front = front_number(text);
     if front.count == 0 || front.count >= text.len() || text[front.count] != b' ' {
@@ -112,16 +108,14 @@ fn cut_line(text: &[u8], to: &mut [u8]) -> Option<Cut>
     })
 }
 
-/// That a client sent octets, where the first line of a text says it in the form that `cut_line` cuts: None tells
-/// nothing of the line. The buffer is kept from line to line; what it holds is of no account.
+/// That a client sent octets, where the first line of a text says it in the form that `cut_line`
+/// cuts: None tells nothing of the line. The buffer is kept from line to line; what it holds is of
+/// no account.
 #[inline(always)]
 pub fn first_sent(alloc: Global, text: &[u8], buffer: &mut Vec<u8>) -> Result<Option<Sent>, Memory>
-    ensures feed { IfOk result (λ o. IfSome o (λ _. has_feed text.now ≡ true)) }
-    ensures within { IfOk result (λ o. IfSome o (λ sent. (1 ≤ sent.size) × (sent.size ≤ length text.now) × (sent.size ≤ 196608))) }
-    ensures line { IfOk result (λ o. IfSome o (λ sent. first_line text.now ≡ take sent.size text.now)) }
-    ensures rest { IfOk result (λ o. IfSome o (λ sent. after_line text.now ≡ drop sent.size text.now)) }
-    ensures says { IfOk result (λ o. IfSome o (λ sent. (config : Config)
-        → said_of config (content (first_line text.now)) ≡ heard_of config (Some sent.client) (Some sent.octets))) }
+    ensures line { IfOk result (λ o. IfSome o (λ sent. BeginsWithLine text.now sent.size)) }
+    ensures says { IfOk result (λ o. IfSome o (λ sent.
+        SaysSent text.now sent.client sent.octets)) }
 {
     let Some(cut) = cut_line(text, buffer.as_mut_slice()) else {
         return Ok(None);

@@ -1,6 +1,7 @@
 //! Numbers and octets in digits.
 
-ghost use Rattle.std.specs.Prelude.{◌≡◌, ◌*◌, ◌≤◌, ◌||◌, true, false, length, take, nat_lt, IfOk, OnOk, Some, None, vec_len};
+ghost use Rattle.std.specs.Prelude.{◌≡◌, ◌*◌, ◌≤◌, ◌||◌, true, false, length, take, nat_lt};
+ghost use Rattle.std.specs.Prelude.{IfOk, OnOk, Some, None, vec_len};
 ghost use Rattle.cell_record.specs.Words.{number_of, nibble_of, pairs_of};
 
 use crate::words::is_digit;
@@ -54,7 +55,8 @@ pub fn nibble(octet: u8) -> u8
 }
 
 /// Decodes so many pairs of digits without spaces: false where an octet is no digit, and then what
-/// `to` has is of no account. It is a function of its own in the program too, so that its loop has the registers for itself.
+/// `to` has is of no account. It is a function of its own in the program too, so that its loop has
+/// the registers for itself.
 #[inline(never)]
 fn decode(text: &[u8], count: usize, to: &mut [u8]) -> bool
     requires pairs { length text.now ≡ 2 * count }
@@ -85,7 +87,8 @@ pub fn is_broken(high: u8, low: u8) -> bool
 #[cold]
 #[inline(never)]
 fn decode_spaced(text: &[u8], octets: &mut Vec<u8>) -> Result<bool, AllocError>
-    ensures there { IfOk result (λ there. there ≡ true → pairs_of text.now ≡ Some octets.new.items) }
+    ensures there { IfOk result (λ there. there ≡ true
+        → pairs_of text.now ≡ Some octets.new.items) }
     ensures none { IfOk result (λ there. there ≡ false → pairs_of text.now ≡ None) }
 {
     octets.clear();

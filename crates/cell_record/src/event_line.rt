@@ -1,9 +1,11 @@
 //! What an event line says.
 
 ghost use Rattle.std.specs.Prelude.{◌≡◌, IfOk, IfErr, Ok, Err, nat_eq, codes};
-ghost use Rattle.cell_record.specs.Words.{number_of, pairs_of, trim as trimmed, word_of, argument_of};
+ghost use Rattle.cell_record.specs.Words.{number_of, pairs_of, word_of, argument_of};
+ghost use Rattle.cell_record.specs.Words.{trim as trimmed};
 ghost use Rattle.cell_record.specs.Turned.{name_told};
-ghost use Rattle.cell_record.specs.EventLine.{said_of, trimmed_says, worded, heard_of, lost_of, tick_of, ends_of, IsCause, MayHappen};
+ghost use Rattle.cell_record.specs.EventLine.{said_of, trimmed_says, worded, heard_of, lost_of};
+ghost use Rattle.cell_record.specs.EventLine.{tick_of, ends_of, IsCause, MayHappen};
 
 use crate::BadWord;
 use crate::digits::{number, pairs};
@@ -99,8 +101,10 @@ fn ends(alloc: Global, config: &Config, name: &[u8]) -> Result<Said, LineError>
 
 /// What a line says by its first word.
 fn by_word(alloc: Global, config: &Config, line: &[u8]) -> Result<Said, LineError>
-    ensures says { IfOk result (λ s. worded config.now line.now (word_of line.now) (argument_of line.now) ≡ Ok s) }
-    ensures bad { IfErr result (λ e. IsCause (worded config.now line.now (word_of line.now) (argument_of line.now)) e) }
+    ensures says { IfOk result (λ s.
+        worded config.now line.now (word_of line.now) (argument_of line.now) ≡ Ok s) }
+    ensures bad { IfErr result (λ e. IsCause
+        (worded config.now line.now (word_of line.now) (argument_of line.now)) e) }
     ensures may { IfOk result (MayHappen config.now) }
 {
     if line == b"phase".as_slice() {
@@ -126,8 +130,10 @@ fn by_client(
     line: &[u8],
     buffer: &mut Vec<u8>,
 ) -> Result<Said, LineError>
-    ensures says { IfOk result (λ s. heard_of config.now (number_of (word_of line.now)) (pairs_of (argument_of line.now)) ≡ Ok s) }
-    ensures bad { IfErr result (λ e. IsCause (heard_of config.now (number_of (word_of line.now)) (pairs_of (argument_of line.now))) e) }
+    ensures says { IfOk result (λ s. heard_of config.now
+        (number_of (word_of line.now)) (pairs_of (argument_of line.now)) ≡ Ok s) }
+    ensures bad { IfErr result (λ e. IsCause (heard_of config.now
+        (number_of (word_of line.now)) (pairs_of (argument_of line.now))) e) }
     ensures may { IfOk result (MayHappen config.now) }
 {
     let parted = first_word(line);

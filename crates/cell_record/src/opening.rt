@@ -1,15 +1,14 @@
 //! The lines of a recording up to `end`, and the configuration in them.
 
-ghost use Rattle.std.specs.Prelude.{◌≡◌, ◌+◌, ◌<◌, ◌≤◌, ◌++◌, [], true, false, ℕ, List, length, codes, IfOk, IfErr, IfSome, OnOk, Ok, Err, None, Some};
-ghost use Rattle.cell_io.specs.Faults.{Rose, SteadyBut};
-ghost use Rattle.cell_io.specs.Held.{IsEndSeen};
+ghost use Rattle.std.specs.Prelude.{◌≡◌, ◌+◌, ◌<◌, ◌≤◌, ◌++◌, [], true, false, ℕ, List, length};
+ghost use Rattle.std.specs.Prelude.{IfOk, IfErr, OnOk, Some, None, Err};
 ghost use Rattle.cell_config.specs.Said.{IsConfig};
-ghost use Rattle.cell_record.specs.Words.{is_long};
 ghost use Rattle.mms_types.specs.declared.identifier.Edition.{Edition};
-ghost use Rattle.cell_record.specs.Recording.{Place, Opening, header_of, headed, expected, in_text, size_by, setup_word, opened, configured, opening_of};
-ghost use Rattle.cell_record.specs.Numbered.{IsPart, at, place_at, setup};
-ghost use Rattle.cell_record.specs.Stops.{Leads, StopsOpening};
-ghost use Rattle.cell_record.specs.Progress.{Becomes, IsStated};
+ghost use Rattle.cell_record.specs.Recording.{Place, Opening, header_of, headed, expected, in_text};
+ghost use Rattle.cell_record.specs.Recording.{size_by, setup_word, opened, configured, opening_of};
+ghost use Rattle.cell_record.specs.Numbered.{GoesOn, setup};
+ghost use Rattle.cell_record.specs.Progress.{IsStated};
+ghost use Rattle.cell_record.specs.ToRead.{to_read, Follows, FailsInOpening, CountsFaults};
 ghost use Rattle.cell_record.specs.Turned.{config_told};
 
 use crate::numbered::NumberedLines;
@@ -35,10 +34,12 @@ fn edition_of(line: &[u8]) -> Option<Edition>
     }
 }
 
-/// The edition of the recording whose line of this number is its header, or the refusal of that line.
+/// The edition of the recording whose line of this number is its header, or the refusal of that
+/// line.
 fn header(line: &[u8], number: u64) -> Result<Edition, RecordError>
     ensures named { IfOk result (λ edition. header_of line.now ≡ Some edition) }
-    ensures unnamed { IfErr result (λ e. (header_of line.now ≡ None) × (e ≡ RecordError.Bad number BadWord.Header)) }
+    ensures unnamed { IfErr result (λ e. (header_of line.now ≡ None)
+        × (e ≡ RecordError.Bad number BadWord.Header)) }
 {
     match edition_of(line) {
         Some(edition) => Ok(edition),
@@ -52,28 +53,16 @@ fn header(line: &[u8], number: u64) -> Result<Edition, RecordError>
 /// Reads the header, and gives the edition of the recording.
 fn read_header<S: Source>(lines: &mut NumberedLines, input: &mut S) -> Result<Edition, RecordError>
     ensures there { IfOk result (λ edition. (next : Edition → List (List ℕ) → Place → Opening)
-        → Becomes (at (headed next) lines.old (S.left input.old)) (λ r. r)
-        (at (next edition) lines.new (S.left input.new))) }
-    ensures leads { IfOk result (λ edition. (next : Edition → List (List ℕ) → Place → Opening)
-        → Leads (headed next) lines.old.held (place_at lines.old) (S.left input.old) (λ r. r)
-        (next edition) lines.new.held (place_at lines.new) (S.left input.new)) }
-    ensures refused { IfErr result (λ e. IsStated e →
-        (next : Edition → List (List ℕ) → Place → Opening) → IfSome
-        (at (headed next) lines.old (S.left input.old)) (λ r. r ≡ Err e)) }
+        → Follows (to_read (headed next) lines.old (S.left input.old)) (λ r. r)
+        (to_read (next edition) lines.new (S.left input.new))) }
+    ensures fails { IfErr result (λ e. (next : Edition → List (List ℕ) → Place → Opening)
+        → FailsInOpening (to_read (headed next) lines.old (S.left input.old))
+        e (S.left input.new)) }
     ensures memory { IfErr result (λ e. e ≡ RecordError.Memory
         → (lines.new.lines ≡ lines.old.lines) × (lines.new.held.ended ≡ false)) }
-    ensures fault { IfErr result (λ e. e ≡ RecordError.ReadFault → Rose (S.faults input.old)
-        (S.faults input.new)) }
-    ensures stops { IfErr result (λ e. e ≡ RecordError.ReadFault →
-        (next : Edition → List (List ℕ) → Place → Opening)
-        → StopsOpening (headed next) lines.old.held (place_at lines.old) (S.left input.old)
-        (S.left input.new)) }
     ensures grows { OnOk result (lines.old.held.given < lines.new.held.given) }
-    ensures seen { IsEndSeen lines.old.held (S.left input.old) → IsEndSeen lines.new.held
-        (S.left input.new) }
-    ensures left { IsPart (S.left input.old) (S.left input.new) }
-    ensures steady { SteadyBut RecordError.ReadFault (S.faults input.old) (S.faults input.new)
-        result }
+    ensures goes { GoesOn lines.old.held (S.left input.old) lines.new.held (S.left input.new) }
+    ensures faults { CountsFaults (S.faults input.old) (S.faults input.new) result }
 {
     let line = lines.count() + 1;
     let word = BadWord::Header;
@@ -92,29 +81,17 @@ fn expect<S: Source>(
     word: BadWord,
 ) -> Result<(), RecordError>
     requires short { length want.now < 196608 }
-    ensures there { OnOk result ((next : List (List ℕ) → Place → Opening) → Becomes
-        (at (expected want.now word next) lines.old (S.left input.old)) (λ r. r)
-        (at next lines.new (S.left input.new))) }
-    ensures leads { OnOk result ((next : List (List ℕ) → Place → Opening) → Leads
-        (expected want.now word next) lines.old.held (place_at lines.old) (S.left input.old)
-        (λ r. r)
-        next lines.new.held (place_at lines.new) (S.left input.new)) }
-    ensures refused { IfErr result (λ e. IsStated e → (next : List (List ℕ) → Place → Opening)
-        → IfSome (at (expected want.now word next) lines.old (S.left input.old)) (λ r. r ≡ Err e)) }
+    ensures there { OnOk result ((next : List (List ℕ) → Place → Opening)
+        → Follows (to_read (expected want.now word next) lines.old (S.left input.old)) (λ r. r)
+        (to_read next lines.new (S.left input.new))) }
+    ensures fails { IfErr result (λ e. (next : List (List ℕ) → Place → Opening)
+        → FailsInOpening (to_read (expected want.now word next) lines.old (S.left input.old))
+        e (S.left input.new)) }
     ensures memory { IfErr result (λ e. e ≡ RecordError.Memory
         → (lines.new.lines ≡ lines.old.lines) × (lines.new.held.ended ≡ false)) }
-    ensures fault { IfErr result (λ e. e ≡ RecordError.ReadFault → Rose (S.faults input.old)
-        (S.faults input.new)) }
-    ensures stops { IfErr result (λ e. e ≡ RecordError.ReadFault →
-        (next : List (List ℕ) → Place → Opening)
-        → StopsOpening (expected want.now word next) lines.old.held (place_at lines.old)
-        (S.left input.old) (S.left input.new)) }
     ensures grows { OnOk result (lines.old.held.given < lines.new.held.given) }
-    ensures seen { IsEndSeen lines.old.held (S.left input.old) → IsEndSeen lines.new.held
-        (S.left input.new) }
-    ensures left { IsPart (S.left input.old) (S.left input.new) }
-    ensures steady { SteadyBut RecordError.ReadFault (S.faults input.old) (S.faults input.new)
-        result }
+    ensures goes { GoesOn lines.old.held (S.left input.old) lines.new.held (S.left input.new) }
+    ensures faults { CountsFaults (S.faults input.old) (S.faults input.new) result }
 {
     let number = lines.count() + 1;
     let _given = lines.given();
@@ -174,35 +151,19 @@ fn read_setup_line<S: Source>(
     text: &mut Vec<u8>,
 ) -> Result<bool, RecordError>
     requires { length text.old.items ≤ 1048576 }
-    ensures more { IfOk result (λ end. end ≡ false → (edition : Edition) → Becomes
-        (at (setup edition text.old.items) lines.old (S.left input.old)) (λ r. r)
-        (at (setup edition text.new.items) lines.new (S.left input.new))) }
-    ensures end { IfOk result (λ end. end ≡ true → (edition : Edition) → Becomes
-        (at (setup edition text.old.items) lines.old (S.left input.old)) (λ r. r)
-        (at (configured edition text.new.items) lines.new (S.left input.new))) }
-    ensures leads { IfOk result (λ end. end ≡ false → (edition : Edition) → Leads
-        (setup edition text.old.items) lines.old.held (place_at lines.old) (S.left input.old)
-        (λ r. r)
-        (setup edition text.new.items) lines.new.held (place_at lines.new) (S.left input.new)) }
-    ensures last { IfOk result (λ end. end ≡ true → (edition : Edition) → Leads
-        (setup edition text.old.items) lines.old.held (place_at lines.old) (S.left input.old)
-        (λ r. r)
-        (configured edition text.new.items) lines.new.held (place_at lines.new) (S.left input.new)) }
+    ensures more { IfOk result (λ end. end ≡ false → (edition : Edition)
+        → Follows (to_read (setup edition text.old.items) lines.old (S.left input.old)) (λ r. r)
+        (to_read (setup edition text.new.items) lines.new (S.left input.new))) }
+    ensures end { IfOk result (λ end. end ≡ true → (edition : Edition)
+        → Follows (to_read (setup edition text.old.items) lines.old (S.left input.old)) (λ r. r)
+        (to_read (configured edition text.new.items) lines.new (S.left input.new))) }
     ensures size { OnOk result (length text.new.items ≤ 1048576) }
-    ensures refused { IfErr result (λ e. IsStated e → (edition : Edition) → IfSome
-        (at (setup edition text.old.items) lines.old (S.left input.old)) (λ r. r ≡ Err e)) }
-    ensures fault { IfErr result (λ e. e ≡ RecordError.ReadFault → Rose (S.faults input.old)
-        (S.faults input.new)) }
-    ensures stops { IfErr result (λ e. e ≡ RecordError.ReadFault → (edition : Edition)
-        → StopsOpening (setup edition text.old.items) lines.old.held (place_at lines.old)
-        (S.left input.old) (S.left input.new)) }
+    ensures fails { IfErr result (λ e. (edition : Edition)
+        → FailsInOpening (to_read (setup edition text.old.items) lines.old (S.left input.old))
+        e (S.left input.new)) }
     ensures grows { OnOk result (lines.old.held.given < lines.new.held.given) }
-    ensures seen { IsEndSeen lines.old.held (S.left input.old) → IsEndSeen lines.new.held
-        (S.left input.new) }
-    ensures most { lines.new.held.given ≤ 4294967296 }
-    ensures left { IsPart (S.left input.old) (S.left input.new) }
-    ensures steady { SteadyBut RecordError.ReadFault (S.faults input.old) (S.faults input.new)
-        result }
+    ensures goes { GoesOn lines.old.held (S.left input.old) lines.new.held (S.left input.new) }
+    ensures faults { CountsFaults (S.faults input.old) (S.faults input.new) result }
 {
     let number = lines.count() + 1;
     let before = lines.given();
@@ -231,25 +192,15 @@ fn read_setup<S: Source>(
     lines: &mut NumberedLines,
     input: &mut S,
 ) -> Result<Vec<u8>, RecordError>
-    ensures text { IfOk result (λ text. (edition : Edition) → Becomes
-        (at (setup edition []) lines.old (S.left input.old)) (λ r. r)
-        (at (configured edition text.items) lines.new (S.left input.new))) }
-    ensures leads { IfOk result (λ text. (edition : Edition) → Leads
-        (setup edition []) lines.old.held (place_at lines.old) (S.left input.old) (λ r. r)
-        (configured edition text.items) lines.new.held (place_at lines.new) (S.left input.new)) }
-    ensures refused { IfErr result (λ e. IsStated e → (edition : Edition) → IfSome
-        (at (setup edition []) lines.old (S.left input.old)) (λ r. r ≡ Err e)) }
-    ensures fault { IfErr result (λ e. e ≡ RecordError.ReadFault → Rose (S.faults input.old)
-        (S.faults input.new)) }
-    ensures stops { IfErr result (λ e. e ≡ RecordError.ReadFault → (edition : Edition)
-        → StopsOpening (setup edition []) lines.old.held (place_at lines.old) (S.left input.old)
-        (S.left input.new)) }
+    ensures text { IfOk result (λ text. (edition : Edition)
+        → Follows (to_read (setup edition []) lines.old (S.left input.old)) (λ r. r)
+        (to_read (configured edition text.items) lines.new (S.left input.new))) }
+    ensures fails { IfErr result (λ e. (edition : Edition)
+        → FailsInOpening (to_read (setup edition []) lines.old (S.left input.old))
+        e (S.left input.new)) }
     ensures grows { OnOk result (lines.old.held.given < lines.new.held.given) }
-    ensures seen { IsEndSeen lines.old.held (S.left input.old) → IsEndSeen lines.new.held
-        (S.left input.new) }
-    ensures left { IsPart (S.left input.old) (S.left input.new) }
-    ensures steady { SteadyBut RecordError.ReadFault (S.faults input.old) (S.faults input.new)
-        result }
+    ensures goes { GoesOn lines.old.held (S.left input.old) lines.new.held (S.left input.new) }
+    ensures faults { CountsFaults (S.faults input.old) (S.faults input.new) result }
 {
     let mut text = Vec::new(alloc);
     let _given = lines.given();
@@ -292,25 +243,15 @@ pub fn read_opening<S: Source>(
     lines: &mut NumberedLines,
     input: &mut S,
 ) -> Result<Config, RecordError>
-    ensures opens { IfOk result (λ config. Becomes (at opening_of lines.old (S.left input.old))
-        (λ r. r) (at (opened config) lines.new (S.left input.new))) }
-    ensures leads { IfOk result (λ config. Leads opening_of lines.old.held (place_at lines.old)
-        (S.left input.old) (λ r. r) (opened config) lines.new.held (place_at lines.new)
-        (S.left input.new)) }
+    ensures opens { IfOk result (λ config.
+        Follows (to_read opening_of lines.old (S.left input.old)) (λ r. r)
+        (to_read (opened config) lines.new (S.left input.new))) }
     ensures valid { IfOk result IsConfig }
-    ensures refused { IfErr result (λ e. IsStated e → IfSome
-        (at opening_of lines.old (S.left input.old)) (λ r. r ≡ Err e)) }
-    ensures fault { IfErr result (λ e. e ≡ RecordError.ReadFault → Rose (S.faults input.old)
-        (S.faults input.new)) }
-    ensures stops { IfErr result (λ e. e ≡ RecordError.ReadFault
-        → StopsOpening opening_of lines.old.held (place_at lines.old) (S.left input.old)
-        (S.left input.new)) }
-    ensures seen { IsEndSeen lines.old.held (S.left input.old) → IsEndSeen lines.new.held
-        (S.left input.new) }
+    ensures fails { IfErr result (λ e.
+        FailsInOpening (to_read opening_of lines.old (S.left input.old)) e (S.left input.new)) }
     ensures grows { OnOk result (lines.old.held.given + 3 ≤ lines.new.held.given) }
-    ensures left { IsPart (S.left input.old) (S.left input.new) }
-    ensures steady { SteadyBut RecordError.ReadFault (S.faults input.old) (S.faults input.new)
-        result }
+    ensures goes { GoesOn lines.old.held (S.left input.old) lines.new.held (S.left input.new) }
+    ensures faults { CountsFaults (S.faults input.old) (S.faults input.new) result }
 {
     let edition = read_header(lines, input)?;
     expect(lines, input, b"config", BadWord::Config)?;

@@ -1,18 +1,14 @@
 //! The lines of one phase.
 
-ghost use Rattle.std.specs.Prelude.{◌≡◌, ◌+◌, ◌<◌, ◌≤◌, ◌^◌, ℕ, List, [], true, false, length, take, drop, Some, IfOk, IfErr, IfSome, MatchOption, All, ⊤};
+ghost use Rattle.std.specs.Prelude.{◌≡◌, ◌+◌, ◌<◌, ◌≤◌, ℕ, List, true, false};
+ghost use Rattle.std.specs.Prelude.{IfOk, IfErr, IfSome, IfNone, OnOk};
 ghost use Rattle.std.specs.declared.option.Option.{Option};
-ghost use Rattle.cell_io.specs.Faults.{Rose, SteadyBut};
-ghost use Rattle.cell_io.specs.Lines.{first_line, after_line, has_feed};
-ghost use Rattle.cell_io.specs.Held.{IsEndSeen};
-ghost use Rattle.cell_record.specs.EventLine.{MayHappen, IsRecorded, said_of, heard_of};
-ghost use Rattle.cell_record.specs.Words.{content as content_of};
-ghost use Rattle.cell_config.specs.declared.config.Config.{Config as ConfigOf};
-ghost use Rattle.cell_record.specs.Recording.{makes, moved, whole, refused, with_phase};
-ghost use Rattle.cell_record.specs.Grammar.{phase_ms};
-ghost use Rattle.cell_record.specs.Numbered.{IsPart, at, place_at, phases, after_phase, IsWithin};
-ghost use Rattle.cell_record.specs.Stops.{Leads, StopsInPhase};
-ghost use Rattle.cell_record.specs.Progress.{Becomes, IsStated};
+ghost use Rattle.cell_record.specs.Recording.{refused};
+ghost use Rattle.cell_record.specs.Numbered.{phases, after_phase, IsWithin, GoesOn};
+ghost use Rattle.cell_record.specs.Progress.{IsStated};
+ghost use Rattle.cell_record.specs.PhaseLines.{BeginsWithLine, SaysSent, SaysLine, EndsPhases};
+ghost use Rattle.cell_record.specs.ToRead.{to_read, still_said, FailsInPhase, CountsFaults};
+ghost use Rattle.cell_record.specs.ToRead.{IsNextPhase};
 ghost use Rattle.cell_record.specs.Turned.{line_told};
 
 use crate::RecordError;
@@ -53,19 +49,14 @@ fn held_said(
 ) -> Result<Said, RecordError>
     requires counts { IsWithin counts.old }
     requires unended { lines.old.held.ended ≡ false }
-    requires feed { has_feed lines.old.held.octets ≡ true }
-    requires within { (1 ≤ sent.size) × (sent.size ≤ length lines.old.held.octets) × (sent.size ≤ 196608) }
+    requires line { BeginsWithLine lines.old.held.octets sent.size }
+    requires says { SaysSent lines.old.held.octets sent.client sent.octets }
     requires few { lines.old.held.given + sent.size ≤ 4294967296 }
-    requires line { first_line lines.old.held.octets ≡ take sent.size lines.old.held.octets }
-    requires rest { after_line lines.old.held.octets ≡ drop sent.size lines.old.held.octets }
-    requires says { (config : ConfigOf) → said_of config (content_of (first_line lines.old.held.octets)) ≡ heard_of config (Some sent.client) (Some sent.octets) }
-    ensures says { IfOk result (λ s. (left : Option (List ℕ)) → Becomes (at (phases config.now counts.old) lines.old left) (makes s) (at (phases config.now counts.new) lines.new left)) }
-    ensures leads { IfOk result (λ s. (left : Option (List ℕ)) → Leads (phases config.now counts.old) lines.old.held (place_at lines.old) left (makes s)
-        (phases config.now counts.new) lines.new.held (place_at lines.new) left) }
-    ensures may { IfOk result (MayHappen config.now) }
-    ensures counts { IfOk result (λ s. counts.new ≡ moved counts.old s) }
-    ensures within { IfOk result (λ _. IsWithin counts.new) }
-    ensures refused { IfErr result (λ e. IsStated e → (left : Option (List ℕ)) → IfSome (at (phases config.now counts.old) lines.old left) (λ r. r ≡ refused e)) }
+    ensures says { IfOk result (λ said. (left : Option (List ℕ)) → SaysLine config.now said
+        lines.old counts.old left lines.new counts.new left) }
+    ensures refused { IfErr result (λ e. (left : Option (List ℕ)) → IfSome
+        (still_said (to_read (phases config.now counts.old) lines.old left))
+        (λ r. r ≡ refused e)) }
     ensures stated { IfErr result IsStated }
     ensures unended { lines.new.held.ended ≡ false }
     ensures grows { lines.old.held.given < lines.new.held.given }
@@ -82,8 +73,8 @@ fn held_said(
     }
 }
 
-/// Reads the next line into a buffer of its own, and tells what it says: None at the end of the input. The buffer is
-/// for `said`.
+/// Reads the next line into a buffer of its own, and tells what it says: None at the end of the
+/// input. The buffer is for `said`.
 fn copied_said<S: Source>(
     alloc: Global,
     lines: &mut NumberedLines,
@@ -93,24 +84,15 @@ fn copied_said<S: Source>(
     input: &mut S,
 ) -> Result<Option<Said>, RecordError>
     requires { IsWithin counts.old }
-    ensures says { IfOk result (λ o. MatchOption o
-        (IfSome (at (phases config.now counts.old) lines.old (S.left input.old)) (λ r. (r ≡ whole) × (at (phases config.now counts.old) lines.new (S.left input.new) ≡ Some r)))
-        (λ s. Becomes (at (phases config.now counts.old) lines.old (S.left input.old)) (makes s) (at (phases config.now counts.new) lines.new (S.left input.new)))) }
-    ensures leads { IfOk result (λ o. MatchOption o ⊤ (λ s. Leads (phases config.now counts.old) lines.old.held (place_at lines.old) (S.left input.old) (makes s)
-        (phases config.now counts.new) lines.new.held (place_at lines.new) (S.left input.new))) }
-    ensures may { IfOk result (λ o. MatchOption o ⊤ (MayHappen config.now)) }
-    ensures counts { IfOk result (λ o. MatchOption o (counts.new ≡ counts.old) (λ s. counts.new ≡ moved counts.old s)) }
-    ensures within { IfOk result (λ _. IsWithin counts.new) }
-    ensures over { IfOk result (λ o. MatchOption o (lines.new.held.ended ≡ true) (λ _. ⊤)) }
-    ensures refused { IfErr result (λ e. IsStated e → IfSome (at (phases config.now counts.old) lines.old (S.left input.old)) (λ r. r ≡ refused e)) }
-    ensures fault { IfErr result (λ e. e ≡ RecordError.ReadFault → Rose (S.faults input.old) (S.faults input.new)) }
-    ensures stops { IfErr result (λ e. e ≡ RecordError.ReadFault → StopsInPhase (phases config.now counts.old) lines.old.held (place_at lines.old) (S.left input.old) (S.left input.new)) }
-    ensures seen { IsEndSeen lines.old.held (S.left input.old) → IsEndSeen lines.new.held (S.left input.new) }
-    ensures grows { IfOk result (λ o. MatchOption o ⊤ (λ _. lines.old.held.given < lines.new.held.given)) }
-    ensures order { lines.old.held.given ≤ lines.new.held.given }
-    ensures most { lines.new.held.given ≤ 4294967296 }
-    ensures left { IsPart (S.left input.old) (S.left input.new) }
-    ensures steady { SteadyBut RecordError.ReadFault (S.faults input.old) (S.faults input.new) result }
+    ensures says { IfOk result (λ o. IfSome o (λ said. SaysLine config.now said
+        lines.old counts.old (S.left input.old) lines.new counts.new (S.left input.new))) }
+    ensures none { IfOk result (λ o. IfNone o (EndsPhases config.now
+        lines.old counts.old (S.left input.old) lines.new counts.new (S.left input.new))) }
+    ensures fails { IfErr result (λ e. FailsInPhase
+        (to_read (phases config.now counts.old) lines.old (S.left input.old))
+        e (S.left input.new)) }
+    ensures goes { GoesOn lines.old.held (S.left input.old) lines.new.held (S.left input.new) }
+    ensures faults { CountsFaults (S.faults input.old) (S.faults input.new) result }
 {
     let number = lines.count() + 1;
     let _given = lines.given();
@@ -126,8 +108,9 @@ fn copied_said<S: Source>(
     }
 }
 
-/// Reads the next line, and tells what it says: None at the end of the input. Most lines are cut and decoded where they
-/// are held, and aren't copied. The buffer is for the octets of a line; what it holds is of no account.
+/// Reads the next line, and tells what it says: None at the end of the input. Most lines are cut
+/// and decoded where they are held, and aren't copied. The buffer is for the octets of a line; what
+/// it holds is of no account.
 #[inline(always)]
 fn next_said<S: Source>(
     alloc: Global,
@@ -138,24 +121,15 @@ fn next_said<S: Source>(
     input: &mut S,
 ) -> Result<Option<Said>, RecordError>
     requires { IsWithin counts.old }
-    ensures says { IfOk result (λ o. MatchOption o
-        (IfSome (at (phases config.now counts.old) lines.old (S.left input.old)) (λ r. (r ≡ whole) × (at (phases config.now counts.old) lines.new (S.left input.new) ≡ Some r)))
-        (λ s. Becomes (at (phases config.now counts.old) lines.old (S.left input.old)) (makes s) (at (phases config.now counts.new) lines.new (S.left input.new)))) }
-    ensures leads { IfOk result (λ o. MatchOption o ⊤ (λ s. Leads (phases config.now counts.old) lines.old.held (place_at lines.old) (S.left input.old) (makes s)
-        (phases config.now counts.new) lines.new.held (place_at lines.new) (S.left input.new))) }
-    ensures may { IfOk result (λ o. MatchOption o ⊤ (MayHappen config.now)) }
-    ensures counts { IfOk result (λ o. MatchOption o (counts.new ≡ counts.old) (λ s. counts.new ≡ moved counts.old s)) }
-    ensures within { IfOk result (λ _. IsWithin counts.new) }
-    ensures over { IfOk result (λ o. MatchOption o (lines.new.held.ended ≡ true) (λ _. ⊤)) }
-    ensures refused { IfErr result (λ e. IsStated e → IfSome (at (phases config.now counts.old) lines.old (S.left input.old)) (λ r. r ≡ refused e)) }
-    ensures fault { IfErr result (λ e. e ≡ RecordError.ReadFault → Rose (S.faults input.old) (S.faults input.new)) }
-    ensures stops { IfErr result (λ e. e ≡ RecordError.ReadFault → StopsInPhase (phases config.now counts.old) lines.old.held (place_at lines.old) (S.left input.old) (S.left input.new)) }
-    ensures seen { IsEndSeen lines.old.held (S.left input.old) → IsEndSeen lines.new.held (S.left input.new) }
-    ensures grows { IfOk result (λ o. MatchOption o ⊤ (λ _. lines.old.held.given < lines.new.held.given)) }
-    ensures order { lines.old.held.given ≤ lines.new.held.given }
-    ensures most { lines.new.held.given ≤ 4294967296 }
-    ensures left { IsPart (S.left input.old) (S.left input.new) }
-    ensures steady { SteadyBut RecordError.ReadFault (S.faults input.old) (S.faults input.new) result }
+    ensures says { IfOk result (λ o. IfSome o (λ said. SaysLine config.now said
+        lines.old counts.old (S.left input.old) lines.new counts.new (S.left input.new))) }
+    ensures none { IfOk result (λ o. IfNone o (EndsPhases config.now
+        lines.old counts.old (S.left input.old) lines.new counts.new (S.left input.new))) }
+    ensures fails { IfErr result (λ e. FailsInPhase
+        (to_read (phases config.now counts.old) lines.old (S.left input.old))
+        e (S.left input.new)) }
+    ensures goes { GoesOn lines.old.held (S.left input.old) lines.new.held (S.left input.new) }
+    ensures faults { CountsFaults (S.faults input.old) (S.faults input.new) result }
 {
     let given = lines.given();
     match first_sent(alloc, lines.held(), buffer)? {
@@ -169,8 +143,8 @@ fn next_said<S: Source>(
     }
 }
 
-/// Reads the lines up to the phase's end. The buffer is for `said`. It is a function of its own in the program too, so
-/// that its loop has the registers for itself.
+/// Reads the lines up to the phase's end. The buffer is for `said`. It is a function of its own in
+/// the program too, so that its loop has the registers for itself.
 #[inline(never)]
 pub fn read_phase<S: Source>(
     alloc: Global,
@@ -182,25 +156,19 @@ pub fn read_phase<S: Source>(
 ) -> Result<Piece, RecordError>
     requires within { IsWithin counts.old }
     requires begins { counts.old.events ≡ 0 }
-    ensures phase { IfOk result (λ p. Becomes (at (phases config.now counts.old) lines.old (S.left input.old)) (with_phase p.events)
-        (at (after_phase config.now p.last counts.new.moment) lines.new (S.left input.new))) }
-    ensures leads { IfOk result (λ p. Leads (phases config.now counts.old) lines.old.held (place_at lines.old) (S.left input.old) (with_phase p.events)
-        (after_phase config.now p.last counts.new.moment) lines.new.held (place_at lines.new) (S.left input.new)) }
-    ensures recorded { IfOk result (λ p. All (IsRecorded config.now) p.events) }
-    ensures few { IfOk result (λ p. length p.events ≤ 16384) }
-    ensures within { IfOk result (λ _. IsWithin counts.new) }
-    ensures moment { IfOk result (λ p. counts.new.moment ≡ counts.old.moment + phase_ms p.events) }
+    ensures phase { IfOk result (λ p. IsNextPhase config.now p.events
+        (to_read (phases config.now counts.old) lines.old (S.left input.old)) counts.old.moment
+        (to_read (after_phase config.now p.last counts.new.moment) lines.new (S.left input.new))
+        counts.new.moment) }
+    ensures within { OnOk result (IsWithin counts.new) }
     ensures over { IfOk result (λ p. p.last ≡ true → lines.new.held.ended ≡ true) }
-    ensures refused { IfErr result (λ e. IsStated e → IfSome (at (phases config.now counts.old) lines.old (S.left input.old)) (λ r. r ≡ refused e)) }
-    ensures fault { IfErr result (λ e. e ≡ RecordError.ReadFault → Rose (S.faults input.old) (S.faults input.new)) }
-    ensures stops { IfErr result (λ e. e ≡ RecordError.ReadFault → StopsInPhase (phases config.now counts.old) lines.old.held (place_at lines.old) (S.left input.old) (S.left input.new)) }
-    ensures seen { IsEndSeen lines.old.held (S.left input.old) → IsEndSeen lines.new.held (S.left input.new) }
-    ensures grows { IfOk result (λ p. p.last ≡ false → lines.old.held.given < lines.new.held.given) }
-    ensures lines { IfOk result (λ p. lines.old.held.given + length p.events ≤ lines.new.held.given) }
-    ensures most { IfOk result (λ _. lines.new.held.given ≤ 4294967296) }
-    ensures order { lines.old.held.given ≤ lines.new.held.given }
-    ensures left { IsPart (S.left input.old) (S.left input.new) }
-    ensures steady { SteadyBut RecordError.ReadFault (S.faults input.old) (S.faults input.new) result }
+    ensures grows { IfOk result (λ p. p.last ≡ false
+        → lines.old.held.given < lines.new.held.given) }
+    ensures fails { IfErr result (λ e. FailsInPhase
+        (to_read (phases config.now counts.old) lines.old (S.left input.old))
+        e (S.left input.new)) }
+    ensures goes { GoesOn lines.old.held (S.left input.old) lines.new.held (S.left input.new) }
+    ensures faults { CountsFaults (S.faults input.old) (S.faults input.new) result }
 {
     let mut events = Events::new(alloc);
     let _given = lines.given();

@@ -1,11 +1,13 @@
 //! The report.
 
-ghost use Rattle.std.specs.Prelude.{◌≡◌, ◌+◌, ◌<◌, ◌≤◌, ◌^◌, ◌++◌, ◌∷◌, [], decimal, length, OnOk, OnErr, IfErr};
+ghost use Rattle.std.specs.Prelude.{◌≡◌, ◌++◌, ◌∷◌, [], decimal, length, OnOk, OnErr, IfErr};
 ghost use Rattle.std.specs.List.{flat_map};
 ghost use Rattle.cell_io.specs.Faults.{Rose, SteadyBut};
 ghost use Rattle.cell_io.specs.Prefix.{AppendsPrefix, AppendsBefore};
 ghost use Rattle.std.specs.Io.KnownBytes.{Appends};
-ghost use Rattle.cell_record.specs.Report.{is_printed, served_line, placed_line, event_text, output_text, phase_head, section, sections, section_head, phase_text};
+ghost use Rattle.cell_record.specs.Report.{is_printed, served_line, placed_line, event_text};
+ghost use Rattle.cell_record.specs.Report.{output_text, phase_head, section, sections};
+ghost use Rattle.cell_record.specs.Report.{section_head, phase_text};
 
 use crate::{ClientOutputs, PlacedEvents, Told};
 use cell_io::{Memory, Sink, Text, WriteError};
@@ -103,9 +105,12 @@ fn write_served<K: Sink>(
     out: &mut K,
     served: &PlacedEvents,
 ) -> Result<(), WriteError>
-    ensures whole { OnOk result (AppendsBefore (K.held out.old) (K.held out.new) text.new (text.old ++ flat_map served_line served.now)) }
-    ensures part { OnErr result (AppendsPrefix (K.held out.old) (K.held out.new) (text.old ++ flat_map served_line served.now)) }
-    ensures cause { IfErr result (λ e. e ≡ WriteError.Fault → Rose (K.faults out.old) (K.faults out.new)) }
+    ensures whole { OnOk result (AppendsBefore
+        (K.held out.old) (K.held out.new) text.new (text.old ++ flat_map served_line served.now)) }
+    ensures part { OnErr result (AppendsPrefix
+        (K.held out.old) (K.held out.new) (text.old ++ flat_map served_line served.now)) }
+    ensures cause { IfErr result (λ e. e ≡ WriteError.Fault
+        → Rose (K.faults out.old) (K.faults out.new)) }
     ensures steady { SteadyBut WriteError.Fault (K.faults out.old) (K.faults out.new) result }
 {
     for index in 0..served.len() {
@@ -120,9 +125,12 @@ fn write_served<K: Sink>(
 #[inline(never)]
 #[tactic(auto, using(crate::proofs::ReportLemmas::flat_rest))]
 fn write_outputs<K: Sink>(text: &mut Text, out: &mut K, outputs: &[What]) -> Result<(), WriteError>
-    ensures whole { OnOk result (AppendsBefore (K.held out.old) (K.held out.new) text.new (text.old ++ flat_map output_text outputs.now)) }
-    ensures part { OnErr result (AppendsPrefix (K.held out.old) (K.held out.new) (text.old ++ flat_map output_text outputs.now)) }
-    ensures cause { IfErr result (λ e. e ≡ WriteError.Fault → Rose (K.faults out.old) (K.faults out.new)) }
+    ensures whole { OnOk result (AppendsBefore
+        (K.held out.old) (K.held out.new) text.new (text.old ++ flat_map output_text outputs.now)) }
+    ensures part { OnErr result (AppendsPrefix
+        (K.held out.old) (K.held out.new) (text.old ++ flat_map output_text outputs.now)) }
+    ensures cause { IfErr result (λ e. e ≡ WriteError.Fault
+        → Rose (K.faults out.old) (K.faults out.new)) }
     ensures steady { SteadyBut WriteError.Fault (K.faults out.old) (K.faults out.new) result }
 {
     for output in outputs {
@@ -139,9 +147,12 @@ fn write_section<K: Sink>(
     client: u64,
     outputs: &[What],
 ) -> Result<(), WriteError>
-    ensures whole { OnOk result (AppendsBefore (K.held out.old) (K.held out.new) text.new (text.old ++ section client outputs.now)) }
-    ensures part { OnErr result (AppendsPrefix (K.held out.old) (K.held out.new) (text.old ++ section client outputs.now)) }
-    ensures cause { IfErr result (λ e. e ≡ WriteError.Fault → Rose (K.faults out.old) (K.faults out.new)) }
+    ensures whole { OnOk result (AppendsBefore
+        (K.held out.old) (K.held out.new) text.new (text.old ++ section client outputs.now)) }
+    ensures part { OnErr result (AppendsPrefix
+        (K.held out.old) (K.held out.new) (text.old ++ section client outputs.now)) }
+    ensures cause { IfErr result (λ e. e ≡ WriteError.Fault
+        → Rose (K.faults out.old) (K.faults out.new)) }
     ensures steady { SteadyBut WriteError.Fault (K.faults out.old) (K.faults out.new) result }
 {
     if outputs.is_empty() {
@@ -157,9 +168,12 @@ fn write_sections<K: Sink>(
     out: &mut K,
     outputs: &ClientOutputs,
 ) -> Result<(), WriteError>
-    ensures whole { OnOk result (AppendsBefore (K.held out.old) (K.held out.new) text.new (text.old ++ sections 1 outputs.now)) }
-    ensures part { OnErr result (AppendsPrefix (K.held out.old) (K.held out.new) (text.old ++ sections 1 outputs.now)) }
-    ensures cause { IfErr result (λ e. e ≡ WriteError.Fault → Rose (K.faults out.old) (K.faults out.new)) }
+    ensures whole { OnOk result (AppendsBefore
+        (K.held out.old) (K.held out.new) text.new (text.old ++ sections 1 outputs.now)) }
+    ensures part { OnErr result (AppendsPrefix
+        (K.held out.old) (K.held out.new) (text.old ++ sections 1 outputs.now)) }
+    ensures cause { IfErr result (λ e. e ≡ WriteError.Fault
+        → Rose (K.faults out.old) (K.faults out.new)) }
     ensures steady { SteadyBut WriteError.Fault (K.faults out.old) (K.faults out.new) result }
 {
     let clients = outputs.len();
@@ -171,9 +185,14 @@ fn write_sections<K: Sink>(
 
 /// Puts the text of a phase, of which a part may be written.
 fn write_text<K: Sink>(text: &mut Text, out: &mut K, phase: &Told) -> Result<(), WriteError>
-    ensures whole { OnOk result (AppendsBefore (K.held out.old) (K.held out.new) text.new (text.old ++ phase_text phase.now.number phase.now.served phase.now.outputs)) }
-    ensures part { OnErr result (AppendsPrefix (K.held out.old) (K.held out.new) (text.old ++ phase_text phase.now.number phase.now.served phase.now.outputs)) }
-    ensures cause { IfErr result (λ e. e ≡ WriteError.Fault → Rose (K.faults out.old) (K.faults out.new)) }
+    ensures whole { OnOk result (AppendsBefore
+        (K.held out.old) (K.held out.new) text.new
+        (text.old ++ phase_text phase.now.number phase.now.served phase.now.outputs)) }
+    ensures part { OnErr result (AppendsPrefix
+        (K.held out.old) (K.held out.new)
+        (text.old ++ phase_text phase.now.number phase.now.served phase.now.outputs)) }
+    ensures cause { IfErr result (λ e. e ≡ WriteError.Fault
+        → Rose (K.faults out.old) (K.faults out.new)) }
     ensures steady { SteadyBut WriteError.Fault (K.faults out.old) (K.faults out.new) result }
 {
     put_phase(text, phase.number)?;
@@ -186,9 +205,12 @@ fn write_text<K: Sink>(text: &mut Text, out: &mut K, phase: &Told) -> Result<(),
 /// error the sink holds what it held and then a prefix of the text. `Fault` comes exactly where a
 /// write failed, which is the last one: then one fault more is counted, and else none.
 pub fn write_phase<K: Sink>(alloc: Global, out: &mut K, phase: &Told) -> Result<(), WriteError>
-    ensures whole { OnOk result (Appends (K.held out.old) (K.held out.new) (phase_text phase.now.number phase.now.served phase.now.outputs)) }
-    ensures part { OnErr result (AppendsPrefix (K.held out.old) (K.held out.new) (phase_text phase.now.number phase.now.served phase.now.outputs)) }
-    ensures cause { IfErr result (λ e. e ≡ WriteError.Fault → Rose (K.faults out.old) (K.faults out.new)) }
+    ensures whole { OnOk result (Appends (K.held out.old) (K.held out.new)
+        (phase_text phase.now.number phase.now.served phase.now.outputs)) }
+    ensures part { OnErr result (AppendsPrefix (K.held out.old) (K.held out.new)
+        (phase_text phase.now.number phase.now.served phase.now.outputs)) }
+    ensures cause { IfErr result (λ e. e ≡ WriteError.Fault
+        → Rose (K.faults out.old) (K.faults out.new)) }
     ensures steady { SteadyBut WriteError.Fault (K.faults out.old) (K.faults out.new) result }
 {
     let mut text = Text::new(alloc)?;

@@ -1,6 +1,7 @@
 //! A phase as it was served.
 
-ghost use Rattle.std.specs.Prelude.{◌≡◌, ◌+◌, ◌<◌, ◌^◌, [], ◌∷◌, ◌++◌, OnOk, OnErr, IfOk, length, get_or, slice_get, Some};
+ghost use Rattle.std.specs.Prelude.{◌≡◌, ◌+◌, ◌<◌, ◌^◌, [], ◌∷◌, ◌++◌, OnOk, OnErr, IfOk};
+ghost use Rattle.std.specs.Prelude.{length, get_or, slice_get, Some};
 ghost use Rattle.cell_record.specs.Report.{placed_from};
 ghost use Rattle.cell_record.specs.Placed.{places_from};
 
@@ -53,7 +54,8 @@ impl PlacedEvents {
         Ok(())
     }
 
-    /// Events that were served one after the other, the first of them at that place. Without memory they are dropped.
+    /// Events that were served one after the other, the first of them at that place. Without memory
+    /// they are dropped.
     #[tactic(auto, using(crate::proofs::Placing::zip_places))]
     pub fn consecutive(
         alloc: Global,
@@ -123,8 +125,8 @@ impl ClientOutputs {
         }
     }
 
-    /// Appends what the next client was sent. Where there is no memory for it, it is dropped and the
-    /// list is as before.
+    /// Appends what the next client was sent. Where there is no memory for it, it is dropped and
+    /// the list is as before.
     pub fn push(&mut self, sent: Vec<What>) -> Result<(), Memory>
         ensures appended { OnOk result (self.new ≡ self.old ++ sent.items ∷ []) }
         ensures kept { OnErr result (self.new ≡ self.old) }

@@ -2,7 +2,10 @@
 
 ghost use Rattle.std.specs.Prelude.{◌≡◌, ◌≤◌, length};
 ghost use Rattle.std.specs.List.{prefix_len};
-ghost use Rattle.cell_record.specs.Words.{is_blank, in_word, ends_with, dropped, content as content_of, trim_front, trim_back, trim as trimmed, word_of, argument_of, is_remark, begins_with_digit, is_digit};
+ghost use Rattle.cell_record.specs.Words.{is_blank, in_word, ends_with, dropped, word_of};
+ghost use Rattle.cell_record.specs.Words.{content as content_of, trim_front, trim_back};
+ghost use Rattle.cell_record.specs.Words.{trim as trimmed, argument_of, is_remark};
+ghost use Rattle.cell_record.specs.Words.{begins_with_digit, is_digit};
 
 fn is_blank(octet: u8) -> bool
     ensures { result ≡ is_blank octet }

@@ -36,11 +36,14 @@ is_pdu Abort = false
 abbrev pub pdus_in : List (List What) → ℕ
 pdus_in outputs = sum_by (λ sent. count_by is_pdu sent) outputs
 
--- the PDUs that the drains take behind these bodies, after a history, where `said before c` is what client c takes after that history
-abbrev pub replies_from : (List CellEvent → ℕ → List What) → ℕ → List CellEvent → List (List CellEvent) → ℕ
+-- the PDUs that the drains take behind these bodies, after a history, where `said before c` is what
+-- client c takes after that history
+abbrev pub replies_from : (List CellEvent → ℕ → List What) → ℕ → List CellEvent
+    → List (List CellEvent) → ℕ
 replies_from said n before [] = 0
 replies_from said n before (body ∷ rest) =
-    pdus_in (taken said (before ++ body) (clients_to n)) + replies_from said n (before ++ (body ++ drains (clients_to n))) rest
+    pdus_in (taken said (before ++ body) (clients_to n))
+    + replies_from said n (before ++ (body ++ drains (clients_to n))) rest
 
 -- the PDUs that are sent along the history of those bodies
 abbrev pub replies_in : (List CellEvent → ℕ → List What) → ℕ → List (List CellEvent) → ℕ

@@ -1,5 +1,6 @@
 -- What the clients of the trial ask (this profile's choice).
-use Rattle.std.specs.Prelude.{ℕ, pos, ◌==◌, ◌%◌, ◌+◌, true, false, if◌then◌else◌, [], ◌∷◌, codes, Some, None}
+use Rattle.std.specs.Prelude.{ℕ, pos, ◌==◌, ◌%◌, ◌+◌, true, false, if◌then◌else◌, [], ◌∷◌, codes}
+use Rattle.std.specs.Prelude.{Some, None}
 use Rattle.mms_types.specs.Datum as datum
 use Rattle.mms_types.specs.declared.initiate.Initiate.{Initiate}
 use Rattle.mms_types.specs.declared.object_name.ObjectName.{ObjectName}
@@ -40,11 +41,21 @@ abbrev pub read : Request
 read = request.Read (record { with_access = false; access = variable })
 
 abbrev pub write : ℕ → Request
-write number = request.Write (record { access = variable; values = datum.integer (pos number) ∷ [] })
+write number =
+    request.Write (record { access = variable; values = datum.integer (pos number) ∷ [] })
 
 -- a token of T, for which the client waits 5 ms at most
 abbrev pub take : Request
-take = request.TakeControl (record { name = semaphore; token = None; priority = 64; delay = Some 5; control = None; abort = None; relinquish = true; preempt = None })
+take = request.TakeControl (record {
+  name = semaphore;
+  token = None;
+  priority = 64;
+  delay = Some 5;
+  control = None;
+  abort = None;
+  relinquish = true;
+  preempt = None;
+})
 
 abbrev pub relinquish : Request
 relinquish = request.RelinquishControl (record { name = semaphore; token = None })
@@ -57,6 +68,7 @@ asked word round =
     else if word % 4 == 2 then take
     else relinquish
 
--- A client's k-th confirmed request has the invokeID k. It has one in each round, and client 1 one before the first.
+-- A client's k-th confirmed request has the invokeID k. It has one in each round, and client 1 one
+-- before the first.
 abbrev pub invoke_of : ℕ → ℕ → ℕ
 invoke_of client round = if client == 1 then round + 1 else round

@@ -49,16 +49,19 @@ sent client p = Heard client (pdu_octets p)
 
 -- each client opens its association, and client 1 makes the semaphore
 abbrev pub opening : ℕ → List CellEvent
-opening clients = map (λ client. sent client (InitiateRequest proposal)) (clients_to clients) ++ sent 1 (ConfirmedRequest 1 define) ∷ []
+opening clients = map (λ client. sent client (InitiateRequest proposal)) (clients_to clients)
+    ++ sent 1 (ConfirmedRequest 1 define) ∷ []
 
 -- what a client asks in a round by a random word
 abbrev pub asking : ℕ → ℕ → ℕ → CellEvent
-asking round client word = sent client (ConfirmedRequest (invoke_of client round) (asked word round))
+asking round client word =
+    sent client (ConfirmedRequest (invoke_of client round) (asked word round))
 
 -- as many clients, from this one on, ask once each, by the next random words in turn
 abbrev pub askings : Lcg → ℕ → ℕ → ℕ → List CellEvent
 askings random round client zero = []
-askings random round client (suc more) = asking round client (pcg32 random).0 ∷ askings (pcg32 random).1 round (client + 1) more
+askings random round client (suc more) =
+    asking round client (pcg32 random).0 ∷ askings (pcg32 random).1 round (client + 1) more
 
 -- a round: each client asks, and then time goes by
 abbrev pub round_of : Lcg → ℕ → ℕ → List CellEvent
@@ -67,7 +70,9 @@ round_of random clients round = askings random round 1 clients ++ Tick 3 ∷ []
 -- as many rounds, from the one of this number on, and then the time in which the last waits end
 abbrev pub rounds_from : Lcg → ℕ → ℕ → ℕ → List (List CellEvent)
 rounds_from random clients round zero = (Tick 10 ∷ []) ∷ []
-rounds_from random clients round (suc more) = round_of random clients round ∷ rounds_from (advance 64 multiplier_64 clients random) clients (round + 1) more
+rounds_from random clients round (suc more) =
+    round_of random clients round
+    ∷ rounds_from (advance 64 multiplier_64 clients random) clients (round + 1) more
 
 -- PCG's generator of 32-bit words, begun at the seed, on its stream 54
 abbrev pub random_of : ℕ → Lcg
@@ -83,8 +88,10 @@ stress_phases seed clients rounds = opening clients ∷ rounds_from (random_of s
 abbrev pub random_at : ℕ → Lcg
 random_at state = record { state = state; increment = increment_of 64 54 }
 
--- the phases that are left at a stage, with the random words that come next, the number of the next round, and how many are left
+-- the phases that are left at a stage, with the random words that come next, the number of the next
+-- round, and how many are left
 abbrev pub phases_left : Stage → Lcg → ℕ → ℕ → ℕ → List (List CellEvent)
-phases_left Opening random clients round left = opening clients ∷ rounds_from random clients round left
+phases_left Opening random clients round left =
+    opening clients ∷ rounds_from random clients round left
 phases_left Rounds random clients round left = rounds_from random clients round left
 phases_left Over random clients round left = []

@@ -3,7 +3,8 @@
 ghost use Rattle.std.specs.Prelude.{◌≡◌, ◌≤◌, ◌*◌, ◌^◌, length, map};
 ghost use Rattle.std.specs.List.{count_by};
 ghost use Rattle.cell_record.specs.Report.{is_printed};
-ghost use Rattle.cell_stress.specs.Counts.{asks, events_in, is_pdu, is_request, pdus_in, requests_in};
+ghost use Rattle.cell_stress.specs.Counts.{asks, events_in, is_pdu, is_request};
+ghost use Rattle.cell_stress.specs.Counts.{pdus_in, requests_in};
 
 use cell_record::{ClientOutputs, PlacedEvents};
 use mms_types::{CellEvent, What};

@@ -1,6 +1,7 @@
 //! The phases, each of which is made when it is wanted.
 
-ghost use Rattle.std.specs.Prelude.{◌≡◌, ◌≤◌, ◌<◌, ◌^◌, ◌++◌, ◌∷◌, [], ℕ, List, IfOk, OnErr, OnOk, MatchOption, length};
+ghost use Rattle.std.specs.Prelude.{◌≡◌, ◌≤◌, ◌<◌, ◌^◌, ◌++◌, ◌∷◌, [], ℕ, List, length};
+ghost use Rattle.std.specs.Prelude.{IfOk, OnErr, OnOk, MatchOption};
 ghost use Rattle.rand_pcg.specs.Lcg.{Lcg, advance};
 ghost use Rattle.rand_pcg.specs.Pcg.{multiplier_64, pcg32};
 ghost use Rattle.mms_types.specs.declared.event.CellEvent.{CellEvent as EventOf};
@@ -49,9 +50,11 @@ impl Model for StressPhases {
 
     ghost Value = { List (List CellEvent) };
 
-    ghost view = { λ phases. phases_left phases.stage (random_at phases.state) phases.clients phases.round phases.left };
+    ghost view = { λ phases. phases_left phases.stage (random_at phases.state)
+        phases.clients phases.round phases.left };
 
-    ghost invariant = { λ phases. (phases.clients < 2 ^ 31) × (phases.round + phases.left < 2 ^ 31) };
+    ghost invariant = { λ phases. (phases.clients < 2 ^ 31)
+        × (phases.round + phases.left < 2 ^ 31) };
 }
 
 /// A client sends a PDU.
@@ -134,9 +137,12 @@ impl StressPhases {
         }
     }
 
-    /// Makes the next phase: None where there is none. Without memory for it, it is still to be made.
+    /// Makes the next phase: None where there is none. Without memory for it, it is still to be
+    /// made.
     pub fn next_phase(&mut self, alloc: Global) -> Result<Option<Events>, Memory>
-        ensures made { IfOk result (λ made. MatchOption made ((self.old ≡ []) × (self.new ≡ [])) (λ phase. self.old ≡ phase ∷ self.new)) }
+        ensures made { IfOk result (λ made. MatchOption made
+            ((self.old ≡ []) × (self.new ≡ []))
+            (λ phase. self.old ≡ phase ∷ self.new)) }
         ensures kept { OnErr result (self.new ≡ self.old) }
     {
         match self.stage {

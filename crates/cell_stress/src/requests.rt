@@ -3,7 +3,8 @@
 ghost use Rattle.std.specs.Prelude.{◌≡◌, ◌<◌, ◌≤◌, ◌^◌, true, IfOk};
 ghost use Rattle.mms_types.specs.Spelling.{is_identifier};
 ghost use Rattle.mms_types.specs.declared.identifier.Edition.TheVariants.{One};
-ghost use Rattle.cell_stress.specs.Requests.{asked, define, invoke_of, proposal, read, relinquish, semaphore, take, variable, write};
+ghost use Rattle.cell_stress.specs.Requests.{asked, define, invoke_of, proposal, read};
+ghost use Rattle.cell_stress.specs.Requests.{relinquish, semaphore, take, variable, write};
 
 use mms_types::{
     Access, Boxed, Data, DataKind, DataList, DefineSemaphore, Edition, Identifier, Initiate,

@@ -2,18 +2,15 @@ use Rattle.std.proofs.Common.{◌≡◌, ◌+◌, ◌≤◌, length}
 use Rattle.std.specs.List.{All}
 use Rattle.cell_record.specs.EventLine.{IsRecorded}
 use Rattle.cell_record.specs.Grammar.{phase_ms}
-use Rattle.cell_record.specs.Numbered.{IsPart, at, place_at, phases, IsWithin}
+use Rattle.cell_record.specs.Numbered.{IsPart, phases, IsWithin}
 use Rattle.cell_io.specs.Held.{IsEndSeen}
-use Rattle.cell_record.specs.Stops.{Leads}
-use Rattle.cell_record.specs.Progress.{Becomes}
+use Rattle.cell_record.specs.ToRead.{to_read, Follows}
 use Rattle.cell_record.proofs.Readings.{with_events}
 use Rattle.cell_record.proofs.phase_lines.read_phase.Given as goal
 
 abbrev pub invariant-loop-turn : goal.invariant-loop-turn
 invariant-loop-turn g l = record {
-  rest : Becomes (at (phases l.config l.initial.counts) l.initial.lines (g.S.Source.left l.initial.input)) (with_events l.events) (at (phases l.config l.counts) l.lines (g.S.Source.left l.input));
-  leads : Leads (phases l.config l.initial.counts) l.initial.lines.held (place_at l.initial.lines) (g.S.Source.left l.initial.input) (with_events l.events)
-      (phases l.config l.counts) l.lines.held (place_at l.lines) (g.S.Source.left l.input);
+  rest : Follows (to_read (phases l.config l.initial.counts) l.initial.lines (g.S.Source.left l.initial.input)) (with_events l.events) (to_read (phases l.config l.counts) l.lines (g.S.Source.left l.input));
   seen : IsEndSeen l.initial.lines.held (g.S.Source.left l.initial.input) → IsEndSeen l.lines.held (g.S.Source.left l.input);
   recorded : All (IsRecorded l.config) l.events;
   size : length l.events ≡ l.counts.events;
