@@ -14,7 +14,8 @@ asked Memory = None
 
 -- with which exit status, and what was read and written; without memory for the words nothing was
 abbrev pub EndsFor : Words → ℕ → Seen → Seen → Seen → Seen → Type 0
-EndsFor (Texts words) code input rest out after = EndsWith (command_of (texts words.items)) code input rest out after
+EndsFor (Texts words) code input rest out after =
+    EndsWith (command_of (texts words.items)) code input rest out after
 EndsFor NotText code input rest out after = EndsWith None code input rest out after
 EndsFor Memory code input rest out after = (code ≡ 3) × (rest ≡ input) × (after ≡ out)
 

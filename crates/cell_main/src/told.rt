@@ -24,7 +24,8 @@ pub fn failure(status: u8) -> &'static [u8]
 /// tells.
 pub fn tell<E: Sink>(err: &mut E, status: u8) -> Result<(), Failed>
     ensures whole { OnOk result (Appends (E.held err.old) (E.held err.new) (failure_line status)) }
-    ensures part { OnErr result (AppendsPrefix (E.held err.old) (E.held err.new) (failure_line status)) }
+    ensures part { OnErr result
+        (AppendsPrefix (E.held err.old) (E.held err.new) (failure_line status)) }
     ensures cause { CountsFault (E.faults err.old) (E.faults err.new) result }
 {
     write_all(err, failure(status))

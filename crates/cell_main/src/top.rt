@@ -1,17 +1,12 @@
 //! The program.
 
-ghost use Rattle.std.specs.Prelude.{◌≡◌, ◌⊎◌, ℕ, List, IfSome, Some, None};
+ghost use Rattle.std.specs.Prelude.{◌≡◌, ℕ, Some, None};
 ghost use Rattle.std.specs.Io.KnownBytes.{Appends};
 ghost use Rattle.std.specs.Process.{exit_status};
 ghost use Rattle.cell_io.specs.Faults.{Rose};
 ghost use Rattle.cell_io.specs.Prefix.{AppendsPrefix};
-ghost use Rattle.mms_types.specs.declared.event.CellEvent.{CellEvent};
-ghost use Rattle.cell_config.specs.declared.config.Config.{Config};
-ghost use Rattle.cell_record.specs.Grammar.{ReadsRecording};
 ghost use Rattle.cell_words.specs.declared.words.Command.{Command};
-ghost use Rattle.cell_run.specs.Bodies.{ReadsInput};
-ghost use Rattle.cell_run.specs.Counted.{WritesCounts};
-ghost use Rattle.cell_run.specs.Outcome.{Completes};
+ghost use Rattle.cell_run.specs.Ending.{CompletesFor, CountsFor, seen};
 ghost use Rattle.cell_main.specs.Ends.{EndsFor, IsExit, asked};
 ghost use Rattle.cell_main.specs.Failure.{failure_line};
 
@@ -40,21 +35,24 @@ pub fn serve_words<R: Threads + Wait + Sync, S: Source, K: Sink>(
     out: &mut K,
 ) -> u8
     // How it ends by the words, with which status, and what was read and written.
-    ensures ends { EndsFor words.now result (record { octets = S.left input.old; faults = S.faults input.old }) (record { octets = S.left input.new; faults = S.faults input.new })
-        (record { octets = K.held out.old; faults = K.faults out.old }) (record { octets = K.held out.new; faults = K.faults out.new }) }
+    ensures ends { EndsFor words.now result
+        (seen S.left S.faults input.old) (seen S.left S.faults input.new)
+        (seen K.held K.faults out.old) (seen K.held K.faults out.new) }
 
     // Words of no command read nothing, nor does `stress`.
     ensures nothing_read { asked words.now ≡ None → input.new ≡ input.old }
-    ensures unread { (seed clients rounds workers : ℕ) → asked words.now ≡ Some (Command.Stress seed clients rounds workers) → input.new ≡ input.old }
+    ensures unread { (seed clients rounds workers : ℕ)
+        → asked words.now ≡ Some (Command.Stress seed clients rounds workers)
+        → input.new ≡ input.old }
 
     // A recording without a fault is served and reported, unless memory runs out.
-    ensures complete { (command : Command) → ReadsInput command → asked words.now ≡ Some command → IfSome (S.left input.old) (λ text. (config : Config) (phases : List (List CellEvent))
-        → ReadsRecording text config phases → (Rose (S.faults input.old) (S.faults input.new) → ⊥) → (Rose (K.faults out.old) (K.faults out.new) → ⊥)
-        → (result ≡ 3) ⊎ ((result ≡ 0) × Completes command config phases (K.held out.old) (K.held out.new))) }
+    ensures complete { CompletesFor (asked words.now) result
+        (seen S.left S.faults input.old) (seen S.left S.faults input.new)
+        (seen K.held K.faults out.old) (seen K.held K.faults out.new) }
 
     // And where the sink doesn't fail, `stress` writes its four lines.
-    ensures counted { (seed clients rounds workers : ℕ) → asked words.now ≡ Some (Command.Stress seed clients rounds workers) → (Rose (K.faults out.old) (K.faults out.new) → ⊥)
-        → (result ≡ 3) ⊎ ((result ≡ 0) × WritesCounts seed clients rounds (K.held out.old) (K.held out.new)) }
+    ensures counted { CountsFor (asked words.now) result
+        (seen K.held K.faults out.old) (seen K.held K.faults out.new) }
 {
     match words {
         Words::Texts(words) => run_cell(rt, alloc, words, input, out, &Open),
@@ -73,19 +71,24 @@ pub fn run_words<R: Threads + Wait + Sync, S: Source, K: Sink, E: Sink>(
     err: &mut E,
 ) -> ExitCode
     // As `serve_words`, by the status with which the process is to end.
-    ensures ends { EndsFor words.now (exit_status result) (record { octets = S.left input.old; faults = S.faults input.old }) (record { octets = S.left input.new; faults = S.faults input.new })
-        (record { octets = K.held out.old; faults = K.faults out.old }) (record { octets = K.held out.new; faults = K.faults out.new }) }
+    ensures ends { EndsFor words.now (exit_status result)
+        (seen S.left S.faults input.old) (seen S.left S.faults input.new)
+        (seen K.held K.faults out.old) (seen K.held K.faults out.new) }
     ensures nothing_read { asked words.now ≡ None → input.new ≡ input.old }
-    ensures unread { (seed clients rounds workers : ℕ) → asked words.now ≡ Some (Command.Stress seed clients rounds workers) → input.new ≡ input.old }
-    ensures complete { (command : Command) → ReadsInput command → asked words.now ≡ Some command → IfSome (S.left input.old) (λ text. (config : Config) (phases : List (List CellEvent))
-        → ReadsRecording text config phases → (Rose (S.faults input.old) (S.faults input.new) → ⊥) → (Rose (K.faults out.old) (K.faults out.new) → ⊥)
-        → (exit_status result ≡ 3) ⊎ ((exit_status result ≡ 0) × Completes command config phases (K.held out.old) (K.held out.new))) }
-    ensures counted { (seed clients rounds workers : ℕ) → asked words.now ≡ Some (Command.Stress seed clients rounds workers) → (Rose (K.faults out.old) (K.faults out.new) → ⊥)
-        → (exit_status result ≡ 3) ⊎ ((exit_status result ≡ 0) × WritesCounts seed clients rounds (K.held out.old) (K.held out.new)) }
+    ensures unread { (seed clients rounds workers : ℕ)
+        → asked words.now ≡ Some (Command.Stress seed clients rounds workers)
+        → input.new ≡ input.old }
+    ensures complete { CompletesFor (asked words.now) (exit_status result)
+        (seen S.left S.faults input.old) (seen S.left S.faults input.new)
+        (seen K.held K.faults out.old) (seen K.held K.faults out.new) }
+    ensures counted { CountsFor (asked words.now) (exit_status result)
+        (seen K.held K.faults out.old) (seen K.held K.faults out.new) }
 
     // What failed by that status is told, or a prefix of it where this fails as well.
-    ensures told { (Rose (E.faults err.old) (E.faults err.new) → ⊥) → Appends (E.held err.old) (E.held err.new) (failure_line (exit_status result)) }
-    ensures part { AppendsPrefix (E.held err.old) (E.held err.new) (failure_line (exit_status result)) }
+    ensures told { (Rose (E.faults err.old) (E.faults err.new) → ⊥)
+        → Appends (E.held err.old) (E.held err.new) (failure_line (exit_status result)) }
+    ensures part { AppendsPrefix (E.held err.old) (E.held err.new)
+        (failure_line (exit_status result)) }
 {
     let status = serve_words(rt, alloc, words, input, out);
     // Where standard error fails as well, the status alone tells.

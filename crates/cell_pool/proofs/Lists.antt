@@ -3,7 +3,7 @@ use Rattle.std.proofs.Common.{◌≡◌, ℕ, zero, suc, ◌+◌, List, [], ◌�
 use Rattle.std.specs.List.{All, range_with_len}
 use Rattle.std.proofs.lemmas.List.{get_or_append_left}
 use Rattle.std.proofs.Math.Seq.{get_or-append_seam}
-use Rattle.cell_pool.specs.Rule.{EachAt}
+use Rattle.cell_pool.specs.Served.{EachAt}
 
 module _ {A : Type 0} where
   pub popped : (all rest : List A) (o : Option A) (x : A) → all ≡ rest ++ option_to_list o → o ≡ Some x → all ≡ rest ++ x ∷ []

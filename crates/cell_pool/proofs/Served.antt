@@ -1,7 +1,7 @@
 -- What came back, place by place.
 use Rattle.std.proofs.Common.{◌≡◌, ℕ, zero, suc, List, [], ◌∷◌, length, Option, Some, None, IfSome, slice_get, refl, subst, arith}
 use Rattle.std.specs.List.{All}
-use Rattle.cell_pool.specs.Rule.{EachAt, IsServed}
+use Rattle.cell_pool.specs.Served.{AreFit, EachAt, EachIs, EachMadeOf, IsServed}
 
 module _ {J : Type 0} where
   spread : (M : J → J → Type 0) (o q : Option J) → IfSome q (λ job. ∥ IfSome o (λ from. M from job) ∥₁) → IfSome o (λ from. IfSome q (λ job. ∥ M from job ∥₁))
@@ -22,13 +22,11 @@ module _ {J : Type 0} where
   twice M (Some a) same = same a
 
   -- what did not move is served
-  pub unmoved : (P : J → Type 0) (M : J → J → Type 0) (xs : List J) → All P xs → ((j : J) → M j j) → IsServed P (λ a b. ∥ M a b ∥₁) xs xs
-  unmoved P M xs fit same = (refl, each_of P xs fit, λ p. twice (λ a b. ∥ M a b ∥₁) (slice_get xs p) (λ j. ∣ same j ∣₁))
+  pub unmoved : (P : J → Type 0) (M : J → J → Type 0) (xs : List J) → AreFit P xs → ((j : J) → M j j) → IsServed P M xs xs
+  unmoved P M xs fit same = (refl, each_of (λ j. ∥ P j ∥₁) xs fit, λ p. twice (λ a b. ∥ M a b ∥₁) (slice_get xs p) (λ j. ∣ same j ∣₁))
 
-  pub served : (P : J → Type 0) (M : J → J → Type 0) (given back : List J) → length back ≡ length given → EachAt (λ p job. P job) back
-      → EachAt (λ p job. ∥ IfSome (slice_get given p) (λ from. M from job) ∥₁) back → IsServed P (λ a b. ∥ M a b ∥₁) given back
+  pub served : (P : J → Type 0) (M : J → J → Type 0) (given back : List J) → length back ≡ length given → EachIs P back → EachMadeOf M given back → IsServed P M given back
   served P M given back len fit made = (len, fit, λ p. spread M (slice_get given p) (slice_get back p) (made p))
 
-  pub made_by : (M : J → J → Type 0) (given jobs back : List J) → given ≡ jobs → EachAt (λ p job. ∥ IfSome (slice_get given p) (λ from. M from job) ∥₁) back
-      → EachAt (λ p job. ∥ IfSome (slice_get jobs p) (λ from. M from job) ∥₁) back
-  made_by M given jobs back is made = subst (λ (l : List J). EachAt (λ p job. ∥ IfSome (slice_get l p) (λ from. M from job) ∥₁) back) is made
+  pub made_by : (M : J → J → Type 0) (given jobs back : List J) → given ≡ jobs → EachMadeOf M given back → EachMadeOf M jobs back
+  made_by M given jobs back is made = subst (λ (l : List J). EachMadeOf M l back) is made

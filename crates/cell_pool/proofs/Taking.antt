@@ -1,7 +1,8 @@
 -- Jobs are taken out of their places.
 use Rattle.std.proofs.Common.{◌≡◌, ◌⊎◌, ℕ, ◌<◌, Bool, false, IsTrue, IsFalse, List, [], ◌∷◌, ◌++◌, length, Option, Some, slice_get, zero, suc, refl, true≢false, sym, ap, ◌∙◌, subst, arith, ⊎_elim, take}
 use Rattle.std.specs.List.{All}
-use Rattle.cell_pool.specs.Rule.{EachAt, OneIs, Told}
+use Rattle.cell_pool.specs.Rule.{Told}
+use Rattle.cell_pool.specs.Served.{EachAt, OneIs}
 use Rattle.cell_pool.proofs.Laying.{below, un_some, take_front}
 use Rattle.cell_pool.proofs.Lists.{at_seam}
 

@@ -17,4 +17,8 @@ pub made_of_itself : (a : Count) → MadeOf a a
 made_of_itself a = record { by = refl; goal = refl; further = omega arith }
 
 pub made_of_made : (a b c : Count) → MadeOf a b → MadeOf b c → MadeOf a c
-made_of_made a b c m n = record { by = n.by ∙ m.by; goal = n.goal ∙ m.goal; further = (let i = m.further in let j = n.further in omega arith) }
+made_of_made a b c m n = record {
+  by = n.by ∙ m.by;
+  goal = n.goal ∙ m.goal;
+  further = (let i = m.further in let j = n.further in omega arith);
+}

@@ -1,2 +1,4 @@
 pub mod Counting
 pub mod Rule
+pub mod Served
+pub mod Items

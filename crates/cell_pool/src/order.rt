@@ -1,6 +1,7 @@
 //! The jobs back in their order.
-ghost use Rattle.std.specs.Prelude.{◌≡◌, ◌⊎◌, ◌<◌, ◌≤◌, ℕ, length, [], Some, slice_get, IfSome, IsTrue, IsFalse, vec_capacity};
-ghost use Rattle.cell_pool.specs.Rule.{weigh, weigh_all, is, IsLaid, EachAt, LaysSame, LaysSameIn, OneIs, Told};
+ghost use Rattle.std.specs.Prelude.{◌≡◌, ◌⊎◌, ◌<◌, ◌≤◌, ℕ, length, [], IsTrue, IsFalse, vec_capacity};
+ghost use Rattle.cell_pool.specs.Items.{AreAtEnd, HasPlace, Lays, LaysAll, LiesAt, OneHasPlace};
+ghost use Rattle.cell_pool.specs.Served.{EachIs, EachMadeOf, OneIs};
 
 use crate::given::Given;
 use crate::item::Item;
@@ -10,8 +11,8 @@ use crate::turn::Turn;
 fn lay<T: Turn, C: Given<T::Job>>(slots: &mut [Option<Item<T, C>>], mut list: Vec<Item<T, C>>)
     requires len { length slots.old ≡ length C.given }
     ensures len { length slots.new ≡ length C.given }
-    ensures laid { (p : ℕ) → IsLaid (λ i. i.place) slots.old p ⊎ (0 < weigh (λ i. is p i.place) list.items) → IsLaid (λ i. i.place) slots.new p }
-    ensures same { LaysSame (λ i. i.place) slots.old list.items slots.new }
+    ensures laid { (p : ℕ) → LiesAt slots.old p ⊎ HasPlace list.items p → LiesAt slots.new p }
+    ensures same { Lays slots.old list.items slots.new }
 {
     while let Some(item) = list.pop() {
         let place = item.place;
@@ -26,8 +27,8 @@ pub(crate) fn lay_all<T: Turn, C: Given<T::Job>>(
 )
     requires len { length slots.old ≡ length C.given }
     ensures len { length slots.new ≡ length C.given }
-    ensures laid { (p : ℕ) → 0 < weigh_all (λ list. list.items) (λ i. is p i.place) lists.items → IsLaid (λ i. i.place) slots.new p }
-    ensures same { LaysSameIn (λ i. i.place) (λ list. list.items) slots.old lists.items slots.new }
+    ensures laid { (p : ℕ) → OneHasPlace lists.items p → LiesAt slots.new p }
+    ensures same { LaysAll slots.old lists.items slots.new }
 {
     while let Some(list) = lists.pop() {
         lay(slots, list);
@@ -48,13 +49,13 @@ pub(crate) fn take_out<T: Turn, C: Given<T::Job>>(
     mut jobs: Vec<T::Job>,
 ) -> (Vec<T::Job>, bool)
     requires len { length slots.items ≡ length C.given }
-    requires laid { (p : ℕ) → p < length C.given → IsLaid (λ i. i.place) slots.items p }
-    requires told { Told (λ i. i.ended) (λ i. i.short) slots.items }
+    requires laid { (p : ℕ) → p < length C.given → LiesAt slots.items p }
+    requires told { AreAtEnd slots.items }
     requires jobs { (jobs.items ≡ []) × (length C.given ≤ vec_capacity jobs) }
     ensures len { length result.0.items ≡ length C.given }
-    ensures fit { EachAt (λ p job. ∥ C.fit job ∥₁) result.0.items }
-    ensures made { EachAt (λ p job. ∥ IfSome (slice_get C.given p) (λ from. T.made from job) ∥₁) result.0.items }
-    ensures done { IsTrue result.1 → EachAt (λ p job. ∥ T.done job ∥₁) result.0.items }
+    ensures fit { EachIs C.fit result.0.items }
+    ensures made { EachMadeOf T.made C.given result.0.items }
+    ensures done { IsTrue result.1 → EachIs T.done result.0.items }
     ensures short { IsFalse result.1 → OneIs (λ job. ∥ T.short job ∥₁) result.0.items }
 {
     let mut all = true;

@@ -1,8 +1,11 @@
 //! A phase: its jobs go through the queue, and come back in their order.
-ghost use Rattle.std.specs.Prelude.{◌≡◌, ◌<◌, ◌≤◌, ◌+◌, ◌-◌, false, length, [], slice_get, IfSome, IfOk, IfErr, IsTrue, IsFalse, vec_len, vec_capacity};
+ghost use Rattle.std.specs.Prelude.{◌≡◌, ◌<◌, ◌≤◌, ◌+◌, ◌-◌, false, length, [], IfOk, IfErr, IsTrue, IsFalse};
+ghost use Rattle.std.specs.Prelude.{vec_len, vec_capacity};
 ghost use Rattle.std.specs.List.{All, range_with_len};
 ghost use Rattle.crossbeam_queue.specs.Passes.{view, IsPassOf, ruled_capacity};
-ghost use Rattle.cell_pool.specs.Rule.{hand, EachAt, EndsWith, Flagged, InTurn, IsForWant, IsReady, IsServed, MayRest, OneIs, Owes, HoldsEach, Same, Settled, Waits};
+ghost use Rattle.cell_pool.specs.Rule.{hand, MayRest, Same, Waits};
+ghost use Rattle.cell_pool.specs.Items.{AddsInTurn, Flagged, HasAll, HasWorked, HoldsEach, IsReady, Owes, Settled, Suffice};
+ghost use Rattle.cell_pool.specs.Served.{AreFit, EachIs, IsForWant, IsServed, OneIs};
 
 use crate::given::Given;
 use crate::item::{Item, turned_out};
@@ -40,7 +43,7 @@ fn fill<T: Turn, C: Given<T::Job>, R: Wait>(
     requires view { view pass.old ≡ hand 64 [] [] }
     requires room { ruled_capacity queue.now ≡ length jobs.items }
     requires given { C.given ≡ jobs.items }
-    requires fit { All (λ job. ∥ C.fit job ∥₁) jobs.items }
+    requires fit { AreFit C.fit jobs.items }
     ensures queue { IsPassOf queue.now pass.new }
     ensures view { view pass.new ≡ hand 64 (range_with_len 0 (length jobs.items)) [] }
 {
@@ -73,9 +76,10 @@ fn enlist<T: Turn, C: Given<T::Job>>(
     requires empty { All (λ room. room.items ≡ []) rooms.items }
     requires crew { (crew.items ≡ []) × (length rooms.items ≤ vec_capacity crew) }
     ensures queue { IsPassOf queue.now pass.new }
-    ensures view { view pass.new ≡ hand (64 - length rooms.items) (view pass.old).put (view pass.old).taken }
+    ensures view { view pass.new
+        ≡ hand (64 - length rooms.items) (view pass.old).put (view pass.old).taken }
     ensures count { length result.items ≡ length rooms.items }
-    ensures crew { All (λ worker. IsReady (λ i. i.place) (λ i. i.ended) (λ i. i.short) queue.now worker.pass false worker.kept.items × IsFalse worker.is_short) result.items }
+    ensures crew { All (IsReady queue.now) result.items }
 {
     let mut rooms = rooms;
     while let Some(kept) = rooms.pop() {
@@ -98,8 +102,8 @@ fn serve_all<
 >(rt: &R, turns: &T, queue: &Queue<T, C>, crew: &mut [Worker<T, C>], gate: &G)
     requires same { Same (T.fit turns.now) C.fit }
     requires some { 0 < length crew.old }
-    requires crew { All (λ worker. IsReady (λ i. i.place) (λ i. i.ended) (λ i. i.short) queue.now worker.pass false worker.kept.items × IsFalse worker.is_short) crew.old }
-    ensures crew { All (λ worker. IsReady (λ i. i.place) (λ i. i.ended) (λ i. i.short) queue.now worker.pass worker.is_short worker.kept.items) crew.new }
+    requires crew { All (IsReady queue.now) crew.old }
+    ensures crew { All (HasWorked queue.now) crew.new }
 {
     let threads = crew.len();
     thread::for_each_mut(
@@ -107,8 +111,8 @@ fn serve_all<
         crew,
         threads,
         &|_place, worker: &mut Worker<T, C>|
-            requires { Same (T.fit turns.now) C.fit × IsReady (λ i. i.place) (λ i. i.ended) (λ i. i.short) queue.now worker.old.pass false worker.old.kept.items × IsFalse worker.old.is_short }
-            ensures { IsReady (λ i. i.place) (λ i. i.ended) (λ i. i.short) queue.entry.now worker.new.pass worker.new.is_short worker.new.kept.items }
+            requires { Same (T.fit turns.now) C.fit × IsReady queue.now worker.old }
+            ensures { HasWorked queue.entry.now worker.new }
         { work(rt, turns, queue, worker, gate) },
     );
 }
@@ -121,16 +125,13 @@ fn join_all<T: Turn, C: Given<T::Job>>(
     mut lists: Vec<Vec<Item<T, C>>>,
 ) -> (Vec<Vec<Item<T, C>>>, bool)
     requires queue { IsPassOf queue.now pass.old }
-    requires parts { ((view pass.old).parts + length crew.items ≡ 64) × (0 < (view pass.old).parts) }
-    requires crew { All (λ worker. IsReady (λ i. i.place) (λ i. i.ended) (λ i. i.short) queue.now worker.pass worker.is_short worker.kept.items) crew.items }
-    requires owes { Owes (λ i. i.place) (λ list. list.items) (length C.given) (view pass.old) lists.items }
-    requires flagged { Flagged (λ list. list.items) (λ i. i.ended) (λ i. i.short) false lists.items }
+    requires parts { ((view pass.old).parts + length crew.items ≡ 64)
+        × (0 < (view pass.old).parts) }
+    requires crew { All (HasWorked queue.now) crew.items }
+    requires owes { Owes (length C.given) (view pass.old) lists.items }
+    requires flagged { Flagged false lists.items }
     requires room { length lists.items + length crew.items + 1 ≤ vec_capacity lists }
-    ensures queue { IsPassOf queue.now pass.new }
-    ensures parts { (view pass.new).parts ≡ 64 }
-    ensures owes { Owes (λ i. i.place) (λ list. list.items) (length C.given) (view pass.new) result.0.items }
-    ensures flagged { Flagged (λ list. list.items) (λ i. i.ended) (λ i. i.short) result.1 result.0.items }
-    ensures room { length result.0.items + 1 ≤ vec_capacity result.0 }
+    ensures all { HasAll queue.now pass.new (length C.given) result.1 result.0 }
 {
     let mut any_short = false;
     while let Some(worker) = crew.pop() {
@@ -176,17 +177,13 @@ fn serve_left<T: Turn, C: Given<T::Job>, G: Gate, R: Wait>(
     any_short: bool,
     gate: &G,
 ) -> Vec<Vec<Item<T, C>>>
-    requires queue { IsPassOf queue.now pass.old }
     requires same { Same (T.fit turns.now) C.fit }
-    requires parts { (view pass.old).parts ≡ 64 }
-    requires owes { Owes (λ i. i.place) (λ list. list.items) (length C.given) (view pass.old) lists.items }
-    requires flagged { Flagged (λ list. list.items) (λ i. i.ended) (λ i. i.short) any_short lists.items }
-    requires room { length lists.items < vec_capacity lists }
+    requires all { HasAll queue.now pass.old (length C.given) any_short lists }
     requires left { (left.items ≡ []) × (length C.given ≤ vec_capacity left) }
-    ensures each { HoldsEach (λ i. i.place) (λ list. list.items) (length C.given) result.items }
+    ensures each { HoldsEach (length C.given) result.items }
     // The jobs are served in turn, and once a turn found memory wanting, no further one is begun.
-    ensures left { EndsWith (λ list. InTurn (λ i. i.ended) (λ i. i.short) any_short list.items) lists.items result.items }
-    ensures settled { Settled (λ list. list.items) (λ i. i.ended) (λ i. i.short) result.items }
+    ensures left { AddsInTurn any_short lists.items result.items }
+    ensures settled { Settled result.items }
 {
     let mut stopped = any_short;
     for _turn in rt.forever() {
@@ -242,13 +239,8 @@ fn make_means<T: Turn, C: Given<T::Job>>(
     size: usize,
 ) -> Result<Means<T, C>, AllocError>
     requires size { 0 < size }
-    ensures rooms { IfOk result (λ m. (length m.rooms.items ≡ workers) × All (λ room. room.items ≡ []) m.rooms.items) }
-    ensures crew { IfOk result (λ m. (m.crew.items ≡ []) × (workers ≤ vec_capacity m.crew)) }
-    ensures lists { IfOk result (λ m. (m.lists.items ≡ []) × (workers + 1 ≤ vec_capacity m.lists)) }
-    ensures left { IfOk result (λ m. (m.left.items ≡ []) × (size ≤ vec_capacity m.left)) }
-    ensures slots { IfOk result (λ m. (m.slots.items ≡ []) × (size ≤ vec_capacity m.slots)) }
-    ensures order { IfOk result (λ m. (m.order.items ≡ []) × (size ≤ vec_capacity m.order)) }
-    ensures queue { IfOk result (λ m. (ruled_capacity m.queue ≡ size) × IsPassOf m.queue m.pass × (view m.pass ≡ hand 64 [] [])) }
+    ensures rooms { IfOk result (λ means. length means.rooms.items ≡ workers) }
+    ensures suffice { IfOk result (Suffice size) }
 {
     let rooms = rooms(alloc, workers, size)?;
     let crew = Vec::with_capacity(alloc, workers)?;
@@ -278,18 +270,11 @@ fn serve_with<
 >(rt: &R, turns: &T, jobs: Vec<T::Job>, means: Means<T, C>, gate: &G) -> (Vec<T::Job>, bool)
     requires given { C.given ≡ jobs.items }
     requires same { Same (T.fit turns.now) C.fit }
-    requires fit { All (λ job. ∥ C.fit job ∥₁) jobs.items }
-    requires rooms { (1 ≤ length means.rooms.items) × (length means.rooms.items ≤ 16) × All (λ room. room.items ≡ []) means.rooms.items }
-    requires crew { (means.crew.items ≡ []) × (length means.rooms.items ≤ vec_capacity means.crew) }
-    requires lists { (means.lists.items ≡ []) × (length means.rooms.items + 1 ≤ vec_capacity means.lists) }
-    requires left { (means.left.items ≡ []) × (length jobs.items ≤ vec_capacity means.left) }
-    requires slots { (means.slots.items ≡ []) × (length jobs.items ≤ vec_capacity means.slots) }
-    requires order { (means.order.items ≡ []) × (length jobs.items ≤ vec_capacity means.order) }
-    requires queue { (ruled_capacity means.queue ≡ length jobs.items) × IsPassOf means.queue means.pass × (view means.pass ≡ hand 64 [] []) }
-    ensures len { length result.0.items ≡ length jobs.items }
-    ensures fit { EachAt (λ p job. ∥ C.fit job ∥₁) result.0.items }
-    ensures made { EachAt (λ p job. ∥ IfSome (slice_get jobs.items p) (λ from. T.made from job) ∥₁) result.0.items }
-    ensures done { IsTrue result.1 → EachAt (λ p job. ∥ T.done job ∥₁) result.0.items }
+    requires fit { AreFit C.fit jobs.items }
+    requires workers { (1 ≤ length means.rooms.items) × (length means.rooms.items ≤ 16) }
+    requires suffice { Suffice (length jobs.items) means }
+    ensures served { IsServed C.fit T.made jobs.items result.0.items }
+    ensures done { IsTrue result.1 → EachIs T.done result.0.items }
     ensures short { IsFalse result.1 → OneIs (λ job. ∥ T.short job ∥₁) result.0.items }
 {
     let Means {
@@ -315,8 +300,8 @@ fn serve_with<
 
 /// All jobs as they were given.
 fn handed_back<T: Turn, C: Given<T::Job>>(jobs: Vec<T::Job>) -> PhaseStopped<T::Job>
-    requires fit { All (λ job. ∥ C.fit job ∥₁) jobs.items }
-    ensures served { IsServed (λ j. ∥ C.fit j ∥₁) (λ a b. ∥ T.made a b ∥₁) jobs.items result.jobs.items }
+    requires fit { AreFit C.fit jobs.items }
+    ensures served { IsServed C.fit T.made jobs.items result.jobs.items }
     ensures same { result.jobs.items ≡ jobs.items }
 {
     PhaseStopped { jobs }
@@ -337,11 +322,12 @@ fn serve_given<
 ) -> Result<Vec<T::Job>, PhaseStopped<T::Job>>
     requires given { C.given ≡ jobs.items }
     requires same { Same (T.fit turns.now) C.fit }
-    requires fit { All (λ job. ∥ C.fit job ∥₁) jobs.items }
+    requires fit { AreFit C.fit jobs.items }
     requires workers { (1 ≤ workers) × (workers ≤ 16) }
-    ensures ok { IfOk result (λ back. IsServed (λ j. ∥ C.fit j ∥₁) (λ a b. ∥ T.made a b ∥₁) jobs.items back.items × EachAt (λ p job. ∥ T.done job ∥₁) back.items) }
-    ensures stopped { IfErr result (λ e. IsServed (λ j. ∥ C.fit j ∥₁) (λ a b. ∥ T.made a b ∥₁) jobs.items e.jobs.items) }
-    ensures short { IfErr result (λ e. IsForWant (λ j. ∥ T.short j ∥₁) jobs.items e.jobs.items) }
+    ensures ok { IfOk result (λ back. IsServed C.fit T.made jobs.items back.items
+        × EachIs T.done back.items) }
+    ensures stopped { IfErr result (λ e. IsServed C.fit T.made jobs.items e.jobs.items) }
+    ensures short { IfErr result (λ e. IsForWant T.short jobs.items e.jobs.items) }
 {
     let size = jobs.len();
     if size == 0 {
@@ -377,11 +363,13 @@ pub fn serve_phase<R: Threads + Wait + Sync, T: Turn + Sync, G: Gate + Sync>(
     workers: u32,
     gate: &G,
 ) -> Result<Vec<T::Job>, PhaseStopped<T::Job>>
-    requires fit { All (λ job. ∥ T.fit turns.now job ∥₁) jobs.items }
+    requires fit { AreFit (T.fit turns.now) jobs.items }
     requires workers { (1 ≤ workers) × (workers ≤ 16) }
-    ensures ok { IfOk result (λ back. IsServed (λ j. ∥ T.fit turns.now j ∥₁) (λ a b. ∥ T.made a b ∥₁) jobs.items back.items × EachAt (λ p job. ∥ T.done job ∥₁) back.items) }
-    ensures stopped { IfErr result (λ e. IsServed (λ j. ∥ T.fit turns.now j ∥₁) (λ a b. ∥ T.made a b ∥₁) jobs.items e.jobs.items) }
-    ensures short { IfErr result (λ e. IsForWant (λ j. ∥ T.short j ∥₁) jobs.items e.jobs.items) }
+    ensures ok { IfOk result (λ back. IsServed (T.fit turns.now) T.made jobs.items back.items
+        × EachIs T.done back.items) }
+    ensures stopped { IfErr result
+        (λ e. IsServed (T.fit turns.now) T.made jobs.items e.jobs.items) }
+    ensures short { IfErr result (λ e. IsForWant T.short jobs.items e.jobs.items) }
 {
     serve_given::<T, Brand, G, R>(rt, turns, jobs, workers, gate)
 }

@@ -52,10 +52,10 @@ impl Join<Hand> for Cut {
 pub(crate) struct Puts;
 
 impl<T: Turn, C: Given<T::Job>> Outcome<Item<T, C>, Hand> for Puts {
-    ghost use Rattle.std.specs.Prelude.{◌≡◌, [], ◌∷◌, ◌++◌};
-    ghost use Rattle.cell_pool.specs.Rule.{hand};
+    ghost use Rattle.std.specs.Prelude.{◌≡◌};
+    ghost use Rattle.cell_pool.specs.Rule.{put_more};
 
-    ghost then = { λ v x w. w ≡ hand v.parts (v.put ++ x.place ∷ []) v.taken };
+    ghost then = { λ v x w. w ≡ put_more v x.place };
 }
 
 impl<T: Turn, C: Given<T::Job>> Lesson<Item<T, C>, Hand> for Puts {
@@ -67,10 +67,10 @@ impl<T: Turn, C: Given<T::Job>> Lesson<Item<T, C>, Hand> for Puts {
 pub(crate) struct Takes;
 
 impl<T: Turn, C: Given<T::Job>> Outcome<Item<T, C>, Hand> for Takes {
-    ghost use Rattle.std.specs.Prelude.{◌≡◌, [], ◌∷◌, ◌++◌};
-    ghost use Rattle.cell_pool.specs.Rule.{Waits, hand};
+    ghost use Rattle.std.specs.Prelude.{◌≡◌};
+    ghost use Rattle.cell_pool.specs.Rule.{Waits, taken_more};
 
-    ghost then = { λ v x w. (w ≡ hand v.parts v.put (v.taken ++ x.place ∷ [])) × Waits x.ended x.short };
+    ghost then = { λ v x w. (w ≡ taken_more v x.place) × Waits x.ended x.short };
 }
 
 impl<T: Turn, C: Given<T::Job>> Lesson<Item<T, C>, Hand> for Takes {
@@ -83,32 +83,30 @@ impl<T: Turn, C: Given<T::Job>> Lesson<Item<T, C>, Hand> for Takes {
 pub(crate) struct All;
 
 impl<T: Turn, C: Given<T::Job>> Outcome<Item<T, C>, Hand> for All {
-    ghost use Rattle.std.specs.Prelude.{◌≡◌, ◌≤◌, ℕ, [], ◌∷◌, ◌++◌};
-    ghost use Rattle.cell_pool.specs.Rule.{Waits, hand, weigh};
+    ghost use Rattle.std.specs.Prelude.{◌≡◌};
+    ghost use Rattle.cell_pool.specs.Rule.{TakesNoMore, Waits, taken_more};
 
-    ghost then = { λ v x w. (w ≡ hand v.parts v.put (v.taken ++ x.place ∷ [])) × ((h : ℕ → ℕ) → weigh h w.taken ≤ weigh h w.put) × Waits x.ended x.short };
+    ghost then = { λ v x w. (w ≡ taken_more v x.place) × TakesNoMore w × Waits x.ended x.short };
 }
 
 impl<T: Turn, C: Given<T::Job>> Lesson<Item<T, C>, Hand> for All {
-    ghost use Rattle.std.specs.Prelude.{◌≡◌, ◌+◌, ℕ};
-    ghost use Rattle.cell_pool.specs.Rule.{weigh};
+    ghost use Rattle.cell_pool.specs.Rule.{KnowsAll};
 
-    ghost fact = { λ v items. (h : ℕ → ℕ) → weigh h v.put ≡ weigh h v.taken + weigh (λ i. h i.place) items };
+    ghost fact = { KnowsAll (λ i. i.place) };
 }
 
 /// A push of who has all parts, which learns where it is refused.
 pub(crate) struct Fills;
 
 impl<T: Turn, C: Given<T::Job>> Outcome<Item<T, C>, Hand> for Fills {
-    ghost use Rattle.std.specs.Prelude.{◌≡◌, [], ◌∷◌, ◌++◌};
-    ghost use Rattle.cell_pool.specs.Rule.{hand};
+    ghost use Rattle.std.specs.Prelude.{◌≡◌};
+    ghost use Rattle.cell_pool.specs.Rule.{put_more};
 
-    ghost then = { λ v x w. w ≡ hand v.parts (v.put ++ x.place ∷ []) v.taken };
+    ghost then = { λ v x w. w ≡ put_more v x.place };
 }
 
 impl<T: Turn, C: Given<T::Job>> Lesson<Item<T, C>, Hand> for Fills {
-    ghost use Rattle.std.specs.Prelude.{◌≡◌, ◌+◌, ℕ};
-    ghost use Rattle.cell_pool.specs.Rule.{weigh};
+    ghost use Rattle.cell_pool.specs.Rule.{KnowsAll};
 
-    ghost fact = { λ v items. (h : ℕ → ℕ) → weigh h v.put ≡ weigh h v.taken + weigh (λ i. h i.place) items };
+    ghost fact = { KnowsAll (λ i. i.place) };
 }

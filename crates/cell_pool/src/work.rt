@@ -1,8 +1,7 @@
 //! A worker: it takes a job from the queue, turns it while its turns move it on, up to sixteen times, and puts it back at
 //! the end.
-ghost use Rattle.std.specs.Prelude.{◌≡◌, false, IsFalse};
-ghost use Rattle.crossbeam_queue.specs.Passes.{view, IsPassOf};
-ghost use Rattle.cell_pool.specs.Rule.{Keeps, Rests, Same};
+ghost use Rattle.cell_pool.specs.Rule.{Same};
+ghost use Rattle.cell_pool.specs.Items.{HasWorked, IsReady};
 
 use crate::given::Given;
 use crate::item::{Item, turned, turned_out};
@@ -36,16 +35,9 @@ pub(crate) fn work<T: Turn, C: Given<T::Job>, G: Gate, R: Wait>(
     gate: &G,
 )
     requires same { Same (T.fit turns.now) C.fit }
-    requires queue { IsPassOf queue.now worker.old.pass }
-    requires parts { (view worker.old.pass).parts ≡ 1 }
-    requires keeps { Keeps (λ i. i.place) (view worker.old.pass) worker.old.kept.items }
-    requires rests { Rests (λ i. i.ended) (λ i. i.short) false false worker.old.kept.items }
-    requires short { IsFalse worker.old.is_short }
-    ensures queue { IsPassOf queue.now worker.new.pass }
-    ensures parts { (view worker.new.pass).parts ≡ 1 }
-    ensures keeps { Keeps (λ i. i.place) (view worker.new.pass) worker.new.kept.items }
+    requires ready { IsReady queue.now worker.old }
     // Once a turn found memory wanting, no further job is begun.
-    ensures rests { Rests (λ i. i.ended) (λ i. i.short) false worker.new.is_short worker.new.kept.items }
+    ensures worked { HasWorked queue.now worker.new }
 {
     for _turn in rt.forever() {
         if worker.kept.len() >= worker.kept.capacity() {

@@ -7,6 +7,8 @@ use Rattle.std.proofs.KnownBytes.{Appends-trans, Consumes-nil}
 use Rattle.cell_io.specs.Faults.{Rose}
 use Rattle.cell_io.specs.Held.{IsEndSeen, IsLaterPart}
 use Rattle.cell_io.specs.Prefix.{AppendsBefore, AppendsPrefix}
+use Rattle.cell_io.specs.declared.want.WriteError.{WriteError}
+use Rattle.cell_io.specs.declared.want.WriteError.TheVariants as write
 use Rattle.mms_types.specs.declared.event.CellEvent.{CellEvent}
 use Rattle.cell_config.specs.declared.config.Config.{Config}
 use Rattle.cell_record.specs.EventLine.{IsRecorded}
@@ -59,6 +61,10 @@ so_far out0 out1 owed report p = record { written = p.written; rest = owed; appe
 pub owes : (config : Config) (bodies : List (List CellEvent)) (number : ℕ) (body : List CellEvent) (text : List ℕ) (out0 out1 : Option (List ℕ)) → text ≡ body_text config number (history config.clients bodies) body
     → number ≡ 1 + length bodies → Appends out0 out1 (report_of config bodies) → AppendsBefore out0 out1 text (report_of config (bodies ++ body ∷ []))
 owes config bodies number body text out0 out1 e n p = record { written = report_of config bodies; appended = p; parts = sym (told_so config bodies number body text e n) }
+
+-- want of memory is no fault
+pub memory_no_fault : (e : WriteError) → e ≡ write.Memory → e ≡ write.Fault → ⊥
+memory_no_fault e memory fault = cc (memory, fault)
 
 -- ---- the end
 

@@ -9,7 +9,7 @@ use Rattle.std.specs.Coded.{codes}
 use Rattle.mms_types.specs.DatumCode.{datum_code}
 use Rattle.mms_types.specs.ShapeCode.{shape_code}
 use Rattle.mms_types.specs.declared.event.CellEvent.{CellEvent}
-use Rattle.cell_pool.specs.Rule.{EachAt, IsServed}
+use Rattle.cell_pool.specs.Served.{EachIs, IsServed}
 use Rattle.part_table.specs.History.{events_of}
 use Rattle.mms_device.specs.Shared.{Shared, Caller}
 use Rattle.mms_device.specs.Turns.{CanServe, IsFit, MadeOf, events, places}
@@ -17,7 +17,7 @@ use Rattle.mms_device.specs.declared.turns.CellJob.{CellJob}
 use Rattle.cell_record.specs.History.{events_of as acts_of}
 use Rattle.cell_run.specs.Jobs.{AreJobsOf}
 use Rattle.cell_run.specs.Laying.{Log}
-use Rattle.cell_run.specs.Running.{HaveServed, IsWhole}
+use Rattle.cell_run.specs.Running.{AreReady, AreServed, CanServeAll, HaveServed, IsWhole}
 
 module _ {X : Type 0} where
   pub all_of_each : (P : X → Type 0) (xs : List X) → ((i : ℕ) (x : X) → slice_get xs i ≡ Some x → P x) → All P xs
@@ -90,9 +90,8 @@ ended_prop device a b =
     let whole = whole_prop device a.rest a.pass b.pass b.log.items in
     hlevel (codes, datum_code, shape_code, whole)
 
-pub jobs_whole : (device : Shared) (given back : List CellJob) → ((i : ℕ) (job : CellJob) → slice_get given i ≡ Some job → IsFit device job × (job.log.items ≡ []))
-    → IsServed (λ j. ∥ IsFit device j ∥₁) (λ a b. ∥ MadeOf a b ∥₁) given back → EachAt (λ p job. ∥ job.rest ≡ [] ∥₁) back
-    → (i : ℕ) (a b : CellJob) → slice_get given i ≡ Some a → slice_get back i ≡ Some b → (b.rest ≡ []) × IsWhole device a.rest a.pass b.pass b.log.items
+pub jobs_whole : (device : Shared) (given back : List CellJob) → AreReady device given → IsServed (IsFit device) MadeOf given back → EachIs (λ job. job.rest ≡ []) back
+    → AreServed device given back
 jobs_whole device given back fit s done i a b at bt =
     let f : ∥ IsFit device b ∥₁ = subst (λ o. IfSome o (λ j. ∥ IsFit device j ∥₁)) bt (s.1 i) in
     let m : ∥ MadeOf a b ∥₁ = subst (λ o. IfSome o (λ j. ∥ MadeOf a j ∥₁)) bt (subst (λ o. IfSome o (λ from. IfSome (slice_get back i) (λ j. ∥ MadeOf from j ∥₁))) at (s.2 i)) in
@@ -102,9 +101,7 @@ jobs_whole device given back fit s done i a b at bt =
 
 -- ---- the jobs of passes
 
-pub jobs_fit : (device : Shared) (passes : List Caller) (es : List CellEvent) (jobs : List CellJob) → AreJobsOf es passes jobs
-    → ((i : ℕ) (p : Caller) → slice_get passes i ≡ Some p → CanServe device p (acts_of i es))
-    → (i : ℕ) (job : CellJob) → slice_get jobs i ≡ Some job → IsFit device job × (job.log.items ≡ [])
+pub jobs_fit : (device : Shared) (passes : List Caller) (es : List CellEvent) (jobs : List CellJob) → AreJobsOf es passes jobs → CanServeAll device passes es → AreReady device jobs
 jobs_fit device passes es jobs are can i job at =
     let lt = slice_get_within jobs i job at in
     let same = are.count in
@@ -113,7 +110,7 @@ jobs_fit device passes es jobs are can i job at =
     (record { serve = subst (λ (q : Caller). CanServe device q job.rest) (sym j.pass) (subst (CanServe device p.0) (sym j.rest) (can i p.0 p.1)); room = j.room }, j.log)
 
 pub passes_served : (device : Shared) (passes : List Caller) (es : List CellEvent) (jobs back : List CellJob) (after : List Caller) (logs : List Log) → AreJobsOf es passes jobs → length back ≡ length jobs
-    → ((i : ℕ) (a b : CellJob) → slice_get jobs i ≡ Some a → slice_get back i ≡ Some b → (b.rest ≡ []) × IsWhole device a.rest a.pass b.pass b.log.items)
+    → AreServed device jobs back
     → after ≡ map (λ (job : CellJob). job.pass) back → logs ≡ map (λ (job : CellJob). job.log.items) back → HaveServed device passes es after logs
 passes_served device passes es jobs back after logs are count whole after_is logs_is = record {
   same = ap length after_is ∙ length-map back (λ (job : CellJob). job.pass) ∙ count ∙ are.count;

@@ -1,5 +1,6 @@
 -- A phase as the device serves it: the words of clauses inside the crate.
-use Rattle.std.specs.Prelude.{◌≡◌, ℕ, List, [], ◌∷◌, fold}
+use Rattle.std.specs.Prelude.{◌≡◌, ℕ, List, [], ◌∷◌, fold, length}
+use Rattle.mms_types.specs.Actors.{clients_to}
 use Rattle.mms_types.specs.declared.event.What.{What}
 use Rattle.mms_types.specs.declared.event.CellEvent.{CellEvent}
 use Rattle.mms_types.specs.declared.event.CellEvent.TheVariants.{Drain}
@@ -12,6 +13,10 @@ use Rattle.mms_device.specs.Served.{Served, served}
 -- events, one after the other
 abbrev pub along : Served → List CellEvent → Served
 along device events = fold served device events
+
+-- its clients
+abbrev pub clients_of : Served → List ℕ
+clients_of device = clients_to (length device.state.clients)
 
 -- what these clients take that drain, one after the other
 abbrev pub taken_along : Served → List ℕ → List (List What)

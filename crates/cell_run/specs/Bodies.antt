@@ -4,7 +4,8 @@ use Rattle.mms_types.specs.declared.event.CellEvent.{CellEvent}
 use Rattle.cell_words.specs.declared.words.Command.{Command}
 use Rattle.cell_words.specs.declared.words.Command.TheVariants.{Replay, Run, Stress}
 
--- of all those that interleave the phases: `replay` serves them as they were recorded, and `run` and `stress` by any of them
+-- of all those that interleave the phases: `replay` serves them as they were recorded, and `run`
+-- and `stress` by any of them
 abbrev pub Serves : Command → List (List CellEvent) → List (List CellEvent) → Type 0
 Serves Replay bodies phases = bodies ≡ phases
 Serves (Run workers) bodies phases = Unit {0}

@@ -39,7 +39,8 @@ word_text bad.Clock = codes "clock"
 -- the line that tells it
 abbrev pub last_line : Option RecordError → List ℕ
 last_line None = []
-last_line (Some (Bad line word)) = codes "bad " ++ decimal line ++ codes " " ++ word_text word ++ codes "\n"
+last_line (Some (Bad line word)) =
+    codes "bad " ++ decimal line ++ codes " " ++ word_text word ++ codes "\n"
 last_line (Some (BadConfig rule)) = codes "bad config " ++ decimal rule ++ codes "\n"
 last_line (Some (TooMuch line)) = codes "too much " ++ decimal line ++ codes "\n"
 last_line (Some ReadFault) = []
@@ -56,12 +57,15 @@ status_for (Some Memory) = status.Memory
 
 -- ---- what is printed
 
--- the report of the history that serves phases in their recorded order, where each client is told what the configured device has for it along that history
+-- the report of the history that serves phases in their recorded order, where each client is told
+-- what the configured device has for it along that history
 abbrev pub report_of : Config → List (List CellEvent) → List ℕ
 report_of config phases = report (said config) config.clients phases
 
--- what a command may print of what is said after the configuration: the report of bodies that serve the complete phases, and why no more are served
-pub record PrintsFor (command : Command) (config : Config) (said : Reading) (printed : List ℕ) : Type 0 where
+-- what a command may print of what is said after the configuration: the report of bodies that serve
+-- the complete phases, and why no more are served
+pub record PrintsFor (command : Command) (config : Config) (said : Reading) (printed : List ℕ)
+    : Type 0 where
   pub bodies : List (List CellEvent)
   pub interleave : Interleaves bodies said.phases
   pub serve : Serves command bodies said.phases
@@ -83,7 +87,8 @@ pub record WritesAll (command : Command) (text : List ℕ) (old new : Option (Li
   pub written : Appends old new printed
 
 -- the report of bodies that serve all the phases was written
-pub record Completes (command : Command) (config : Config) (phases : List (List CellEvent)) (old new : Option (List ℕ)) : Type 0 where
+pub record Completes (command : Command) (config : Config) (phases : List (List CellEvent))
+    (old new : Option (List ℕ)) : Type 0 where
   pub bodies : List (List CellEvent)
   pub interleave : Interleaves bodies phases
   pub serve : Serves command bodies phases
@@ -101,8 +106,10 @@ status_of text = status_for (reading_of_text text).refusal
 
 -- ---- where the source fails
 
--- of octets that were read behind a configuration: no line of them is refused, they complete all their phases but the last, and the report of bodies that serve these was written
-pub record WritesComplete (command : Command) (config : Config) (said : Reading) (old new : Option (List ℕ)) : Type 0 where
+-- of octets that were read behind a configuration: no line of them is refused, they complete all
+-- their phases but the last, and the report of bodies that serve these was written
+pub record WritesComplete (command : Command) (config : Config) (said : Reading)
+    (old new : Option (List ℕ)) : Type 0 where
   pub done : List (List CellEvent)
   pub events : List CellEvent
   pub said_is : said ≡ record { phases = done ++ events ∷ []; refusal = None }
@@ -113,14 +120,18 @@ pub record WritesComplete (command : Command) (config : Config) (said : Reading)
 
 -- before the line `end` nothing was written, and but the next line is missing
 abbrev pub WritesCut : Command → Opening → ℕ → Option (List ℕ) → Option (List ℕ) → Type 0
-WritesCut command (Err e) lines old new = (word : BadWord) × (e ≡ Bad (lines + 1) word) × Appends old new []
-WritesCut command (Ok o) lines old new = WritesComplete command o.config (after_opening (Ok o)) old new
+WritesCut command (Err e) lines old new =
+    (word : BadWord) × (e ≡ Bad (lines + 1) word) × Appends old new []
+WritesCut command (Ok o) lines old new =
+    WritesComplete command o.config (after_opening (Ok o)) old new
 
--- the source failed behind so much of a text, and the report of the phases that are complete there was written
+-- the source failed behind so much of a text, and the report of the phases that are complete there
+-- was written
 pub record IsCut (command : Command) (text : List ℕ) (last old new : Option (List ℕ)) : Type 0 where
   pub octets : List ℕ
   pub read : IsRead text last octets
-  pub written : WritesCut command (opening_of_text (whole_lines octets)) (length (lines_in octets)) old new
+  pub written : WritesCut command (opening_of_text (whole_lines octets))
+      (length (lines_in octets)) old new
 
 -- the statuses that words and text decide
 abbrev pub IsFinal : Status → Type 0

@@ -4,7 +4,8 @@ use Rattle.cell_config.specs.declared.config.Config.{Config}
 use Rattle.cell_record.specs.Recording.{Reading, Opening, after_opening, opening_of_text}
 use Rattle.cell_run.specs.Outcome.{last_line, report_of}
 
--- of what is said after the configuration: the report of the complete phases, and why no more are served
+-- of what is said after the configuration: the report of the complete phases, and why no more are
+-- served
 abbrev pub printed_for : Config → Reading → List ℕ
 printed_for config r = report_of config r.phases ++ last_line r.refusal
 

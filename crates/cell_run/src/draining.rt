@@ -1,13 +1,12 @@
 //! The drains that end a phase.
 
-ghost use Rattle.std.specs.Prelude.{◌≡◌, ◌≤◌, ◌<◌, ◌+◌, ◌-◌, ◌++◌, [], ◌∷◌, ℕ, List, Some, IfOk, length, slice_get};
-ghost use Rattle.mms_types.specs.declared.event.CellEvent.{CellEvent as EventOf};
+ghost use Rattle.std.specs.Prelude.{◌≡◌, ◌≤◌, ◌<◌, ◌+◌, ℕ, Some, IfOk, length, slice_get};
 ghost use Rattle.mms_types.specs.declared.event.CellEvent.TheVariants.{Drain};
 ghost use Rattle.part_table.specs.History.{StartsWith};
 ghost use Rattle.part_table.specs.Known.{HoldsNothing};
 ghost use Rattle.mms_step.specs.Step.{said};
 ghost use Rattle.mms_device.specs.Shared.{Caller, History, IsServed, all_events};
-ghost use Rattle.cell_run.specs.Drained.{HasDrained, HaveDrained};
+ghost use Rattle.cell_run.specs.Drained.{HasDrained, HaveDrained, IsIdle};
 
 use cell_io::Gate;
 use cell_record::ClientOutputs;
@@ -24,7 +23,9 @@ fn drain_out<R: Wait, G: Gate>(rt: &R, device: &Device, pass: &mut Pass<Cell>, g
     requires idle { HoldsNothing pass.old }
     requires left { 0 < pass.old.left }
     requires client { 1 ≤ pass.old.by }
-    ensures { (h : History) × IsServed (Drain pass.old.by) (record pass.old { lost = pass.new.lost }) pass.new result.ticket h
+    ensures { (h : History)
+        × IsServed (Drain pass.old.by) (record pass.old { lost = pass.new.lost })
+        pass.new result.ticket h
         × (result.outputs.items ≡ said device.now.config (all_events h) pass.old.by) }
 {
     for _ in rt.forever() {
@@ -48,7 +49,8 @@ fn drain_one<R: Wait, G: Gate>(
     requires idle { HoldsNothing client.old }
     requires left { 0 < client.old.left }
     requires client { 1 ≤ client.old.by }
-    ensures { HasDrained (said device.now.config) cell.old cell.new client.old client.new result.outputs.items }
+    ensures { HasDrained (said device.now.config)
+        cell.old cell.new client.old client.new result.outputs.items }
 {
     device.meet(cell, client);
     let drained = drain_out(rt, device, client, gate);
@@ -66,9 +68,11 @@ pub(crate) fn drain_each<R: Wait, G: Gate>(
     gate: &G,
 ) -> Result<ClientOutputs, Memory>
     requires cell { cell.old.table ≡ device.now.table }
-    requires clients { (i : ℕ) (p : Caller) → slice_get clients.old i ≡ Some p → (p.table ≡ device.now.table) × (p.by ≡ i + 1) × (0 < p.left) × HoldsNothing p }
-    ensures drained { (common : History) → StartsWith cell.old.seen common
-        → IfOk result (λ outputs. HaveDrained (said device.now.config) common cell.old cell.new clients.old clients.new (length clients.old) outputs) }
+    requires clients { (i : ℕ) (p : Caller) → slice_get clients.old i ≡ Some p
+        → IsIdle device.now.table (i + 1) p }
+    ensures drained { (common : History) → StartsWith cell.old.seen common → IfOk result
+        (HaveDrained (said device.now.config) common
+        cell.old cell.new clients.old clients.new (length clients.old)) }
 {
     let mut outputs = ClientOutputs::new(alloc);
     for client in clients.iter_mut() {

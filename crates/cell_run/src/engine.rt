@@ -1,17 +1,9 @@
 //! A recording, served phase by phase.
 
-ghost use Rattle.std.specs.Prelude.{◌≡◌, ◌≢◌, ◌⊎◌, [], List, false, IfSome, None};
-ghost use Rattle.std.specs.Io.KnownBytes.{Appends, IsAtEnd};
-ghost use Rattle.cell_io.specs.Faults.{Rose};
-ghost use Rattle.cell_io.specs.Held.{IsEndSeen, IsLaterPart};
-ghost use Rattle.cell_io.specs.Prefix.{AppendsPrefix};
-ghost use Rattle.mms_types.specs.declared.event.CellEvent.{CellEvent};
-ghost use Rattle.cell_config.specs.declared.config.Config.{Config};
-ghost use Rattle.cell_record.specs.Grammar.{ReadsRecording};
-ghost use Rattle.cell_record.specs.Progress.{place_of, rest_in, rest_of};
-ghost use Rattle.cell_run.specs.Ending.{EndsServing};
-ghost use Rattle.cell_run.specs.Outcome.{Completes, IsFinal, status_for};
-ghost use Rattle.cell_run.specs.Serving.{WritesAllOf, WritesSomeOf, WritesToStop};
+ghost use Rattle.std.specs.Prelude.{◌≡◌, ◌≢◌, []};
+ghost use Rattle.cell_io.specs.Held.{IsEndSeen};
+ghost use Rattle.cell_run.specs.Ending.{EndsServing, ReportsWhole, seen};
+ghost use Rattle.cell_run.specs.Serving.{Begins, EndsFrom};
 
 use crate::last_line::refuse;
 use crate::server::Server;
@@ -29,13 +21,14 @@ pub(crate) const PHASES: u64 = 4_294_967_296;
 /// `run_cell` does for the word `replay`. It takes no runtime: it waits for nobody, and always returns.
 pub fn serve_alone<S: Source, K: Sink>(alloc: Global, input: &mut S, out: &mut K) -> Status
     // How it ends, and what was read and written.
-    ensures ends { EndsServing Command.Replay result (record { octets = S.left input.old; faults = S.faults input.old }) (record { octets = S.left input.new; faults = S.faults input.new })
-        (record { octets = K.held out.old; faults = K.faults out.old }) (record { octets = K.held out.new; faults = K.faults out.new }) }
+    ensures ends { EndsServing Command.Replay result
+        (seen S.left S.faults input.old) (seen S.left S.faults input.new)
+        (seen K.held K.faults out.old) (seen K.held K.faults out.new) }
 
     // A recording without a fault is served and reported, unless memory runs out.
-    ensures complete { IfSome (S.left input.old) (λ text. (config : Config) (phases : List (List CellEvent))
-        → ReadsRecording text config phases → (Rose (S.faults input.old) (S.faults input.new) → ⊥) → (Rose (K.faults out.old) (K.faults out.new) → ⊥)
-        → (result ≡ Status.Memory) ⊎ ((result ≡ Status.Done) × Completes Command.Replay config phases (K.held out.old) (K.held out.new))) }
+    ensures complete { ReportsWhole Command.Replay (result ≡ Status.Done) (result ≡ Status.Memory)
+        (seen S.left S.faults input.old) (seen S.left S.faults input.new)
+        (seen K.held K.faults out.old) (seen K.held K.faults out.new) }
 {
     let mut recording = match Recording::open(alloc, input) {
         Ok(recording) => recording,
@@ -55,23 +48,13 @@ fn serve_phases<V: Server, S: Source, K: Sink>(
     input: &mut S,
     out: &mut K,
 ) -> Status
-    requires begins { (recording.old.moment ≡ recording.old.config.start.0) × (recording.old.number ≡ 0) × (recording.old.over ≡ false) × (recording.old.refusal ≡ None) }
+    requires begins { Begins recording.old }
     requires seen { IsEndSeen recording.old.held (S.left input.old) }
     requires fresh { V.has_served server.old recording.old.config [] [] }
-
-    // What is still said was written whole, with the status that it gives, or else a prefix of it.
-    ensures whole { IsFinal result → IfSome (rest_of recording.old (S.left input.old)) (λ r. (result ≡ status_for r.refusal) × WritesAllOf V.command recording.old.config r (K.held out.old) (K.held out.new)) }
-    ensures part { IfSome (rest_of recording.old (S.left input.old)) (λ r. WritesSomeOf V.command recording.old.config r (K.held out.old) (K.held out.new)) }
-    ensures ended { result ≡ Status.Done → IsAtEnd (S.left input.new) }
-
-    // Faults.
-    ensures read { result ≡ Status.ReadFault → Rose (S.faults input.old) (S.faults input.new) }
-    ensures stop { result ≡ Status.ReadFault → WritesToStop V.command recording.old.config (rest_in recording.old) recording.old.held (place_of recording.old) (S.left input.old) (S.left input.new) (K.held out.old) (K.held out.new) }
-    ensures write { result ≡ Status.WriteFault → Rose (K.faults out.old) (K.faults out.new) }
+    ensures ends { EndsFrom V.command recording.old result
+        (seen S.left S.faults input.old) (seen S.left S.faults input.new)
+        (seen K.held K.faults out.old) (seen K.held K.faults out.new) }
     ensures unfailed { result ≢ Status.ReadFault → S.faults input.new ≡ S.faults input.old }
-    ensures accepted { result ≢ Status.WriteFault → K.faults out.new ≡ K.faults out.old }
-    ensures left { IsLaterPart (S.left input.old) (S.left input.new) }
-    ensures known { result ≢ Status.Usage }
 {
     for _turn in 0..PHASES {
         let phase = match recording.next_phase(alloc, input) {

@@ -45,7 +45,8 @@ fn leave(job: &mut CellJob, event: CellEvent) -> Result<(), Memory>
     ensures pass { job.new.pass ≡ job.old.pass }
     ensures rest { OnOk result (job.new.rest ≡ job.old.rest ++ event ∷ []) }
     ensures log { job.new.log.items ≡ job.old.log.items }
-    ensures room { OnOk result (length job.new.log.items + length job.new.rest ≤ vec_capacity job.new.log) }
+    ensures room { OnOk result
+        (length job.new.log.items + length job.new.rest ≤ vec_capacity job.new.log) }
 {
     job.rest.push(event)?;
     job.log.reserve(job.rest.len())?;
@@ -66,7 +67,8 @@ fn give(jobs: &mut [CellJob], event: CellEvent) -> Result<(), Memory>
 /// Gives each event to its actor, in their order.
 pub(crate) fn give_out(jobs: &mut [CellJob], events: Vec<CellEvent>) -> Result<(), Memory>
     requires { AreBelow (length jobs.old) events.items }
-    ensures { (passes : List Caller) → AreJobsOf [] passes jobs.old → OnOk result (AreJobsOf events.items passes jobs.new) }
+    ensures { (passes : List Caller) → AreJobsOf [] passes jobs.old
+        → OnOk result (AreJobsOf events.items passes jobs.new) }
 {
     for event in events {
         give(jobs, event)?;
@@ -80,7 +82,8 @@ pub(crate) fn parted(
     jobs: Vec<CellJob>,
 ) -> Result<(Vec<Pass<Cell>>, Vec<Tickets>), Memory>
     ensures passes { IfOk result (λ parted. parted.0.items ≡ map (λ job. job.pass) jobs.items) }
-    ensures logs { IfOk result (λ parted. map vec_items parted.1.items ≡ map (λ job. job.log.items) jobs.items) }
+    ensures logs { IfOk result (λ parted. map vec_items parted.1.items
+        ≡ map (λ job. job.log.items) jobs.items) }
 {
     let mut passes = Vec::new(alloc);
     let mut logs = Vec::new(alloc);

@@ -61,12 +61,15 @@ fn last_line(alloc: Global, refusal: RecordError) -> Result<Vec<u8>, Memory>
 /// Writes why no more of a recording is served. A fault of the source and want of memory have no line: nothing is
 /// written then.
 pub fn refuse<K: Sink>(alloc: Global, out: &mut K, refusal: RecordError) -> Status
-    ensures stated { IsFinal result → (result ≡ status_for (Some refusal)) × Appends (K.held out.old) (K.held out.new) (last_line (Some refusal)) }
+    ensures stated { IsFinal result → (result ≡ status_for (Some refusal))
+        × Appends (K.held out.old) (K.held out.new) (last_line (Some refusal)) }
     ensures partly { AppendsPrefix (K.held out.old) (K.held out.new) (last_line (Some refusal)) }
-    ensures read { result ≡ Status.ReadFault → (refusal ≡ RecordError.ReadFault) × Keeps (K.held out.old) (K.held out.new) }
+    ensures read { result ≡ Status.ReadFault → (refusal ≡ RecordError.ReadFault)
+        × Keeps (K.held out.old) (K.held out.new) }
     ensures write { result ≡ Status.WriteFault → Rose (K.faults out.old) (K.faults out.new) }
     ensures accepted { result ≢ Status.WriteFault → K.faults out.new ≡ K.faults out.old }
-    ensures unstated { ¬ (IsStated refusal) → (result ≡ status_for (Some refusal)) × (out.new ≡ out.old) }
+    ensures unstated { ¬ (IsStated refusal)
+        → (result ≡ status_for (Some refusal)) × (out.new ≡ out.old) }
     ensures known { (result ≢ Status.Done) × (result ≢ Status.Usage) }
 {
     let status = match refusal {

@@ -9,9 +9,14 @@ ghost use Rattle.cell_run.specs.Outcome.{PrintsFor, WritesComplete};
 /// What is printed of a text tells in which history its phases were served, also where a line is refused and told behind
 /// them, and also what is written where the source fails: the bodies are the same, whatever commands served them.
 pub fn what_is_printed_has_one_history()
-    ensures printed { (command other : Command) (text : List ℕ) (config : Config) (printed : List ℕ) → config_of_text text ≡ Some config
-        → (one : PrintsFor command config (reading_of_text text) printed) → (two : PrintsFor other config (reading_of_text text) printed) → one.bodies ≡ two.bodies }
-    ensures cut { (command other : Command) (text : List ℕ) (config : Config) (old new : List ℕ) → config_of_text text ≡ Some config
-        → (one : WritesComplete command config (reading_of_text text) (Some old) (Some new)) → (two : WritesComplete other config (reading_of_text text) (Some old) (Some new))
+    ensures printed { (command other : Command) (text : List ℕ) (config : Config) (printed : List ℕ)
+        → config_of_text text ≡ Some config
+        → (one : PrintsFor command config (reading_of_text text) printed)
+        → (two : PrintsFor other config (reading_of_text text) printed)
+        → one.bodies ≡ two.bodies }
+    ensures cut { (command other : Command) (text : List ℕ) (config : Config) (old new : List ℕ)
+        → config_of_text text ≡ Some config
+        → (one : WritesComplete command config (reading_of_text text) (Some old) (Some new))
+        → (two : WritesComplete other config (reading_of_text text) (Some old) (Some new))
         → one.bodies ≡ two.bodies }
 {}

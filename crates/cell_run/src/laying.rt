@@ -4,7 +4,7 @@ ghost use Rattle.std.specs.Prelude.{◌≡◌, ◌<◌, ◌+◌, ◌-◌, ◌^�
 ghost use Rattle.mms_types.specs.declared.event.CellEvent.{CellEvent as EventOf};
 ghost use Rattle.mms_device.specs.Shared.{History, all_events};
 ghost use Rattle.cell_record.specs.Report.{placed_from};
-ghost use Rattle.cell_run.specs.Laying.{Has, IsLaid, IsServedBy, Stands, filled};
+ghost use Rattle.cell_run.specs.Laying.{AllStand, IsLaid, IsLogged, IsServedBy, filled};
 
 use cell_record::PlacedEvents;
 use mms_device::Tickets;
@@ -32,10 +32,11 @@ fn put(slots: &mut [Option<CellEvent>], index: usize, event: CellEvent)
 
 /// Lays each event in the slot of its place, where the first slot is that of the place `first`.
 fn lay(slots: &mut [Option<CellEvent>], first: u64, log: Tickets)
-    requires { (all : List EventOf) × (length all ≡ length slots.old) × ((q : ℕ × EventOf) → Has log.items q → Stands first all q) }
+    requires { (all : List EventOf) × (length all ≡ length slots.old)
+        × AllStand first all log.items }
     ensures count { length slots.new ≡ length slots.old }
-    ensures laid { (all : List EventOf) (index : ℕ) → ((q : ℕ × EventOf) → Has log.items q → Stands first all q)
-        → (IsLaid slots.old all index) ⊎ ((e : EventOf) → slice_get all index ≡ Some e → Has log.items (first + index, e))
+    ensures laid { (all : List EventOf) (index : ℕ) → AllStand first all log.items
+        → IsLaid slots.old all index ⊎ IsLogged first all log.items index
         → IsLaid slots.new all index }
 {
     let mut log = log;
@@ -48,9 +49,11 @@ fn lay(slots: &mut [Option<CellEvent>], first: u64, log: Tickets)
 
 /// Lays the events of all logs, of a body that begins at the place `first`.
 fn lay_all(slots: &mut [Option<CellEvent>], first: u64, logs: Vec<Tickets>)
-    requires body { (body : History) × (length body ≡ length slots.old) × IsServedBy first (map vec_items logs.items) body }
+    requires body { (body : History) × (length body ≡ length slots.old)
+        × IsServedBy first (map vec_items logs.items) body }
     ensures count { length slots.new ≡ length slots.old }
-    ensures laid { (body : History) → IsServedBy first (map vec_items logs.items) body → (index : ℕ) → IsLaid slots.new (all_events body) index }
+    ensures laid { (body : History) → IsServedBy first (map vec_items logs.items) body
+        → (index : ℕ) → IsLaid slots.new (all_events body) index }
 {
     for log in logs {
         lay(slots, first, log);
@@ -77,9 +80,11 @@ pub(crate) fn placed(
     count: usize,
     logs: Vec<Tickets>,
 ) -> Result<PlacedEvents, Memory>
-    requires body { (body : History) × (length body ≡ count) × IsServedBy first (map vec_items logs.items) body }
+    requires body { (body : History) × (length body ≡ count)
+        × IsServedBy first (map vec_items logs.items) body }
     requires few { first + count < 2 ^ 64 }
-    ensures { (body : History) → length body ≡ count → IsServedBy first (map vec_items logs.items) body
+    ensures { (body : History) → length body ≡ count
+        → IsServedBy first (map vec_items logs.items) body
         → IfOk result (λ served. served ≡ placed_from first (all_events body)) }
 {
     let mut slots = empty_slots(alloc, count)?;

@@ -1,20 +1,15 @@
 //! A phase that several workers serve.
 
-ghost use Rattle.std.specs.Prelude.{◌≡◌, ◌≤◌, ◌<◌, [], ◌∷◌, ℕ, List, Some, IfOk, length, map, slice_get, vec_items};
+ghost use Rattle.std.specs.Prelude.{◌≡◌, ◌≤◌, ◌<◌, ◌∷◌, ℕ, List, Some, IfOk, length, map, slice_get, vec_items};
 ghost use Rattle.part_table.specs.History.{StartsWith};
-ghost use Rattle.part_table.specs.Known.{HoldsNothing, IsTrueOf};
-ghost use Rattle.mms_types.specs.declared.event.CellEvent.{CellEvent as EventOf};
-ghost use Rattle.cell_config.specs.declared.config.Config.{Config as ConfigOf};
+ghost use Rattle.part_table.specs.Known.{IsTrueOf};
 ghost use Rattle.mms_device.specs.Making.{MayMake};
 ghost use Rattle.mms_step.specs.Step.{said};
 ghost use Rattle.mms_device.specs.Shared.{Caller, History};
-ghost use Rattle.mms_device.specs.Turns.{CanServe, IsFit};
-ghost use Rattle.mms_device.specs.declared.turns.CellJob.{CellJob as JobOf};
-ghost use Rattle.cell_record.specs.History.{events_of};
-ghost use Rattle.cell_run.specs.Drained.{DrainAll};
+ghost use Rattle.cell_run.specs.Drained.{DrainAll, IsIdle};
 ghost use Rattle.cell_run.specs.Jobs.{AreBelow};
-ghost use Rattle.cell_run.specs.Running.{HasRun, HaveServed, IsWhole, MayRun};
-ghost use Rattle.cell_run.specs.Serving.{ServesPhase};
+ghost use Rattle.cell_run.specs.Running.{AreReady, AreServed, CanServeAll, HasRun, HaveServed, MayRun};
+ghost use Rattle.cell_run.specs.Serving.{TellsPhase};
 
 use crate::crew::Crew;
 use crate::draining::drain_each;
@@ -50,11 +45,10 @@ fn serve_jobs<R: Threads + Wait + Sync, G: Gate + Sync>(
     workers: u32,
     gate: &G,
 ) -> Result<Vec<CellJob>, Memory>
-    requires fit { (i : ℕ) (job : JobOf) → slice_get jobs.items i ≡ Some job → IsFit device.now job × (job.log.items ≡ []) }
+    requires fit { AreReady device.now jobs.items }
     requires workers { (1 ≤ workers) × (workers ≤ 16) }
     ensures count { IfOk result (λ back. length back.items ≡ length jobs.items) }
-    ensures whole { IfOk result (λ back. (i : ℕ) (a b : JobOf) → slice_get jobs.items i ≡ Some a → slice_get back.items i ≡ Some b
-        → (b.rest ≡ []) × IsWhole device.now a.rest a.pass b.pass b.log.items) }
+    ensures whole { IfOk result (λ back. AreServed device.now jobs.items back.items) }
 {
     let turns = CellTurns { device, alloc };
     match serve_phase(rt, &turns, jobs, workers, gate) {
@@ -73,10 +67,11 @@ fn serve_all<R: Threads + Wait + Sync, G: Gate + Sync>(
     workers: u32,
     gate: &G,
 ) -> Result<(Vec<Pass<Cell>>, Vec<Tickets>), Memory>
-    requires fit { (i : ℕ) (p : Caller) → slice_get passes.items i ≡ Some p → CanServe device.now p (events_of i events) }
+    requires fit { CanServeAll device.now passes.items events }
     requires below { AreBelow (length passes.items) events }
     requires workers { (1 ≤ workers) × (workers ≤ 16) }
-    ensures { IfOk result (λ served. HaveServed device.now passes.items events served.0.items (map vec_items served.1.items)) }
+    ensures { IfOk result (λ served. HaveServed device.now passes.items events
+        served.0.items (map vec_items served.1.items)) }
 {
     let mut jobs = jobs_of(alloc, passes)?;
     give_out(jobs.as_mut_slice(), events.into_vec())?;
@@ -93,9 +88,11 @@ fn drain_all<R: Wait, G: Gate>(
     gate: &G,
 ) -> Result<ClientOutputs, Memory>
     requires some { 0 < length passes.old }
-    requires passes { (i : ℕ) (p : Caller) → slice_get passes.old i ≡ Some p → (p.table ≡ device.now.table) × (p.by ≡ i) × (0 < p.left) × HoldsNothing p }
-    ensures drained { (common : History) (first : Caller) (clients : List Caller) → passes.old ≡ first ∷ clients → StartsWith first.seen common
-        → IfOk result (λ outputs. DrainAll (said device.now.config) common first clients passes.new outputs) }
+    requires passes { (i : ℕ) (p : Caller) → slice_get passes.old i ≡ Some p
+        → IsIdle device.now.table i p }
+    ensures drained { (common : History) (first : Caller) (clients : List Caller)
+        → passes.old ≡ first ∷ clients → StartsWith first.seen common
+        → IfOk result (DrainAll (said device.now.config) common first clients passes.new) }
 {
     let (front, clients) = passes.split_at_mut(1);
     drain_each(rt, alloc, device, &mut front[0], clients, gate)
@@ -111,8 +108,7 @@ impl Crew {
         gate: &G,
     ) -> Result<Told, Memory>
         requires next { MayRun self.old phase.events }
-        ensures told { (config : ConfigOf) (phases bodies : List (List EventOf)) → HasRun self.old config phases bodies
-            → IfOk result (λ told. ServesPhase config phases bodies phase.number phase.events told (HasRun self.new)) }
+        ensures told { TellsPhase (HasRun self.old) phase result (HasRun self.new) }
     {
         let passes = mem::replace(&mut self.passes, Vec::new(alloc));
         know_all(&passes);

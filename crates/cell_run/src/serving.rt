@@ -5,13 +5,12 @@ ghost use Rattle.std.specs.List.{All};
 ghost use Rattle.std.specs.Io.KnownBytes.{Appends};
 ghost use Rattle.cell_io.specs.Faults.{Rose};
 ghost use Rattle.cell_io.specs.Prefix.{AppendsPrefix};
-ghost use Rattle.mms_types.specs.Actors.{clients_to};
 ghost use Rattle.cell_services.specs.Tables.{last_moment};
 ghost use Rattle.cell_record.specs.EventLine.{IsRecorded};
 ghost use Rattle.cell_record.specs.Grammar.{phase_ms};
 ghost use Rattle.cell_record.specs.History.{drains};
 ghost use Rattle.cell_record.specs.Report.{placed_from};
-ghost use Rattle.cell_run.specs.Along.{AreRecorded, along, taken_along};
+ghost use Rattle.cell_run.specs.Along.{AreRecorded, along, clients_of, taken_along};
 
 use crate::server::Server;
 use cell_record::{ClientOutputs, Phase, PlacedEvents, Told};
@@ -37,8 +36,9 @@ fn serve_events(alloc: Global, device: &mut Whole, events: &[CellEvent]) -> Resu
 #[tactic(auto, using(crate::proofs::Alongside::one_drain))]
 fn drain_clients(alloc: Global, device: &mut Whole) -> Result<ClientOutputs, Memory>
     requires few { device.old.count + 64 < 2 ^ 57 - 1 }
-    ensures taken { IfOk result (λ outputs. outputs ≡ taken_along device.old (clients_to (length device.old.state.clients))) }
-    ensures drained { OnOk result (device.new ≡ along device.old (drains (clients_to (length device.old.state.clients)))) }
+    ensures taken { IfOk result
+        (λ outputs. outputs ≡ taken_along device.old (clients_of device.old)) }
+    ensures drained { OnOk result (device.new ≡ along device.old (drains (clients_of device.old))) }
 {
     let mut outputs = ClientOutputs::new(alloc);
     let clients = device.clients();
@@ -55,9 +55,12 @@ fn serve_whole(alloc: Global, device: &mut Whole, phase: Phase) -> Result<Told, 
     requires time { device.old.state.now + phase_ms phase.events ≤ last_moment }
     requires few { device.old.count + length phase.events + 64 < 2 ^ 57 - 1 }
     ensures number { IfOk result (λ told. told.number ≡ phase.number) }
-    ensures served { IfOk result (λ told. told.served ≡ placed_from (device.old.count + 1) phase.events) }
-    ensures outputs { IfOk result (λ told. told.outputs ≡ taken_along (along device.old phase.events) (clients_to (length device.old.state.clients))) }
-    ensures device { OnOk result (device.new ≡ along device.old (phase.events ++ drains (clients_to (length device.old.state.clients)))) }
+    ensures served { IfOk result
+        (λ told. told.served ≡ placed_from (device.old.count + 1) phase.events) }
+    ensures outputs { IfOk result (λ told. told.outputs
+        ≡ taken_along (along device.old phase.events) (clients_of device.old)) }
+    ensures device { OnOk result (device.new
+        ≡ along device.old (phase.events ++ drains (clients_of device.old))) }
 {
     let first = device.count() + 1;
     let events = phase.events.into_vec();

@@ -1,9 +1,9 @@
 //! A recording that is made phase by phase, served by several workers, and counted.
 
-ghost use Rattle.std.specs.Prelude.{◌≡◌, ◌≤◌, ◌<◌, ◌+◌, ◌-◌, ◌^◌, ◌++◌, IfOk, OnOk, length, map};
+ghost use Rattle.std.specs.Prelude.{◌≡◌, ◌≤◌, ◌<◌, ◌+◌, ◌-◌, ◌^◌, ◌++◌, IfOk, OnOk, length};
 ghost use Rattle.cell_stress.specs.Counts.{events_in, pdus_in, requests_in};
-ghost use Rattle.cell_run.specs.Counted.{AreFew, HasCounted, count_line, lines_of};
-ghost use Rattle.cell_run.specs.Ending.{EndsStress, WritesLines};
+ghost use Rattle.cell_run.specs.Counted.{AreFew, HasCounted, count_line, events_told, lines_for};
+ghost use Rattle.cell_run.specs.Ending.{EndsStress, WritesLines, seen};
 
 use crate::crew::Crew;
 use crate::status::Status;
@@ -44,8 +44,8 @@ impl Numbers {
         requires few { AreFew self }
         requires clients { length told.now.outputs ≤ 64 }
         ensures phases { result.phases ≡ self.phases + 1 }
-        ensures events { result.events ≡ self.events + events_in (map (λ placed. placed.1) told.now.served) }
-        ensures requests { result.requests ≡ self.requests + requests_in (map (λ placed. placed.1) told.now.served) }
+        ensures events { result.events ≡ self.events + events_in (events_told told.now) }
+        ensures requests { result.requests ≡ self.requests + requests_in (events_told told.now) }
         ensures replies { result.replies ≡ self.replies + pdus_in told.now.outputs }
         ensures few { AreFew result }
     {
@@ -71,7 +71,7 @@ fn put_line(text: &mut Vec<u8>, name: &[u8], number: u128) -> Result<(), Memory>
 
 /// The four lines.
 fn lines(alloc: Global, numbers: Numbers) -> Result<Vec<u8>, Memory>
-    ensures { IfOk result (λ text. text.items ≡ lines_of numbers.phases numbers.events numbers.requests numbers.replies) }
+    ensures { IfOk result (λ text. text.items ≡ lines_for numbers) }
 {
     let mut text = Vec::new(alloc);
     put_line(&mut text, b"phases", u128::from(numbers.phases))?;
@@ -83,7 +83,8 @@ fn lines(alloc: Global, numbers: Numbers) -> Result<Vec<u8>, Memory>
 
 /// Writes the four lines.
 fn write_lines<K: Sink>(alloc: Global, out: &mut K, numbers: Numbers) -> Status
-    ensures { WritesLines (lines_of numbers.phases numbers.events numbers.requests numbers.replies) result (record { octets = K.held out.old; faults = K.faults out.old }) (record { octets = K.held out.new; faults = K.faults out.new }) }
+    ensures { WritesLines (lines_for numbers) result
+        (seen K.held K.faults out.old) (seen K.held K.faults out.new) }
 {
     let Ok(text) = lines(alloc, numbers) else {
         return Status::Memory;
@@ -140,7 +141,8 @@ pub fn stress<R: Threads + Wait + Sync, K: Sink, G: Gate + Sync>(
     requires clients { (1 ≤ clients) × (clients ≤ 64) }
     requires rounds { rounds ≤ 1000 }
     requires workers { (1 ≤ workers) × (workers ≤ 16) }
-    ensures ends { EndsStress seed clients rounds result (record { octets = K.held out.old; faults = K.faults out.old }) (record { octets = K.held out.new; faults = K.faults out.new }) }
+    ensures ends { EndsStress seed clients rounds result
+        (seen K.held K.faults out.old) (seen K.held K.faults out.new) }
 {
     match serve_made(rt, alloc, seed, clients, rounds, workers, gate) {
         Ok(numbers) => write_lines(alloc, out, numbers),

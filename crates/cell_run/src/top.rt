@@ -1,16 +1,8 @@
 //! The top call.
 
-ghost use Rattle.std.specs.Prelude.{◌≡◌, ◌⊎◌, ◌∷◌, ℕ, List, IfSome, Some, None};
-ghost use Rattle.std.specs.Io.KnownBytes.{Appends};
-ghost use Rattle.cell_io.specs.Faults.{Rose};
-ghost use Rattle.mms_types.specs.declared.event.CellEvent.{CellEvent};
-ghost use Rattle.cell_config.specs.declared.config.Config.{Config};
-ghost use Rattle.cell_record.specs.Grammar.{ReadsRecording};
+ghost use Rattle.std.specs.Prelude.{◌≡◌, ℕ, Some, None};
 ghost use Rattle.cell_words.specs.Words.{command_of as command_in, texts};
-ghost use Rattle.cell_run.specs.Bodies.{ReadsInput};
-ghost use Rattle.cell_run.specs.Counted.{WritesCounts};
-ghost use Rattle.cell_run.specs.Outcome.{Completes};
-ghost use Rattle.cell_run.specs.Ending.{Ends, EndsUsage, EndsWith};
+ghost use Rattle.cell_run.specs.Ending.{CompletesFor, CountsFor, Ends, EndsUsage, EndsWith, seen};
 
 use crate::engine::serve_alone;
 use crate::status::Status;
@@ -24,7 +16,8 @@ use std::thread::Threads;
 
 /// Writes how the command is used.
 fn usage<K: Sink>(out: &mut K) -> Status
-    ensures ends { EndsUsage result (record { octets = K.held out.old; faults = K.faults out.old }) (record { octets = K.held out.new; faults = K.faults out.new }) }
+    ensures ends { EndsUsage result
+        (seen K.held K.faults out.old) (seen K.held K.faults out.new) }
 {
     match write_all(
         out,
@@ -44,10 +37,13 @@ fn serve<R: Threads + Wait + Sync, S: Source, K: Sink, G: Gate + Sync>(
     out: &mut K,
     gate: &G,
 ) -> Status
-    ensures ends { Ends (command_in (texts words.now)) result (record { octets = S.left input.old; faults = S.faults input.old }) (record { octets = S.left input.new; faults = S.faults input.new })
-        (record { octets = K.held out.old; faults = K.faults out.old }) (record { octets = K.held out.new; faults = K.faults out.new }) }
+    ensures ends { Ends (command_in (texts words.now)) result
+        (seen S.left S.faults input.old) (seen S.left S.faults input.new)
+        (seen K.held K.faults out.old) (seen K.held K.faults out.new) }
     ensures nothing_read { command_in (texts words.now) ≡ None → input.new ≡ input.old }
-    ensures unread { (seed clients rounds workers : ℕ) → command_in (texts words.now) ≡ Some (Command.Stress seed clients rounds workers) → input.new ≡ input.old }
+    ensures unread { (seed clients rounds workers : ℕ)
+        → command_in (texts words.now) ≡ Some (Command.Stress seed clients rounds workers)
+        → input.new ≡ input.old }
 {
     match command_of(alloc, words) {
         None => usage(out),
@@ -75,7 +71,7 @@ fn serve<R: Threads + Wait + Sync, S: Source, K: Sink, G: Gate + Sync>(
 /// random words of a seed (`cell_stress`), serves it as `run` does, and writes how many phases, events and confirmed
 /// requests its history has, and how many PDUs were sent along it. These numbers are the same whatever history came
 /// about (`stress_laws`), and any history keeps the clause, so that none tells that they were counted on the workers; a
-/// test does. Each caller of the device passes `gate`.
+/// test does. Each caller of the device passes `gate`: that it does, and that there are N workers, tests show as well.
 ///
 /// | status | comes | written |
 /// |---|---|---|
@@ -100,21 +96,24 @@ pub fn run_cell<R: Threads + Wait + Sync, S: Source, K: Sink, G: Gate + Sync>(
     gate: &G,
 ) -> u8
     // How it ends by the words, with which status, and what was read and written.
-    ensures ends { EndsWith (command_in (texts words.now)) result (record { octets = S.left input.old; faults = S.faults input.old }) (record { octets = S.left input.new; faults = S.faults input.new })
-        (record { octets = K.held out.old; faults = K.faults out.old }) (record { octets = K.held out.new; faults = K.faults out.new }) }
+    ensures ends { EndsWith (command_in (texts words.now)) result
+        (seen S.left S.faults input.old) (seen S.left S.faults input.new)
+        (seen K.held K.faults out.old) (seen K.held K.faults out.new) }
 
     // Words of no command read nothing, nor does `stress`.
     ensures nothing_read { command_in (texts words.now) ≡ None → input.new ≡ input.old }
-    ensures unread { (seed clients rounds workers : ℕ) → command_in (texts words.now) ≡ Some (Command.Stress seed clients rounds workers) → input.new ≡ input.old }
+    ensures unread { (seed clients rounds workers : ℕ)
+        → command_in (texts words.now) ≡ Some (Command.Stress seed clients rounds workers)
+        → input.new ≡ input.old }
 
     // A recording without a fault is served and reported, unless memory runs out.
-    ensures complete { (command : Command) → ReadsInput command → command_in (texts words.now) ≡ Some command → IfSome (S.left input.old) (λ text. (config : Config) (phases : List (List CellEvent))
-        → ReadsRecording text config phases → (Rose (S.faults input.old) (S.faults input.new) → ⊥) → (Rose (K.faults out.old) (K.faults out.new) → ⊥)
-        → (result ≡ 3) ⊎ ((result ≡ 0) × Completes command config phases (K.held out.old) (K.held out.new))) }
+    ensures complete { CompletesFor (command_in (texts words.now)) result
+        (seen S.left S.faults input.old) (seen S.left S.faults input.new)
+        (seen K.held K.faults out.old) (seen K.held K.faults out.new) }
 
     // And where the sink doesn't fail, `stress` writes its four lines.
-    ensures counted { (seed clients rounds workers : ℕ) → command_in (texts words.now) ≡ Some (Command.Stress seed clients rounds workers) → (Rose (K.faults out.old) (K.faults out.new) → ⊥)
-        → (result ≡ 3) ⊎ ((result ≡ 0) × WritesCounts seed clients rounds (K.held out.old) (K.held out.new)) }
+    ensures counted { CountsFor (command_in (texts words.now)) result
+        (seen K.held K.faults out.old) (seen K.held K.faults out.new) }
 {
     serve(rt, alloc, words, input, out, gate).code()
 }

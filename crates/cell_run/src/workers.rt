@@ -1,20 +1,17 @@
 //! A recording, of which several workers serve each phase.
 
 ghost use denote.Param.Send.{IsSync};
-ghost use Rattle.std.specs.Prelude.{◌≡◌, ◌≢◌, ◌≤◌, ◌⊎◌, [], ◌++◌, List, false, IfErr, IfOk, IfSome, None, OnErr, OnOk, Some};
-ghost use Rattle.std.specs.Io.KnownBytes.{Appends, IsAtEnd};
-ghost use Rattle.cell_io.specs.Faults.{Rose, SteadyBut};
-ghost use Rattle.cell_io.specs.Held.{IsEndSeen, IsLaterPart};
+ghost use Rattle.std.specs.Prelude.{◌≡◌, ◌≢◌, ◌≤◌, ◌⊎◌, [], ◌++◌, IfOk, IfSome, OnErr, Some};
+ghost use Rattle.std.specs.Io.KnownBytes.{Appends};
+ghost use Rattle.cell_io.specs.Faults.{Rose};
+ghost use Rattle.cell_io.specs.Held.{IsEndSeen};
 ghost use Rattle.cell_io.specs.Prefix.{AppendsPrefix};
-ghost use Rattle.cell_record.specs.Progress.{place_of, rest_in, rest_of};
-ghost use Rattle.mms_types.specs.declared.event.CellEvent.{CellEvent as EventOf};
-ghost use Rattle.cell_config.specs.declared.config.Config.{Config as ConfigOf};
-ghost use Rattle.cell_run.specs.Ahead.{HasRead, text_told};
-ghost use Rattle.cell_run.specs.Ending.{EndsServing};
 ghost use Rattle.cell_words.specs.declared.words.Command.{Command as CommandOf};
+ghost use Rattle.cell_run.specs.Ahead.{HasRead, Writes, text_told};
+ghost use Rattle.cell_run.specs.Ending.{EndsServing, seen};
 ghost use Rattle.cell_run.specs.Outcome.{IsFinal, last_line, status_for};
 ghost use Rattle.cell_run.specs.Running.{HasRun, IsRun, MayRun};
-ghost use Rattle.cell_run.specs.Serving.{ServesPhase, WritesAllOf, WritesSomeOf, WritesToStop};
+ghost use Rattle.cell_run.specs.Serving.{Begins, EndsFrom, TellsPhase};
 
 use crate::crew::Crew;
 use crate::engine::PHASES;
@@ -39,8 +36,9 @@ pub fn run<R: Threads + Wait + Sync, S: Source, K: Sink, G: Gate + Sync>(
     gate: &G,
 ) -> Status
     requires workers { (1 ≤ workers) × (workers ≤ 16) }
-    ensures ends { EndsServing (Command.Run workers) result (record { octets = S.left input.old; faults = S.faults input.old }) (record { octets = S.left input.new; faults = S.faults input.new })
-        (record { octets = K.held out.old; faults = K.faults out.old }) (record { octets = K.held out.new; faults = K.faults out.new }) }
+    ensures ends { EndsServing (Command.Run workers) result
+        (seen S.left S.faults input.old) (seen S.left S.faults input.new)
+        (seen K.held K.faults out.old) (seen K.held K.faults out.new) }
 {
     let mut recording = match Recording::open(alloc, input) {
         Ok(recording) => recording,
@@ -63,7 +61,8 @@ pub(crate) enum Next {
 
 /// Reads the next phase of a recording.
 fn read_next<S: Source>(alloc: Global, recording: &mut Recording, input: &mut S) -> Next
-    ensures { HasRead recording.old (S.left input.old) (S.faults input.old) result recording.new (S.left input.new) (S.faults input.new) }
+    ensures { HasRead recording.old (S.left input.old) (S.faults input.old)
+        result recording.new (S.left input.new) (S.faults input.new) }
 {
     match recording.next_phase(alloc, input) {
         Ok(Some(phase)) => Next::Phase(phase),
@@ -74,10 +73,8 @@ fn read_next<S: Source>(alloc: Global, recording: &mut Recording, input: &mut S)
 
 /// Writes what there is to tell of a phase, if there is one.
 fn write_told<K: Sink>(alloc: Global, out: &mut K, told: &Option<Told>) -> Result<(), WriteError>
-    ensures whole { OnOk result (Appends (K.held out.old) (K.held out.new) (text_told told.now)) }
-    ensures part { OnErr result (AppendsPrefix (K.held out.old) (K.held out.new) (text_told told.now)) }
-    ensures cause { IfErr result (λ e. e ≡ WriteError.Fault → Rose (K.faults out.old) (K.faults out.new)) }
-    ensures steady { SteadyBut WriteError.Fault (K.faults out.old) (K.faults out.new) result }
+    ensures written { Writes (text_told told.now)
+        (seen K.held K.faults out.old) (seen K.held K.faults out.new) result }
 {
     match told {
         Some(told) => write_phase(alloc, out, told),
@@ -93,12 +90,12 @@ fn write_and_read<S: Source, K: Sink>(
     out: &mut K,
     told: &Option<Told>,
 ) -> Result<Next, WriteError>
-    ensures whole { OnOk result (Appends (K.held out.old) (K.held out.new) (text_told told.now)) }
-    ensures part { OnErr result (AppendsPrefix (K.held out.old) (K.held out.new) (text_told told.now)) }
-    ensures cause { IfErr result (λ e. e ≡ WriteError.Fault → Rose (K.faults out.old) (K.faults out.new)) }
-    ensures steady { SteadyBut WriteError.Fault (K.faults out.old) (K.faults out.new) result }
+    ensures written { Writes (text_told told.now)
+        (seen K.held K.faults out.old) (seen K.held K.faults out.new) result }
     ensures unread { OnErr result ((recording.new ≡ recording.old) × (input.new ≡ input.old)) }
-    ensures read { IfOk result (λ next. HasRead recording.old (S.left input.old) (S.faults input.old) next recording.new (S.left input.new) (S.faults input.new)) }
+    ensures read { IfOk result
+        (λ next. HasRead recording.old (S.left input.old) (S.faults input.old)
+        next recording.new (S.left input.new) (S.faults input.new)) }
 {
     write_told(alloc, out, told)?;
     Ok(read_next(alloc, recording, input))
@@ -111,9 +108,12 @@ fn finish<K: Sink>(
     told: &Option<Told>,
     refusal: Option<RecordError>,
 ) -> Status
-    ensures stated { IsFinal result → (result ≡ status_for refusal) × Appends (K.held out.old) (K.held out.new) (text_told told.now ++ last_line refusal) }
-    ensures partly { AppendsPrefix (K.held out.old) (K.held out.new) (text_told told.now ++ last_line refusal) }
-    ensures read { result ≡ Status.ReadFault → (refusal ≡ Some RecordError.ReadFault) × Appends (K.held out.old) (K.held out.new) (text_told told.now) }
+    ensures stated { IsFinal result → (result ≡ status_for refusal)
+        × Appends (K.held out.old) (K.held out.new) (text_told told.now ++ last_line refusal) }
+    ensures partly { AppendsPrefix (K.held out.old) (K.held out.new)
+        (text_told told.now ++ last_line refusal) }
+    ensures read { result ≡ Status.ReadFault → (refusal ≡ Some RecordError.ReadFault)
+        × Appends (K.held out.old) (K.held out.new) (text_told told.now) }
     ensures write { result ≡ Status.WriteFault → Rose (K.faults out.old) (K.faults out.new) }
     ensures accepted { result ≢ Status.WriteFault → K.faults out.new ≡ K.faults out.old }
     ensures known { result ≢ Status.Usage }
@@ -142,34 +142,34 @@ fn serve_beside<R: Threads + Wait + Sync, S: Source, K: Sink, G: Gate + Sync>(
     told: &Option<Told>,
 ) -> (Result<Told, Memory>, Result<Next, WriteError>)
     requires next { MayRun crew.old phase.events }
-    ensures told { (config : ConfigOf) (phases bodies : List (List EventOf)) → HasRun crew.old config phases bodies
-        → IfOk result.0 (λ told. ServesPhase config phases bodies phase.number phase.events told (HasRun crew.new)) }
-    ensures whole { OnOk result.1 (Appends (K.held out.old) (K.held out.new) (text_told told.now)) }
-    ensures part { OnErr result.1 (AppendsPrefix (K.held out.old) (K.held out.new) (text_told told.now)) }
-    ensures cause { IfErr result.1 (λ e. e ≡ WriteError.Fault → Rose (K.faults out.old) (K.faults out.new)) }
-    ensures steady { SteadyBut WriteError.Fault (K.faults out.old) (K.faults out.new) result.1 }
+    ensures told { TellsPhase (HasRun crew.old) phase result.0 (HasRun crew.new) }
+    ensures written { Writes (text_told told.now)
+        (seen K.held K.faults out.old) (seen K.held K.faults out.new) result.1 }
     ensures unread { OnErr result.1 ((recording.new ≡ recording.old) × (input.new ≡ input.old)) }
-    ensures read { IfOk result.1 (λ next. HasRead recording.old (S.left input.old) (S.faults input.old) next recording.new (S.left input.new) (S.faults input.new)) }
+    ensures read { IfOk result.1
+        (λ next. HasRead recording.old (S.left input.old) (S.faults input.old)
+        next recording.new (S.left input.new) (S.faults input.new)) }
 {
     let mut phase = Some(phase);
     let mut served = Err(Memory::wanting());
     let mut ahead = Err(WriteError::Memory);
     let mut serving = ||
         requires { IsSync R.row × IsSync G.row × IfSome phase (λ p. MayRun crew.now p.events) }
-        ensures { IfSome phase.entry (λ p. (config : ConfigOf) (phases bodies : List (List EventOf)) → HasRun crew.entry.now config phases bodies
-            → IfOk served.exit (λ told. ServesPhase config phases bodies p.number p.events told (HasRun crew.exit.now))) }
+        ensures { IfSome phase.entry
+            (λ p. TellsPhase (HasRun crew.entry.now) p served.exit (HasRun crew.exit.now)) }
     {
         if let Some(phase) = phase.take() {
             served = crew.serve(rt, alloc, phase, gate);
         }
     };
     let mut beside = ||
-        ensures whole { OnOk ahead.exit (Appends (K.held out.entry.now) (K.held out.exit.now) (text_told told.entry.now)) }
-        ensures part { OnErr ahead.exit (AppendsPrefix (K.held out.entry.now) (K.held out.exit.now) (text_told told.entry.now)) }
-        ensures cause { IfErr ahead.exit (λ e. e ≡ WriteError.Fault → Rose (K.faults out.entry.now) (K.faults out.exit.now)) }
-        ensures steady { SteadyBut WriteError.Fault (K.faults out.entry.now) (K.faults out.exit.now) ahead.exit }
-        ensures unread { OnErr ahead.exit ((recording.exit.now ≡ recording.entry.now) × (input.exit.now ≡ input.entry.now)) }
-        ensures read { IfOk ahead.exit (λ next. HasRead recording.entry.now (S.left input.entry.now) (S.faults input.entry.now) next recording.exit.now (S.left input.exit.now) (S.faults input.exit.now)) }
+        ensures written { Writes (text_told told.entry.now)
+            (seen K.held K.faults out.entry.now) (seen K.held K.faults out.exit.now) ahead.exit }
+        ensures unread { OnErr ahead.exit ((recording.exit.now ≡ recording.entry.now)
+            × (input.exit.now ≡ input.entry.now)) }
+        ensures read { IfOk ahead.exit (λ next.
+            HasRead recording.entry.now (S.left input.entry.now) (S.faults input.entry.now)
+            next recording.exit.now (S.left input.exit.now) (S.faults input.exit.now)) }
     {
         ahead = write_and_read(alloc, recording, input, out, told);
     };
@@ -190,27 +190,15 @@ fn run_phases<R: Threads + Wait + Sync, S: Source, K: Sink, G: Gate + Sync>(
     out: &mut K,
     gate: &G,
 ) -> Status
-    requires begins { (recording.old.moment ≡ recording.old.config.start.0) × (recording.old.number ≡ 0) × (recording.old.over ≡ false) × (recording.old.refusal ≡ None) }
+    requires begins { Begins recording.old }
     requires seen { IsEndSeen recording.old.held (S.left input.old) }
     requires fresh { HasRun crew.old recording.old.config [] [] }
-
-    // What is still said was written whole, with the status that it gives, or else a prefix of it.
-    ensures whole { (command : CommandOf) → IsRun command → IsFinal result
-        → IfSome (rest_of recording.old (S.left input.old)) (λ r. (result ≡ status_for r.refusal) × WritesAllOf command recording.old.config r (K.held out.old) (K.held out.new)) }
-    ensures part { (command : CommandOf) → IsRun command
-        → IfSome (rest_of recording.old (S.left input.old)) (λ r. WritesSomeOf command recording.old.config r (K.held out.old) (K.held out.new)) }
-    ensures ended { result ≡ Status.Done → IsAtEnd (S.left input.new) }
-
-    // Faults.
-    ensures read { result ≡ Status.ReadFault → Rose (S.faults input.old) (S.faults input.new) }
-    ensures stop { (command : CommandOf) → IsRun command → result ≡ Status.ReadFault
-        → WritesToStop command recording.old.config (rest_in recording.old) recording.old.held (place_of recording.old) (S.left input.old) (S.left input.new) (K.held out.old) (K.held out.new) }
-    ensures write { result ≡ Status.WriteFault → Rose (K.faults out.old) (K.faults out.new) }
+    ensures ends { (command : CommandOf) → IsRun command → EndsFrom command recording.old result
+        (seen S.left S.faults input.old) (seen S.left S.faults input.new)
+        (seen K.held K.faults out.old) (seen K.held K.faults out.new) }
     ensures unfailed { IsFinal result → S.faults input.new ≡ S.faults input.old }
-    ensures once { (S.faults input.new ≡ S.faults input.old) ⊎ Rose (S.faults input.old) (S.faults input.new) }
-    ensures accepted { result ≢ Status.WriteFault → K.faults out.new ≡ K.faults out.old }
-    ensures left { IsLaterPart (S.left input.old) (S.left input.new) }
-    ensures known { result ≢ Status.Usage }
+    ensures once { (S.faults input.new ≡ S.faults input.old)
+        ⊎ Rose (S.faults input.old) (S.faults input.new) }
 {
     let mut told = None;
     let mut next = read_next(alloc, recording, input);

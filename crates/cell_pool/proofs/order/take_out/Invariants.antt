@@ -1,6 +1,6 @@
 use Rattle.std.proofs.Common.{◌≡◌, ◌≤◌, ◌+◌, ◌++◌, length, IfSome, IsTrue, IsFalse, slice_get, vec_capacity}
 use Rattle.std.specs.Vec.Iter.{into_iter_items, into_iter_len}
-use Rattle.cell_pool.specs.Rule.{EachAt}
+use Rattle.cell_pool.specs.Served.{EachAt}
 use Rattle.cell_pool.proofs.Taking.{IsOpen, LiesShort}
 use Rattle.cell_pool.proofs.order.take_out.Given as goal
 

@@ -1,6 +1,7 @@
-use Rattle.std.proofs.Common.{false, IsFalse, refl, ◌≡◌, [], rules, arith, ap}
+use Rattle.std.proofs.Common.{false, refl, ◌≡◌, [], rules, arith, ap}
 use Rattle.crossbeam_queue.specs.Passes.{view}
-use Rattle.cell_pool.specs.Rule.{Waits, IsReady}
+use Rattle.cell_pool.specs.Rule.{Waits}
+use Rattle.cell_pool.specs.Items.{IsReady}
 use Rattle.cell_pool.proofs.Flags.{rests_none}
 use Rattle.cell_pool.proofs.Lists.{popped, All_init, All_last, All_snoc}
 use Rattle.cell_pool.proofs.Owing.{new_keeps}
@@ -18,12 +19,12 @@ loop-kept-preserved g c =
     let i = c.loop-kept.invariant in
     let less = popped _ _ c.pop.result _ c.pop.ensures.items c.in-Some.is in
     let own = new_keeps (λ i. i.place) (view c.another-pass.result) c.in-Some.kept.items c.another-pass.ensures.rule.1 (All_last (λ room. room.items ≡ []) _ _ _ less i.empty) in
-    let ready : IsReady (λ i. i.place) (λ i. i.ended) (λ i. i.short) c.args.queue.now c.another-pass.result false c.in-Some.kept.items × IsFalse false = ((c.another-pass.ensures.queue.1, own.0, own.1, rests_none (λ i. i.ended) (λ i. i.short) c.in-Some.kept.items (All_last (λ room. room.items ≡ []) _ _ _ less i.empty)), refl) in
+    let ready : IsReady c.args.queue.now (record { pass = c.another-pass.result; kept = c.in-Some.kept; is_short = false }) = ((c.another-pass.ensures.queue.1, own.0, own.1, rests_none (λ i. i.ended) (λ i. i.short) c.in-Some.kept.items (All_last (λ room. room.items ≡ []) _ _ _ less i.empty)), refl) in
     record {
       queue = search rules;
       view = search rules;
       count = search rules;
       empty = All_init (λ room. room.items ≡ []) _ _ _ less i.empty;
       room = search rules;
-      crew = All_snoc (λ worker. IsReady (λ i. i.place) (λ i. i.ended) (λ i. i.short) c.args.queue.now worker.pass false worker.kept.items × IsFalse worker.is_short) _ _ _ c.push_reserved.ensures.items i.crew ready;
+      crew = All_snoc (IsReady c.args.queue.now) _ _ _ c.push_reserved.ensures.items i.crew ready;
     }

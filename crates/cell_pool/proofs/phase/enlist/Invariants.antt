@@ -1,7 +1,8 @@
-use Rattle.std.proofs.Common.{false, IsFalse, ◌≡◌, ◌≤◌, ◌+◌, ◌-◌, length, [], vec_capacity}
+use Rattle.std.proofs.Common.{◌≡◌, ◌≤◌, ◌+◌, ◌-◌, length, [], vec_capacity}
 use Rattle.std.specs.List.{All}
 use Rattle.crossbeam_queue.specs.Passes.{view, IsPassOf}
-use Rattle.cell_pool.specs.Rule.{hand, IsReady}
+use Rattle.cell_pool.specs.Rule.{hand}
+use Rattle.cell_pool.specs.Items.{IsReady}
 use Rattle.cell_pool.proofs.phase.enlist.Given as goal
 
 abbrev pub invariant-loop-kept : goal.invariant-loop-kept
@@ -11,7 +12,7 @@ invariant-loop-kept g l = record {
   count : length l.crew.items + length l.rooms.items ≡ length l.fn.rooms.items;
   empty : All (λ room. room.items ≡ []) l.rooms.items;
   room : length l.crew.items + length l.rooms.items ≤ vec_capacity l.crew;
-  crew : All (λ worker. IsReady (λ i. i.place) (λ i. i.ended) (λ i. i.short) l.queue worker.pass false worker.kept.items × IsFalse worker.is_short) l.crew.items;
+  crew : All (IsReady l.queue) l.crew.items;
 }
 
 abbrev pub decreases-loop-kept : goal.decreases-loop-kept

@@ -16,13 +16,15 @@ loop-turn-preserved-in-Done g c = record {
   short = search rules;
 }
 
-pub returns-in-Memory-clause-rests : goal.returns-in-Memory-clause-rests
-returns-in-Memory-clause-rests g c =
-    rests_more (λ i. i.ended) (λ i. i.short) false false true _ _ c.turned-item.result.0 c.push_reserved-in-Memory.ensures.items c.loop-turn.invariant.rests (inr (c.turned-item.ensures.memory c.in-Memory.is).1) (sym (c.turned-item.ensures.memory c.in-Memory.is).1)
-
-pub returns-in-Memory-clause-keeps : goal.returns-in-Memory-clause-keeps
-returns-in-Memory-clause-keeps g c =
-    kept (λ i. i.place) _ _ _ _ c.in-Some-pop_as.item c.turned-item.result.0 c.in-Some-pop_as.ensures.rule.0 c.push_reserved-in-Memory.ensures.items c.turned-item.ensures.place c.loop-turn.invariant.keeps
+pub returns-in-Memory : goal.returns-in-Memory
+returns-in-Memory g c = record {
+  worked = (
+    search rules,
+    search rules,
+    kept (λ i. i.place) _ _ _ _ c.in-Some-pop_as.item c.turned-item.result.0 c.in-Some-pop_as.ensures.rule.0 c.push_reserved-in-Memory.ensures.items c.turned-item.ensures.place c.loop-turn.invariant.keeps,
+    rests_more (λ i. i.ended) (λ i. i.short) false false true _ _ c.turned-item.result.0 c.push_reserved-in-Memory.ensures.items c.loop-turn.invariant.rests (inr (c.turned-item.ensures.memory c.in-Memory.is).1) (sym (c.turned-item.ensures.memory c.in-Memory.is).1),
+  );
+}
 
 pub push_as-requires-clause-rule : goal.push_as-requires-clause-rule
 push_as-requires-clause-rule g c = (puts (λ i. i.place) (λ i. Waits i.ended i.short) _ _ _ c.turned-item.result.0 (let e = ap (λ v. v.parts) c.in-Some-pop_as.ensures.rule.0 in omega (arith, c.loop-turn.invariant.parts)) (c.turned-item.ensures.waits (search rules)), λ items views h at. tt)
@@ -36,14 +38,16 @@ loop-turn-preserved-in-Ok g c = record {
   short = c.loop-turn.invariant.short;
 }
 
-pub returns-then-is_short-clause-keeps : goal.returns-then-is_short-clause-keeps
-returns-then-is_short-clause-keeps g c =
+pub returns-then-is_short : goal.returns-then-is_short
+returns-then-is_short g c = record {
+  worked = (
+    search rules,
+    search rules,
     kept (λ i. i.place) _ _ _ _ c.in-Some-pop_as.item c.turned_out-item.result (c.in-Err.ensures.rule.1 ∙ c.in-Some-pop_as.ensures.rule.0) c.push_reserved-in-Err.ensures.items
-    (c.turned_out-item.ensures.place ∙ ap (λ i. i.place) c.in-Err.ensures.rule.0 ∙ c.turned-item.ensures.place) c.loop-turn.invariant.keeps
-
-pub returns-then-is_short-clause-rests : goal.returns-then-is_short-clause-rests
-returns-then-is_short-clause-rests g c =
-    rests_more (λ i. i.ended) (λ i. i.short) false false true _ _ c.turned_out-item.result c.push_reserved-in-Err.ensures.items c.loop-turn.invariant.rests c.turned_out-item.ensures.rests (sym c.if-is_short.true)
+        (c.turned_out-item.ensures.place ∙ ap (λ i. i.place) c.in-Err.ensures.rule.0 ∙ c.turned-item.ensures.place) c.loop-turn.invariant.keeps,
+    rests_more (λ i. i.ended) (λ i. i.short) false false true _ _ c.turned_out-item.result c.push_reserved-in-Err.ensures.items c.loop-turn.invariant.rests c.turned_out-item.ensures.rests (sym c.if-is_short.true),
+  );
+}
 
 pub loop-turn-preserved : goal.loop-turn-preserved
 loop-turn-preserved g c = record {

@@ -1,4 +1,4 @@
-use Rattle.std.proofs.Common.{◌≡◌, ◌+◌, ◌∷◌, ◌++◌, [], length, None, ◌∙◌, refl, subst, sym, arith, length-append}
+use Rattle.std.proofs.Common.{◌≡◌, ◌+◌, ◌∷◌, ◌++◌, [], length, None, ◌∙◌, ap, inl, refl, rules, subst, sym, arith, length-append}
 use Rattle.std.proofs.KnownBytes.{Appends-nil}
 use Rattle.std.specs.Io.KnownBytes.{IsAtEnd}
 use Rattle.cell_record.specs.Recording.{Reading}
@@ -8,71 +8,48 @@ use Rattle.cell_run.specs.Ahead.{text_told}
 use Rattle.cell_run.specs.Bodies.{Serves}
 use Rattle.cell_run.specs.Outcome.{IsFinal}
 use Rattle.cell_run.specs.Running.{run_interleaves, run_serves}
-use Rattle.cell_run.proofs.Beside.{behind_more, behind_none, done_end, end_all, end_some, may_run, once_read, owes, then_some, then_told, unfailed_end}
-use Rattle.cell_run.proofs.Endings.{rose_first}
+use Rattle.cell_run.proofs.Beside.{behind_more, behind_none, done_end, end_all, end_some, may_run, memory_no_fault, once_read, owes, then_some, then_told, unfailed_end}
+use Rattle.cell_run.proofs.Endings.{once_first, rose_first}
 use Rattle.cell_run.proofs.Fronts.{later_then}
 use Rattle.cell_run.proofs.Phases.{interleaves_length, some_of, text_is, whole_report}
 use Rattle.cell_run.proofs.workers.run_phases.Goals as goal
 
-pub returns-in-End-clause-whole : goal.returns-in-End-clause-whole
-returns-in-End-clause-whole g c = λ command asked final.
+pub returns-in-End-clause-ends : goal.returns-in-End-clause-ends
+returns-in-End-clause-ends g c = λ command asked.
     let d = c.loop-turn.invariant.done in
     let r = c.loop-turn.invariant.read in
     let config = c.args.recording.now.config in
     let serves : Interleaves d.1 d.0 × Serves command d.1 d.0 = (run_interleaves _ config d.0 d.1 d.3, run_serves command d.0 d.1 asked) in
     let h = rw c.in-End.is at r.3 in
-    end_all command config c.finish.result (rest_of c.args.recording.now (g.S.Source.left c.args.input.now)) (rest_of r.0 r.1) d.0 d.1 c.in-End.refusal _ _ _ (text_told c.loop-turn.told) r.2.becomes h.comes.said serves d.4
-    c.finish.ensures.stated final
-
-pub returns-in-End-clause-part : goal.returns-in-End-clause-part
-returns-in-End-clause-part g c = λ command asked.
-    let d = c.loop-turn.invariant.done in
-    let r = c.loop-turn.invariant.read in
-    let config = c.args.recording.now.config in
-    let serves : Interleaves d.1 d.0 × Serves command d.1 d.0 = (run_interleaves _ config d.0 d.1 d.3, run_serves command d.0 d.1 asked) in
-    let h = rw c.in-End.is at r.3 in
-    end_some command config (rest_of c.args.recording.now (g.S.Source.left c.args.input.now)) (rest_of r.0 r.1) d.0 d.1 c.in-End.refusal _ _ _ (text_told c.loop-turn.told) r.2.becomes h.comes.said serves d.4
-    c.finish.ensures.partly
-
-pub returns-in-End-clause-ended : goal.returns-in-End-clause-ended
-returns-in-End-clause-ended g c = λ done.
-    let r = c.loop-turn.invariant.read in
-    let h = rw c.in-End.is at r.3 in
-    let none = done_end c.finish.result c.in-End.refusal done (c.finish.ensures.stated (subst IsFinal (sym done) tt)).0 in
-    let e = h.comes.ended none in
-    subst IsAtEnd (sym e.1) (r.2.seen (r.2.over e.0))
-
-pub returns-in-End-clause-read : goal.returns-in-End-clause-read
-returns-in-End-clause-read g c = λ is.
-    let r = c.loop-turn.invariant.read in
-    let h = rw c.in-End.is at r.3 in
-    h.comes.fault (c.finish.ensures.read is).0 r.2.refusal
-
-pub returns-in-End-clause-stop : goal.returns-in-End-clause-stop
-returns-in-End-clause-stop g c = λ command asked is.
-    let d = c.loop-turn.invariant.done in
-    let r = c.loop-turn.invariant.read in
-    let h = rw c.in-End.is at r.3 in
-    let fault = c.finish.ensures.read is in
-    let s = h.comes.stops fault.0 r.2.refusal in
-    let part : Reading = record { phases = s.events ∷ []; refusal = None } in
+    let f = c.finish.ensures in
     record {
-      done = d.0;
-      events = s.events;
-      end = s.end;
-      most = s.most;
-      stops = r.2.leads (g.S.Source.left c.loop-turn.input) s.end part s.stops;
-      bodies = d.1;
-      interleave = run_interleaves _ c.args.recording.now.config d.0 d.1 d.3;
-      serve = run_serves command d.0 d.1 asked;
-      written = then_told _ _ _ _ _ d.4 fault.1;
+      known = f.known;
+      whole = end_all command config c.finish.result (rest_of c.args.recording.now (g.S.Source.left c.args.input.now)) (rest_of r.0 r.1) d.0 d.1 c.in-End.refusal _ _ _ (text_told c.loop-turn.told) r.2.becomes h.comes.said serves d.4 f.stated;
+      part = end_some command config (rest_of c.args.recording.now (g.S.Source.left c.args.input.now)) (rest_of r.0 r.1) d.0 d.1 c.in-End.refusal _ _ _ (text_told c.loop-turn.told) r.2.becomes h.comes.said serves d.4 f.partly;
+      ended = λ done.
+          let none = done_end c.finish.result c.in-End.refusal done (f.stated (subst IsFinal (sym done) tt)).0 in
+          let e = h.comes.ended none in
+          subst IsAtEnd (sym e.1) (r.2.seen (r.2.over e.0));
+      left = later_then _ _ _ r.2.later r.3.later;
+      read = λ is. h.comes.fault (f.read is).0 r.2.refusal;
+      stop = λ is.
+          let fault = f.read is in
+          let s = h.comes.stops fault.0 r.2.refusal in
+          let part : Reading = record { phases = s.events ∷ []; refusal = None } in
+          record {
+            done = d.0;
+            events = s.events;
+            end = s.end;
+            most = s.most;
+            stops = r.2.leads (g.S.Source.left c.loop-turn.input) s.end part s.stops;
+            bodies = d.1;
+            interleave = serves.0;
+            serve = serves.1;
+            written = then_told _ _ _ _ _ d.4 fault.1;
+          };
+      write = λ is. rose_first _ _ _ c.loop-turn.invariant.writes (f.write is);
+      accepted = λ n. f.accepted n ∙ c.loop-turn.invariant.writes;
     }
-
-pub returns-in-End-clause-write : goal.returns-in-End-clause-write
-returns-in-End-clause-write g c = λ is. rose_first _ _ _ c.loop-turn.invariant.writes (c.finish.ensures.write is)
-
-pub returns-in-End-clause-accepted : goal.returns-in-End-clause-accepted
-returns-in-End-clause-accepted g c = λ n. c.finish.ensures.accepted n ∙ c.loop-turn.invariant.writes
 
 pub returns-in-End-clause-unfailed : goal.returns-in-End-clause-unfailed
 returns-in-End-clause-unfailed g c = λ final.
@@ -83,9 +60,6 @@ returns-in-End-clause-unfailed g c = λ final.
 pub returns-in-End-clause-once : goal.returns-in-End-clause-once
 returns-in-End-clause-once g c =
     let r = c.loop-turn.invariant.read in once_read r.0 _ r.1 _ _ _ _ r.3 r.2.refusal
-
-pub returns-in-End-clause-left : goal.returns-in-End-clause-left
-returns-in-End-clause-left g c = let r = c.loop-turn.invariant.read in later_then _ _ _ r.2.later r.3.later
 
 pub serve_beside-served-requires-clause-next : goal.serve_beside-served-requires-clause-next
 serve_beside-served-requires-clause-next g c κs within =
@@ -110,50 +84,92 @@ loop-turn-init g c =
       writes = refl;
     }
 
-pub returns-in-Err-Fault-clause-part : goal.returns-in-Err-Fault-clause-part
-returns-in-Err-Fault-clause-part g c = λ command asked.
+pub returns-in-Err-Fault-clause-ends : goal.returns-in-Err-Fault-clause-ends
+returns-in-Err-Fault-clause-ends g c = λ command asked.
     let d = c.loop-turn.invariant.done in
     let r = c.loop-turn.invariant.read in
     let config = c.args.recording.now.config in
     let serves : Interleaves d.1 d.0 × Serves command d.1 d.0 = (run_interleaves _ config d.0 d.1 d.3, run_serves command d.0 d.1 asked) in
-    let part = rw c.in-Err-Fault.is at c.serve_beside-served.ensures.part in
-    some_of command config (rest_of c.args.recording.now (g.S.Source.left c.args.input.now)) (rest_of r.0 r.1) d.0 d.1 _ _ r.2.becomes serves (then_some _ _ _ (text_told c.loop-turn.told) _ d.4 part)
-
-pub returns-in-Err-Fault-clause-left : goal.returns-in-Err-Fault-clause-left
-returns-in-Err-Fault-clause-left g c =
-    let r = c.loop-turn.invariant.read in
+    let w = c.serve_beside-served.ensures.written in
+    let part = rw c.in-Err-Fault.is at w.part in
     let unread = rw c.in-Err-Fault.is at c.serve_beside-served.ensures.unread in
-    rw unread.1 (later_then _ _ _ r.2.later r.3.later)
+    let cause = rw c.in-Err-Fault.is at w.cause in
+    record {
+      known = λ e. cc;
+      whole = λ final. absurd final;
+      part = some_of command config (rest_of c.args.recording.now (g.S.Source.left c.args.input.now)) (rest_of r.0 r.1) d.0 d.1 _ _ r.2.becomes serves (then_some _ _ _ (text_told c.loop-turn.told) _ d.4 part);
+      ended = λ e. cc;
+      left = rw unread.1 (later_then _ _ _ r.2.later r.3.later);
+      read = λ e. cc;
+      stop = λ e. cc;
+      write = λ e. rose_first _ _ _ c.loop-turn.invariant.writes (cause (rw c.in-Err-Fault.is at c.in-Err-Fault.field-0-is));
+      accepted = λ n. absurd (n refl);
+    }
 
-pub returns-in-Err-Memory-clause-part : goal.returns-in-Err-Memory-clause-part
-returns-in-Err-Memory-clause-part g c = λ command asked.
+pub returns-in-Err-Memory-clause-ends : goal.returns-in-Err-Memory-clause-ends
+returns-in-Err-Memory-clause-ends g c = λ command asked.
     let d = c.loop-turn.invariant.done in
     let r = c.loop-turn.invariant.read in
     let config = c.args.recording.now.config in
     let serves : Interleaves d.1 d.0 × Serves command d.1 d.0 = (run_interleaves _ config d.0 d.1 d.3, run_serves command d.0 d.1 asked) in
-    let part = rw c.in-Err-Memory.is at c.serve_beside-served.ensures.part in
-    some_of command config (rest_of c.args.recording.now (g.S.Source.left c.args.input.now)) (rest_of r.0 r.1) d.0 d.1 _ _ r.2.becomes serves (then_some _ _ _ (text_told c.loop-turn.told) _ d.4 part)
-
-pub returns-in-Err-Memory-clause-left : goal.returns-in-Err-Memory-clause-left
-returns-in-Err-Memory-clause-left g c =
-    let r = c.loop-turn.invariant.read in
+    let w = c.serve_beside-served.ensures.written in
+    let part = rw c.in-Err-Memory.is at w.part in
     let unread = rw c.in-Err-Memory.is at c.serve_beside-served.ensures.unread in
-    rw unread.1 (later_then _ _ _ r.2.later r.3.later)
+    let steady = rw c.in-Err-Memory.is at w.steady in
+    record {
+      known = λ e. cc;
+      whole = λ final. absurd final;
+      part = some_of command config (rest_of c.args.recording.now (g.S.Source.left c.args.input.now)) (rest_of r.0 r.1) d.0 d.1 _ _ r.2.becomes serves (then_some _ _ _ (text_told c.loop-turn.told) _ d.4 part);
+      ended = λ e. cc;
+      left = rw unread.1 (later_then _ _ _ r.2.later r.3.later);
+      read = λ e. cc;
+      stop = λ e. cc;
+      write = λ e. cc;
+      accepted = λ n. steady (memory_no_fault _ (search rules)) ∙ c.loop-turn.invariant.writes;
+    }
 
-pub returns-in_default-clause-part : goal.returns-in_default-clause-part
-returns-in_default-clause-part g c = λ command asked.
+pub returns-in_default-clause-ends : goal.returns-in_default-clause-ends
+returns-in_default-clause-ends g c = λ command asked.
     let d = c.loop-turn.invariant.done in
     let r = c.loop-turn.invariant.read in
     let config = c.args.recording.now.config in
     let serves : Interleaves d.1 d.0 × Serves command d.1 d.0 = (run_interleaves _ config d.0 d.1 d.3, run_serves command d.0 d.1 asked) in
-    let whole = rw c.in-Ok.is at c.serve_beside-served.ensures.whole in
-    some_of command config (rest_of c.args.recording.now (g.S.Source.left c.args.input.now)) (rest_of r.0 r.1) d.0 d.1 _ _ r.2.becomes serves (whole_report _ _ _ (then_told _ _ _ (text_told c.loop-turn.told) _ d.4 whole))
-
-pub returns-in_default-clause-left : goal.returns-in_default-clause-left
-returns-in_default-clause-left g c =
-    let r = c.loop-turn.invariant.read in
+    let w = c.serve_beside-served.ensures.written in
+    let whole = rw c.in-Ok.is at w.whole in
+    let steady = rw c.in-Ok.is at w.steady in
     let h = rw c.in-Ok.is at c.serve_beside-served.ensures.read in
-    later_then _ _ _ (later_then _ _ _ r.2.later r.3.later) h.later
+    record {
+      known = λ e. cc;
+      whole = λ final. absurd final;
+      part = some_of command config (rest_of c.args.recording.now (g.S.Source.left c.args.input.now)) (rest_of r.0 r.1) d.0 d.1 _ _ r.2.becomes serves (whole_report _ _ _ (then_told _ _ _ (text_told c.loop-turn.told) _ d.4 whole));
+      ended = λ e. cc;
+      left = later_then _ _ _ (later_then _ _ _ r.2.later r.3.later) h.later;
+      read = λ e. cc;
+      stop = λ e. cc;
+      write = λ e. cc;
+      accepted = λ n. steady ∙ c.loop-turn.invariant.writes;
+    }
+
+pub returns-in-Err-Fault-clause-once : goal.returns-in-Err-Fault-clause-once
+returns-in-Err-Fault-clause-once g c =
+    let r = c.loop-turn.invariant.read in
+    let h = rw c.in-Phase.is at r.3 in
+    let unread = rw c.in-Err-Fault.is at c.serve_beside-served.ensures.unread in
+    inl (ap g.S.Source.faults unread.1 ∙ h.comes.1)
+
+pub returns-in-Err-Memory-clause-once : goal.returns-in-Err-Memory-clause-once
+returns-in-Err-Memory-clause-once g c =
+    let r = c.loop-turn.invariant.read in
+    let h = rw c.in-Phase.is at r.3 in
+    let unread = rw c.in-Err-Memory.is at c.serve_beside-served.ensures.unread in
+    inl (ap g.S.Source.faults unread.1 ∙ h.comes.1)
+
+pub returns-in_default-clause-once : goal.returns-in_default-clause-once
+returns-in_default-clause-once g c =
+    let r = c.loop-turn.invariant.read in
+    let h = rw c.in-Phase.is at r.3 in
+    let next = rw c.in-Ok.is at c.serve_beside-served.ensures.read in
+    once_first _ _ _ h.comes.1 (once_read c.loop-turn.recording _ _ _ _ _ _ next h.comes.0.unrefused)
 
 pub loop-turn-preserved : goal.loop-turn-preserved
 loop-turn-preserved g c =
@@ -162,9 +178,9 @@ loop-turn-preserved g c =
     let config = c.args.recording.now.config in
     let phase = c.in-Phase.phase in
     let h = rw c.in-Phase.is at r.3 in
-    let whole = rw c.in-Ok.is at c.serve_beside-served.ensures.whole in
+    let whole = rw c.in-Ok.is at c.serve_beside-served.ensures.written.whole in
     let read = rw c.in-Ok.is at c.serve_beside-served.ensures.read in
-    let steady = rw c.in-Ok.is at c.serve_beside-served.ensures.steady in
+    let steady = rw c.in-Ok.is at c.serve_beside-served.ensures.written.steady in
     let t = rw c.in-Ok-served.is at (c.serve_beside-served.ensures.told config d.0 d.1 d.3) in
     let one = length-append d.0 (phase.events ∷ []) in
     let same = interleaves_length d.1 d.0 (run_interleaves _ config d.0 d.1 d.3) in
