@@ -9,3 +9,5 @@ mod outside;
 mod parts;
 #[cfg(test)]
 mod pool;
+#[cfg(test)]
+mod waiting;
