@@ -1,4 +1,8 @@
 //! The basic encoding rules: elements from octets and back (ITU-T X.690, clause 8).
+//!
+//! The reader gives exactly the elements that the octets hold, and each refusal exactly where it applies. The writer
+//! appends the one shortest spelling. Spellings are read back, are the shortest, say one value, and none begins another
+//! (`laws`).
 #![tactic(auto)]
 
 mod element;

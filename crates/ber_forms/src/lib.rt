@@ -1,4 +1,7 @@
 //! Forms of contents.
+//!
+//! A language of ASN.1 forms with one reading, one relation and one spelling. Readers answer the value of the form,
+//! malformed or too deep, each exactly where it is so. What is spelled is read back and says one value (`laws`).
 #![tactic(auto)]
 
 mod bits;

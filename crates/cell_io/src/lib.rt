@@ -1,5 +1,9 @@
 //! Sources and sinks of octets that count their faults, in memory and over std's readers and
 //! writers, and what stands on them: whole writes, the lines of a source, and text in large pieces.
+//!
+//! Sources and sinks count each call that fails, and nothing else. A fault is told exactly where one more is counted, and
+//! no call is tried again. Lines are those of the text; after a refusal the reader stands in the line where it stopped.
+//! Text goes to a sink whole, or a prefix of it. What isn't put for want of memory leaves the text as it was.
 #![tactic(auto)]
 
 mod ends;

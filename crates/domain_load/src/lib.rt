@@ -1,5 +1,11 @@
 //! Domains, as clients load them and program invocations have them (ISO 9506-1, domain management): the table of them
 //! and their segments.
+//!
+//! A load begins exactly where nothing stands against it. The client's answers do to it exactly what is defined: a segment
+//! is appended whole, and more are asked for or the end of the load. Where the octets would be more than 1,048,576, or the
+//! client refuses, the domain is gone, and a discard is asked for where it has to be. READY comes by the answer to the end
+//! alone. Want of memory, the one refusal of an answer, leaves all as before. A piece of a domain is the octets from a
+//! place on, in a time that doesn't grow with the segments.
 #![tactic(auto)]
 
 mod domain;

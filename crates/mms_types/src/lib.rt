@@ -1,4 +1,9 @@
 //! The words that the crates of the server share: names and their order, PDUs and events.
+//!
+//! Names are checked for the first rule that they break (`Identifier::check`). Keys stand in one total order: scope, then
+//! octets (`keys_stand_in_order`). Errors and option bits have the numbers of one table (`errors_have_their_numbers`,
+//! `options_have_their_numbers`). Whether a value is of a type (`matches`), and how deep both nest, also in a write and in
+//! a definition (`depth`), is told exactly. Values that are equal are one, and so are types (`equal_is_the_same`).
 #![tactic(auto)]
 
 mod access_result;

@@ -1,5 +1,7 @@
 //! The forms of the association's PDUs and of Status, GetNameList and Identify, both ways (ISO 9506-2): each is a
 //! type for `pdu_names::read_form`, `write_form` and `spells_each`.
+//!
+//! The errors that the server answers are of the form (`errors_are_of_the_form`).
 #![tactic(auto)]
 
 mod errors;

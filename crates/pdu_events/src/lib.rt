@@ -4,6 +4,9 @@
 //! ReadJournal, WriteJournal, InitializeJournal, ReportJournalStatus, CreateJournal and DeleteJournal. What changes
 //! without a number to tell is answered by `pdu_names::Null`. `EventServices` is their area, which has them by their
 //! numbers.
+//!
+//! Contents are malformed also where a condition has not what its class needs, or has what it has not. They are too deep
+//! exactly where all before some data in an entry is of its form, and that data nests deeper than 10.
 #![tactic(auto)]
 
 mod changes;

@@ -1,5 +1,9 @@
 //! Forms of contents as types, with all that is said of every form, and the forms that the crates of PDUs share:
 //! leaves, identifiers and names of objects (ISO 9506-2, Identifier and ObjectName).
+//!
+//! Of each form a reader answers the value exactly where the octets are of the form, and is malformed exactly elsewhere
+//! (`read_form`). A writer appends the one spelling, or nothing (`write_form`). Spellings are read back, say one value, and
+//! none begins another (`spells_each`).
 #![tactic(auto)]
 
 mod edition;

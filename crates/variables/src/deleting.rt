@@ -25,16 +25,16 @@ impl Vars {
         self.variables.count(selection)
     }
 
-    #[tactic(auto, using(object_names::proofs::Fewer::still_few))]
     /// Deletes the variables that a selection has, but for those that were configured. It takes no memory.
+    #[tactic(auto, using(object_names::proofs::Fewer::still_few))]
     pub fn delete(&mut self, selection: &Selection<'_>)
         ensures { self.new ≡ without (selected selection.entry.now) self.old }
     {
         self.variables.delete(selection);
     }
 
-    #[tactic(auto, using(object_names::proofs::Fewer::still_few))]
     /// A client is lost: the variables of its association are removed. It takes no memory.
+    #[tactic(auto, using(object_names::proofs::Fewer::still_few))]
     pub fn lose(&mut self, client: u32)
         ensures { self.new ≡ without_client client self.old }
     {

@@ -84,8 +84,8 @@ impl Vars {
         }
     }
 
-    #[tactic(auto, using(crate::proofs::Guarded::guard_of_rows))]
     /// The cells and the variables of a configuration, in its order. The one refusal is want of memory.
+    #[tactic(auto, using(crate::proofs::Guarded::guard_of_rows))]
     pub fn new(alloc: Global, cells: Cells, variables: NamedCells) -> Result<Vars, Memory>
         requires { AreApart cells variables }
         ensures { IfOk result (λ vars. vars ≡ start cells variables) }
