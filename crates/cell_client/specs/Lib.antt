@@ -5,5 +5,4 @@ pub mod Facts
 pub mod Meant
 pub mod Reads
 pub mod Requests
-pub mod ServedLaws
 pub mod Telling

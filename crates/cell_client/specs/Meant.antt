@@ -8,15 +8,15 @@ use Rattle.cell_client.specs.declared.verdict.Came.{Came as CameBorrowed}
 use Rattle.cell_client.specs.declared.verdict.Came.TheVariants as borrowed
 use Rattle.cell_client.specs.declared.acts.Act.{Act}
 use Rattle.cell_client.specs.declared.acts.Act.TheVariants as act
-use Rattle.cell_client.specs.declared.verdict.Said.{Said}
-use Rattle.cell_client.specs.declared.verdict.Said.TheVariants as said
+use Rattle.cell_client.specs.declared.verdict.AtOnce.{AtOnce}
+use Rattle.cell_client.specs.declared.verdict.AtOnce.TheVariants as said
 use Rattle.cell_client.specs.declared.verdict.Found.{Found}
 use Rattle.cell_client.specs.declared.verdict.Found.TheVariants as found
 use Rattle.cell_client.specs.Association.{Verdict, Tells, Takes, Replies, Exhausts, Concludes, Cancels, Aborts, Came, Arrives, Ends, Fails, keeps_open, sends, negotiated, unknown_error}
 use Rattle.cell_client.specs.Effects.{Effect, Sends, Settles}
 use Rattle.cell_client.specs.Requests.{plain_answer, request_told, size_of}
 
-abbrev pub effects_of : Said → List Effect
+abbrev pub effects_of : AtOnce → List Effect
 effects_of said.Nothing = []
 effects_of said.Abort = Sends Abort ∷ []
 effects_of (said.Reject reject) = sends (pdu.Reject reject) ∷ []

@@ -14,7 +14,7 @@ ghost use Rattle.cell_client.specs.Requests.{fits, identity, is_done, plain_answ
 ghost use Rattle.cell_client.specs.Telling.{effect_of, output_count, told_row, wait_count};
 
 use crate::plain::{STATUS, identity};
-use crate::{Act, Found, Said, Told};
+use crate::{Act, AtOnce, ClientTold, Found};
 use association::{ClientPart, Constants, outcome_of};
 use mms_pdu::{
     Writer, put_answer, put_cancel_error, put_conclude_error, put_confirmed_error,
@@ -194,22 +194,22 @@ impl Client {
     }
 
     /// Tells the client something.
-    fn say(&mut self, alloc: Global, said: &Said<'_>) -> Result<(), Memory>
+    fn say(&mut self, alloc: Global, said: &AtOnce<'_>) -> Result<(), Memory>
         ensures told { OnOk result (self.new
             ≡ settled (felt_all (effects_of said.now) self.old.row)) }
         ensures kept { OnErr result (self.new ≡ self.old) }
     {
         match *said {
-            Said::Nothing => {
+            AtOnce::Nothing => {
                 self.part.release();
                 Ok(())
             }
-            Said::Abort => self.abort(),
-            Said::Reject(reject) => self.reject(alloc, reject),
-            Said::Negotiation(proposal) => self.negotiate(alloc, proposal),
-            Said::NoConclusion => self.keep_open(alloc),
-            Said::NoCancel(invoke) => self.deny_cancel(alloc, invoke),
-            Said::Settles(number) => {
+            AtOnce::Abort => self.abort(),
+            AtOnce::Reject(reject) => self.reject(alloc, reject),
+            AtOnce::Negotiation(proposal) => self.negotiate(alloc, proposal),
+            AtOnce::NoConclusion => self.keep_open(alloc),
+            AtOnce::NoCancel(invoke) => self.deny_cancel(alloc, invoke),
+            AtOnce::Settles(number) => {
                 let _settled = self.part.settled(number);
                 self.part.release();
                 Ok(())
@@ -424,17 +424,17 @@ impl Client {
     }
 
     /// The client is told something. An output and a request that waits use the room for one.
-    pub fn tell(&mut self, told: Told)
+    pub fn tell(&mut self, told: ClientTold)
         requires room { output_count told ≤ self.old.output_room }
         requires waiting { wait_count told ≤ self.old.waiting_room }
         ensures { self.new
             ≡ told_row (effect_of told) (output_count told) (wait_count told) self.old }
     {
         match told {
-            Told::Sends(output) => self.part.push(output),
-            Told::Closes => self.part.close(),
-            Told::Waits(request) => self.part.wait_admitted(request),
-            Told::Answers(invoke) => {
+            ClientTold::Sends(output) => self.part.push(output),
+            ClientTold::Closes => self.part.close(),
+            ClientTold::Waits(request) => self.part.wait_admitted(request),
+            ClientTold::Answers(invoke) => {
                 let _waited = self.part.answered(invoke);
             }
         }

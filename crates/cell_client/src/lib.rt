@@ -23,5 +23,5 @@ pub use spelling::{
     answer_octets, answer_within, cancel_response, conclude_error, conclude_response, notification,
     refusal,
 };
-pub use told::{Told, one_told};
-pub use verdict::{Came, Found, Said, verdict_of};
+pub use told::{ClientTold, one_told};
+pub use verdict::{AtOnce, Came, Found, verdict_of};

@@ -8,7 +8,7 @@ ghost use Rattle.cell_client.specs.Effects.{Sends};
 ghost use Rattle.cell_client.specs.Requests.{fits, refuses};
 ghost use Rattle.cell_client.specs.Telling.{effect_of};
 
-use crate::Told;
+use crate::ClientTold;
 use mms_pdu::{
     Writer, put_answer, put_cancel_response, put_conclude_error, put_conclude_response,
     put_confirmed_error, put_event_notification,
@@ -17,10 +17,10 @@ use mms_types::{Answer, ConfirmedError, EventNotification, Memory, Octets, Servi
 use std::alloc::Global;
 
 /// A client is sent a PDU, as it is spelled there.
-fn sent(alloc: Global, out: &Writer) -> Result<Told, Memory>
+fn sent(alloc: Global, out: &Writer) -> Result<ClientTold, Memory>
     ensures { IfOk result (λ told. effect_of told ≡ Sends (What.Octets out.now)) }
 {
-    Ok(Told::Sends(What::Octets(Octets::from_slice(alloc, out.octets())?)))
+    Ok(ClientTold::Sends(What::Octets(Octets::from_slice(alloc, out.octets())?)))
 }
 
 /// The octets of a positive answer.
@@ -39,7 +39,7 @@ pub fn answer_within(
     size: u32,
     invoke: u32,
     answer: &Answer,
-) -> Result<Option<Told>, Memory>
+) -> Result<Option<ClientTold>, Memory>
     ensures { IfOk result (λ told. MatchOption told
         (fits size invoke (Some answer.now) ≡ false)
         (λ sent. (fits size invoke (Some answer.now) ≡ true)
@@ -49,11 +49,11 @@ pub fn answer_within(
     if octets.len() > size as usize {
         return Ok(None);
     }
-    Ok(Some(Told::Sends(What::Octets(octets))))
+    Ok(Some(ClientTold::Sends(What::Octets(octets))))
 }
 
 /// A client is sent a confirmed-Error.
-pub fn refusal(alloc: Global, invoke: u32, error: ServiceError) -> Result<Told, Memory>
+pub fn refusal(alloc: Global, invoke: u32, error: ServiceError) -> Result<ClientTold, Memory>
     ensures { IfOk result (λ told. effect_of told ≡ refuses invoke error) }
 {
     let error = ConfirmedError {
@@ -71,7 +71,7 @@ pub fn notification(
     alloc: Global,
     out: &mut Writer,
     told: &EventNotification,
-) -> Result<Told, Memory>
+) -> Result<ClientTold, Memory>
     ensures { IfOk result (λ sent. effect_of sent ≡ sends (pdu.EventNotification told.now)) }
 {
     out.truncate(0);
@@ -80,7 +80,7 @@ pub fn notification(
 }
 
 /// A client is sent a conclude-Response.
-pub fn conclude_response(alloc: Global) -> Result<Told, Memory>
+pub fn conclude_response(alloc: Global) -> Result<ClientTold, Memory>
     ensures { IfOk result (λ told. effect_of told ≡ sends pdu.ConcludeResponse) }
 {
     let mut out = Writer::new(alloc);
@@ -89,7 +89,7 @@ pub fn conclude_response(alloc: Global) -> Result<Told, Memory>
 }
 
 /// A client is sent a conclude-Error: further communication is required.
-pub fn conclude_error(alloc: Global) -> Result<Told, Memory>
+pub fn conclude_error(alloc: Global) -> Result<ClientTold, Memory>
     ensures { IfOk result (λ told. effect_of told ≡ sends (pdu.ConcludeError further_error)) }
 {
     let mut out = Writer::new(alloc);
@@ -98,7 +98,7 @@ pub fn conclude_error(alloc: Global) -> Result<Told, Memory>
 }
 
 /// A client is sent a cancel-Response.
-pub fn cancel_response(alloc: Global, invoke: u32) -> Result<Told, Memory>
+pub fn cancel_response(alloc: Global, invoke: u32) -> Result<ClientTold, Memory>
     ensures { IfOk result (λ told. effect_of told ≡ sends (pdu.CancelResponse invoke)) }
 {
     let mut out = Writer::new(alloc);

@@ -9,7 +9,7 @@ use std::alloc::Global;
 
 /// What a client is told by an event (ISO 9506-1, environment and general management).
 #[derive(Drop)]
-pub enum Told {
+pub enum ClientTold {
     /// One more output is to be sent.
     Sends(What),
     /// The association is gone.
@@ -20,14 +20,14 @@ pub enum Told {
     Answers(u32),
 }
 
-impl Told {
+impl ClientTold {
     /// Whether it is an output, for which there has to be room.
     pub fn is_output(&self) -> bool
         ensures { result ≡ is_output self.now }
     {
         match self {
-            Told::Sends(_) => true,
-            Told::Closes | Told::Waits(_) | Told::Answers(_) => false,
+            ClientTold::Sends(_) => true,
+            ClientTold::Closes | ClientTold::Waits(_) | ClientTold::Answers(_) => false,
         }
     }
 
@@ -36,14 +36,18 @@ impl Told {
         ensures { result ≡ is_wait self.now }
     {
         match self {
-            Told::Waits(_) => true,
-            Told::Sends(_) | Told::Closes | Told::Answers(_) => false,
+            ClientTold::Waits(_) => true,
+            ClientTold::Sends(_) | ClientTold::Closes | ClientTold::Answers(_) => false,
         }
     }
 }
 
 /// One client is told one thing.
-pub fn one_told(alloc: Global, client: u32, told: Told) -> Result<Vec<(u32, Told)>, Memory>
+pub fn one_told(
+    alloc: Global,
+    client: u32,
+    told: ClientTold,
+) -> Result<Vec<(u32, ClientTold)>, Memory>
     ensures { IfOk result (λ list.
         effects_told list.items ≡ (client, effect_of told) ∷ []) }
 {

@@ -16,7 +16,7 @@ use mms_types::{
 
 /// What a client is told at once.
 #[derive(Clone, Copy)]
-pub enum Said<'a> {
+pub enum AtOnce<'a> {
     Nothing,
     Abort,
     Reject(Reject),
@@ -46,7 +46,7 @@ pub enum Came<'a> {
 #[derive(Clone, Copy)]
 pub enum Found<'a> {
     /// The client is told something, and nothing else comes of it.
-    Tells(Said<'a>),
+    Tells(AtOnce<'a>),
     /// The request of that invokeID is to be served.
     Takes(u32, &'a Request),
     /// The server's request of that number, which is of a load, is answered.
@@ -62,9 +62,9 @@ pub enum Found<'a> {
 /// A request is rejected.
 fn rejects<'a>(invoke: u32, reason: RejectReason) -> Found<'a>
     ensures { result ≡ Found.Tells
-        (Said.Reject (record { invoke = Some invoke; reason = reason })) }
+        (AtOnce.Reject (record { invoke = Some invoke; reason = reason })) }
 {
-    Found::Tells(Said::Reject(Reject {
+    Found::Tells(AtOnce::Reject(Reject {
         invoke: Some(invoke),
         reason,
     }))
@@ -80,8 +80,8 @@ fn idle<'a>(read: &'a Result<Read, Refusal>) -> Found<'a>
                 pdu: Pdu::InitiateRequest(proposal),
                 ..
             },
-        ) => Found::Tells(Said::Negotiation(proposal)),
-        _ => Found::Tells(Said::Abort),
+        ) => Found::Tells(AtOnce::Negotiation(proposal)),
+        _ => Found::Tells(AtOnce::Abort),
     }
 }
 
@@ -113,7 +113,7 @@ fn conclusion<'a>(part: &ClientPart) -> Found<'a>
     ensures { meant result ≡ concluded part.now.row.waiting part.now.row.asked }
 {
     if part.has_waiting() || part.unanswered() > 0 {
-        Found::Tells(Said::NoConclusion)
+        Found::Tells(AtOnce::NoConclusion)
     } else {
         Found::Concludes
     }
@@ -126,16 +126,16 @@ fn cancel<'a>(part: &ClientPart, invoke: u32) -> Found<'a>
     if part.is_waiting(invoke) {
         Found::Cancels(invoke)
     } else {
-        Found::Tells(Said::NoCancel(invoke))
+        Found::Tells(AtOnce::NoCancel(invoke))
     }
 }
 
 /// What answers no request of the server as it was asked is invalid.
 fn invalid<'a>() -> Found<'a>
     ensures { result ≡ Found.Tells
-        (Said.Reject (record { invoke = None; reason = RejectReason.InvalidPdu })) }
+        (AtOnce.Reject (record { invoke = None; reason = RejectReason.InvalidPdu })) }
 {
-    Found::Tells(Said::Reject(Reject {
+    Found::Tells(AtOnce::Reject(Reject {
         invoke: None,
         reason: RejectReason::InvalidPdu,
     }))
@@ -153,7 +153,7 @@ fn answered<'a>(number: u32, asked: Asked, answer: &'a ClientAnswer) -> Found<'a
             Found::Replies(number, Came::Ends)
         }
         (Asked::Discard, ClientAnswer::TerminateDownloadSequence) => {
-            Found::Tells(Said::Settles(number))
+            Found::Tells(AtOnce::Settles(number))
         }
         _ => invalid(),
     }
@@ -165,7 +165,7 @@ fn failed<'a>(number: u32, asked: Asked) -> Found<'a>
 {
     match asked {
         Asked::Segment | Asked::Terminate => Found::Replies(number, Came::Fails),
-        Asked::Discard => Found::Tells(Said::Settles(number)),
+        Asked::Discard => Found::Tells(AtOnce::Settles(number)),
     }
 }
 
@@ -195,10 +195,10 @@ fn reject<'a>(part: &ClientPart, number: Option<u32>) -> Found<'a>
     ensures { meant result ≡ rejected number part.now.row.asked }
 {
     let Some(number) = number else {
-        return Found::Tells(Said::Nothing);
+        return Found::Tells(AtOnce::Nothing);
     };
     match part.asked(number) {
-        None => Found::Tells(Said::Nothing),
+        None => Found::Tells(AtOnce::Nothing),
         Some((asked, _)) => failed(number, asked),
     }
 }
@@ -214,7 +214,7 @@ fn open<'a>(
         ≡ open_verdict values.now part.now.row (pdu_read read.now)) }
 {
     let read = match read {
-        Err(refusal) => return Ok(Found::Tells(Said::Reject(reject_for(*refusal)?))),
+        Err(refusal) => return Ok(Found::Tells(AtOnce::Reject(reject_for(*refusal)?))),
         Ok(read) => read,
     };
     Ok(match &read.pdu {
@@ -238,7 +238,7 @@ fn open<'a>(
         | Pdu::InitiateResponse(_)
         | Pdu::InitiateError(_)
         | Pdu::ConcludeResponse
-        | Pdu::ConcludeError(_) => Found::Tells(Said::Nothing),
+        | Pdu::ConcludeError(_) => Found::Tells(AtOnce::Nothing),
     })
 }
 

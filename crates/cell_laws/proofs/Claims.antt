@@ -3,8 +3,8 @@
 use Rattle.std.proofs.Common.{◌≡◌, ℕ, ◌+◌, inl, inr, Bool, true, false, not, cond, ◌==◌, ◌&&◌, ◌||◌, List, [], ◌∷◌, ◌++◌, map, filter, fold, Option, None, Some, option_map, option_to_list, if◌then◌else◌, refl, sym, ◌∙◌, ap, subst}
 use Rattle.mms_types.specs.declared.moment.Moment.{Moment}
 use Rattle.token_sem.specs.declared.entry.Ask.{Ask}
-use Rattle.token_sem.specs.declared.entry.Outcome.{Outcome}
-use Rattle.token_sem.specs.declared.entry.Outcome.TheVariants.{Refused, Preempts, Gets, TimesOut, WaitsUntil, WaitsForEver}
+use Rattle.token_sem.specs.declared.entry.TakeOutcome.{TakeOutcome}
+use Rattle.token_sem.specs.declared.entry.TakeOutcome.TheVariants.{Refused, Preempts, Gets, TimesOut, WaitsUntil, WaitsForEver}
 use Rattle.token_sem.specs.declared.entry.SemEntry.{SemEntry}
 use Rattle.token_sem.specs.declared.entry.SemState.{SemState}
 use Rattle.token_sem.specs.declared.entry.SemState.TheVariants.{Queued, Owner, Hung}
@@ -132,7 +132,7 @@ single-push (x ∷ es) e none single = (
 pub single-taken : (s : Sem) (ask : Ask) (now : Moment) → Single s.entries → Single (after_take s ask now).entries
 single-taken s ask now single = by_claim (has_claim ask.client s.entries) refl
   where
-    by_outcome : (o : Outcome) → has_claim ask.client s.entries ≡ false → Single (effect_of o s ask now).entries
+    by_outcome : (o : TakeOutcome) → has_claim ask.client s.entries ≡ false → Single (effect_of o s ask now).entries
     by_outcome Refused none = single
     by_outcome (Preempts number) none =
         single-push (without number s.entries) (entry_of (s.made + 1) ask Owner (deadline_after now ask.control))

@@ -12,7 +12,7 @@ use Rattle.association.specs.Admission.{admission, waiting_if}
 use Rattle.association.specs.Client.{ClientRow}
 use Rattle.mms_pdu.specs.Answering.{is_answer}
 use Rattle.mms_pdu.specs.Pdus.{pdu_octets}
-use Rattle.parted_state.specs.Lists.{get_changed}
+use Rattle.parted_state.specs.ListsLaws.{get_changed}
 use Rattle.parted_state.specs.Served.{row_at, reached, delivered}
 use Rattle.cell_client.specs.Association.{sends}
 use Rattle.cell_client.specs.Effects.{Effect, Sends, Opens, Closes, Waits, Answers, Asks, Settles, Drains, felt, server_request}

@@ -15,8 +15,8 @@ use Rattle.mms_types.specs.declared.moment.Moment.{Moment}
 use Rattle.mms_types.specs.declared.semaphore.TakeControl.{TakeControl}
 use Rattle.mms_types.specs.declared.service_error.ServiceError.{ServiceError}
 use Rattle.token_sem.specs.declared.entry.Ask.{Ask}
-use Rattle.token_sem.specs.declared.entry.Outcome.{Outcome}
-use Rattle.token_sem.specs.declared.entry.Outcome.TheVariants.{Refused, Preempts}
+use Rattle.token_sem.specs.declared.entry.TakeOutcome.{TakeOutcome}
+use Rattle.token_sem.specs.declared.entry.TakeOutcome.TheVariants.{Refused, Preempts}
 use Rattle.token_sem.specs.declared.entry.SemEntry.{SemEntry}
 use Rattle.token_sem.specs.declared.entry.SemState.TheVariants.{Hung}
 use Rattle.token_sem.specs.Semaphore.{Loss, after_freeing, after_giving_back, effect_of, granted_entry, granted_to, has_claim, has_token, hung_entry, is_owner, is_queued, next, numbered, outcome_now, owned_by, owner_from, owner_of, without}
@@ -268,7 +268,7 @@ new-number made n low = grind (arith, nat_tests)
 pub take-gone : (client invoke : ℕ) (asked : TakeControl) (now : Moment) (s : Semaphore) (c : SemEntry) → IsSound s → Among (entries_in s) c
     → first_of (take_conditions_in client asked s) ≡ None → preempted_in asked s ≡ Some c → numbered c.number (entries_in (with_take client invoke asked now s)) ≡ None
 take-gone client invoke asked now (Token s) c is a none first =
-    ap (λ (o : Outcome). numbered c.number (effect_of o s ask now).entries) comes
+    ap (λ (o : TakeOutcome). numbered c.number (effect_of o s ask now).entries) comes
     ∙ none-push c.number (without c.number s.entries) _ (new-number s.made c.number (rises-above 0 s.made s.entries c is.rises a).1) (none-without c.number s.entries)
   where
     ask : Ask

@@ -12,7 +12,7 @@ use Rattle.sem_ticks.specs.declared.ticks.Happening.{Happening}
 use Rattle.sem_ticks.proofs.Dated.{undated_is}
 use Rattle.event_cond.specs.Skips.{Saying}
 use Rattle.event_ticks.specs.Settling.{settle}
-use Rattle.event_ticks.specs.declared.ticks.Told.{Told}
+use Rattle.event_ticks.specs.declared.ticks.TurnTold.{TurnTold}
 use Rattle.event_ticks.proofs.Settling.{settle_by}
 use Rattle.cell_ticks.specs.Deadlines.{evaluation, next_due}
 use Rattle.cell_ticks.specs.Parts.{in_semaphores, merged, of_events, of_semaphores, put_in, turning}
@@ -47,7 +47,7 @@ told-more (x ∷ xs) ys = ap (λ (l : List (ℕ × Effect)). dated_told x ++ l) 
 abbrev pub at_semaphores : Moment → List Happening → List DatedHappening
 at_semaphores at happened = map (λ happening. dated at (device.Semaphores happening)) happened
 
-abbrev pub at_conditions : Moment → List Told → List DatedHappening
+abbrev pub at_conditions : Moment → List TurnTold → List DatedHappening
 at_conditions at told = map (λ told. dated at (device.Turns told)) told
 
 semaphores-told : (at : Moment) (happened : List Happening) → all_told (at_semaphores at happened) ≡ sem_told happened
@@ -57,7 +57,7 @@ semaphores-told at (h ∷ rest) = ap (λ (l : List (ℕ × Effect)). happening_t
 pub then-told : (before : List DatedHappening) (at : Moment) (happened : List Happening) → all_told (before ++ at_semaphores at happened) ≡ all_told before ++ sem_told happened
 then-told before at happened = told-more before (at_semaphores at happened) ∙ ap (λ (l : List (ℕ × Effect)). all_told before ++ l) (semaphores-told at happened)
 
-pub conditions-told : (at : Moment) (told : List Told) → AreNotices (all_told (at_conditions at told))
+pub conditions-told : (at : Moment) (told : List TurnTold) → AreNotices (all_told (at_conditions at told))
 conditions-told at [] = tt
 conditions-told at (t ∷ rest) =
     notices-both (dated_told (dated at (device.Turns t))) (all_told (at_conditions at rest)) (told-notices t.turned t.notices) (conditions-told at rest)

@@ -12,7 +12,7 @@ use Rattle.association.specs.Admission.{admission, called_of, waiting_if}
 use Rattle.association.specs.Client.{ClientRow}
 use Rattle.association.specs.Waiting.{AreDistinct, is_waiting, without}
 use Rattle.sem_ticks.specs.declared.granted.Granted.{Granted}
-use Rattle.parted_state.specs.Lists.{get_changed, get_change}
+use Rattle.parted_state.specs.ListsLaws.{get_changed, get_change}
 use Rattle.parted_state.specs.Served.{row_at, reached, delivered}
 use Rattle.cell_client.specs.Effects.{Effect, Sends, Opens, Closes, Waits, Answers, Asks, Settles, Drains, felt, tell}
 use Rattle.cell_services.specs.Services.{grant_told, grants_told}

@@ -42,7 +42,7 @@ use Rattle.mms_time.specs.Semaphores.{Rows}
 use Rattle.mms_time.specs.Services.{take_told}
 use Rattle.mms_time.specs.declared.taking.TakeDone.{TakeDone}
 use Rattle.mms_time.specs.declared.taking.TakeDone.TheVariants as taken
-use Rattle.parted_state.specs.Lists.{get_changed}
+use Rattle.parted_state.specs.ListsLaws.{get_changed}
 use Rattle.parted_state.specs.Served.{done_of, row_at, reached, delivered}
 use Rattle.sem_ticks.specs.Granted.{granted, lost_granted, relinquish_granted}
 use Rattle.sem_ticks.specs.Sound.{AreSound}

@@ -7,7 +7,7 @@ use Rattle.association.specs.Admission.{admission, waiting_if}
 use Rattle.association.specs.Client.{ClientRow}
 use Rattle.association.specs.declared.client_part.NotAdmitted.{NotAdmitted}
 use Rattle.association.specs.declared.waiting.Waiting.{Waiting}
-use Rattle.parted_state.specs.Lists.{get_change, get_changed}
+use Rattle.parted_state.specs.ListsLaws.{get_change, get_changed}
 use Rattle.parted_state.specs.Served.{change, delivered, reached}
 use Rattle.sem_ticks.specs.declared.granted.Granted.{Granted}
 use Rattle.cell_client.specs.Effects.{Effect, Sends, Opens, Closes, Waits, Answers, Drains, Asks, Settles, felt, felt_all, tell}

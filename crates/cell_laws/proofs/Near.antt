@@ -10,8 +10,8 @@ use Rattle.mms_types.specs.declared.semaphore.DefineSemaphore.{DefineSemaphore}
 use Rattle.mms_types.specs.declared.semaphore.TakeControl.{TakeControl}
 use Rattle.token_sem.specs.Semaphore.{Loss, Sem, after_cancel, after_freeing, after_giving_back, deadline_after, deadline_with, deadlines, effect_of, expired_entry, grant_of, granted_entry, granted_to, has_claim, hung_entry, hung_to_preempt, is_queued, loss_of_one, next, numbered, outcome, outcome_later, outcome_now, owned_by, owner_from, owner_of, tokens_held, waits_for, without}
 use Rattle.token_sem.specs.declared.entry.Ask.{Ask}
-use Rattle.token_sem.specs.declared.entry.Outcome.{Outcome}
-use Rattle.token_sem.specs.declared.entry.Outcome.TheVariants.{Refused, Preempts, Gets, TimesOut, WaitsUntil, WaitsForEver}
+use Rattle.token_sem.specs.declared.entry.TakeOutcome.{TakeOutcome}
+use Rattle.token_sem.specs.declared.entry.TakeOutcome.TheVariants.{Refused, Preempts, Gets, TimesOut, WaitsUntil, WaitsForEver}
 use Rattle.token_sem.specs.declared.entry.SemEntry.{SemEntry}
 use Rattle.token_sem.specs.declared.entry.SemState.{SemState}
 use Rattle.token_sem.proofs.Keeping.{Among, among-find}
@@ -235,7 +235,7 @@ module _ (until now : Moment) (le : now.0 ≤ until.0) where
         let is : now.0 + ms ≡ d.0 = ap (λ (m : Moment). m.0) same in
         omega (arith, le, few, is)
 
-    taken_by : (o : Outcome) (s : Sem) → ((d : Moment) → o ≡ WaitsUntil d → IsBy until (Some d)) → AreNear until s.entries → AreNear until (effect_of o s ask now).entries
+    taken_by : (o : TakeOutcome) (s : Sem) → ((d : Moment) → o ≡ WaitsUntil d → IsBy until (Some d)) → AreNear until s.entries → AreNear until (effect_of o s ask now).entries
     taken_by Refused s later all = all
     taken_by (Preempts n) s later all =
         one_more until (without n s.entries) _ (kept until (λ e. not (e.number == n)) s.entries all) (record { control = control; deadline = controlled ask.control control })

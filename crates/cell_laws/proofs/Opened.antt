@@ -15,7 +15,7 @@ use Rattle.event_enrol.specs.declared.enrolment.Enrolment.{Enrolment}
 use Rattle.sem_ticks.specs.declared.granted.Granted.{Granted}
 use Rattle.sem_ticks.specs.declared.ticks.Happening.{Happening}
 use Rattle.sem_ticks.specs.declared.ticks.Happening.TheVariants as happens
-use Rattle.parted_state.specs.Lists.{get_changed}
+use Rattle.parted_state.specs.ListsLaws.{get_changed}
 use Rattle.parted_state.specs.Served.{delivered, reached, row_at}
 use Rattle.cell_ticks.specs.Ticks.{aborted, enrolments_without}
 use Rattle.cell_client.specs.Effects.{Effect, Sends, Opens, Closes, Waits, Answers, Asks, Settles, Drains, felt, tell}

@@ -10,8 +10,8 @@ use Rattle.mms_types.specs.declared.object_name.ObjectName.TheVariants as name
 use Rattle.mms_types.specs.declared.semaphore.TakeControl.{TakeControl}
 use Rattle.mms_types.specs.declared.semaphore.TakeControlAnswer.TheVariants.{NoResult}
 use Rattle.token_sem.specs.declared.entry.Ask.{Ask}
-use Rattle.token_sem.specs.declared.entry.Outcome.{Outcome}
-use Rattle.token_sem.specs.declared.entry.Outcome.TheVariants.{Refused, Preempts, Gets, TimesOut, WaitsUntil, WaitsForEver}
+use Rattle.token_sem.specs.declared.entry.TakeOutcome.{TakeOutcome}
+use Rattle.token_sem.specs.declared.entry.TakeOutcome.TheVariants.{Refused, Preempts, Gets, TimesOut, WaitsUntil, WaitsForEver}
 use Rattle.token_sem.specs.declared.entry.SemEntry.{SemEntry}
 use Rattle.token_sem.specs.declared.entry.SemState.TheVariants.{Queued, Owner}
 use Rattle.token_sem.specs.declared.entry.Taken.TheVariants as token
@@ -82,7 +82,7 @@ holder e h = by_test (is_queued e) refl h
 
 module _ (s : Sem) (ask : Ask) (now : Moment) (rises : Rises 0 s.entries s.made) where
   -- a request that has a token at once changes nothing of those that are queued
-  has-one : (o : Outcome) → outcome s ask now ≡ o → answer_of o (s.made + 1) ask ≡ Ok (token.Granted (grant_to (s.made + 1) ask))
+  has-one : (o : TakeOutcome) → outcome s ask now ≡ o → answer_of o (s.made + 1) ask ≡ Ok (token.Granted (grant_to (s.made + 1) ask))
       → (n : ℕ) → asker_at n (effect_of o s ask now).entries ≡ asker_at n s.entries
   has-one Refused is h n = refl
   has-one (Preempts number) is h n =
@@ -95,7 +95,7 @@ module _ (s : Sem) (ask : Ask) (now : Moment) (rises : Rises 0 s.entries s.made)
   has-one (WaitsUntil deadline) is h n = absurd (cc h)
   has-one WaitsForEver is h n = absurd (cc h)
 
-  waits-one : (o : Outcome) → answer_of o (s.made + 1) ask ≡ Ok (token.Waits (s.made + 1))
+  waits-one : (o : TakeOutcome) → answer_of o (s.made + 1) ask ≡ Ok (token.Waits (s.made + 1))
       → (n : ℕ) → asker_at n (effect_of o s ask now).entries ≡ cond (n == s.made + 1) (Some (ask.client, ask.invoke)) (asker_at n s.entries)
   waits-one Refused h n = absurd (cc h)
   waits-one (Preempts number) h n = absurd (cc h)

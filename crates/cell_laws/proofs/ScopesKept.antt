@@ -36,7 +36,7 @@ use Rattle.variables.specs.Access.{change_named, flagged, with_value, writes, wr
 use Rattle.variables.specs.Definitions as variables
 use Rattle.variables.specs.Rows.{are_there, cell_at, number_named, variable_named}
 use Rattle.variables.specs.Rows as cells
-use Rattle.variables.specs.declared.rows.Cell.{Cell}
+use Rattle.variables.specs.declared.rows.StoredCell.{StoredCell}
 use Rattle.variables.specs.declared.rows.Variable.{Variable}
 use Rattle.variable_lists.specs.Lists as lists
 use Rattle.variable_services.specs.declared.tables.VariableTables.{VariableTables}
@@ -235,7 +235,7 @@ journal_against live client given rows none =
 
 -- ---- a write changes cells alone
 
-named_stay : (o : Option ℕ) (f : Cell → Cell) (rows : cells.Rows) → (change_named o f rows).variables ≡ rows.variables
+named_stay : (o : Option ℕ) (f : StoredCell → StoredCell) (rows : cells.Rows) → (change_named o f rows).variables ≡ rows.variables
 named_stay None f rows = refl
 named_stay (Some number) f rows = refl
 

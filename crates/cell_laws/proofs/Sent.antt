@@ -33,7 +33,7 @@ use Rattle.cell_config.specs.declared.config.Config.{Config}
 use Rattle.mms_time.specs.Services.{take_told}
 use Rattle.mms_time.specs.declared.taking.TakeDone.{TakeDone}
 use Rattle.mms_time.specs.declared.taking.TakeDone.TheVariants as taken
-use Rattle.parted_state.specs.Lists.{get_changed, get_change, length-change}
+use Rattle.parted_state.specs.ListsLaws.{get_changed, get_change, length-change}
 use Rattle.parted_state.specs.Served.{delivered, reached, row_at}
 use Rattle.sem_ticks.specs.Granted.{lost_granted, relinquish_granted}
 use Rattle.sem_ticks.specs.declared.granted.Granted.{Granted}

@@ -3,8 +3,8 @@ use Rattle.std.proofs.Common.{◌≡◌, ℕ, ◌+◌, ◌⊎◌, inl, inr, Bool
 use Rattle.mms_types.specs.declared.moment.Moment.{Moment}
 use Rattle.mms_types.specs.declared.semaphore.TakeControl.{TakeControl}
 use Rattle.token_sem.specs.declared.entry.Ask.{Ask}
-use Rattle.token_sem.specs.declared.entry.Outcome.{Outcome}
-use Rattle.token_sem.specs.declared.entry.Outcome.TheVariants.{Refused, Preempts, Gets, TimesOut, WaitsUntil}
+use Rattle.token_sem.specs.declared.entry.TakeOutcome.{TakeOutcome}
+use Rattle.token_sem.specs.declared.entry.TakeOutcome.TheVariants.{Refused, Preempts, Gets, TimesOut, WaitsUntil}
 use Rattle.token_sem.specs.declared.entry.SemEntry.{SemEntry}
 use Rattle.token_sem.specs.declared.entry.SemState.TheVariants.{Owner}
 use Rattle.token_sem.specs.Semaphore.{Loss, Rises, Sem, after, after_freeing, after_giving_back, before, deadline_after, effect_of, entry_of, granted_entry, granted_to, has_claim, hung_entry, hung_to_preempt, is_hung, is_owner, is_queued, next, outcome, outcome_later, outcome_now, owned_by, owner_from, owner_of, tokens_held, waits_for, without}
@@ -284,7 +284,7 @@ named-hung (Some client) asked es h e =
     three true false d h = absurd (cc h)
     three false b d h = absurd (cc h)
 
-abbrev EqualThen : Sem → Ask → Moment → SemEntry → Outcome → Type 0
+abbrev EqualThen : Sem → Ask → Moment → SemEntry → TakeOutcome → Type 0
 EqualThen s ask now c o = Among (effect_of o s ask now).entries c ⊎ TakenFrom (Token s) (Token (effect_of o s ask now)) ask.client ask.preempt (hung_to_preempt ask.preempt s.entries) c
 
 equal-takes : (s : Sem) (ask : Ask) (now : Moment) (c : SemEntry) → Rises 0 s.entries s.made → Among s.entries c

@@ -14,8 +14,8 @@ use Rattle.cell_record.specs.EventLine.{said_of}
 use Rattle.cell_record.specs.Recording.{Place, Reading, Opened, Opening, behind, front, fits, refused, onto, fresh, is_past, is_much, excess, unless, refusal_of, makes, moved, with_said, reading_of, header_of, setup_in, config_in, config_of_text, setup_of, after_opening, reading_of_text, opening_of_text}
 use Rattle.cell_record.specs.Grammar.{AreShort, text_of, Says, phases_of}
 use Rattle.cell_record.specs.Refused.{HaveNoEnd, NamesLine, all_but_last, EndBefore}
-use Rattle.cell_record.specs.declared.said.Said.{Said}
-use Rattle.cell_record.specs.declared.said.Said.TheVariants.{Nothing, Phase, Happens}
+use Rattle.cell_record.specs.declared.said.LineMeaning.{LineMeaning}
+use Rattle.cell_record.specs.declared.said.LineMeaning.TheVariants.{Nothing, Phase, Happens}
 use Rattle.cell_record.specs.declared.counts.Counts.{Counts}
 use Rattle.cell_record.specs.declared.refusal.BadWord.{BadWord}
 use Rattle.cell_record.specs.declared.refusal.BadWord.TheVariants as bad
@@ -35,12 +35,12 @@ last-onto e (p ∷ []) = refl
 last-onto e (p ∷ q ∷ ps) = refl
 
 -- a line more in front
-line_ends : (s : Said) (r : Reading) (ss : List Said) → r.phases ≡ all_but_last (phases_of ss) → (makes s r).phases ≡ all_but_last (phases_of (s ∷ ss))
+line_ends : (s : LineMeaning) (r : Reading) (ss : List LineMeaning) → r.phases ≡ all_but_last (phases_of ss) → (makes s r).phases ≡ all_but_last (phases_of (s ∷ ss))
 line_ends Nothing r ss h = h
 line_ends Phase r ss h = ap (λ (ps : List (List CellEvent)). [] ∷ ps) h ∙ sym (last-begun (phases_of ss) (some_phase ss))
 line_ends (Happens e) r ss h = ap (onto e) h ∙ sym (last-onto e (phases_of ss))
 
-same_refusal : (s : Said) (r : Reading) → (makes s r).refusal ≡ r.refusal
+same_refusal : (s : LineMeaning) (r : Reading) → (makes s r).refusal ≡ r.refusal
 same_refusal Nothing r = refl
 same_refusal Phase r = refl
 same_refusal (Happens e) r = refl
@@ -53,7 +53,7 @@ excess_names line c x h = by_tests (is_past c) (is_much c) h
     by_tests false true k = let e : TooMuch line ≡ x = cc in subst (λ (y : RecordError). NamesLine y line) e refl
     by_tests false false k = cc
 
-refusal_names : (line : ℕ) (c : Counts) (s : Said) (x : RecordError) → refusal_of line c s ≡ Some x → NamesLine x line
+refusal_names : (line : ℕ) (c : Counts) (s : LineMeaning) (x : RecordError) → refusal_of line c s ≡ Some x → NamesLine x line
 refusal_names line c Nothing x h = cc
 refusal_names line c Phase x h = cc
 refusal_names line c (Happens e) x h = excess_names line c x h
@@ -67,7 +67,7 @@ record Ended (config : Config) (lines : List (List ℕ)) (first : ℕ) (e : Reco
   pub rest : List (List ℕ)
   pub stands : lines ≡ before ++ here ∷ rest
   pub number : NamesLine e (first + length before + 1)
-  pub said : List Said
+  pub said : List LineMeaning
   pub each : Says config before said
   pub ends : phases ≡ all_but_last (phases_of said)
 
@@ -88,7 +88,7 @@ ends_here config l ls first x e n h =
     }
 
 -- the first of them says this
-ends_later : (config : Config) (l : List ℕ) (ls : List (List ℕ)) (first : ℕ) (e : RecordError) (s : Said) (r : Reading) → said_of config (content l) ≡ Ok s → Ended config ls (first + 1) e r.phases
+ends_later : (config : Config) (l : List ℕ) (ls : List (List ℕ)) (first : ℕ) (e : RecordError) (s : LineMeaning) (r : Reading) → said_of config (content l) ≡ Ok s → Ended config ls (first + 1) e r.phases
     → Ended config (l ∷ ls) first e (makes s r).phases
 ends_later config l ls first e s r is k =
     let line : first + 1 + length k.before + 1 ≡ first + length (l ∷ k.before) + 1 = omega arith in
@@ -107,13 +107,13 @@ body_ends : (config : Config) (lines : List (List ℕ)) (p : Place) (c : Counts)
 body_ends config [] p c e h = cc
 body_ends config (l ∷ ls) p c e h = by_fit (λ d k. body_ends config ls (behind p l) d e k) (fits p l) h
   where
-    by_excess : (s : Said) (r : Reading) (o : Option RecordError) → said_of config (content l) ≡ Ok s → (r.refusal ≡ Some e → Ended config ls (p.lines + 1) e r.phases) → refusal_of (p.lines + 1) (moved c s) s ≡ o
+    by_excess : (s : LineMeaning) (r : Reading) (o : Option RecordError) → said_of config (content l) ≡ Ok s → (r.refusal ≡ Some e → Ended config ls (p.lines + 1) e r.phases) → refusal_of (p.lines + 1) (moved c s) s ≡ o
         → (unless o (makes s r)).refusal ≡ Some e → Ended config (l ∷ ls) p.lines e (unless o (makes s r)).phases
     by_excess s r None is ih x k = ends_later config l ls p.lines e s r is (ih (sym (same_refusal s r) ∙ k))
     by_excess s r (Some y) is ih x k = ends_here config l ls p.lines y e (refusal_names (p.lines + 1) (moved c s) s y x) k
 
     by_said : ((d : Counts) → (reading_of config ls (behind p l) d).refusal ≡ Some e → Ended config ls (p.lines + 1) e (reading_of config ls (behind p l) d).phases)
-        → (r : Result Said BadWord) → said_of config (content l) ≡ r → (with_said (p.lines + 1) c r (λ d. reading_of config ls (behind p l) d)).refusal ≡ Some e
+        → (r : Result LineMeaning BadWord) → said_of config (content l) ≡ r → (with_said (p.lines + 1) c r (λ d. reading_of config ls (behind p l) d)).refusal ≡ Some e
         → Ended config (l ∷ ls) p.lines e (with_said (p.lines + 1) c r (λ d. reading_of config ls (behind p l) d)).phases
     by_said ih (Err word) is k = ends_here config l ls p.lines (Bad (p.lines + 1) word) e refl k
     by_said ih (Ok s) is k = by_excess s (reading_of config ls (behind p l) (moved c s)) (refusal_of (p.lines + 1) (moved c s) s) is (ih (moved c s)) refl k

@@ -11,7 +11,7 @@ use Rattle.cell_record.specs.Grammar.{phases_of}
 use Rattle.cell_record.specs.History.{drains, events_of, history}
 use Rattle.cell_record.specs.Refused.{all_but_last}
 use Rattle.cell_record.specs.Report.{report}
-use Rattle.cell_record.specs.declared.said.Said.TheVariants.{Nothing, Phase, Happens}
+use Rattle.cell_record.specs.declared.said.LineMeaning.TheVariants.{Nothing, Phase, Happens}
 
 three_clients : clients_to 3 ≡ 1 ∷ 2 ∷ 3 ∷ []
 three_clients = refl

@@ -14,8 +14,8 @@ use Rattle.cell_record.specs.EventLine.{said_of}
 use Rattle.cell_record.specs.Recording.{onto, moved, refusal_of, counted, excess, header_of, ms_in, octets_in}
 use Rattle.cell_record.specs.Grammar.{text_of, Says, phases_of, pdu_octets, phase_ms, all_ms}
 use Rattle.cell_record.specs.Refused.{HaveNoEnd, InSetup, InEvents, last_phase, IsOver, LacksHeader, LacksConfig, LacksEnd, IsMuchSetup, IsLong, OfEventLine, HasNoForm, HasNoOctets, NamesNoClient, PassesTime, IsMuchPhase, BreaksRule, Refuses}
-use Rattle.cell_record.specs.declared.said.Said.{Said}
-use Rattle.cell_record.specs.declared.said.Said.TheVariants.{Nothing, Phase, Happens}
+use Rattle.cell_record.specs.declared.said.LineMeaning.{LineMeaning}
+use Rattle.cell_record.specs.declared.said.LineMeaning.TheVariants.{Nothing, Phase, Happens}
 use Rattle.cell_record.specs.declared.counts.Counts.{Counts}
 use Rattle.cell_record.specs.declared.refusal.BadWord.{BadWord}
 use Rattle.cell_record.specs.declared.refusal.BadWord.TheVariants as bad
@@ -118,7 +118,7 @@ module _ (before : List (List ℕ)) (here : Option (List ℕ)) where
   from_event o long h = later Long FromEvent o (λ e c. long c.1) h
 
   -- no cause of an event line holds
-  pub no_event : (o : Option RecordError) → ((Cause : Config → List Said → List ℕ → Type 0) → OfEventLine Cause before here → ⊥) → Tells Rule o → Tells FromEvent o
+  pub no_event : (o : Option RecordError) → ((Cause : Config → List LineMeaning → List ℕ → Type 0) → OfEventLine Cause before here → ⊥) → Tells Rule o → Tells FromEvent o
   no_event o none h =
       later Event FromHex o (λ e c. none HasNoForm c.1)
       (later Hex FromClient o (λ e c. none HasNoOctets c.1)
@@ -131,7 +131,7 @@ module _ (before : List (List ℕ)) (here : Option (List ℕ)) where
 pub few_setup : (before setup : List (List ℕ)) → length before ≤ 1 → InSetup before setup → ⊥
 few_setup before setup h i = let k = ap length i.lines in omega (arith, h, k)
 
-pub few_events : (before : List (List ℕ)) (config : Config) (said : List Said) → length before ≤ 1 → InEvents before config said → ⊥
+pub few_events : (before : List (List ℕ)) (config : Config) (said : List LineMeaning) → length before ≤ 1 → InEvents before config said → ⊥
 few_events before config said h i = let k = ap length i.lines in omega (arith, h, k)
 
 pub no_end_there : (xs ys : List (List ℕ)) (l : List ℕ) → HaveNoEnd (xs ++ l ∷ ys) → content l ≡ codes "end" → ⊥
@@ -147,7 +147,7 @@ setup_same before xs ys i j = (tails i.header i.second j.header j.second xs ys (
 pub header_same : (before xs ys : List (List ℕ)) (i : InSetup before xs) (j : InSetup before ys) → i.header ≡ j.header
 header_same before xs ys i j = (tails i.header i.second j.header j.second xs ys (sym i.lines ∙ j.lines)).0
 
-pub not_both : (before setup : List (List ℕ)) (config : Config) (said : List Said) → InSetup before setup → InEvents before config said → ⊥
+pub not_both : (before setup : List (List ℕ)) (config : Config) (said : List LineMeaning) → InSetup before setup → InEvents before config said → ⊥
 not_both before setup config said i j =
     let same = (tails i.header i.second j.header j.second setup (j.setup ++ j.last ∷ j.body) (sym i.lines ∙ j.lines)).2 in
     no_end_there j.setup j.body j.last (subst HaveNoEnd same i.endless) j.is_end
@@ -162,26 +162,26 @@ first_end (x ∷ xs) (y ∷ ys) l m us vs a b c d e =
     let k = first_end xs ys l m us vs a.1 b.1 c d rest in
     (ap (λ (z : List ℕ). z ∷ xs) front ∙ ap (λ (zs : List (List ℕ)). y ∷ zs) k.0, k.1)
 
-abbrev pub says : Said → Result Said BadWord
+abbrev pub says : LineMeaning → Result LineMeaning BadWord
 says s = Ok s
 
-pub ok_same : (s t : Said) → says s ≡ says t → s ≡ t
+pub ok_same : (s t : LineMeaning) → says s ≡ says t → s ≡ t
 ok_same s t e = some_same s t (ap said_in e)
   where
-    said_in : Result Said BadWord → Option Said
+    said_in : Result LineMeaning BadWord → Option LineMeaning
     said_in (Ok s) = Some s
     said_in (Err w) = None
 
-pub says_same : (config : Config) (lines : List (List ℕ)) (ss ts : List Said) → Says config lines ss → Says config lines ts → ss ≡ ts
+pub says_same : (config : Config) (lines : List (List ℕ)) (ss ts : List LineMeaning) → Says config lines ss → Says config lines ts → ss ≡ ts
 says_same config [] [] [] h g = refl
 says_same config [] [] (t ∷ ts) h g = absurd g
 says_same config [] (s ∷ ss) ts h g = absurd h
 says_same config (l ∷ ls) [] ts h g = absurd h
 says_same config (l ∷ ls) (s ∷ ss) [] h g = absurd g
 says_same config (l ∷ ls) (s ∷ ss) (t ∷ ts) h g =
-    ap (λ (z : Said). z ∷ ss) (ok_same s t (sym h.0 ∙ g.0)) ∙ ap (λ (zs : List Said). t ∷ zs) (says_same config ls ss ts h.1 g.1)
+    ap (λ (z : LineMeaning). z ∷ ss) (ok_same s t (sym h.0 ∙ g.0)) ∙ ap (λ (zs : List LineMeaning). t ∷ zs) (says_same config ls ss ts h.1 g.1)
 
-pub events_same : (before : List (List ℕ)) (c d : Config) (ss ts : List Said) → InEvents before c ss → InEvents before d ts → (c ≡ d) × (ss ≡ ts)
+pub events_same : (before : List (List ℕ)) (c d : Config) (ss ts : List LineMeaning) → InEvents before c ss → InEvents before d ts → (c ≡ d) × (ss ≡ ts)
 events_same before c d ss ts i j =
     let t = tails i.header i.second j.header j.second (i.setup ++ i.last ∷ i.body) (j.setup ++ j.last ∷ j.body) (sym i.lines ∙ j.lines) in
     let f = first_end i.setup j.setup i.last j.last i.body j.body i.endless j.endless i.is_end j.is_end t.2 in
@@ -192,24 +192,24 @@ events_same before c d ss ts i j =
     (config, says_same d j.body ss ts each j.each)
 
 -- a cause doesn't hold of an event line, where it doesn't by the configuration and what is said before it
-pub none_of : (Cause : Config → List Said → List ℕ → Type 0) (before : List (List ℕ)) (l : List ℕ) (config : Config) (said : List Said) → InEvents before config said → (Cause config said (content l) → ⊥) → OfEventLine Cause before (Some l) → ⊥
+pub none_of : (Cause : Config → List LineMeaning → List ℕ → Type 0) (before : List (List ℕ)) (l : List ℕ) (config : Config) (said : List LineMeaning) → InEvents before config said → (Cause config said (content l) → ⊥) → OfEventLine Cause before (Some l) → ⊥
 none_of Cause before l config said i never h =
     let u = events_same before h.0 config h.1 said h.2 i in
     let same : h.3 ≡ l = sym (some_same l h.3 h.4) in
-    never (subst (λ (c : Config). Cause c said (content l)) u.0 (subst (λ (s : List Said). Cause h.0 s (content l)) u.1 (subst (λ (x : List ℕ). Cause h.0 h.1 (content x)) same h.5)))
+    never (subst (λ (c : Config). Cause c said (content l)) u.0 (subst (λ (s : List LineMeaning). Cause h.0 s (content l)) u.1 (subst (λ (x : List ℕ). Cause h.0 h.1 (content x)) same h.5)))
 
 -- ---- an event line
 
-pub record Counted (config : Config) (said : List Said) (c : Counts) : Type 0 where
+pub record Counted (config : Config) (said : List LineMeaning) (c : Counts) : Type 0 where
   pub events : c.events ≡ length (last_phase (phases_of said))
   pub octets : c.octets ≡ pdu_octets (last_phase (phases_of said))
   pub moment : c.moment ≡ config.start.0 + all_ms (phases_of said)
 
-abbrev pub outcome : ℕ → Counts → Result Said BadWord → Option RecordError
+abbrev pub outcome : ℕ → Counts → Result LineMeaning BadWord → Option RecordError
 outcome line c (Err word) = Some (Bad line word)
 outcome line c (Ok s) = refusal_of line (moved c s) s
 
-module _ (before : List (List ℕ)) (l : List ℕ) (config : Config) (said : List Said) (c : Counts) (i : InEvents before config said) (k : Counted config said c) where
+module _ (before : List (List ℕ)) (l : List ℕ) (config : Config) (said : List LineMeaning) (c : Counts) (i : InEvents before config said) (k : Counted config said c) where
   abbrev pub at : ℕ
   at = length before + 1
 
@@ -224,12 +224,12 @@ module _ (before : List (List ℕ)) (l : List ℕ) (config : Config) (said : Lis
       (later (Client before (Some l)) (FromClock before (Some l)) o (λ e c. none_of NamesNoClient before l config said i h.2 c.1) t))
 
   -- a line that says no event
-  pub quiet : (s : Said) → said_of config (content l) ≡ Ok s → ((event : CellEvent) → s ≡ Happens event → ⊥) → Tells (FromClock before (Some l)) None
+  pub quiet : (s : LineMeaning) → said_of config (content l) ≡ Ok s → ((event : CellEvent) → s ≡ Happens event → ⊥) → Tells (FromClock before (Some l)) None
   quiet s e never =
       later (Clock before (Some l)) (FromMuch before (Some l)) None (λ x c. none_of PassesTime before l config said i (λ p. never p.0 (ok_same s (Happens p.0) (sym e ∙ p.1))) c.1)
       (later (Much before (Some l)) (Rule before (Some l)) None (λ x c. none_of IsMuchPhase before l config said i (λ p. never p.0 (ok_same s (Happens p.0) (sym e ∙ p.1))) c.1) no_rule)
 
-  abbrev pub event_in : Said → CellEvent → CellEvent
+  abbrev pub event_in : LineMeaning → CellEvent → CellEvent
   event_in (Happens event) d = event
   event_in Nothing d = d
   event_in Phase d = d
@@ -238,7 +238,7 @@ module _ (before : List (List ℕ)) (l : List ℕ) (config : Config) (said : Lis
   counts_tell event e = three (nat_lt 5662310399999 (c.moment + ms_in event)) (nat_lt 16384 (c.events + 1)) (nat_lt 67108864 (c.octets + octets_in event)) refl refl refl
     where
       same_event : (x : CellEvent) → said_of config (content l) ≡ Ok (Happens x) → x ≡ event
-      same_event x f = ap (λ (s : Said). event_in s event) (ok_same (Happens x) (Happens event) (sym f ∙ e))
+      same_event x f = ap (λ (s : LineMeaning). event_in s event) (ok_same (Happens x) (Happens event) (sym f ∙ e))
 
       three : (a b d : Bool) → nat_lt 5662310399999 (c.moment + ms_in event) ≡ a → nat_lt 16384 (c.events + 1) ≡ b → nat_lt 67108864 (c.octets + octets_in event) ≡ d
           → Tells (FromClock before (Some l)) (if a then Some (Bad at bad.Clock) else if (b || d) then Some (TooMuch at) else None)
@@ -268,7 +268,7 @@ module _ (before : List (List ℕ)) (l : List ℕ) (config : Config) (said : Lis
               no_more few small (x, f, inl h) = omega (arith, h, few, k.events)
               no_more few small (x, f, inr h) = let os = ap octets_in (same_event x f) in omega (arith, h, small, os, k.octets)
 
-  pub event_tells : (r : Result Said BadWord) → said_of config (content l) ≡ r → Line config said (content l) r → Tells (FromEvent before (Some l)) (outcome at c r)
+  pub event_tells : (r : Result LineMeaning BadWord) → said_of config (content l) ≡ r → Line config said (content l) r → Tells (FromEvent before (Some l)) (outcome at c r)
   event_tells (Err bad.Event) e h = now (Event before (Some l)) (FromHex before (Some l)) (Bad at bad.Event) ((refl, (config, said, i, l, refl, h)), λ e c. c.0)
   event_tells (Err bad.Hex) e h =
       later (Event before (Some l)) (FromHex before (Some l)) (Some (Bad at bad.Hex)) (λ e c. none_of HasNoForm before l config said i h.0 c.1)
@@ -306,19 +306,19 @@ pub into_behind : (e : CellEvent) (p : List CellEvent) (ps : List (List CellEven
 into_behind e p [] h = absurd (omega (arith, h))
 into_behind e p (q ∷ ps) h = refl
 
-pub nothing_more : (ss : List Said) → phases_of (ss ++ Nothing ∷ []) ≡ phases_of ss
+pub nothing_more : (ss : List LineMeaning) → phases_of (ss ++ Nothing ∷ []) ≡ phases_of ss
 nothing_more [] = refl
 nothing_more (Nothing ∷ ss) = nothing_more ss
 nothing_more (Phase ∷ ss) = ap (λ (ps : List (List CellEvent)). [] ∷ ps) (nothing_more ss)
 nothing_more (Happens e ∷ ss) = ap (onto e) (nothing_more ss)
 
-pub phase_more : (ss : List Said) → phases_of (ss ++ Phase ∷ []) ≡ phases_of ss ++ [] ∷ []
+pub phase_more : (ss : List LineMeaning) → phases_of (ss ++ Phase ∷ []) ≡ phases_of ss ++ [] ∷ []
 phase_more [] = refl
 phase_more (Nothing ∷ ss) = phase_more ss
 phase_more (Phase ∷ ss) = ap (λ (ps : List (List CellEvent)). [] ∷ ps) (phase_more ss)
 phase_more (Happens e ∷ ss) = ap (onto e) (phase_more ss) ∙ onto_behind e (phases_of ss) (some_phase ss)
 
-pub event_more : (f : CellEvent) (ss : List Said) → phases_of (ss ++ Happens f ∷ []) ≡ into_last f (phases_of ss)
+pub event_more : (f : CellEvent) (ss : List LineMeaning) → phases_of (ss ++ Happens f ∷ []) ≡ into_last f (phases_of ss)
 event_more f [] = refl
 event_more f (Nothing ∷ ss) = event_more f ss
 event_more f (Phase ∷ ss) = ap (λ (ps : List (List CellEvent)). [] ∷ ps) (event_more f ss) ∙ into_behind f [] (phases_of ss) (some_phase ss)
@@ -352,7 +352,7 @@ ms_into e [] h = absurd (omega (arith, h))
 ms_into e (p ∷ []) h = let k = phase_ms_more e p in omega (arith, k)
 ms_into e (p ∷ q ∷ ps) h = let k = ms_into e (q ∷ ps) (omega arith) in omega (arith, k)
 
-pub counted_more : (config : Config) (said : List Said) (c : Counts) (s : Said) → Counted config said c → Counted config (said ++ s ∷ []) (moved c s)
+pub counted_more : (config : Config) (said : List LineMeaning) (c : Counts) (s : LineMeaning) → Counted config said c → Counted config (said ++ s ∷ []) (moved c s)
 counted_more config said c Nothing k =
     let ps = nothing_more said in
     record {
@@ -381,13 +381,13 @@ counted_more config said c (Happens e) k =
       moment = omega (arith, k.moment, ms);
     }
 
-pub says_more : (config : Config) (lines : List (List ℕ)) (ss : List Said) (l : List ℕ) (s : Said) → Says config lines ss → said_of config (content l) ≡ Ok s → Says config (lines ++ l ∷ []) (ss ++ s ∷ [])
+pub says_more : (config : Config) (lines : List (List ℕ)) (ss : List LineMeaning) (l : List ℕ) (s : LineMeaning) → Says config lines ss → said_of config (content l) ≡ Ok s → Says config (lines ++ l ∷ []) (ss ++ s ∷ [])
 says_more config [] [] l s h e = (e, tt)
 says_more config [] (t ∷ ss) l s h e = absurd h
 says_more config (x ∷ ls) [] l s h e = absurd h
 says_more config (x ∷ ls) (t ∷ ss) l s h e = (h.0, says_more config ls ss l s h.1 e)
 
-pub events_more : (before : List (List ℕ)) (config : Config) (said : List Said) (l : List ℕ) (s : Said) → InEvents before config said → said_of config (content l) ≡ Ok s → InEvents (before ++ l ∷ []) config (said ++ s ∷ [])
+pub events_more : (before : List (List ℕ)) (config : Config) (said : List LineMeaning) (l : List ℕ) (s : LineMeaning) → InEvents before config said → said_of config (content l) ≡ Ok s → InEvents (before ++ l ∷ []) config (said ++ s ∷ [])
 events_more before config said l s i e = record {
   header = i.header;
   second = i.second;

@@ -16,8 +16,8 @@ use Rattle.cell_record.specs.EventLine.{same, said_of, trimmed_says}
 use Rattle.cell_record.specs.Recording.{Place, Reading, Opening, behind, front, fits, refused, makes, moved, refusal_of, fresh, unless, with_said, reading_of, header_of, under, setup_in, in_text, size_in_text, setup_word, unless_word, opened_unless, configured, setup_of, opening_of, after_opening, reading_of_text}
 use Rattle.cell_record.specs.Grammar.{text_of}
 use Rattle.cell_record.specs.Refused.{octets_of, HaveNoEnd, InSetup, InEvents, IsOver, LacksHeader, LacksConfig, IsLong, OfEventLine, Refuses, StandsBehind, NoneRefused, IsFirstRefusal, IsRefused}
-use Rattle.cell_record.specs.declared.said.Said.{Said}
-use Rattle.cell_record.specs.declared.said.Said.TheVariants.{Nothing, Phase, Happens}
+use Rattle.cell_record.specs.declared.said.LineMeaning.{LineMeaning}
+use Rattle.cell_record.specs.declared.said.LineMeaning.TheVariants.{Nothing, Phase, Happens}
 use Rattle.cell_record.specs.declared.counts.Counts.{Counts}
 use Rattle.cell_record.specs.declared.refusal.BadWord.{BadWord}
 use Rattle.cell_record.specs.declared.refusal.BadWord.TheVariants as bad
@@ -104,7 +104,7 @@ not_over p before l k f h =
 -- ---- the event lines
 
 -- behind event lines nothing is missing
-end_tells : (before : List (List ℕ)) (config : Config) (said : List Said) → InEvents before config said → Tells (Refuses before None) None
+end_tells : (before : List (List ℕ)) (config : Config) (said : List LineMeaning) → InEvents before config said → Tells (Refuses before None) None
 end_tells before config said i =
     from_long before None None
     (λ h. none_some h.0 h.1)
@@ -118,7 +118,7 @@ end_tells before config said i =
     in_config (inr (inl h)) = not_both before h.1 config said h.2 i
     in_config (inr (inr h)) = not_both before h.0 config said h.1 i
 
-line_tells : (before : List (List ℕ)) (l : List ℕ) (config : Config) (said : List Said) (c : Counts) → InEvents before config said → Counted config said c → (IsOver before (Some l) → ⊥)
+line_tells : (before : List (List ℕ)) (l : List ℕ) (config : Config) (said : List LineMeaning) (c : Counts) → InEvents before config said → Counted config said c → (IsOver before (Some l) → ⊥)
     → Tells (Refuses before (Some l)) (outcome (length before + 1) c (said_of config (content l)))
 line_tells before l config said c i k over = by_long (is_long l) refl
   where
@@ -142,15 +142,15 @@ line_tells before l config said c i k over = by_long (is_long l) refl
         let o = outcome (length before + 1) c (trimmed_says config (trim (content l))) in
         rw is (from_long before (Some l) o over header in_config (from_event before (Some l) o (not_long e) (event_tells before l config said c i k (trimmed_says config (trim (content l))) is (line_is config said (content l)))))
 
-makes_refusal : (s : Said) (r : Reading) → (makes s r).refusal ≡ r.refusal
+makes_refusal : (s : LineMeaning) (r : Reading) → (makes s r).refusal ≡ r.refusal
 makes_refusal Nothing r = refl
 makes_refusal Phase r = refl
 makes_refusal (Happens e) r = refl
 
 -- a line, and then what the rest comes to
-line_ends : (before : List (List ℕ)) (l : List ℕ) (ls : List (List ℕ)) (config : Config) (c : Counts) (rest : Counts → Reading) (r : Result Said BadWord) → NoneRefused before
+line_ends : (before : List (List ℕ)) (l : List ℕ) (ls : List (List ℕ)) (config : Config) (c : Counts) (rest : Counts → Reading) (r : Result LineMeaning BadWord) → NoneRefused before
     → said_of config (content l) ≡ r → Tells (Refuses before (Some l)) (outcome (length before + 1) c r)
-    → ((s : Said) → said_of config (content l) ≡ Ok s → Tells (Refuses before (Some l)) None → Ends (before ++ l ∷ ls) (rest (moved c s)).refusal)
+    → ((s : LineMeaning) → said_of config (content l) ≡ Ok s → Tells (Refuses before (Some l)) None → Ends (before ++ l ∷ ls) (rest (moved c s)).refusal)
     → Ends (before ++ l ∷ ls) (with_said (length before + 1) c r rest).refusal
 line_ends before l ls config c rest (Err word) n e t ih = stop_here before l ls (Bad (length before + 1) word) n t
 line_ends before l ls config c rest (Ok s) n e t ih = by_excess (refusal_of (length before + 1) (moved c s) s) t
@@ -159,14 +159,14 @@ line_ends before l ls config c rest (Ok s) n e t ih = by_excess (refusal_of (len
     by_excess (Some x) t = stop_here before l ls x n t
     by_excess None t = subst (λ (o : Option RecordError). Ends (before ++ l ∷ ls) o) (sym (makes_refusal s (rest (moved c s)))) (ih s e t)
 
-body : (config : Config) (lines before : List (List ℕ)) (said : List Said) (p : Place) (c : Counts) → InEvents before config said → Counted config said c → IsPlace p before → NoneRefused before
+body : (config : Config) (lines before : List (List ℕ)) (said : List LineMeaning) (p : Place) (c : Counts) → InEvents before config said → Counted config said c → IsPlace p before → NoneRefused before
     → Ends (before ++ lines) (reading_of config lines p c).refusal
 body config [] before said p c i k q n = pass_behind before n (end_tells before config said i)
 body config (l ∷ ls) before said p c i k q n =
     by_fit (λ s e t. go_on before l ls _ (body config ls (before ++ l ∷ []) (said ++ s ∷ []) (behind p l) (moved c s) (events_more before config said l s i e) (counted_more config said c s k) (place_further p before l q) (one_more before l n t)))
     (fits p l) refl
   where
-    by_fit : ((s : Said) → said_of config (content l) ≡ Ok s → Tells (Refuses before (Some l)) None → Ends (before ++ l ∷ ls) (reading_of config ls (behind p l) (moved c s)).refusal)
+    by_fit : ((s : LineMeaning) → said_of config (content l) ≡ Ok s → Tells (Refuses before (Some l)) None → Ends (before ++ l ∷ ls) (reading_of config ls (behind p l) (moved c s)).refusal)
         → (b : Bool) → fits p l ≡ b → Ends (before ++ l ∷ ls) (if b then with_said (p.lines + 1) c (said_of config (content l)) (λ d. reading_of config ls (behind p l) d) else refused (TooMuch (p.lines + 1))).refusal
     by_fit ih true e =
         subst (λ (n : ℕ). Ends (before ++ l ∷ ls) (with_said n c (said_of config (content l)) (λ d. reading_of config ls (behind p l) d)).refusal) (ap (λ (n : ℕ). n + 1) (sym q.lines))
@@ -215,7 +215,7 @@ module _ (before setup : List (List ℕ)) (l : List ℕ) (i : InSetup before set
   setup_header : LacksHeader before (Some l) → ⊥
   setup_header h = few_setup before setup (let k = ap length h.0 in omega (arith, k)) i
 
-  setup_events : (Cause : Config → List Said → List ℕ → Type 0) → OfEventLine Cause before (Some l) → ⊥
+  setup_events : (Cause : Config → List LineMeaning → List ℕ → Type 0) → OfEventLine Cause before (Some l) → ⊥
   setup_events Cause h = not_both before setup h.0 h.1 i h.2
 
   -- the line `end`

@@ -9,8 +9,8 @@ use Rattle.cell_record.specs.Words.{between, trim, word_of, argument_of, in_word
 use Rattle.cell_record.specs.EventLine.{same, heard_of, lost_of, tick_of, ends_of, worded, trimmed_says}
 use Rattle.cell_record.specs.Refused.{IsHeard, IsLost, IsTick, IsEnds, IsWorded, HasNoForm, HasNoOctets, NamesNoClient}
 use Rattle.mms_types.specs.declared.event.CellEvent.TheVariants.{Lost, Tick, Ends}
-use Rattle.cell_record.specs.declared.said.Said.{Said}
-use Rattle.cell_record.specs.declared.said.Said.TheVariants.{Nothing, Phase, Happens}
+use Rattle.cell_record.specs.declared.said.LineMeaning.{LineMeaning}
+use Rattle.cell_record.specs.declared.said.LineMeaning.TheVariants.{Nothing, Phase, Happens}
 use Rattle.cell_record.specs.declared.refusal.BadWord.{BadWord}
 use Rattle.cell_record.specs.declared.refusal.BadWord.TheVariants as bad
 use Rattle.cell_record.proofs.Valid.{same_text}
@@ -67,7 +67,7 @@ number_digit (b ∷ bs) c e = by_word (word_of (b ∷ bs)) refl e
 -- ---- the line
 
 -- what holds of a line with this content that comes to this
-abbrev pub Line : Config → List Said → List ℕ → Result Said BadWord → Type 0
+abbrev pub Line : Config → List LineMeaning → List ℕ → Result LineMeaning BadWord → Type 0
 Line config said x (Ok s) = (HasNoForm config said x → ⊥) × (HasNoOctets config said x → ⊥) × (NamesNoClient config said x → ⊥)
 Line config said x (Err bad.Event) = HasNoForm config said x
 Line config said x (Err bad.Hex) = (HasNoForm config said x → ⊥) × HasNoOctets config said x
@@ -77,7 +77,7 @@ Line config said x (Err bad.Config) = ⊥
 Line config said x (Err bad.Long) = ⊥
 Line config said x (Err bad.Clock) = ⊥
 
-either : (P : Result Said BadWord → Type 0) (b : Bool) (r s : Result Said BadWord) → (b ≡ true → P r) → (b ≡ false → P s) → P (if b then r else s)
+either : (P : Result LineMeaning BadWord → Type 0) (b : Bool) (r s : Result LineMeaning BadWord) → (b ≡ true → P r) → (b ≡ false → P s) → P (if b then r else s)
 either P true r s f g = f refl
 either P false r s f g = g refl
 
@@ -87,7 +87,7 @@ within low high n h = (grind (arith, nat_tests, h), grind (arith, nat_tests, h))
 between_is : (low high n : ℕ) → (low ≤ n) × (n ≤ high) → between low high n ≡ true
 between_is low high n h = let a = h.0 in let b = h.1 in grind (arith, nat_tests, a, b)
 
-module _ (config : Config) (said : List Said) (x : List ℕ) where
+module _ (config : Config) (said : List LineMeaning) (x : List ℕ) where
   abbrev t : List ℕ
   t = trim x
 
@@ -129,7 +129,7 @@ module _ (config : Config) (said : List Said) (x : List ℕ) where
   word_octets d h = true_false (sym h.0 ∙ d)
 
   -- the line is of a form, and names no client where its word isn't `lost`
-  worded_form : begins_with_digit t ≡ false → IsWorded config.edition t → ((n : ℕ) → IsLost n t → (1 ≤ n) × (n ≤ config.clients)) → (s : Said) → Line config said x (Ok s)
+  worded_form : begins_with_digit t ≡ false → IsWorded config.edition t → ((n : ℕ) → IsLost n t → (1 ≤ n) × (n ≤ config.clients)) → (s : LineMeaning) → Line config said x (Ok s)
   worded_form d is lost s = ((λ h. h.1 is), word_octets d, known)
     where
       known : NamesNoClient config said x → ⊥

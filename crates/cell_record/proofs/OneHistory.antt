@@ -25,8 +25,8 @@ use Rattle.cell_record.specs.Grammar.{text_of, Says, phases_of, ReadsRecording}
 use Rattle.mms_types.specs.Actors.{clients_to}
 use Rattle.cell_record.specs.History.{drains, Interleaves}
 use Rattle.cell_record.specs.Report.{event_text, placed_line, served_line, sections, phase_head, placed_from, taken, report_from, report}
-use Rattle.cell_record.specs.declared.said.Said.{Said}
-use Rattle.cell_record.specs.declared.said.Said.TheVariants.{Nothing, Phase, Happens}
+use Rattle.cell_record.specs.declared.said.LineMeaning.{LineMeaning}
+use Rattle.cell_record.specs.declared.said.LineMeaning.TheVariants.{Nothing, Phase, Happens}
 use Rattle.cell_record.specs.declared.counts.Counts.{Counts}
 use Rattle.cell_record.specs.declared.refusal.BadWord.{BadWord}
 use Rattle.cell_record.specs.declared.refusal.RecordError.{RecordError}
@@ -185,11 +185,11 @@ lines_one n place (x ∷ xs) (y ∷ ys) rs ss s h g l e =
 
 -- ---- what a recording's phases hold
 
-abbrev IsSaid : Config → Result Said BadWord → Type 0
+abbrev IsSaid : Config → Result LineMeaning BadWord → Type 0
 IsSaid config (Ok said) = MayHappen config said
 IsSaid config (Err word) = Unit {0}
 
-either : (n : Config) (b : Bool) (x y : Result Said BadWord) → (b ≡ true → IsSaid n x) → (b ≡ false → IsSaid n y) → IsSaid n (if b then x else y)
+either : (n : Config) (b : Bool) (x y : Result LineMeaning BadWord) → (b ≡ true → IsSaid n x) → (b ≡ false → IsSaid n y) → IsSaid n (if b then x else y)
 either n true x y h g = h refl
 either n false x y h g = g refl
 
@@ -224,12 +224,12 @@ onto_recorded : (n : Config) (e : CellEvent) (phases : List (List CellEvent)) �
 onto_recorded n e [] h g = g
 onto_recorded n e (p ∷ ps) h g = ((h, g.0), g.1)
 
-said_more : (n : Config) (s : Said) (more : List Said) → MayHappen n s → Each (Each (IsRecorded n)) (phases_of more) → Each (Each (IsRecorded n)) (phases_of (s ∷ more))
+said_more : (n : Config) (s : LineMeaning) (more : List LineMeaning) → MayHappen n s → Each (Each (IsRecorded n)) (phases_of more) → Each (Each (IsRecorded n)) (phases_of (s ∷ more))
 said_more n Nothing more h g = g
 said_more n Phase more h g = (tt, g)
 said_more n (Happens e) more h g = onto_recorded n e (phases_of more) h g
 
-phases_recorded : (n : Config) (lines : List (List ℕ)) (said : List Said) → Says n lines said → Each (Each (IsRecorded n)) (phases_of said)
+phases_recorded : (n : Config) (lines : List (List ℕ)) (said : List LineMeaning) → Says n lines said → Each (Each (IsRecorded n)) (phases_of said)
 phases_recorded n [] [] h = (tt, tt)
 phases_recorded n [] (s ∷ more) h = absurd h
 phases_recorded n (l ∷ ls) [] h = absurd h
@@ -267,7 +267,7 @@ one_history said text configured phases bodies others r i j e =
 
 -- ---- what any text says, also one that is refused or cut
 
-makes_recorded : (n : Config) (s : Said) (r : Reading) → MayHappen n s → Each (Each (IsRecorded n)) r.phases → Each (Each (IsRecorded n)) (makes s r).phases
+makes_recorded : (n : Config) (s : LineMeaning) (r : Reading) → MayHappen n s → Each (Each (IsRecorded n)) r.phases → Each (Each (IsRecorded n)) (makes s r).phases
 makes_recorded n Nothing r h g = g
 makes_recorded n Phase r h g = (tt, g)
 makes_recorded n (Happens e) r h g = onto_recorded n e r.phases h g
@@ -276,7 +276,7 @@ unless_recorded : (n : Config) (o : Option RecordError) (r : Reading) → Each (
 unless_recorded n None r g = g
 unless_recorded n (Some e) r g = tt
 
-with_recorded : (n : Config) (line : ℕ) (c : Counts) (s : Result Said BadWord) (rest : Counts → Reading) → IsSaid n s → ((d : Counts) → Each (Each (IsRecorded n)) (rest d).phases) → Each (Each (IsRecorded n)) (with_said line c s rest).phases
+with_recorded : (n : Config) (line : ℕ) (c : Counts) (s : Result LineMeaning BadWord) (rest : Counts → Reading) → IsSaid n s → ((d : Counts) → Each (Each (IsRecorded n)) (rest d).phases) → Each (Each (IsRecorded n)) (with_said line c s rest).phases
 with_recorded n line c (Err word) rest h g = tt
 with_recorded n line c (Ok s) rest h g = unless_recorded n (refusal_of line (moved c s) s) (makes s (rest (moved c s))) (makes_recorded n s (rest (moved c s)) h (g (moved c s)))
 

@@ -14,7 +14,7 @@ use Rattle.cell_record.specs.Recording.{Place, Opening, behind, fits, header_of,
 use Rattle.cell_record.specs.Numbered.{Gives, EndsThere, setup, phases}
 use Rattle.cell_record.specs.Progress.{Becomes, IsStated}
 use Rattle.cell_record.specs.Turned.{line_told}
-use Rattle.cell_record.specs.declared.said.Said.{Said}
+use Rattle.cell_record.specs.declared.said.LineMeaning.{LineMeaning}
 use Rattle.cell_record.specs.declared.said.LineError.{LineError}
 use Rattle.cell_record.specs.declared.said.LineError.TheVariants as unsaid
 use Rattle.cell_record.specs.declared.counts.Counts.{Counts}
@@ -152,14 +152,14 @@ much_setup edition text p l rest f = rw f refl
 
 -- ---- an event line
 
-pub says : (config : Config) (c d : Counts) (p : Place) (line l : List ℕ) (rest : List (List ℕ)) (s : Said) → said_of config (content line) ≡ Ok s → d ≡ moved c s → None ≡ refusal_of (p.lines + 1) d s
+pub says : (config : Config) (c d : Counts) (p : Place) (line l : List ℕ) (rest : List (List ℕ)) (s : LineMeaning) → said_of config (content line) ≡ Ok s → d ≡ moved c s → None ≡ refusal_of (p.lines + 1) d s
     → line ≡ kept_of l → fits p l ≡ true → phases config c (l ∷ rest) p ≡ makes s (phases config d rest (behind p l))
 says config c d p line l rest s e m n k f =
     let is : said_of config (content l) ≡ Ok s = sym (kept_said config l) ∙ ap (λ (x : List ℕ). said_of config (content x)) (sym k) ∙ e in
     let none : refusal_of (p.lines + 1) (moved c s) s ≡ None = ap (λ (x : Counts). refusal_of (p.lines + 1) x s) (sym m) ∙ sym n in
     rw (f, is, none, m) refl
 
-pub says_much : (config : Config) (c d : Counts) (p : Place) (line l : List ℕ) (rest : List (List ℕ)) (s : Said) (x : RecordError) → said_of config (content line) ≡ Ok s → d ≡ moved c s → Some x ≡ refusal_of (p.lines + 1) d s
+pub says_much : (config : Config) (c d : Counts) (p : Place) (line l : List ℕ) (rest : List (List ℕ)) (s : LineMeaning) (x : RecordError) → said_of config (content line) ≡ Ok s → d ≡ moved c s → Some x ≡ refusal_of (p.lines + 1) d s
     → line ≡ kept_of l → fits p l ≡ true → phases config c (l ∷ rest) p ≡ refused x
 says_much config c d p line l rest s x e m n k f =
     let is : said_of config (content l) ≡ Ok s = sym (kept_said config l) ∙ ap (λ (x : List ℕ). said_of config (content x)) (sym k) ∙ e in

@@ -16,8 +16,8 @@ use Rattle.cell_record.specs.Words.{content}
 use Rattle.cell_record.specs.EventLine.{same, said_of}
 use Rattle.cell_record.specs.Recording.{Place, Reading, Opened, Opening, behind, front, fits, refused, onto, with_event, with_phase, fresh, counted, is_past, excess, unless, with_said, reading_of, header_of, headed, under, setup_in, expected, in_text, size_in_text, setup_word, unless_word, opened, opened_unless, configured, config_in, config_of_text, setup_of, opening_of, after_opening, reading_of_text, opening_of_text, ms_in, octets_in}
 use Rattle.cell_record.specs.Grammar.{AreShort, text_of, Says, phases_of, all_ms, AreFew, ReadsRecording}
-use Rattle.cell_record.specs.declared.said.Said.{Said}
-use Rattle.cell_record.specs.declared.said.Said.TheVariants.{Nothing, Phase, Happens}
+use Rattle.cell_record.specs.declared.said.LineMeaning.{LineMeaning}
+use Rattle.cell_record.specs.declared.said.LineMeaning.TheVariants.{Nothing, Phase, Happens}
 use Rattle.cell_record.specs.declared.counts.Counts.{Counts}
 use Rattle.cell_record.specs.declared.refusal.BadWord.{BadWord}
 use Rattle.cell_record.specs.declared.refusal.BadWord.TheVariants as bad
@@ -61,7 +61,7 @@ onto_some : (e : CellEvent) (ps : List (List CellEvent)) → 0 < length ps → 0
 onto_some e [] s = absurd (omega (arith, s))
 onto_some e (p ∷ ps) s = omega arith
 
-pub some_phase : (ss : List Said) → 0 < length (phases_of ss)
+pub some_phase : (ss : List LineMeaning) → 0 < length (phases_of ss)
 some_phase [] = omega arith
 some_phase (Nothing ∷ ss) = some_phase ss
 some_phase (Phase ∷ ss) = omega arith
@@ -86,7 +86,7 @@ no_excess line c a b m =
     let octets : nat_lt 67108864 c.octets ≡ false = grind (arith, nat_tests, b) in
     rw (past, events, octets) refl
 
-reads : (config : Config) (lines : List (List ℕ)) (p : Place) (c : Counts) (ss : List Said) → Says config lines ss → AreFew c.events c.octets (phases_of ss) → c.moment + all_ms (phases_of ss) ≤ 5662310399999 → p.octets + total lines ≤ 4294967296
+reads : (config : Config) (lines : List (List ℕ)) (p : Place) (c : Counts) (ss : List LineMeaning) → Says config lines ss → AreFew c.events c.octets (phases_of ss) → c.moment + all_ms (phases_of ss) ≤ 5662310399999 → p.octets + total lines ≤ 4294967296
     → reading_of config lines p c ≡ record { phases = phases_of ss; refusal = None }
 reads n [] p c [] h f m t = refl
 reads n [] p c (s ∷ ss) h f m t = absurd h
@@ -158,7 +158,7 @@ few-onto n o e [] h = tt
 few-onto n o e (p ∷ ps) h = (omega (arith, h.0), omega (arith, h.1), h.2)
 
 pub record IsRead (config : Config) (octets : ℕ) (c : Counts) (lines : List (List ℕ)) (phases : List (List CellEvent)) : Type 0 where
-  pub said : List Said
+  pub said : List LineMeaning
   pub each : Says config lines said
   pub split : phases ≡ phases_of said
   pub few : AreFew c.events c.octets phases
@@ -193,7 +193,7 @@ onto_ms : (e : CellEvent) (ps : List (List CellEvent)) (m : ℕ) → m + ms_in e
 onto_ms e [] m h k = omega (arith, h)
 onto_ms e (p ∷ ps) m h k = omega (arith, k)
 
-read_line : (n : Config) (l : List ℕ) (ls : List (List ℕ)) (p : Place) (c : Counts) (phases : List (List CellEvent)) (rest : Counts → Reading) (s : Result Said BadWord) → (c.events ≤ 16384) × (c.octets ≤ 67108864) × (c.moment ≤ 5662310399999)
+read_line : (n : Config) (l : List ℕ) (ls : List (List ℕ)) (p : Place) (c : Counts) (phases : List (List CellEvent)) (rest : Counts → Reading) (s : Result LineMeaning BadWord) → (c.events ≤ 16384) × (c.octets ≤ 67108864) × (c.moment ≤ 5662310399999)
     → said_of n (content l) ≡ s
     → ((d : Counts) (ps : List (List CellEvent)) → (d.events ≤ 16384) × (d.octets ≤ 67108864) × (d.moment ≤ 5662310399999) → rest d ≡ record { phases = ps; refusal = None } → IsRead n (p.octets + length l) d ls ps)
     → with_said (p.lines + 1) c s rest ≡ record { phases = phases; refusal = None } → IsRead n p.octets c (l ∷ ls) phases

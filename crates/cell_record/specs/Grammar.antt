@@ -10,8 +10,8 @@ use Rattle.cell_config.specs.Said.{config_of}
 use Rattle.cell_record.specs.Words.{content, is_long}
 use Rattle.cell_record.specs.EventLine.{said_of}
 use Rattle.cell_record.specs.Recording.{header_of, in_text, onto, ms_in, octets_in}
-use Rattle.cell_record.specs.declared.said.Said.{Said}
-use Rattle.cell_record.specs.declared.said.Said.TheVariants.{Nothing, Phase, Happens}
+use Rattle.cell_record.specs.declared.said.LineMeaning.{LineMeaning}
+use Rattle.cell_record.specs.declared.said.LineMeaning.TheVariants.{Nothing, Phase, Happens}
 
 -- none of the configuration's lines is too long, and none is `end`
 abbrev pub AreShort : List (List ℕ) → Type 0
@@ -24,14 +24,14 @@ text_of [] = []
 text_of (line ∷ lines) = in_text line ++ text_of lines
 
 -- each event line says this
-abbrev pub Says : Config → List (List ℕ) → List Said → Type 0
+abbrev pub Says : Config → List (List ℕ) → List LineMeaning → Type 0
 Says config [] [] = Unit {0}
 Says config (line ∷ lines) (said ∷ more) = (said_of config (content line) ≡ Ok said)
     × Says config lines more
 Says config lines said = ⊥
 
 -- a line `phase` stands between two phases
-abbrev pub phases_of : List Said → List (List CellEvent)
+abbrev pub phases_of : List LineMeaning → List (List CellEvent)
 phases_of [] = [] ∷ []
 phases_of (Nothing ∷ rest) = phases_of rest
 phases_of (Phase ∷ rest) = [] ∷ phases_of rest
@@ -67,7 +67,7 @@ pub record ReadsRecording (text : List ℕ) (configured : Config)
   pub setup : List (List ℕ)
   pub last : List ℕ
   pub body : List (List ℕ)
-  pub said : List Said
+  pub said : List LineMeaning
   pub lines : lines_of text ≡ header ∷ config ∷ (setup ++ last ∷ body)
   pub is_header : header_of (content header) ≡ Some configured.edition
   pub is_config : content config ≡ codes "config"

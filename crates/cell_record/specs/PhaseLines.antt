@@ -8,11 +8,11 @@ use Rattle.cell_record.specs.EventLine.{MayHappen, said_of, heard_of}
 use Rattle.cell_record.specs.Recording.{makes, moved, whole}
 use Rattle.cell_record.specs.Numbered.{Numbered, phases, IsWithin}
 use Rattle.cell_record.specs.ToRead.{to_read, still_said, Follows}
-use Rattle.cell_record.specs.declared.said.Said.{Said}
+use Rattle.cell_record.specs.declared.said.LineMeaning.{LineMeaning}
 use Rattle.cell_record.specs.declared.counts.Counts.{Counts}
 
 -- the next line says this, with so much of its phase before it and after it
-pub record SaysLine (config : Config) (said : Said) (old : Numbered) (before : Counts)
+pub record SaysLine (config : Config) (said : LineMeaning) (old : Numbered) (before : Counts)
     (left : Option (List ℕ)) (new : Numbered) (after : Counts)
     (left' : Option (List ℕ)) : Type 0 where
   pub line : Follows (to_read (phases config before) old left) (makes said)

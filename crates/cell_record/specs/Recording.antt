@@ -13,8 +13,8 @@ use Rattle.cell_config.specs.Rules.{document_of, least_broken}
 use Rattle.cell_config.specs.Said.{config_of}
 use Rattle.cell_record.specs.Words.{content, is_long}
 use Rattle.cell_record.specs.EventLine.{same, said_of}
-use Rattle.cell_record.specs.declared.said.Said.{Said}
-use Rattle.cell_record.specs.declared.said.Said.TheVariants.{Nothing, Phase, Happens}
+use Rattle.cell_record.specs.declared.said.LineMeaning.{LineMeaning}
+use Rattle.cell_record.specs.declared.said.LineMeaning.TheVariants.{Nothing, Phase, Happens}
 use Rattle.cell_record.specs.declared.counts.Counts.{Counts}
 use Rattle.cell_record.specs.declared.refusal.BadWord.{BadWord}
 use Rattle.cell_record.specs.declared.refusal.BadWord.TheVariants as bad
@@ -110,25 +110,25 @@ unless None r = r
 unless (Some e) r = refused e
 
 -- what there is of the phase after a line that says this
-abbrev pub moved : Counts → Said → Counts
+abbrev pub moved : Counts → LineMeaning → Counts
 moved c Nothing = c
 moved c Phase = fresh c.moment
 moved c (Happens event) = counted c event
 
 -- why the line of this number is refused that says this, where there is so much after it
-abbrev pub refusal_of : ℕ → Counts → Said → Option RecordError
+abbrev pub refusal_of : ℕ → Counts → LineMeaning → Option RecordError
 refusal_of line after Nothing = None
 refusal_of line after Phase = None
 refusal_of line after (Happens event) = excess line after
 
 -- what a line that says this makes of what the rest says
-abbrev pub makes : Said → Reading → Reading
+abbrev pub makes : LineMeaning → Reading → Reading
 makes Nothing r = r
 makes Phase r = with_phase [] r
 makes (Happens event) r = with_event event r
 
 -- what a line of this number makes of what the rest says
-abbrev pub with_said : ℕ → Counts → Result Said BadWord → (Counts → Reading) → Reading
+abbrev pub with_said : ℕ → Counts → Result LineMeaning BadWord → (Counts → Reading) → Reading
 with_said line c (Err word) rest = refused (Bad line word)
 with_said line c (Ok said) rest = unless (refusal_of line (moved c said) said)
     (makes said (rest (moved c said)))

@@ -17,8 +17,8 @@ use Rattle.cell_record.specs.Words.{begins_with_digit, number_of, pairs_of}
 use Rattle.cell_record.specs.EventLine.{said_of}
 use Rattle.cell_record.specs.Recording.{header_of, size_in_text, ms_in, octets_in}
 use Rattle.cell_record.specs.Grammar.{text_of, Says, phases_of, pdu_octets, all_ms}
-use Rattle.cell_record.specs.declared.said.Said.{Said}
-use Rattle.cell_record.specs.declared.said.Said.TheVariants.{Happens}
+use Rattle.cell_record.specs.declared.said.LineMeaning.{LineMeaning}
+use Rattle.cell_record.specs.declared.said.LineMeaning.TheVariants.{Happens}
 use Rattle.cell_record.specs.declared.refusal.BadWord.TheVariants as bad
 use Rattle.cell_record.specs.declared.refusal.RecordError.{RecordError}
 use Rattle.cell_record.specs.declared.refusal.RecordError.TheVariants.{Bad, BadConfig, Memory}
@@ -46,7 +46,7 @@ pub record InSetup (before setup : List (List ℕ)) : Type 0 where
 
 -- an event line stands behind these lines: they tell a configuration, and the event lines among
 -- them say this
-pub record InEvents (before : List (List ℕ)) (config : Config) (said : List Said) : Type 0 where
+pub record InEvents (before : List (List ℕ)) (config : Config) (said : List LineMeaning) : Type 0 where
   pub header : List ℕ
   pub second : List ℕ
   pub setup : List (List ℕ)
@@ -130,33 +130,33 @@ IsLong here = (line : List ℕ) × (here ≡ Some line) × (is_long line ≡ tru
 
 -- an event line stands there of whose content this holds, by the configuration and what is said
 -- before it
-abbrev pub OfEventLine : (Config → List Said → List ℕ → Type 0) → List (List ℕ) → Option (List ℕ)
+abbrev pub OfEventLine : (Config → List LineMeaning → List ℕ → Type 0) → List (List ℕ) → Option (List ℕ)
     → Type 0
-OfEventLine Cause before here = (config : Config) × (said : List Said) × InEvents before config said
+OfEventLine Cause before here = (config : Config) × (said : List LineMeaning) × InEvents before config said
     × (line : List ℕ) × (here ≡ Some line) × Cause config said (content line)
 
 -- it begins with no digit and is of no form
-abbrev pub HasNoForm : Config → List Said → List ℕ → Type 0
+abbrev pub HasNoForm : Config → List LineMeaning → List ℕ → Type 0
 HasNoForm config said line = (begins_with_digit (trim line) ≡ false)
     × (IsWorded config.edition (trim line) → ⊥)
 
 -- it begins with a digit and is not of the form
-abbrev pub HasNoOctets : Config → List Said → List ℕ → Type 0
+abbrev pub HasNoOctets : Config → List LineMeaning → List ℕ → Type 0
 HasNoOctets config said line = (begins_with_digit (trim line) ≡ true)
     × ((client : ℕ) (octets : List ℕ) → IsHeard client octets (trim line) → ⊥)
 
 -- there is no client of its number
-abbrev pub NamesNoClient : Config → List Said → List ℕ → Type 0
+abbrev pub NamesNoClient : Config → List LineMeaning → List ℕ → Type 0
 NamesNoClient config said line = (client : ℕ) × Names client (trim line)
     × ((1 ≤ client) × (client ≤ config.clients) → ⊥)
 
 -- with its event the moment is later than the last millisecond of day 65,535
-abbrev pub PassesTime : Config → List Said → List ℕ → Type 0
+abbrev pub PassesTime : Config → List LineMeaning → List ℕ → Type 0
 PassesTime config said line = (event : CellEvent) × (said_of config line ≡ Ok (Happens event))
     × (5662310399999 < config.start.0 + all_ms (phases_of said) + ms_in event)
 
 -- with its event the phase has more than 16,384 events, or 67,108,864 octets of PDUs
-abbrev pub IsMuchPhase : Config → List Said → List ℕ → Type 0
+abbrev pub IsMuchPhase : Config → List LineMeaning → List ℕ → Type 0
 IsMuchPhase config said line = (event : CellEvent) × (said_of config line ≡ Ok (Happens event))
     × ((16384 < length (last_phase (phases_of said)) + 1)
     ⊎ (67108864 < pdu_octets (last_phase (phases_of said)) + octets_in event))
@@ -233,6 +233,6 @@ pub record EndBefore (lines : List (List ℕ)) (config : Config) (e : RecordErro
   pub rest : List (List ℕ)
   pub stands : lines ≡ before ++ here ∷ rest
   pub number : NamesLine e (length before + 1)
-  pub said : List Said
+  pub said : List LineMeaning
   pub events : InEvents before config said
   pub ends : phases ≡ all_but_last (phases_of said)

@@ -5,7 +5,7 @@ ghost use Rattle.cell_record.specs.Recording.{moved, refusal_of, fresh, counted,
 ghost use Rattle.cell_record.specs.Recording.{ms_in, octets_in};
 ghost use Rattle.cell_record.specs.Numbered.{IsWithin};
 
-use crate::said::Said;
+use crate::said::LineMeaning;
 use crate::{BadWord, RecordError};
 use mms_types::{CellEvent, Moment};
 
@@ -85,19 +85,19 @@ impl Counts {
     }
 
     /// Counts what the line of that number says. Tells why the line is refused, where it is.
-    pub fn count(&mut self, line: u64, said: &Said) -> Option<RecordError>
+    pub fn count(&mut self, line: u64, said: &LineMeaning) -> Option<RecordError>
         requires { IsWithin self.old }
         ensures counts { self.new ≡ moved self.old said.now }
         ensures refusal { result ≡ refusal_of line self.new said.now }
         ensures within { MatchOption result (IsWithin self.new) (λ _. ⊤) }
     {
         match said {
-            Said::Nothing => None,
-            Said::Phase => {
+            LineMeaning::Nothing => None,
+            LineMeaning::Phase => {
                 *self = Counts::fresh(self.moment);
                 None
             }
-            Said::Happens(event) => {
+            LineMeaning::Happens(event) => {
                 *self = self.counted(event);
                 self.excess(line)
             }

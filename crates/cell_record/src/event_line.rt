@@ -9,7 +9,7 @@ ghost use Rattle.cell_record.specs.EventLine.{tick_of, ends_of, IsCause, MayHapp
 
 use crate::BadWord;
 use crate::digits::{number, pairs};
-use crate::said::{LineError, Said};
+use crate::said::{LineError, LineMeaning};
 use crate::words::{begins_with_digit, first_word, is_remark, trim};
 use cell_config::Config;
 use mms_types::{CellEvent, Identifier, Octets, Unnamed};
@@ -22,7 +22,7 @@ const MOST_IN_PDU: usize = 65_000;
 const MOST_IN_TICK: u32 = 3_600_000;
 
 /// What is told where a rule decides, which takes no memory.
-fn told(said: Result<Said, BadWord>) -> Result<Said, LineError>
+fn told(said: Result<LineMeaning, BadWord>) -> Result<LineMeaning, LineError>
     ensures says { IfOk said (λ s. result ≡ Ok s) }
     ensures bad { IfErr said (λ word. result ≡ Err (LineError.Bad word)) }
 {
@@ -43,7 +43,11 @@ fn unnamed(error: Unnamed) -> LineError
 }
 
 /// That a client sent octets.
-pub fn heard(config: &Config, client: Option<u32>, octets: Option<Octets>) -> Result<Said, BadWord>
+pub fn heard(
+    config: &Config,
+    client: Option<u32>,
+    octets: Option<Octets>,
+) -> Result<LineMeaning, BadWord>
     ensures says { result ≡ heard_of config.now client octets }
     ensures may { IfOk result (MayHappen config.now) }
 {
@@ -56,11 +60,11 @@ pub fn heard(config: &Config, client: Option<u32>, octets: Option<Octets>) -> Re
     if client < 1 || client > config.clients {
         return Err(BadWord::Client);
     }
-    Ok(Said::Happens(CellEvent::Heard { client, octets }))
+    Ok(LineMeaning::Happens(CellEvent::Heard { client, octets }))
 }
 
 /// That a client's association was lost.
-fn lost(config: &Config, client: Option<u32>) -> Result<Said, BadWord>
+fn lost(config: &Config, client: Option<u32>) -> Result<LineMeaning, BadWord>
     ensures says { result ≡ lost_of config.now client }
     ensures may { IfOk result (MayHappen config.now) }
 {
@@ -70,11 +74,11 @@ fn lost(config: &Config, client: Option<u32>) -> Result<Said, BadWord>
     if client < 1 || client > config.clients {
         return Err(BadWord::Client);
     }
-    Ok(Said::Happens(CellEvent::Lost { client }))
+    Ok(LineMeaning::Happens(CellEvent::Lost { client }))
 }
 
 /// That time went by.
-fn tick(config: &Config, ms: Option<u32>) -> Result<Said, BadWord>
+fn tick(config: &Config, ms: Option<u32>) -> Result<LineMeaning, BadWord>
     ensures says { result ≡ tick_of ms }
     ensures may { IfOk result (MayHappen config.now) }
 {
@@ -84,23 +88,23 @@ fn tick(config: &Config, ms: Option<u32>) -> Result<Said, BadWord>
     if ms < 1 || ms > MOST_IN_TICK {
         return Err(BadWord::Event);
     }
-    Ok(Said::Happens(CellEvent::Tick { ms }))
+    Ok(LineMeaning::Happens(CellEvent::Tick { ms }))
 }
 
 /// That a program invocation came to its end.
-fn ends(alloc: Global, config: &Config, name: &[u8]) -> Result<Said, LineError>
+fn ends(alloc: Global, config: &Config, name: &[u8]) -> Result<LineMeaning, LineError>
     ensures says { IfOk result (λ s. ends_of config.now name.now ≡ Ok s) }
     ensures bad { IfErr result (λ e. IsCause (ends_of config.now name.now) e) }
     ensures may { IfOk result (MayHappen config.now) }
 {
     match Identifier::read(alloc, name, config.edition) {
-        Ok(name) => Ok(Said::Happens(CellEvent::Ends { name })),
+        Ok(name) => Ok(LineMeaning::Happens(CellEvent::Ends { name })),
         Err(error) => Err(unnamed(error)),
     }
 }
 
 /// What a line says by its first word.
-fn by_word(alloc: Global, config: &Config, line: &[u8]) -> Result<Said, LineError>
+fn by_word(alloc: Global, config: &Config, line: &[u8]) -> Result<LineMeaning, LineError>
     ensures says { IfOk result (λ s.
         worded config.now line.now (word_of line.now) (argument_of line.now) ≡ Ok s) }
     ensures bad { IfErr result (λ e. IsCause
@@ -108,7 +112,7 @@ fn by_word(alloc: Global, config: &Config, line: &[u8]) -> Result<Said, LineErro
     ensures may { IfOk result (MayHappen config.now) }
 {
     if line == b"phase".as_slice() {
-        return Ok(Said::Phase);
+        return Ok(LineMeaning::Phase);
     }
     let parted = first_word(line);
     if parted.word == b"lost".as_slice() {
@@ -129,7 +133,7 @@ fn by_client(
     config: &Config,
     line: &[u8],
     buffer: &mut Vec<u8>,
-) -> Result<Said, LineError>
+) -> Result<LineMeaning, LineError>
     ensures says { IfOk result (λ s. heard_of config.now
         (number_of (word_of line.now)) (pairs_of (argument_of line.now)) ≡ Ok s) }
     ensures bad { IfErr result (λ e. IsCause (heard_of config.now
@@ -147,7 +151,7 @@ fn trimmed(
     config: &Config,
     line: &[u8],
     buffer: &mut Vec<u8>,
-) -> Result<Said, LineError>
+) -> Result<LineMeaning, LineError>
     ensures says { IfOk result (λ s. trimmed_says config.now line.now ≡ Ok s) }
     ensures bad { IfErr result (λ e. IsCause (trimmed_says config.now line.now) e) }
     ensures may { IfOk result (MayHappen config.now) }
@@ -156,7 +160,7 @@ fn trimmed(
         return by_client(alloc, config, line, buffer);
     }
     if is_remark(line) {
-        return Ok(Said::Nothing);
+        return Ok(LineMeaning::Nothing);
     }
     by_word(alloc, config, line)
 }
@@ -168,7 +172,7 @@ pub fn said(
     config: &Config,
     line: &[u8],
     buffer: &mut Vec<u8>,
-) -> Result<Said, LineError>
+) -> Result<LineMeaning, LineError>
     ensures says { IfOk result (λ s. said_of config.now line.now ≡ Ok s) }
     ensures bad { IfErr result (λ e. IsCause (said_of config.now line.now) e) }
     ensures may { IfOk result (MayHappen config.now) }

@@ -16,7 +16,7 @@ use crate::counts::Counts;
 use crate::cut::{Sent, first_sent};
 use crate::event_line::{heard, said};
 use crate::numbered::NumberedLines;
-use crate::said::{LineError, Said};
+use crate::said::{LineError, LineMeaning};
 use cell_config::Config;
 use cell_io::{MOST, Source};
 use mms_types::Events;
@@ -46,7 +46,7 @@ fn held_said(
     config: &Config,
     counts: &mut Counts,
     sent: Sent,
-) -> Result<Said, RecordError>
+) -> Result<LineMeaning, RecordError>
     requires counts { IsWithin counts.old }
     requires unended { lines.old.held.ended ≡ false }
     requires line { BeginsWithLine lines.old.held.octets sent.size }
@@ -82,7 +82,7 @@ fn copied_said<S: Source>(
     counts: &mut Counts,
     buffer: &mut Vec<u8>,
     input: &mut S,
-) -> Result<Option<Said>, RecordError>
+) -> Result<Option<LineMeaning>, RecordError>
     requires { IsWithin counts.old }
     ensures says { IfOk result (λ o. IfSome o (λ said. SaysLine config.now said
         lines.old counts.old (S.left input.old) lines.new counts.new (S.left input.new))) }
@@ -119,7 +119,7 @@ fn next_said<S: Source>(
     counts: &mut Counts,
     buffer: &mut Vec<u8>,
     input: &mut S,
-) -> Result<Option<Said>, RecordError>
+) -> Result<Option<LineMeaning>, RecordError>
     requires { IsWithin counts.old }
     ensures says { IfOk result (λ o. IfSome o (λ said. SaysLine config.now said
         lines.old counts.old (S.left input.old) lines.new counts.new (S.left input.new))) }
@@ -174,14 +174,14 @@ pub fn read_phase<S: Source>(
     let _given = lines.given();
     for _turn in 0..MOST + 1 {
         match next_said(alloc, lines, config, counts, buffer, input)? {
-            Some(Said::Nothing) => continue,
-            Some(Said::Phase) => {
+            Some(LineMeaning::Nothing) => continue,
+            Some(LineMeaning::Phase) => {
                 return Ok(Piece {
                     events,
                     last: false,
                 });
             }
-            Some(Said::Happens(event)) => events.push(event)?,
+            Some(LineMeaning::Happens(event)) => events.push(event)?,
             None => return Ok(Piece { events, last: true }),
         }
     }

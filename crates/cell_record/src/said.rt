@@ -6,7 +6,7 @@ use mms_types::{CellEvent, Memory};
 
 /// What a line says.
 #[derive(Drop)]
-pub enum Said {
+pub enum LineMeaning {
     /// Nothing: the line is empty or a comment.
     Nothing,
     /// A phase ends.

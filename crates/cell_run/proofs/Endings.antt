@@ -19,7 +19,7 @@ use Rattle.cell_run.specs.Counted.{AreCounts, HasCounted, WritesCounts, WritesSo
 use Rattle.cell_run.specs.declared.stressing.Numbers.{Numbers}
 use Rattle.cell_stress.specs.Stress.{stress_config, stress_phases}
 use Rattle.cell_run.specs.Outcome.{Completes, IsCut, IsFinal, PrintsBy, PrintsFor, WritesAll, WritesCut, WritesSome, report_of, status_for, status_of}
-use Rattle.cell_run.specs.Printed.{printed, printed_by}
+use Rattle.cell_run.proofs.Printed.{printed, printed_by}
 use Rattle.cell_run.specs.Ending.{Seen, Ends, EndsServing, EndsStress, MayReadAhead, WritesLines}
 use Rattle.std.specs.Option.{option_map}
 use Rattle.cell_io.specs.Lines.{whole_lines}

@@ -17,7 +17,7 @@ use Rattle.cell_record.specs.Stops.{IsCutInOpening, Leads, Stops, lines_in}
 use Rattle.cell_record.specs.History.{drains, history}
 use Rattle.cell_record.specs.Report.{placed_from, taken, phase_text, report_from}
 use Rattle.cell_run.specs.Outcome.{IsCut, IsFinal, WritesCut, last_line, status_of, status_for}
-use Rattle.cell_run.specs.Printed.{printed, printed_by}
+use Rattle.cell_run.proofs.Printed.{printed, printed_by}
 use Rattle.cell_words.specs.declared.words.Command.{Command}
 use Rattle.cell_run.specs.declared.status.Status.{Status}
 

@@ -19,3 +19,4 @@ pub mod Begun
 pub mod CrewPhase
 pub mod OneHistory
 pub mod Tried
+pub mod Printed

@@ -2,7 +2,6 @@ pub mod Bodies
 pub mod Outcome
 pub mod Counted
 pub mod Ending
-pub mod Printed
 pub mod Serving
 pub mod Codes
 pub mod Along

@@ -41,7 +41,7 @@ use Rattle.domain_upload.specs.Uploads.{has_upload}
 use Rattle.serve_domains.specs.Domains as domains
 use Rattle.serve_domains.specs.Tables.{DomainTables}
 use Rattle.cell_services.specs.Others.{AlsoTells, client_of, clients_meanwhile, clients_told, grant_clients}
-use Rattle.cell_services.specs.AreaLaws.{device_alone, in_device, in_domains, in_events, in_invocations, in_journals, in_programs, in_semaphores, in_variables, variables_alone}
+use Rattle.cell_services.proofs.AreaTableLaws.{device_alone, in_device, in_domains, in_events, in_invocations, in_journals, in_programs, in_semaphores, in_variables, variables_alone}
 use Rattle.cell_services.specs.Device as device
 use Rattle.cell_services.specs.Requests.{told_in}
 use Rattle.cell_services.specs.Services.{InArea, OfDevice, OfDomains, OfEvents, OfInvocations, OfJournals, OfPrograms, OfSemaphores, OfVariables, area_of, reply_in, cause_of, effect_of, grants_told, lacks_number}
@@ -53,9 +53,9 @@ use Rattle.cell_services.specs.Tables.{Tables, own_domains, own_events, own_invo
 use Rattle.parted_state.specs.Area.{no_table}
 use Rattle.serve_semaphores.specs.Semaphores as semaphores
 use Rattle.serve_semaphores.specs.Tokens.{is_the_one}
-use Rattle.serve_journals.specs.AnswerLaws.{journals_alone}
+use Rattle.serve_journals.proofs.AnswerLaws.{journals_alone}
 use Rattle.serve_journals.specs.Journals as journals
-use Rattle.serve_programs.specs.AnswerLaws.{makes_alone, programs_alone}
+use Rattle.serve_programs.proofs.AnswerLaws.{makes_alone, programs_alone}
 use Rattle.serve_programs.specs.Programs as programs
 use Rattle.serve_variables.specs.Variables as variables
 use Rattle.serve_events.specs.Events as events

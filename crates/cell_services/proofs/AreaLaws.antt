@@ -38,7 +38,7 @@ use Rattle.cell_client.specs.Association.{Aborts, Came, Cancels, Exhausts, Repli
 use Rattle.cell_client.specs.Effects.{Effect, felt_all, settled, tell}
 use Rattle.cell_client.specs.Facts.{Facts, Question, Truth, no_facts}
 use Rattle.cell_client.specs.Telling.{effects_told}
-use Rattle.cell_client.specs.declared.told.Told.{Told}
+use Rattle.cell_client.specs.declared.told.ClientTold.{ClientTold}
 use Rattle.mms_types.specs.declared.memory.Memory.{Memory}
 use Rattle.mms_types.specs.declared.service_error.ServiceError.{ServiceError}
 use Rattle.serve_domains.specs.Domains as domain
@@ -57,7 +57,7 @@ use Rattle.serve_semaphores.specs.Semaphores as semaphore
 use Rattle.cell_services.specs.Acts.{all_done, IsDoneIn}
 use Rattle.cell_services.specs.Device.{domain_of, get_name_list, is_domain, listed, scope_cause, scope_of}
 use Rattle.cell_services.specs.Facts.{is_domain_live, is_true, names_in, tells}
-use Rattle.cell_services.specs.AreaLaws.{in_domains, in_events, in_invocations, in_journals, in_programs, in_semaphores, in_variables}
+use Rattle.cell_services.proofs.AreaTableLaws.{in_domains, in_events, in_invocations, in_journals, in_programs, in_semaphores, in_variables}
 use Rattle.cell_services.proofs.PlanLaws.{append_none}
 use Rattle.cell_services.proofs.TimeLaws.{moment_given}
 use Rattle.cell_services.specs.Requests.{told_in}
@@ -212,7 +212,7 @@ module _ (x : SemaphoreRequest) (row : ClientRow) (invoke : ℕ) (moment : Momen
   semaphores_served now new (Ok (Some told)) served = tt
   semaphores_served now new (Err memory) served = tt
 
-  told_among : (t : Tables) (now : Rows) (told : List (ℕ × Told))
+  told_among : (t : Tables) (now : Rows) (told : List (ℕ × ClientTold))
       → ((facts : Facts) → facts.now ≡ moment → IsToldIn (semaphore.request_in x) facts invoke row was now (effects_told told))
       → t.semaphores ≡ was → t.now ≡ moment.0 → hears t row row.client (Takes invoke (semaphore_request x)) ≡ all_done (own_semaphores.put now t) told
   told_among t now told left stood at =
@@ -220,7 +220,7 @@ module _ (x : SemaphoreRequest) (row : ClientRow) (invoke : ℕ) (moment : Momen
       ∙ placed own_semaphores (λ u. refl) (semaphore.request_in x) t row invoke now (effects_told told)
       (subst (λ (rows : Rows). IsToldIn (semaphore.request_in x) (its t) invoke row rows now (effects_told told)) (sym stood) (left (its t) (its_now t at)))
 
-  pub semaphores_told : {X : Type 0} (result : Result (Option X) Memory) (items : X → List (ℕ × Told))
+  pub semaphores_told : {X : Type 0} (result : Result (Option X) Memory) (items : X → List (ℕ × ClientTold))
       → IfOk result (λ left. IfSome left (λ told. (facts : Facts) → facts.now ≡ moment
       → IsToldIn (semaphore.request_in x) facts invoke row was (told_after row.client moment x was) (effects_told (items told))))
       → IfOk result (λ left. IfSome left (λ told. (t : Tables) → t.semaphores ≡ was → t.now ≡ moment.0 → Lives t
@@ -400,7 +400,7 @@ module _ (x : EventRequest) (row : ClientRow) (invoke : ℕ) (moment : Moment) (
     events_served now new (Ok (Some left)) served = tt
     events_served now new (Err memory) served = tt
 
-  turned_among : (t : Tables) (now : EventTables) (told : List (ℕ × Told))
+  turned_among : (t : Tables) (now : EventTables) (told : List (ℕ × ClientTold))
       → ((facts : Facts) → facts.now ≡ moment → facts.truth ≡ says → IsToldIn (event.request_in x) facts invoke row was now (effects_told told))
       → t.events ≡ was → t.now ≡ moment.0 → (facts_for t).truth ≡ says
       → hears t row row.client (Takes invoke (event_request x)) ≡ all_done (own_events.put now t) told
@@ -409,7 +409,7 @@ module _ (x : EventRequest) (row : ClientRow) (invoke : ℕ) (moment : Moment) (
       ∙ placed own_events (λ u. refl) (event.request_in x) t row invoke now (effects_told told)
       (subst (λ (u : EventTables). IsToldIn (event.request_in x) (facts_for t) invoke row u now (effects_told told)) (sym stood) (left (facts_for t) (at_moment t at) is_so))
 
-  pub events_told : {X : Type 0} (result : Result (Option X) Memory) (items : X → List (ℕ × Told))
+  pub events_told : {X : Type 0} (result : Result (Option X) Memory) (items : X → List (ℕ × ClientTold))
       → IfOk result (λ left. IfSome left (λ l. (facts : Facts) → facts.now ≡ moment → facts.truth ≡ says
       → IsToldIn (event.request_in x) facts invoke row was (turned_after row.client moment says x was) (effects_told (items l))))
       → IfOk result (λ left. IfSome left (λ l. (t : Tables) → t.events ≡ was → t.now ≡ moment.0 → (facts_for t).truth ≡ says

@@ -3,3 +3,4 @@ pub mod AreaLaws
 pub mod PlanLaws
 pub mod TimeLaws
 mod Worked
+pub mod AreaTableLaws

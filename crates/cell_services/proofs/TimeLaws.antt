@@ -32,7 +32,7 @@ use Rattle.cell_services.specs.declared.tables.Change.{Change}
 use Rattle.cell_services.specs.declared.tables.Change.TheVariants.{Passes, Ticks}
 use Rattle.cell_client.specs.Effects.{Effect}
 use Rattle.cell_client.specs.Telling.{effects_told}
-use Rattle.cell_client.specs.declared.told.Told.{Told}
+use Rattle.cell_client.specs.declared.told.ClientTold.{ClientTold}
 use Rattle.cell_services.specs.Acts.{plan_done}
 use Rattle.cell_services.specs.Changes.{MayChange, clients_of, events_after}
 use Rattle.cell_services.specs.Serving.{aborted_then, all_told, domains_without, journals_without, lost_in, meanwhile, passed, passes, saying, without_client, without_clients}
@@ -46,10 +46,10 @@ moment_given t now is = ap (λ (n : ℕ). moment n) is
 
 -- ---- where no deadline is due, time passes, and nobody is told anything
 
-pub nothing_due : (ms : ℕ) (t : Tables) (told : List (ℕ × Told)) → next_due (moment_after ms t) t.semaphores t.events.conditions ≡ None → told ≡ []
+pub nothing_due : (ms : ℕ) (t : Tables) (told : List (ℕ × ClientTold)) → next_due (moment_after ms t) t.semaphores t.events.conditions ≡ None → told ≡ []
     → plan_done t (Passes ms) told ≡ passes ms t
 nothing_due ms t told none nobody =
-    ap (λ (l : List (ℕ × Told)). plan_done t (Passes ms) l) nobody
+    ap (λ (l : List (ℕ × ClientTold)). plan_done t (Passes ms) l) nobody
     ∙ sym
     (ap (λ (s : Ticking). passed ms t s) (nothing_so (saying t.variables) (moment_after ms t) t.semaphores t.events.conditions t.events.enrolments none))
 
@@ -60,7 +60,7 @@ moment_later ms t until is = ap (λ (n : ℕ). moment n) is
     moment : ℕ → Moment
     moment n = record { 0 = n }
 
-pub none_planned : (ms : ℕ) (u t : Tables) → u ≡ t → (told : List (ℕ × Told)) (until : Moment) → until.0 ≡ u.now + ms → next_due until u.semaphores u.events.conditions ≡ None → told ≡ []
+pub none_planned : (ms : ℕ) (u t : Tables) → u ≡ t → (told : List (ℕ × ClientTold)) (until : Moment) → until.0 ≡ u.now + ms → next_due until u.semaphores u.events.conditions ≡ None → told ≡ []
     → plan_done t (Passes ms) told ≡ passes ms t
 none_planned ms u t same told until at none nobody =
     subst (λ (x : Tables). plan_done x (Passes ms) told ≡ passes ms x) same
@@ -95,7 +95,7 @@ module _ (ms : ℕ) (t : Tables) (d : DeviceTicked) where
   abbrev at : List ℕ → List (ℕ × Effect) → Done Tables Effect
   at clients told = record { tables = tables_lost clients; told = told }
 
-  pub ticks_done : (told : List (ℕ × Told)) → effects_told told ≡ all_told d.happened.items
+  pub ticks_done : (told : List (ℕ × ClientTold)) → effects_told told ≡ all_told d.happened.items
       → state_of (saying t.variables) (moment_after ms t) d t.semaphores t.events.conditions t.events.enrolments ≡ meanwhile ms t
       → d.losses.items ≡ filter_map loss_in d.happened.items → plan_done t (Ticks ms d.changed d.losses) told ≡ passes ms t
   ticks_done told tells is lost =

@@ -6,7 +6,7 @@ use Rattle.parted_state.specs.Served.{Done}
 use Rattle.cell_services.specs.declared.tables.Change.{Change}
 use Rattle.cell_client.specs.declared.acts.Act.{Act}
 use Rattle.cell_client.specs.declared.acts.Act.TheVariants as act
-use Rattle.cell_client.specs.declared.told.Told.{Told}
+use Rattle.cell_client.specs.declared.told.ClientTold.{ClientTold}
 use Rattle.cell_client.specs.Association.{Verdict, Takes, Replies, Exhausts, Concludes, Cancels, Aborts}
 use Rattle.cell_client.specs.Meant.{came}
 use Rattle.cell_services.specs.Changes.{changed}
@@ -27,10 +27,10 @@ act_done t row client act.Loss = loses t row client
 
 -- ---- plans
 
-abbrev pub all_done : Tables → List (ℕ × Told) → Done Tables Effect
+abbrev pub all_done : Tables → List (ℕ × ClientTold) → Done Tables Effect
 all_done t told = record { tables = t; told = effects_told told }
 
-abbrev pub plan_done : Tables → Change → List (ℕ × Told) → Done Tables Effect
+abbrev pub plan_done : Tables → Change → List (ℕ × ClientTold) → Done Tables Effect
 plan_done t change told = all_done (changed change t) told
 
 -- it is what a verdict on what the client of a row sends leaves to be done on the tables

@@ -1,5 +1,4 @@
 pub mod Acts
-pub mod AreaLaws
 pub mod Changes
 pub mod Device
 pub mod Facts

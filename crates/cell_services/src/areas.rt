@@ -25,7 +25,7 @@ ghost use Rattle.cell_services.specs.Facts.{is_domain_live, is_scope_used};
 ghost use Rattle.cell_services.specs.Requests.{told_in};
 ghost use Rattle.cell_services.specs.Tables.{Tables as Rows, own_domains, own_events, own_invocations, own_journals, own_programs, own_semaphores, own_variables};
 
-use cell_client::{Came, Client, Told};
+use cell_client::{Came, Client, ClientTold};
 use mms_journal::Journals;
 use mms_time::{Semaphores, owns_guard};
 use mms_types::{
@@ -91,7 +91,7 @@ pub fn serve_semaphores(
     live: bool,
     invoke: u32,
     asked: SemaphoreRequest<'_>,
-) -> Result<Option<Vec<(u32, Told)>>, Memory>
+) -> Result<Option<Vec<(u32, ClientTold)>>, Memory>
     requires now { IsDated now }
     requires settled { own.old ≡ settled own.old.row }
     ensures served { IfOk result (λ left. IfNone left ((t : Rows)

@@ -14,9 +14,11 @@ ghost use Rattle.cell_client.specs.Telling.{effects_told};
 use crate::tables::CellsOf;
 use crate::{Change, Tables};
 use association::ClientPart;
-use cell_client::{Act, Told, answer_octets, conclude_error, conclude_response, one_told, refusal};
+use cell_client::{
+    Act, ClientTold, answer_octets, conclude_error, conclude_response, one_told, refusal,
+};
 use cell_ticks::{DatedHappening, DeviceTicked, tick_told};
-use event_ticks::Told as Turns;
+use event_ticks::TurnTold;
 use mms_pdu::Writer;
 use mms_types::{Answer, Memory, Moment, ServiceError, What};
 use sem_ticks::{Happening, lose_told};
@@ -30,7 +32,7 @@ pub struct Plan {
     /// How the tables change.
     pub change: Change,
     /// Who is told what, in order.
-    pub told: Vec<(u32, Told)>,
+    pub told: Vec<(u32, ClientTold)>,
 }
 
 /// A client is lost, of which it is told that; tokens that it had are granted to others, which are told so.
@@ -38,7 +40,7 @@ fn lost_plan(
     alloc: Global,
     tables: &Tables,
     part: &ClientPart,
-    told: Vec<(u32, Told)>,
+    told: Vec<(u32, ClientTold)>,
 ) -> Result<Plan, Memory>
     ensures told { IfOk result (λ plan. effects_told plan.told.items
         ≡ effects_told told.items ++ loss_also part.now.row.client tables.now) }
@@ -77,7 +79,7 @@ fn granted_plan(
     ensures change { IfOk result (λ plan. plan.change ≡ Change.Loses part.now.row.client) }
 {
     let mut told = one_told(alloc, client, conclude_response(alloc)?)?;
-    told.push((client, Told::Closes))?;
+    told.push((client, ClientTold::Closes))?;
     lost_plan(alloc, tables, part, told)
 }
 
@@ -113,9 +115,9 @@ fn exhausted_plan(
 {
     let answer = answer_octets(alloc, invoke, &Answer::InitiateDownloadSequence)?;
     let told = vec![in alloc;
-        (client, Told::Sends(What::Octets(answer))),
-        (client, Told::Sends(What::Abort)),
-        (client, Told::Closes),
+        (client, ClientTold::Sends(What::Octets(answer))),
+        (client, ClientTold::Sends(What::Abort)),
+        (client, ClientTold::Closes),
     ]?;
     lost_plan(alloc, tables, part, told)
 }
@@ -131,7 +133,10 @@ fn abort_plan(
         ≡ tell client abort_told ++ loss_also part.now.row.client tables.now) }
     ensures change { IfOk result (λ plan. plan.change ≡ Change.Loses part.now.row.client) }
 {
-    let told = vec![in alloc; (client, Told::Sends(What::Abort)), (client, Told::Closes)]?;
+    let told = vec![in alloc;
+        (client, ClientTold::Sends(What::Abort)),
+        (client, ClientTold::Closes),
+    ]?;
     lost_plan(alloc, tables, part, told)
 }
 
@@ -147,14 +152,14 @@ fn loss_plan(alloc: Global, tables: &Tables, client: u32, part: &ClientPart) -> 
             told: Vec::new(alloc),
         });
     }
-    let told = vec![in alloc; (client, Told::Closes)]?;
+    let told = vec![in alloc; (client, ClientTold::Closes)]?;
     lost_plan(alloc, tables, part, told)
 }
 
 /// What happened to semaphores is told to whom it concerns.
 fn tell_happening(
     alloc: Global,
-    told: &mut Vec<(u32, Told)>,
+    told: &mut Vec<(u32, ClientTold)>,
     happening: Happening,
 ) -> Result<(), Memory>
     ensures { OnOk result (effects_told told.new.items
@@ -162,13 +167,13 @@ fn tell_happening(
 {
     match happening {
         Happening::WaitEnds { client, invoke } => {
-            told.push((client, Told::Answers(invoke)))?;
+            told.push((client, ClientTold::Answers(invoke)))?;
             told.push((client, refusal(alloc, invoke, ServiceError::TIMEOUT)?))?;
         }
         Happening::Grants(grant) => tell_grant(alloc, told, grant)?,
         Happening::Aborts(client) => {
-            told.push((client, Told::Sends(What::Abort)))?;
-            told.push((client, Told::Closes))?;
+            told.push((client, ClientTold::Sends(What::Abort)))?;
+            told.push((client, ClientTold::Closes))?;
         }
     }
     Ok(())
@@ -178,7 +183,7 @@ fn tell_happening(
 fn tell_happened(
     alloc: Global,
     out: &mut Writer,
-    told: &mut Vec<(u32, Told)>,
+    told: &mut Vec<(u32, ClientTold)>,
     happened: cell_ticks::Happening,
 ) -> Result<(), Memory>
     ensures { OnOk result (effects_told told.new.items
@@ -186,14 +191,14 @@ fn tell_happened(
 {
     match happened {
         cell_ticks::Happening::Semaphores(happening) => tell_happening(alloc, told, happening),
-        cell_ticks::Happening::Turns(Turns { turned, notices }) => {
+        cell_ticks::Happening::Turns(TurnTold { turned, notices }) => {
             tell_notices(alloc, out, told, &turned, notices.as_slice())
         }
     }
 }
 
 /// All that happened is told, in order.
-fn all_told(alloc: Global, happened: Vec<DatedHappening>) -> Result<Vec<(u32, Told)>, Memory>
+fn all_told(alloc: Global, happened: Vec<DatedHappening>) -> Result<Vec<(u32, ClientTold)>, Memory>
     ensures { IfOk result (λ told. effects_told told.items ≡ all_told happened.items) }
 {
     let mut out = Writer::new(alloc);

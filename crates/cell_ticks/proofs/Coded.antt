@@ -28,7 +28,7 @@ use Rattle.event_cond.proofs.Soonest.{In, least_first, next_none}
 use Rattle.event_enrol.specs.Enrolments as enrol
 use Rattle.event_ticks.specs.Ticks as events
 use Rattle.event_ticks.specs.declared.ticks.Loss.{Loss}
-use Rattle.event_ticks.specs.declared.ticks.Told.{Told}
+use Rattle.event_ticks.specs.declared.ticks.TurnTold.{TurnTold}
 use Rattle.event_ticks.proofs.Due.{stands}
 use Rattle.event_ticks.proofs.Ticked.{sound_is}
 use Rattle.cell_ticks.specs.Coded.{sooner_if}
@@ -188,7 +188,7 @@ losses_are (h ∷ happened) = ap (cons_option (loss_of h)) (losses_are happened)
 abbrev IsQuiet : Moment → List DatedHappening → Type 0
 IsQuiet at ys = AllByRecursion (λ y. nat_lt y.at.0 at.0 ≡ true → loss_in y ≡ None) ys
 
-turns_quiet : (at : Moment) (told : List Told) → IsQuiet at (map turning told)
+turns_quiet : (at : Moment) (told : List TurnTold) → IsQuiet at (map turning told)
 turns_quiet at [] = tt
 turns_quiet at (t ∷ told) = (λ e. refl, turns_quiet at told)
 
@@ -220,11 +220,11 @@ put_lost x (y ∷ ys) q = by_test (nat_lt y.at.0 x.at.0) refl (put_lost x ys q.1
     by_test false e rest = refl
 
 -- no client is lost by what is told of conditions
-none_turned : (told : List Told) → filter_map loss_in (map turning told) ≡ []
+none_turned : (told : List TurnTold) → filter_map loss_in (map turning told) ≡ []
 none_turned [] = refl
 none_turned (t ∷ told) = none_turned told
 
-lost_merged : (xs : List DatedHappening) (told : List Told) → AreInOrder xs → filter_map loss_in (merged xs (map turning told)) ≡ filter_map loss_in xs
+lost_merged : (xs : List DatedHappening) (told : List TurnTold) → AreInOrder xs → filter_map loss_in (merged xs (map turning told)) ≡ filter_map loss_in xs
 lost_merged [] told order = none_turned told
 lost_merged (x ∷ xs) told order =
     put_lost x (merged xs (map turning told)) (merged_quiet x.at xs (map turning told) order.0 (turns_quiet x.at told))
@@ -240,7 +240,7 @@ pub ordered : (until : Moment) (rows : sem_rows.Rows) → AreInOrder (map in_sem
 ordered until rows = in_order_so (of_semaphores until rows) (in_order until rows)
 
 -- in both parts those are lost that the first one aborts
-pub losses_so : (until : Moment) (rows : sem_rows.Rows) (losses : List Loss) (told : List Told) (first happened : List DatedHappening)
+pub losses_so : (until : Moment) (rows : sem_rows.Rows) (losses : List Loss) (told : List TurnTold) (first happened : List DatedHappening)
     → losses ≡ losses_of (of_semaphores until rows) → first ≡ map in_semaphores (of_semaphores until rows) → happened ≡ merged first (map turning told)
     → losses ≡ filter_map loss_in happened
 losses_so until rows losses told first happened lost begins both =
@@ -284,7 +284,7 @@ module _ (cells : Saying) (until : Moment) (semaphores : sem_rows.Rows) (conditi
     is_sound = record { semaphores = semaphores_sound semaphores names sound; conditions = sound_is conditions distinct each }
 
     module _ (t : DeviceTicked) (rows : renewed t.changed semaphores ≡ (sem_ticks.ticked until semaphores).rows) (lost : t.losses.items ≡ losses_of (of_semaphores until semaphores))
-        (told : List Told) (tells : told ≡ (events.ticked cells until (events.begun conditions enrolments t.losses.items)).told)
+        (told : List TurnTold) (tells : told ≡ (events.ticked cells until (events.begun conditions enrolments t.losses.items)).told)
         (first : List DatedHappening) (begins : first ≡ map in_semaphores (of_semaphores until semaphores))
         (both : t.happened.items ≡ merged first (map turning told)) where
       abbrev part : List Loss → events.Ticking
@@ -293,7 +293,7 @@ module _ (cells : Saying) (until : Moment) (semaphores : sem_rows.Rows) (conditi
       happens : t.happened.items ≡ merged (map in_semaphores (of_semaphores until semaphores)) (map turning (part (losses_of (of_semaphores until semaphores))).told)
       happens =
           both ∙ ap (λ (l : List DatedHappening). merged l (map turning told)) begins
-          ∙ ap (λ (l : List Told). merged (map in_semaphores (of_semaphores until semaphores)) (map turning l)) (tells ∙ ap (λ (l : List Loss). (part l).told) lost)
+          ∙ ap (λ (l : List TurnTold). merged (map in_semaphores (of_semaphores until semaphores)) (map turning l)) (tells ∙ ap (λ (l : List Loss). (part l).told) lost)
 
       pub ticked_so : state_of cells until t semaphores conditions enrolments ≡ ticked cells until semaphores conditions enrolments
       ticked_so =

@@ -23,7 +23,7 @@ use Rattle.event_ticks.specs.Skipping.{enrolments_left, is_left, skipping, skipp
 use Rattle.event_ticks.specs.Sound.{AreSound}
 use Rattle.event_ticks.specs.Ticks.{Ticking, begun, evaluated, lost, most_of, next_evaluated, next_lost, next_met, next_of_both, says_named, ticked, told_if, told_of}
 use Rattle.event_ticks.specs.declared.ticks.Loss.{Loss}
-use Rattle.event_ticks.specs.declared.ticks.Told.{Told}
+use Rattle.event_ticks.specs.declared.ticks.TurnTold.{TurnTold}
 use Rattle.event_ticks.proofs.Due.{stands}
 use Rattle.event_ticks.proofs.Lost.{lost_fewer, lost_sound}
 use Rattle.event_ticks.proofs.Nexts.{LossesAfter, NoneBefore}
@@ -105,7 +105,7 @@ module _ (cells : Saying) (until : Moment) where
       (each_in_order (λ t. at.0 ≤ t.at.0) (filter_map (first_turn until cells) conditions) (each_turn until cells (λ e. at.0 ≤ e.0.0) conditions all)))
 
   -- what is told before stands before
-  pub told_before : (conditions : cond_rows.Rows) (enrolments : enrol.Rows) (losses : List Loss) (told : List Told) → AreSound conditions
+  pub told_before : (conditions : cond_rows.Rows) (enrolments : enrol.Rows) (losses : List Loss) (told : List TurnTold) → AreSound conditions
       → ticked cells until (record { conditions = conditions; enrolments = enrolments; losses = losses; told = told })
       ≡ record (ticked cells until (begun conditions enrolments losses)) { told = told ++ (ticked cells until (begun conditions enrolments losses)).told }
   told_before conditions enrolments losses told sound =

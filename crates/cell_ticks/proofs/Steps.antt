@@ -26,7 +26,7 @@ use Rattle.event_enrol.specs.Enrolments as enrol
 use Rattle.event_ticks.specs.Ticks as events
 use Rattle.event_ticks.specs.Ticks.{most_of}
 use Rattle.event_ticks.specs.declared.ticks.Loss.{Loss}
-use Rattle.event_ticks.specs.declared.ticks.Told.{Told}
+use Rattle.event_ticks.specs.declared.ticks.TurnTold.{TurnTold}
 use Rattle.event_ticks.proofs.Nexts.{LossesAfter}
 use Rattle.cell_ticks.specs.Deadlines.{evaluation_due, next_due}
 use Rattle.cell_ticks.specs.Parts.{in_semaphores, loss_of, losses_of, merged, merged_parts, of_events, of_semaphores, turning}
@@ -171,12 +171,12 @@ module _ (cells : Saying) (until : Moment) (s : Ticking) (sound : IsSound s) (ne
   all_after =
       happen_from (record { 0 = next.0.0 + 1 }) until (record { rows = s.semaphores; happened = [] }) (lie_after next.0 s.semaphores semaphores) tt
 
-  after_each : (told : List Told) → After next.0 (map in_semaphores (of_semaphores until s.semaphores))
+  after_each : (told : List TurnTold) → After next.0 (map in_semaphores (of_semaphores until s.semaphores))
       → AllByRecursion (λ z. After z.at (map in_semaphores (of_semaphores until s.semaphores))) (map (λ x. dated next.0 (Turns x)) told)
   after_each [] all = tt
   after_each (x ∷ told) all = (all, after_each told all)
 
-  turned_more : (xs ys : List Told) → map turning (xs ++ ys) ≡ map turning xs ++ map turning ys
+  turned_more : (xs ys : List TurnTold) → map turning (xs ++ ys) ≡ map turning xs ++ map turning ys
   turned_more [] ys = refl
   turned_more (x ∷ xs) ys = ap (λ l. turning x ∷ l) (turned_more xs ys)
 

@@ -11,7 +11,7 @@ use Rattle.event_cond.specs.Skips.{Saying}
 use Rattle.event_enrol.specs.Enrolments as enrol
 use Rattle.event_ticks.specs.Ticks as events
 use Rattle.event_ticks.specs.declared.ticks.Loss.{Loss}
-use Rattle.event_ticks.specs.declared.ticks.Told.{Told}
+use Rattle.event_ticks.specs.declared.ticks.TurnTold.{TurnTold}
 use Rattle.cell_ticks.specs.Ticks.{Ticking, aborted_one, dated}
 use Rattle.cell_ticks.specs.declared.happening.DatedHappening.{DatedHappening}
 use Rattle.cell_ticks.specs.declared.happening.Happening.TheVariants.{Semaphores, Turns}
@@ -37,7 +37,7 @@ of_events cells until semaphores conditions enrolments = events.ticked cells unt
 abbrev pub in_semaphores : Moment × sem_happening.Happening → DatedHappening
 in_semaphores h = dated h.0 (Semaphores h.1)
 
-abbrev pub turning : Told → DatedHappening
+abbrev pub turning : TurnTold → DatedHappening
 turning told = dated told.turned.at (Turns told)
 
 -- one more, which comes before whatever isn't earlier
@@ -50,7 +50,7 @@ abbrev pub merged : List DatedHappening → List DatedHappening → List DatedHa
 merged [] ys = ys
 merged (x ∷ xs) ys = put_in x (merged xs ys)
 
-abbrev pub merged_parts : List (Moment × sem_happening.Happening) → List Told → List DatedHappening
+abbrev pub merged_parts : List (Moment × sem_happening.Happening) → List TurnTold → List DatedHappening
 merged_parts happened told = merged (map in_semaphores happened) (map turning told)
 
 -- both in one

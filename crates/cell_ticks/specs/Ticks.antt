@@ -17,7 +17,7 @@ use Rattle.event_enrol.specs.Enrolments as enrol
 use Rattle.event_ticks.specs.Settling.{settle}
 use Rattle.event_ticks.specs.Ticks as events
 use Rattle.event_ticks.specs.Ticks.{most_of}
-use Rattle.event_ticks.specs.declared.ticks.Told.{Told}
+use Rattle.event_ticks.specs.declared.ticks.TurnTold.{TurnTold}
 use Rattle.cell_ticks.specs.Deadlines.{evaluation, next_due}
 use Rattle.cell_ticks.specs.declared.happening.DatedHappening.{DatedHappening}
 use Rattle.cell_ticks.specs.declared.happening.Happening.{Happening}

@@ -1,6 +1,6 @@
 //! What happens on a device as time goes by.
 
-use event_ticks::Told;
+use event_ticks::TurnTold;
 use mms_types::Moment;
 
 /// What happens.
@@ -9,7 +9,7 @@ pub enum Happening {
     /// A wait for a token ends, a token is granted, or an association is aborted.
     Semaphores(sem_ticks::Happening),
     /// An event condition comes to another state, and clients are told of it.
-    Turns(Told),
+    Turns(TurnTold),
 }
 
 /// What happens at a moment.

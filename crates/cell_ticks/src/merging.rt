@@ -6,7 +6,7 @@ ghost use Rattle.cell_ticks.specs.Parts.{in_semaphores, merged, turning};
 ghost use Rattle.cell_ticks.specs.declared.happening.DatedHappening.{DatedHappening as Happened};
 
 use crate::happening::{DatedHappening, Happening};
-use event_ticks::{Loss, Told};
+use event_ticks::{Loss, TurnTold};
 use mms_types::{Memory, Moment};
 use std::alloc::Global;
 use std::collections::VecDeque;
@@ -59,7 +59,10 @@ pub(crate) fn losses(alloc: Global, happened: &[DatedHappening]) -> Result<Vec<L
 }
 
 /// What is told of conditions, each with its moment.
-pub(crate) fn turning(alloc: Global, told: Vec<Told>) -> Result<VecDeque<DatedHappening>, Memory>
+pub(crate) fn turning(
+    alloc: Global,
+    told: Vec<TurnTold>,
+) -> Result<VecDeque<DatedHappening>, Memory>
     ensures { IfOk result (λ all. all.items ≡ map turning told.items) }
 {
     let mut all = VecDeque::new(alloc);

@@ -20,7 +20,7 @@ use Rattle.event_cond.proofs.Soonest.{In, least_first, next_none}
 use Rattle.event_ticks.specs.Skipping.{conditions_left, enrolments_left, is_left, losses_left, skipping, skipping_told, told_left}
 use Rattle.event_ticks.specs.Ticks.{Ticking, lost, most_left, most_of, told_of}
 use Rattle.event_ticks.specs.declared.ticks.Loss.{Loss}
-use Rattle.event_ticks.specs.declared.ticks.Told.{Told}
+use Rattle.event_ticks.specs.declared.ticks.TurnTold.{TurnTold}
 use Rattle.event_ticks.proofs.Nexts.{NoneBefore}
 use Rattle.event_cond.proofs.Orders.{Each, each_in_order, no_earlier}
 use Rattle.event_ticks.proofs.Turns.{each_turn, turns_left}
@@ -95,7 +95,7 @@ module _ (cells : Saying) (until : Moment) (s : Ticking) (loss : Loss) (later : 
   told_rest [] all = refl
   told_rest (t ∷ ts) all =
       by_test (not (scope_eq t.condition.scope (Association loss.client))) (told_rest ts all.1)
-      ∙ ap (λ (o : Option Told). cons_option o (filter_map (told_left (loss ∷ later) s.enrolments) ts)) (sym (told_after t all.0))
+      ∙ ap (λ (o : Option TurnTold). cons_option o (filter_map (told_left (loss ∷ later) s.enrolments) ts)) (sym (told_after t all.0))
     where
       by_test : (b : Bool)
           → filter_map (told_left later (enrol.without_client loss.client s.enrolments)) (filter (λ t. not (scope_eq t.condition.scope (Association loss.client))) ts)
@@ -158,7 +158,7 @@ module _ (cells : Saying) (until : Moment) (s : Ticking) (loss : Loss) (later : 
           losses = l;
           told = s.told ++ skipping_told cells until (lost s loss later);
         }) losses_same
-        ∙ ap (λ (l : List Told). record {
+        ∙ ap (λ (l : List TurnTold). record {
           conditions = conditions_left until s.losses (after_skip until cells s.conditions);
           enrolments = enrolments_left until s.losses s.enrolments;
           losses = losses_left until s.losses;

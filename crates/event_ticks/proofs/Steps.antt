@@ -25,7 +25,7 @@ use Rattle.event_enrol.specs.Enrolments as enrol
 use Rattle.event_ticks.specs.Skipping.{conditions_left, enrolments_left, is_left, losses_left, skipping, skipping_told, told_left}
 use Rattle.event_ticks.specs.Ticks.{Ticking, evaluated, most_from, most_left, most_of, told_if, told_of}
 use Rattle.event_ticks.specs.declared.ticks.Loss.{Loss}
-use Rattle.event_ticks.specs.declared.ticks.Told.{Told}
+use Rattle.event_ticks.specs.declared.ticks.TurnTold.{TurnTold}
 use Rattle.event_ticks.proofs.Again.{again, no_turn, turn_is}
 use Rattle.event_ticks.proofs.Changes.{found_here, found_later, kept, mapped}
 use Rattle.event_cond.proofs.Soonest.{least_first}
@@ -133,7 +133,7 @@ module _ (cells : Saying) (until : Moment) (s : Ticking) (key : Key) (m : Moment
         by_turn (Some t) e =
             sym
             (ap (filter_map (told_left s.losses s.enrolments)) (others ∙ ap (λ (o : Option Turned). cons_option o (first_turns until cells after.conditions)) e)
-            ∙ ap (λ (o : Option Told). cons_option o (skipping_told cells until after)) (told_here t (turn_at t e) s.losses losses))
+            ∙ ap (λ (o : Option TurnTold). cons_option o (skipping_told cells until after)) (told_here t (turn_at t e) s.losses losses))
 
     pub evaluated_same : skipping cells until after ≡ skipping cells until s
     evaluated_same = ap (λ (l : cond_rows.Rows). record {
@@ -141,7 +141,7 @@ module _ (cells : Saying) (until : Moment) (s : Ticking) (key : Key) (m : Moment
       enrolments = enrolments_left until s.losses s.enrolments;
       losses = losses_left until s.losses;
       told = after.told ++ skipping_told cells until after;
-    }) rows_same ∙ ap (λ (l : List Told). record {
+    }) rows_same ∙ ap (λ (l : List TurnTold). record {
       conditions = conditions_left until s.losses (after_skip until cells s.conditions);
       enrolments = enrolments_left until s.losses s.enrolments;
       losses = losses_left until s.losses;

@@ -22,7 +22,7 @@ use Rattle.event_ticks.specs.Skipping.{conditions_left, enrolments_left, losses_
 use Rattle.event_ticks.specs.Sound.{AreSound, IsTimedClass}
 use Rattle.event_ticks.specs.Ticks.{Ticking, begun, evaluated, is_before, lost, most_left, next_evaluated, next_lost, next_met, next_of_both, ticked}
 use Rattle.event_ticks.specs.declared.ticks.Loss.{Loss}
-use Rattle.event_ticks.specs.declared.ticks.Told.{Told}
+use Rattle.event_ticks.specs.declared.ticks.TurnTold.{TurnTold}
 use Rattle.event_ticks.proofs.Due.{is_due}
 use Rattle.event_ticks.proofs.Lost.{lost_fewer, lost_same, lost_sound}
 use Rattle.event_ticks.proofs.Nexts.{Evaluates, Loses, LossesAfter, NoneDue, Rests, nothing_comes, what_comes}
@@ -156,7 +156,7 @@ module _ (cells : Saying) (until : Moment) where
         losses = l;
         told = s.told ++ skipping_told cells until s;
       }) left.waiting
-      ∙ ap (λ (l : List Told). record { conditions = s.conditions; enrolments = s.enrolments; losses = s.losses; told = l })
+      ∙ ap (λ (l : List TurnTold). record { conditions = s.conditions; enrolments = s.enrolments; losses = s.losses; told = l })
       (ap (λ (l : List Turned). s.told ++ filter_map (told_left s.losses s.enrolments) (in_order l)) (nothing_told s.conditions late) ∙ append-nil s.told)
 
   -- ---- all

@@ -15,7 +15,7 @@ use Rattle.event_enrol.specs.declared.enrolment.Enrolment.{Enrolment}
 use Rattle.event_ticks.specs.Skipping.{skipping}
 use Rattle.event_ticks.specs.Ticks.{Ticking, begun, ticked}
 use Rattle.event_ticks.specs.declared.ticks.Loss.{Loss}
-use Rattle.event_ticks.specs.declared.ticks.Told.{Told}
+use Rattle.event_ticks.specs.declared.ticks.TurnTold.{TurnTold}
 
 abbrev at : ℕ → Moment
 at ms = record { 0 = ms }
@@ -45,7 +45,7 @@ abbrev enrolled : ℕ → Key → Enrolment
 enrolled client condition = record { client = client; condition = condition; transitions = record { octets = 254 ∷ [] }; rule = 0 }
 
 -- what is seen: the moment, the condition's name, the transition, and which clients are told
-abbrev seen : Told → ℕ × List ℕ × ℕ × List ℕ
+abbrev seen : TurnTold → ℕ × List ℕ × ℕ × List ℕ
 seen t = (t.turned.at.0, t.turned.condition.item, t.turned.transition, map (λ (n : Notice). n.client) t.notices)
 
 abbrev tells : Ticking → List (ℕ × List ℕ × ℕ × List ℕ)

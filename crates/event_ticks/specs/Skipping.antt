@@ -11,7 +11,7 @@ use Rattle.event_cond.specs.Skips.{Saying, after_skip, first_turns}
 use Rattle.event_enrol.specs.Enrolments as enrol
 use Rattle.event_ticks.specs.Ticks.{Ticking, told_of}
 use Rattle.event_ticks.specs.declared.ticks.Loss.{Loss}
-use Rattle.event_ticks.specs.declared.ticks.Told.{Told}
+use Rattle.event_ticks.specs.declared.ticks.TurnTold.{TurnTold}
 
 -- ---- losses up to a moment
 
@@ -35,10 +35,10 @@ is_left until (loss ∷ later) key = if nat_le loss.at.0 until.0 then not (scope
 -- ---- what is told
 
 -- a transition is told where its condition is left at its moment, to the enrollments that are left then
-abbrev pub told_left : List Loss → enrol.Rows → Turned → Option Told
+abbrev pub told_left : List Loss → enrol.Rows → Turned → Option TurnTold
 told_left losses enrolments turned = if is_left turned.at losses turned.condition then Some (told_of (enrolments_left turned.at losses enrolments) turned) else None
 
-abbrev pub skipping_told : Saying → Moment → Ticking → List Told
+abbrev pub skipping_told : Saying → Moment → Ticking → List TurnTold
 skipping_told cells until s = filter_map (told_left s.losses s.enrolments) (first_turns until cells s.conditions)
 
 -- ---- all

@@ -17,14 +17,14 @@ use Rattle.event_enrol.specs.Enrolments as enrol
 use Rattle.event_enrol.specs.Enrolments.{notices}
 use Rattle.event_ticks.specs.Settling.{settle}
 use Rattle.event_ticks.specs.declared.ticks.Loss.{Loss}
-use Rattle.event_ticks.specs.declared.ticks.Told.{Told}
+use Rattle.event_ticks.specs.declared.ticks.TurnTold.{TurnTold}
 
 -- conditions and enrollments, the losses to come, in order of their moments, and what was told, in order
 pub record Ticking : Type 0 where
   pub conditions : cond.Rows
   pub enrolments : enrol.Rows
   pub losses : List Loss
-  pub told : List Told
+  pub told : List TurnTold
 
 -- ---- an evaluation
 
@@ -33,10 +33,10 @@ abbrev pub says_named : Saying → Key → cond.Rows → Bool
 says_named cells key rows = option_map_or (says cells) (named key rows) false
 
 -- a transition is told to the enrollments as they are then
-abbrev pub told_of : enrol.Rows → Turned → Told
+abbrev pub told_of : enrol.Rows → Turned → TurnTold
 told_of enrolments turned = record { turned = turned; notices = notices turned enrolments }
 
-abbrev pub told_if : enrol.Rows → Option Turned → List Told
+abbrev pub told_if : enrol.Rows → Option Turned → List TurnTold
 told_if enrolments None = []
 told_if enrolments (Some turned) = told_of enrolments turned ∷ []
 

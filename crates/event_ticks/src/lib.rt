@@ -18,4 +18,4 @@ pub use laws::{
     every_evaluation_lies_ahead, the_conditions_stay_sound, two_ticks_are_one,
 };
 pub use ticking::{tick, tick_told};
-pub use ticks::{Loss, Told};
+pub use ticks::{Loss, TurnTold};

@@ -7,18 +7,18 @@ ghost use Rattle.event_ticks.specs.Skipping.{told_left};
 ghost use Rattle.event_ticks.specs.Ticks.{begun, ticked, told_of};
 
 use crate::losing::{is_left, lose_conditions, lose_enrolments, none_lost};
-use crate::ticks::{Loss, Told};
+use crate::ticks::{Loss, TurnTold};
 use event_cond::{Cells, Conditions, each_condition_is_sound};
 use event_enrol::Enrolments;
 use mms_types::{Memory, Moment, Turned};
 use std::alloc::Global;
 
 /// A transition, told to the enrollments as they are.
-fn told_of(alloc: Global, enrolments: &Enrolments, turned: Turned) -> Result<Told, Memory>
+fn told_of(alloc: Global, enrolments: &Enrolments, turned: Turned) -> Result<TurnTold, Memory>
     ensures { IfOk result (λ told. told ≡ told_of enrolments.now turned) }
 {
     let notices = enrolments.notices(alloc, &turned)?;
-    Ok(Told { turned, notices })
+    Ok(TurnTold { turned, notices })
 }
 
 /// A transition, where its condition is left then, told to the enrollments that are left then, which are copied where a
@@ -28,7 +28,7 @@ fn told_left(
     enrolments: &Enrolments,
     losses: &[Loss],
     turned: Turned,
-) -> Result<Option<Told>, Memory>
+) -> Result<Option<TurnTold>, Memory>
     ensures { IfOk result (λ told. told ≡ told_left losses.now enrolments.now turned) }
 {
     if !is_left(turned.at, losses, &turned.condition) {
@@ -48,7 +48,7 @@ fn all_told(
     enrolments: &Enrolments,
     losses: &[Loss],
     turns: Vec<Turned>,
-) -> Result<Vec<Told>, Memory>
+) -> Result<Vec<TurnTold>, Memory>
     ensures { IfOk result (λ told. told.items
         ≡ filter_map (told_left losses.now enrolments.now) turns.items) }
 {
@@ -73,7 +73,7 @@ pub fn tick_told<C: Cells>(
     losses: &[Loss],
     cells: &C,
     until: Moment,
-) -> Result<Vec<Told>, Memory>
+) -> Result<Vec<TurnTold>, Memory>
     requires { IsDated until }
     ensures told { IfOk result (λ told. told.items ≡ (ticked (C.says cells.now) until
         (begun conditions.now enrolments.now losses.now)).told) }

@@ -13,7 +13,7 @@ pub struct Loss {
 
 /// A transition of an event condition, and who is told of it.
 #[derive(Drop)]
-pub struct Told {
+pub struct TurnTold {
     /// The transition.
     pub turned: Turned,
     /// Who is told, in order.

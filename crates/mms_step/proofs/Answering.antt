@@ -19,18 +19,18 @@ use Rattle.domain_upload.specs.Uploads.{AreOf}
 use Rattle.cell_client.specs.Areas.{AnswersOrWaitsIn}
 use Rattle.cell_client.specs.Association.{Takes, other_error}
 use Rattle.cell_client.specs.Requests.{answer_told, fits, is_done, refuses, request_told, size_of}
-use Rattle.serve_semaphores.specs.AnswerLaws as semaphore_laws
+use Rattle.serve_semaphores.proofs.AnswerLaws as semaphore_laws
 use Rattle.serve_semaphores.specs.Semaphores as of_semaphores
-use Rattle.serve_variables.specs.AnswerLaws as variable_laws
+use Rattle.serve_variables.proofs.AnswerLaws as variable_laws
 use Rattle.serve_variables.specs.Variables as of_variables
-use Rattle.serve_domains.specs.AnswerLaws as domain_laws
+use Rattle.serve_domains.proofs.AnswerLaws as domain_laws
 use Rattle.serve_domains.specs.Domains as of_domains
-use Rattle.serve_programs.specs.AnswerLaws as program_laws
+use Rattle.serve_programs.proofs.AnswerLaws as program_laws
 use Rattle.serve_programs.specs.Programs as of_programs
 use Rattle.mms_types.specs.declared.area.DomainRequest.{DomainRequest}
 use Rattle.mms_types.specs.declared.area.DomainRequest.TheVariants as domains
 use Rattle.serve_events.specs.AnswerLaws as event_laws
-use Rattle.serve_journals.specs.AnswerLaws as journal_laws
+use Rattle.serve_journals.proofs.AnswerLaws as journal_laws
 use Rattle.serve_journals.specs.Journals as of_journals
 use Rattle.serve_events.specs.Events as of_events
 use Rattle.mms_types.specs.declared.area.EventRequest.{EventRequest}

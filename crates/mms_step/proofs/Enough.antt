@@ -13,7 +13,7 @@ use Rattle.part_table.specs.Held.{held_at, places_held, IsHandOf}
 use Rattle.part_table.specs.HeldLaws.{held_of_list}
 use Rattle.parted_state.specs.Cut.{are_held, missing}
 use Rattle.parted_state.specs.CutLaws as laws
-use Rattle.parted_state.specs.LiftedLaws.{change_holds_the_same}
+use Rattle.parted_state.proofs.LiftedLaws.{change_holds_the_same}
 use Rattle.parted_state.specs.Served.{change}
 use Rattle.parted_state.specs.Served as parted
 use Rattle.mms_step.specs.declared.part.Part.{Part}
@@ -25,7 +25,7 @@ use Rattle.mms_step.specs.declared.serving.Task.TheVariants as task
 use Rattle.mms_step.specs.Tasks.{row_held, task_done, HoldsClient}
 use Rattle.mms_step.specs.AfterLaws.{is_device, each_served}
 use Rattle.parted_state.specs.Lifted.{row_shown, tables_shown, put_in_place}
-use Rattle.parted_state.specs.LiftedLaws as lifted
+use Rattle.parted_state.proofs.LiftedLaws as lifted
 use Rattle.program_inv.specs.Programs.{after_ends}
 use Rattle.cell_services.specs.Serving.{hears, serves, services}
 use Rattle.cell_services.specs.Tables.{Tables}

@@ -10,7 +10,7 @@ use Rattle.mms_types.specs.declared.object_name.ObjectName.TheVariants as name
 use Rattle.association.specs.Client.{ClientRow}
 use Rattle.cell_client.specs.Areas.{domain_in, is_of_domain}
 use Rattle.cell_client.specs.Association.{Verdict}
-use Rattle.cell_client.specs.declared.told.Told.{Told}
+use Rattle.cell_client.specs.declared.told.ClientTold.{ClientTold}
 use Rattle.serve_domains.specs.Tables.{DomainTables}
 use Rattle.serve_events.specs.Events.{are_of_domain, is_in_domain, names_domain, request_in, variable_of}
 use Rattle.serve_events.specs.Turns.{domain_asked, variable_asked}
@@ -80,7 +80,7 @@ AreServed x moment live cell says v new now part table =
     → (told_in own_events t (row_in (Some part)) (request_in x)).truth ≡ says → AreDone own_events Events t v part new now
 
 -- and what is left by which clients are told of transitions
-abbrev pub IsLeftTold : EventRequest → ℕ → Bool → Verdict → (ℕ → EventTables → EventTables) → List (ℕ × Told) → Part → Part → Type 0
+abbrev pub IsLeftTold : EventRequest → ℕ → Bool → Verdict → (ℕ → EventTables → EventTables) → List (ℕ × ClientTold) → Part → Part → Type 0
 IsLeftTold x moment says v become told part table =
     (t : Tables) → t.events ≡ events_in (Some table) → t.now ≡ moment → (told_in own_events t (row_in (Some part)) (request_in x)).truth ≡ says
     → hears t (row_in (Some part)) (row_in (Some part)).client v ≡ all_done (own_events.put (become (row_in (Some part)).client (events_in (Some table))) t) told

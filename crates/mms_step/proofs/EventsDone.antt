@@ -6,7 +6,7 @@ use Rattle.std.proofs.Common.{set, ap, sym, ◌∙◌, arith}
 use Rattle.part_table.specs.Held.{held_at, IsHandOf}
 use Rattle.parted_state.specs.Lifted.{tables_shown, told_all, put_in_place}
 use Rattle.cell_client.specs.Telling.{effects_told}
-use Rattle.cell_client.specs.declared.told.Told.{Told}
+use Rattle.cell_client.specs.declared.told.ClientTold.{ClientTold}
 use Rattle.cell_services.specs.Acts.{all_done}
 use Rattle.cell_services.specs.Tables.{Tables, own_events}
 use Rattle.serve_events.specs.declared.tables.EventTables.{EventTables}
@@ -76,7 +76,7 @@ module _ (hand : List (Option Part)) (n : ℕ) (room : ℕ → Room) (is : IsEve
       ∙ ap (with_events events_after) made
       ∙ events_put events_after (n + 1) room hand
 
-module _ (s : State) (hand : List (Option Part)) (of : IsHandOf hand (parts_of s)) (n : ℕ) (many : n ≡ clients_among (length hand)) (told : List (ℕ × Told))
+module _ (s : State) (hand : List (Option Part)) (of : IsHandOf hand (parts_of s)) (n : ℕ) (many : n ≡ clients_among (length hand)) (told : List (ℕ × ClientTold))
     (is : IsEvents (held_at hand 4)) (roomy out new : List (Option Part)) (table after : Part) (become : EventTables → EventTables)
     (made : roomy ≡ with_rooms (n + 1) (room_to told) hand) (taken : Some table ≡ held_at roomy 4) (left : out ≡ set roomy 4 None)
     (changed : after ≡ Events (become (events_in (Some table)))) (put : new ≡ set out 4 (Some after)) where

@@ -9,7 +9,7 @@ use Rattle.parted_state.specs.Lifted.{tables_shown, told_all, put_in_place}
 use Rattle.parted_state.specs.Served.{change}
 use Rattle.mms_time.specs.Semaphores.{Rows}
 use Rattle.cell_client.specs.Telling.{effects_told}
-use Rattle.cell_client.specs.declared.told.Told.{Told}
+use Rattle.cell_client.specs.declared.told.ClientTold.{ClientTold}
 use Rattle.cell_services.specs.Acts.{all_done}
 use Rattle.cell_services.specs.Tables.{Tables, own_semaphores}
 use Rattle.mms_step.specs.Lifting.{tabled, with_semaphores}
@@ -81,7 +81,7 @@ module _ (hand : List (Option Part)) (n : ℕ) (many : n ≡ clients_among (leng
       ∙ ap (with_semaphores rows_after) made
       ∙ semaphores_put rows_after (n + 1) room hand
 
-module _ (s : State) (hand : List (Option Part)) (of : IsHandOf hand (parts_of s)) (n : ℕ) (many : n ≡ clients_among (length hand)) (told : List (ℕ × Told))
+module _ (s : State) (hand : List (Option Part)) (of : IsHandOf hand (parts_of s)) (n : ℕ) (many : n ≡ clients_among (length hand)) (told : List (ℕ × ClientTold))
     (is : IsSemaphores (held_at hand (semaphores_place n))) (roomy out new : List (Option Part)) (table after : Part) (become : Rows → Rows)
     (made : roomy ≡ with_rooms (n + 1) (room_to told) hand) (taken : Some table ≡ held_at roomy (semaphores_place n)) (left : out ≡ set roomy (semaphores_place n) None)
     (changed : after ≡ Semaphores (become (semaphores_in (Some table)))) (put : new ≡ set out (semaphores_place n) (Some after)) where

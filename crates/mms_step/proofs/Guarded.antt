@@ -13,7 +13,7 @@ use Rattle.association.specs.declared.negotiation.Association.TheVariants.{Idle,
 use Rattle.association.specs.declared.waiting.Waiting.{Waiting}
 use Rattle.variables.specs.Access.{guard_in}
 use Rattle.variables.specs.Rows.{cell_at}
-use Rattle.variables.specs.declared.rows.Cell.{Cell}
+use Rattle.variables.specs.declared.rows.StoredCell.{StoredCell}
 use Rattle.variable_services.specs.declared.tables.VariableTables.{VariableTables}
 use Rattle.variable_services.proofs.Guards.{unowned_stays}
 use Rattle.variable_services.specs.Services.{lost}
@@ -33,12 +33,12 @@ use Rattle.mms_step.specs.Partition.{cell}
 use Rattle.mms_step.specs.State.{State}
 use Rattle.mms_step.specs.Step.{step}
 
-abbrev pub cells_of : VariableTables → List (ℕ × Cell)
+abbrev pub cells_of : VariableTables → List (ℕ × StoredCell)
 cells_of v = v.vars.cells
 
 -- of the cells alone
 at_cells : (number : ℕ) (one other : VariableTables) → cells_of one ≡ cells_of other → cell_at number one.vars ≡ cell_at number other.vars
-at_cells number one other same = ap (λ (cells : List (ℕ × Cell)). lookup (nat_eq number) cells) same
+at_cells number one other same = ap (λ (cells : List (ℕ × StoredCell)). lookup (nat_eq number) cells) same
 
 -- ---- what no write does
 
@@ -72,7 +72,7 @@ record IsOwnersWrite (guard : List ℕ) (t : Tables) (row : ClientRow) (v : Verd
   served : is_served t row invoke (request.Write asked) ≡ true
   owner : owns_guard row.client guard t.semaphores ≡ true
 
-module _ (t : Tables) (row : ClientRow) (number : ℕ) (was : Cell) (guard : List ℕ) (there : cell_at number t.variables.vars ≡ Some was) (is : was.guard ≡ Some guard) where
+module _ (t : Tables) (row : ClientRow) (number : ℕ) (was : StoredCell) (guard : List ℕ) (there : cell_at number t.variables.vars ≡ Some was) (is : was.guard ≡ Some guard) where
   abbrev Stays : VariableTables → Type 0
   Stays v = cell_at number v.vars ≡ Some was
 
@@ -147,7 +147,7 @@ taken_before t row v invoke asked is = is
 
 -- ---- each event
 
-pub guarded_step : (s : State) (event : CellEvent) (number : ℕ) (was : Cell) (guard : List ℕ) → cell_at number s.variables.vars ≡ Some was → was.guard ≡ Some guard
+pub guarded_step : (s : State) (event : CellEvent) (number : ℕ) (was : StoredCell) (guard : List ℕ) → cell_at number s.variables.vars ≡ Some was → was.guard ≡ Some guard
     → (cell_at number (step s event).variables.vars ≡ Some was) ⊎ IsWrittenByOwner guard s event
 guarded_step s (Heard client octets) number was guard there is = by_heard (heard (cell.tables_of s) row number was guard there is now)
   where

@@ -6,14 +6,14 @@ use Rattle.part_table.specs.Held.{held_at, IsHandOf}
 use Rattle.part_table.specs.HeldLaws.{held_of_list}
 use Rattle.parted_state.specs.Area.{no_table}
 use Rattle.parted_state.specs.Lifted.{with_tables, tables_shown, told_all, put_in_place}
-use Rattle.parted_state.specs.LiftedLaws.{held_else}
+use Rattle.parted_state.proofs.LiftedLaws.{held_else}
 use Rattle.parted_state.specs.Served.{Done, change}
 use Rattle.association.specs.Client.{ClientRow, Client as RoomyRow}
 use Rattle.mms_time.specs.Semaphores.{Rows}
 use Rattle.variable_services.specs.declared.tables.VariableTables.{VariableTables}
 use Rattle.cell_client.specs.Association.{Verdict}
 use Rattle.cell_client.specs.Effects.{Effect, felt_all, settled, tell}
-use Rattle.cell_client.specs.declared.told.Told.{Told}
+use Rattle.cell_client.specs.declared.told.ClientTold.{ClientTold}
 use Rattle.cell_services.specs.Acts.{all_done, IsDoneIn}
 use Rattle.cell_services.specs.Serving.{hears}
 use Rattle.cell_services.specs.Tables.{Tables, own_domains, own_events, own_journals, own_programs, own_semaphores, own_variables}
@@ -266,7 +266,7 @@ module _ (s : State) (hand : List (Option Part)) (of : IsHandOf hand (parts_of s
 
     -- what is left of a request by which clients are told of transitions
     pub events_left : Some table ≡ held_at out 4 → (moment : ℕ) → moment ≡ clock_in (held_at hand 0)
-        → (become : ℕ → EventTables → EventTables) (told : List (ℕ × Told))
+        → (become : ℕ → EventTables → EventTables) (told : List (ℕ × ClientTold))
         → ((t : Tables) → t.events ≡ events_in (Some table) → t.now ≡ moment → IsShown t
         → hears t (row_in (Some part)) (row_in (Some part)).client v ≡ all_done (own_events.put (become (row_in (Some part)).client (events_in (Some table))) t) told)
         → IsShown (tables_shown cell hand)
@@ -350,7 +350,7 @@ module _ (s : State) (hand : List (Option Part)) (of : IsHandOf hand (parts_of s
 
     -- what is left of a request that tells others something
     pub semaphores_left : (n : ℕ) → n ≡ clients_among (length hand) → Some table ≡ held_at out (semaphores_place n) → (moment : ℕ) → moment ≡ clock_in (held_at hand 0)
-        → (become : ℕ → Rows → Rows) (told : List (ℕ × Told))
+        → (become : ℕ → Rows → Rows) (told : List (ℕ × ClientTold))
         → ((t : Tables) → t.semaphores ≡ semaphores_in (Some table) → t.now ≡ moment → IsShown t
         → hears t (row_in (Some part)) (row_in (Some part)).client v ≡ all_done (own_semaphores.put (become (row_in (Some part)).client (semaphores_in (Some table))) t) told)
         → IsShown (tables_shown cell hand)

@@ -27,7 +27,7 @@ use Rattle.program_inv.specs.declared.invocation.Invocation.{Invocation}
 use Rattle.domain_upload.proofs.Kept.{lose_keeps}
 use Rattle.domain_upload.proofs.Others.{begin_keeps, delete_keeps, loss_keeps, reply_keeps}
 use Rattle.domain_upload.specs.Uploads.{AreOf, uploads_of}
-use Rattle.parted_state.specs.Lists.{get_change, get_changed}
+use Rattle.parted_state.specs.ListsLaws.{get_change, get_changed}
 use Rattle.parted_state.specs.Served.{change, delivered, reached}
 use Rattle.cell_client.specs.Association.{Came}
 use Rattle.cell_client.specs.Effects.{Effect, Sends, Opens, Closes, Waits, Answers, Drains, Asks, Settles, felt, felt_all, tell}

@@ -10,7 +10,7 @@ use Rattle.parted_state.specs.Cut.{are_held, missing}
 use Rattle.parted_state.specs.Cut as cut
 use Rattle.parted_state.specs.CutLaws as laws
 use Rattle.parted_state.specs.Sets.{IsSetOf}
-use Rattle.parted_state.specs.SetLaws.{empty_set, missing_set}
+use Rattle.parted_state.proofs.SetLaws.{empty_set, missing_set}
 use Rattle.parted_state.specs.DeviceLaws as device
 use Rattle.parted_state.specs.Served as parted
 use Rattle.mms_step.specs.declared.part.Part.{Part}

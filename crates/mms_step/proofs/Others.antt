@@ -6,7 +6,7 @@ use Rattle.std.proofs.lemmas.Bool.Decides.{nat_tests}
 use Rattle.parted_state.specs.Cut.{is_in, is_held, missing}
 use Rattle.parted_state.specs.CutLaws.{same_number}
 use Rattle.parted_state.specs.Sets.{IsSetOf}
-use Rattle.parted_state.specs.SetLaws.{in_missing}
+use Rattle.parted_state.proofs.SetLaws.{in_missing}
 use Rattle.parted_state.specs.Served.{is_told}
 use Rattle.parted_state.specs.Served as parted
 use Rattle.cell_client.specs.Effects.{Effect, tell}

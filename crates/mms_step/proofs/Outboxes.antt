@@ -27,7 +27,7 @@ use Rattle.cell_ticks.specs.declared.happening.DatedHappening.{DatedHappening}
 use Rattle.cell_ticks.specs.declared.happening.Happening.{Happening as DeviceHappening}
 use Rattle.cell_ticks.specs.declared.happening.Happening.TheVariants as device
 use Rattle.sem_ticks.specs.declared.ticks.Happening.TheVariants as happens
-use Rattle.parted_state.specs.Lists.{get_changed, get_change, length-change}
+use Rattle.parted_state.specs.ListsLaws.{get_changed, get_change, length-change}
 use Rattle.parted_state.specs.Served.{change, delivered, reached, row_at}
 use Rattle.cell_client.specs.Association.{Verdict, Takes, Concludes, Aborts, loss_told, verdict, Exhausts}
 use Rattle.cell_client.specs.Effects.{Effect, Sends, Opens, Closes, Waits, Answers, Drains, felt, tell, Asks, Settles, asking_octets}

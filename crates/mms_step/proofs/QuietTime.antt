@@ -6,8 +6,8 @@ use Rattle.mms_types.specs.declared.moment.Moment.{Moment}
 use Rattle.std.specs.Option.{option_map}
 use Rattle.part_table.specs.Held.{held_at, IsHandOf}
 use Rattle.parted_state.specs.Lifted.{put_in_place, tables_shown}
-use Rattle.parted_state.specs.LiftedLaws.{held_else}
-use Rattle.parted_state.specs.Lists.{length-change}
+use Rattle.parted_state.proofs.LiftedLaws.{held_else}
+use Rattle.parted_state.specs.ListsLaws.{length-change}
 use Rattle.parted_state.specs.Served.{Done}
 use Rattle.event_cond.specs.Skips.{any_due}
 use Rattle.mms_time.specs.Deadlines as sem_due

@@ -34,7 +34,7 @@ use Rattle.serve_programs.specs.Programs as program
 use Rattle.serve_programs.specs.Users.{AreUsed}
 use Rattle.serve_semaphores.specs.Semaphores as semaphore
 use Rattle.serve_variables.specs.Variables as variable
-use Rattle.cell_services.specs.AreaLaws.{in_domains, in_events, in_invocations, in_journals, in_programs, in_semaphores, in_variables}
+use Rattle.cell_services.proofs.AreaTableLaws.{in_domains, in_events, in_invocations, in_journals, in_programs, in_semaphores, in_variables}
 use Rattle.cell_services.specs.Services.{InArea, OfDomains, OfEvents, OfInvocations, OfJournals, OfPrograms, OfSemaphores, OfVariables, area_of, asks_of}
 use Rattle.cell_services.specs.Serving.{heard_more}
 use Rattle.cell_services.specs.Facts.{tables_for}

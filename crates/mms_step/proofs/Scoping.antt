@@ -26,7 +26,7 @@ use Rattle.serve_journals.specs.Journals as of_journals
 use Rattle.serve_semaphores.specs.Semaphores as of_semaphores
 use Rattle.serve_semaphores.specs.Semaphores.{at_its_moment}
 use Rattle.serve_variables.specs.Variables as of_variables
-use Rattle.cell_services.specs.AreaLaws.{in_events, in_journals}
+use Rattle.cell_services.proofs.AreaTableLaws.{in_events, in_journals}
 use Rattle.cell_services.specs.Facts.{cell_tables, domain_tables, is_scope_used, scope_tables, tables_for, tells}
 use Rattle.cell_services.specs.Requests.{told_in}
 use Rattle.cell_services.specs.Services.{OfDomains, OfSemaphores, OfVariables, area_of, asks_of, lacks_number}

@@ -23,7 +23,7 @@ use Rattle.variables.specs.contracts.vars.Vars as Vars
 use Rattle.variables.specs.contracts.vars.Vars.TheInside as vars
 use Rattle.variables.specs.contracts.rows.Variable as Variable
 use Rattle.variables.proofs.rows.Variable.TheSendSync as variable
-use Rattle.variables.specs.contracts.rows.Cell as Cell
+use Rattle.variables.specs.contracts.rows.StoredCell as StoredCell
 use Rattle.variable_lists.specs.contracts.lists.Lists as Lists
 use Rattle.variable_lists.specs.contracts.lists.Lists.TheInside as lists
 use Rattle.variable_lists.specs.contracts.row.VariableList as VariableList
@@ -71,8 +71,8 @@ lists_inside = declared_send lists.the_type (named.the_send VariableList.the_row
 pub lists_send : IsSend Lists.the_row
 lists_send = let a = lists_inside in search sendable
 
-pub cell_send : IsSend Cell.the_row
-cell_send = declared_send Cell.the_type (search (crosses, sendable, type_knot.crosses, identifier.the_send) depth 20, (search (crosses, sendable, data_knot.crosses, octets.the_send, bits.the_send) depth 20, (search (crosses, sendable, identifier.the_send) depth 20, tt)))
+pub cell_send : IsSend StoredCell.the_row
+cell_send = declared_send StoredCell.the_type (search (crosses, sendable, type_knot.crosses, identifier.the_send) depth 20, (search (crosses, sendable, data_knot.crosses, octets.the_send, bits.the_send) depth 20, (search (crosses, sendable, identifier.the_send) depth 20, tt)))
 
 pub vars_inside : IsSend vars.the_row
 vars_inside = declared_send vars.the_type (let a = cell_send in search (crosses, sendable) depth 20, (named.the_send Variable.the_row variable.the_send, (search (crosses, sendable) depth 20, tt)))

@@ -7,8 +7,8 @@ use Rattle.part_table.specs.Held.{held_at, IsHandOf}
 use Rattle.part_table.specs.HeldLaws.{held_of_list}
 use Rattle.parted_state.specs.Lifted.{put_from, with_tables, tables_shown, part_told, told_to, told_all, put_in_place}
 use Rattle.parted_state.specs.CutLaws.{length-with_places}
-use Rattle.parted_state.specs.LiftedLaws.{change_other, put_as_held, held_changed, held_else}
-use Rattle.parted_state.specs.Lists.{length-change}
+use Rattle.parted_state.proofs.LiftedLaws.{change_other, put_as_held, held_changed, held_else}
+use Rattle.parted_state.specs.ListsLaws.{length-change}
 use native.Mathlib.Decide.{ℕ_discrete}
 use Rattle.parted_state.specs.DeviceLaws.{around_at, table_at}
 use Rattle.parted_state.specs.Served.{Done, around, change, table_place}
@@ -17,7 +17,7 @@ use Rattle.mms_step.specs.declared.part.Part.{Part}
 use Rattle.mms_step.specs.declared.part.Part.TheVariants.{Clock, Client, Variables, Domains, Programs, Events, Journals, Semaphores}
 use Rattle.mms_step.specs.declared.serving.Task.{Task}
 use Rattle.mms_step.specs.declared.serving.Task.TheVariants as task
-use Rattle.cell_client.specs.declared.told.Told.{Told}
+use Rattle.cell_client.specs.declared.told.ClientTold.{ClientTold}
 use Rattle.mms_step.specs.State.{State}
 use Rattle.program_inv.specs.Programs.{Rows as Invocations}
 use Rattle.serve_domains.specs.Tables.{DomainTables}
@@ -164,7 +164,7 @@ clients_tabled n t hand few_clients clients client some few = subst MayBeClient 
 pub settled_tabled : (last : ℕ) (t : Tables) (hand : List (Option Part)) → IsSettled last hand → IsSettled last (tabled t hand)
 settled_tabled last t hand settled = sym (tabled_rooms t last (λ client. no_room) hand) ∙ ap (tabled t) settled
 
-module _ (s : State) (hand : List (Option Part)) (of : IsHandOf hand (parts_of s)) (n : ℕ) (many : n ≡ clients_among (length hand)) (told : List (ℕ × Told)) (u t : Tables)
+module _ (s : State) (hand : List (Option Part)) (of : IsHandOf hand (parts_of s)) (n : ℕ) (many : n ≡ clients_among (length hand)) (told : List (ℕ × ClientTold)) (u t : Tables)
     (lowered : List (Option Part)) (is : lowered ≡ tabled t (with_rooms (n + 1) (room_to told) (tabled u hand))) where
   roomed : lowered ≡ with_rooms (n + 1) (room_to told) (tabled t hand)
   roomed =

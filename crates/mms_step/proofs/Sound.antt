@@ -45,7 +45,7 @@ use Rattle.association.specs.Negotiation.{negotiation}
 use Rattle.association.specs.Waiting.{is_waiting, without}
 use Rattle.cell_config.specs.declared.config.Config.{Config}
 use Rattle.cell_config.specs.Said.{IsConfig}
-use Rattle.parted_state.specs.Lists.{get_front, get_behind, get_changed, get_change}
+use Rattle.parted_state.specs.ListsLaws.{get_front, get_behind, get_changed, get_change}
 use Rattle.parted_state.specs.Served.{change, row_at, reached, delivered}
 use Rattle.sem_ticks.specs.declared.granted.Granted.{Granted}
 use Rattle.sem_ticks.specs.Granted.{lost_granted}

@@ -7,8 +7,8 @@ use Rattle.part_table.specs.Held.{held_at, IsHandOf}
 use Rattle.part_table.specs.HeldLaws.{held_of_list}
 use Rattle.parted_state.specs.Lifted.{put_from, with_tables, tables_shown, part_told, told_to, told_all, put_in_place}
 use Rattle.parted_state.specs.CutLaws.{length-with_places}
-use Rattle.parted_state.specs.LiftedLaws.{change_other, put_as_held, held_changed, held_else}
-use Rattle.parted_state.specs.Lists.{length-change}
+use Rattle.parted_state.proofs.LiftedLaws.{change_other, put_as_held, held_changed, held_else}
+use Rattle.parted_state.specs.ListsLaws.{length-change}
 use native.Mathlib.Decide.{ℕ_discrete}
 use Rattle.parted_state.specs.DeviceLaws.{around_at, table_at}
 use Rattle.parted_state.specs.Served.{Done, around, change, table_place}
@@ -17,7 +17,7 @@ use Rattle.mms_step.specs.declared.part.Part.{Part}
 use Rattle.mms_step.specs.declared.part.Part.TheVariants.{Clock, Client, Variables, Domains, Programs, Events, Journals, Semaphores}
 use Rattle.mms_step.specs.declared.serving.Task.{Task}
 use Rattle.mms_step.specs.declared.serving.Task.TheVariants as task
-use Rattle.cell_client.specs.declared.told.Told.{Told}
+use Rattle.cell_client.specs.declared.told.ClientTold.{ClientTold}
 use Rattle.mms_step.specs.State.{State}
 use Rattle.mms_journal.specs.Journals.{Rows as Books}
 use Rattle.program_inv.specs.Programs.{Rows as Invocations}

@@ -16,8 +16,8 @@ use Rattle.cell_client.specs.Reads.{IsRead, pdu_read, wants_memory}
 use Rattle.association.specs.Client.{ClientRow, Client as RoomyRow}
 use Rattle.part_table.specs.Held.{held_at, IsHandOf}
 use Rattle.parted_state.specs.Lifted.{with_tables, tables_shown, told_all, put_in_place}
-use Rattle.parted_state.specs.LiftedLaws.{change_other, held_else}
-use Rattle.parted_state.specs.Lists.{length-change}
+use Rattle.parted_state.proofs.LiftedLaws.{change_other, held_else}
+use Rattle.parted_state.specs.ListsLaws.{length-change}
 use Rattle.parted_state.specs.Served.{change}
 use Rattle.mms_time.specs.Semaphores.{Rows}
 use Rattle.mms_step.specs.declared.part.Part.{Part}

@@ -10,7 +10,7 @@ use Rattle.parted_state.specs.Lifted.{tables_shown}
 use Rattle.parted_state.specs.Served.{is_told}
 use Rattle.parted_state.specs.Served as parted
 use Rattle.parted_state.specs.Sets.{IsSetOf}
-use Rattle.parted_state.specs.SetLaws.{missing_set}
+use Rattle.parted_state.proofs.SetLaws.{missing_set}
 use Rattle.mms_time.specs.Semaphores.{Rows}
 use Rattle.sem_ticks.specs.Ticks as sem
 use Rattle.sem_ticks.specs.declared.ticks.Happening.{Happening}

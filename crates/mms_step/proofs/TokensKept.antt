@@ -24,8 +24,8 @@ use Rattle.token_sem.specs.Semaphore.{Sem, after_cancel, after_freeing, after_gi
 use Rattle.token_sem.specs.declared.entry.Ask.{Ask}
 use Rattle.token_sem.specs.declared.entry.Expired.{Expired}
 use Rattle.sem_ticks.specs.declared.granted.Granted.{Granted}
-use Rattle.token_sem.specs.declared.entry.Outcome.{Outcome}
-use Rattle.token_sem.specs.declared.entry.Outcome.TheVariants.{Refused, Preempts, Gets, TimesOut, WaitsUntil, WaitsForEver}
+use Rattle.token_sem.specs.declared.entry.TakeOutcome.{TakeOutcome}
+use Rattle.token_sem.specs.declared.entry.TakeOutcome.TheVariants.{Refused, Preempts, Gets, TimesOut, WaitsUntil, WaitsForEver}
 use Rattle.token_sem.specs.declared.entry.SemEntry.{SemEntry}
 use Rattle.pool_sem.specs.Pools as pool
 use Rattle.pool_sem.specs.declared.outcome.PoolOutcome.{PoolOutcome}
@@ -209,7 +209,7 @@ made_lost count client now rows all =
 made_taken : (count client invoke : ℕ) (asked : TakeControl) (now : Moment) (s : Semaphore) → made_in s ≤ count → made_in (with_take client invoke asked now s) ≤ suc count
 made_taken count client invoke asked now (Token s) below = by_outcome (outcome s (ask_of client invoke None asked) now)
   where
-    by_outcome : (o : Outcome) → (effect_of o s (ask_of client invoke None asked) now).made ≤ suc count
+    by_outcome : (o : TakeOutcome) → (effect_of o s (ask_of client invoke None asked) now).made ≤ suc count
     by_outcome Refused = omega (arith, below)
     by_outcome (Preempts number) = omega (arith, below)
     by_outcome Gets = omega (arith, below)

@@ -11,12 +11,12 @@ use Rattle.part_table.specs.Held.{held_at}
 use Rattle.parted_state.specs.Cut.{with_places}
 use Rattle.parted_state.specs.CutLaws.{same_itself}
 use Rattle.parted_state.specs.Lifted.{part_told, told_to, told_all}
-use Rattle.parted_state.specs.LiftedLaws.{held_else}
-use Rattle.parted_state.specs.Lists.{get_changed}
+use Rattle.parted_state.proofs.LiftedLaws.{held_else}
+use Rattle.parted_state.specs.ListsLaws.{get_changed}
 use Rattle.parted_state.specs.Served.{change}
 use Rattle.mms_step.specs.declared.part.Part.{Part}
 use Rattle.mms_step.specs.declared.part.Part.TheVariants.{Client}
-use Rattle.cell_client.specs.declared.told.Told.{Told}
+use Rattle.cell_client.specs.declared.told.ClientTold.{ClientTold}
 use Rattle.cell_client.specs.Effects.{Effect, felt}
 use Rattle.mms_step.specs.Partition.{cell, client_place}
 use Rattle.cell_client.specs.Telling.{effect_of, effects_told, is_output, is_wait, output_count, wait_count}
@@ -74,7 +74,7 @@ pub with_room_other : (room : Room) (part : Part) → ((client : RoomyRow) → p
 with_room_other room (Client client) other = absurd (other client refl)
 with_room_other room part other = refl
 
-pub telling_other : (t : Told) (part : Part) → ((client : RoomyRow) → part ≡ Client client → ⊥) → telling t part ≡ part
+pub telling_other : (t : ClientTold) (part : Part) → ((client : RoomyRow) → part ≡ Client client → ⊥) → telling t part ≡ part
 telling_other t (Client client) other = absurd (other client refl)
 telling_other t part other = refl
 
@@ -135,20 +135,20 @@ settled_at n hand place held settled there =
 before_last : (last n : ℕ) → 1 ≤ last → last < n → is_before n last ≡ true
 before_last last n some within = grind (arith, nat_tests)
 
-untold : (client : ℕ) (test : Told → Bool) (list : List (ℕ × Told)) → list_any (λ (t : ℕ × Told). t.0 == client) list ≡ false → filter (λ (t : ℕ × Told). (t.0 == client) && test t.1) list ≡ []
+untold : (client : ℕ) (test : ClientTold → Bool) (list : List (ℕ × ClientTold)) → list_any (λ (t : ℕ × ClientTold). t.0 == client) list ≡ false → filter (λ (t : ℕ × ClientTold). (t.0 == client) && test t.1) list ≡ []
 untold client test [] none = refl
 untold client test (t ∷ list) none = by_test (t.0 == client) none (λ e. untold client test list e)
   where
-    by_test : (b : Bool) → (b || list_any (λ (t : ℕ × Told). t.0 == client) list) ≡ false
-        → (list_any (λ (t : ℕ × Told). t.0 == client) list ≡ false → filter (λ (t : ℕ × Told). (t.0 == client) && test t.1) list ≡ [])
-        → (if b && test t.1 then t ∷ filter (λ (t : ℕ × Told). (t.0 == client) && test t.1) list else filter (λ (t : ℕ × Told). (t.0 == client) && test t.1) list) ≡ []
+    by_test : (b : Bool) → (b || list_any (λ (t : ℕ × ClientTold). t.0 == client) list) ≡ false
+        → (list_any (λ (t : ℕ × ClientTold). t.0 == client) list ≡ false → filter (λ (t : ℕ × ClientTold). (t.0 == client) && test t.1) list ≡ [])
+        → (if b && test t.1 then t ∷ filter (λ (t : ℕ × ClientTold). (t.0 == client) && test t.1) list else filter (λ (t : ℕ × ClientTold). (t.0 == client) && test t.1) list) ≡ []
     by_test false e rest = rest e
     by_test true e rest = absurd (cc e)
 
 -- who isn't told anything needs none
-pub untold_room : (client : ℕ) (told : List (ℕ × Told)) → list_any (λ (t : ℕ × Told). t.0 == client) told ≡ false → room_to told client ≡ no_room
+pub untold_room : (client : ℕ) (told : List (ℕ × ClientTold)) → list_any (λ (t : ℕ × ClientTold). t.0 == client) told ≡ false → room_to told client ≡ no_room
 untold_room client told none =
-    ap₂ at (ap (λ (l : List (ℕ × Told)). length l) (untold client (λ t. is_output t) told none)) (ap (λ (l : List (ℕ × Told)). length l) (untold client (λ t. is_wait t) told none))
+    ap₂ at (ap (λ (l : List (ℕ × ClientTold)). length l) (untold client (λ t. is_output t) told none)) (ap (λ (l : List (ℕ × ClientTold)). length l) (untold client (λ t. is_wait t) told none))
   where
     at : ℕ → ℕ → Room
     at m n = record { outputs = m; waiting = n }
@@ -212,23 +212,23 @@ no_rooms_yet room hand = placed_same (at_place 1 room) (λ j held. held) hand (�
 
 -- ---- telling
 
-outputs_else : (client : ℕ) (t : Told) (list : List (ℕ × Told)) (other : ℕ) → other ≢ client → room_to ((client, t) ∷ list) other ≡ room_to list other
+outputs_else : (client : ℕ) (t : ClientTold) (list : List (ℕ × ClientTold)) (other : ℕ) → other ≢ client → room_to ((client, t) ∷ list) other ≡ room_to list other
 outputs_else client t list other apart =
     let no : (client == other) ≡ false = grind (arith, nat_tests) in
     ap (λ (b : Bool). at b) no
   where
-    counted : (Told → Bool) → Bool → ℕ
+    counted : (ClientTold → Bool) → Bool → ℕ
     counted p b = length (if b && p t then (client, t) ∷ filter (λ x. (x.0 == other) && p x.1) list else filter (λ x. (x.0 == other) && p x.1) list)
 
     at : Bool → Room
     at b = record { outputs = counted is_output b; waiting = counted is_wait b }
 
-own_counted : (p : Told → Bool) (client : ℕ) (t : Told) (list : List (ℕ × Told))
+own_counted : (p : ClientTold → Bool) (client : ℕ) (t : ClientTold) (list : List (ℕ × ClientTold))
     → length (filter (λ x. (x.0 == client) && p x.1) ((client, t) ∷ list)) ≡ length (filter (λ x. (x.0 == client) && p x.1) list) + (if p t then 1 else 0)
 own_counted p client t list =
     ap (λ (b : Bool). length (if b && p t then (client, t) ∷ mine else mine)) (same_itself client) ∙ by_test (p t)
   where
-    mine : List (ℕ × Told)
+    mine : List (ℕ × ClientTold)
     mine = filter (λ x. (x.0 == client) && p x.1) list
 
     by_test : (b : Bool) → length (if b then (client, t) ∷ mine else mine) ≡ length mine + (if b then 1 else 0)
@@ -246,7 +246,7 @@ here_room n room client held some few =
     ∙ ap (λ (b : Bool). option_map (room_or_same (if b then Some (room client) else None)) held) (within n client some few)
 
 -- the rooms of other clients
-else_room : (n : ℕ) (client : ℕ) (t : Told) (rest : List (ℕ × Told)) (place : ℕ) (held : Option Part) → place ≢ client_place client
+else_room : (n : ℕ) (client : ℕ) (t : ClientTold) (rest : List (ℕ × ClientTold)) (place : ℕ) (held : Option Part) → place ≢ client_place client
     → at_place (n + 1) (room_to ((client, t) ∷ rest)) place held ≡ at_place (n + 1) (room_to rest) place held
 else_room n client t rest place held other = by_test (is_before (n + 1) (place - 5)) refl
   where
@@ -262,7 +262,7 @@ may_be : (hand : List (Option Part)) (place : ℕ) (held : Option Part) → slic
 may_be hand place held there may = subst MayBeClient (ap (λ (o : Option (Option Part)). unwrap_or o None) there) may
 
 -- a client is told the first of what is left, for all of which there is room
-pub one_told : (n client : ℕ) (t : Told) (rest : List (ℕ × Told)) (hand : List (Option Part)) → 1 ≤ client → client ≤ n → AreClients n hand
+pub one_told : (n client : ℕ) (t : ClientTold) (rest : List (ℕ × ClientTold)) (hand : List (Option Part)) → 1 ≤ client → client ≤ n → AreClients n hand
     → change (option_map (telling t)) (with_rooms (n + 1) (room_to ((client, t) ∷ rest)) hand) (client_place client)
     ≡ with_rooms (n + 1) (room_to rest) (change (option_map (part_told cell (effect_of t))) hand (client_place client))
 one_told n client t rest hand some few clients =
@@ -288,7 +288,7 @@ one_told n client t rest hand some few clients =
     here (Some other) may = absurd may
 
 -- for which there is room
-pub has_room : (n client : ℕ) (t : Told) (rest : List (ℕ × Told)) (hand : List (Option Part)) → 1 ≤ client → client ≤ n → AreClients n hand
+pub has_room : (n client : ℕ) (t : ClientTold) (rest : List (ℕ × ClientTold)) (hand : List (Option Part)) → 1 ≤ client → client ≤ n → AreClients n hand
     → HasRoom t (held_at (with_rooms (n + 1) (room_to ((client, t) ∷ rest)) hand) (client_place client))
 has_room n client t rest hand some few clients =
     subst (HasRoom t) (sym (ap (λ (o : Option (Option Part)). unwrap_or o None) (get_placed (at_place (n + 1) (room_to ((client, t) ∷ rest))) hand (client_place client))))
@@ -310,7 +310,7 @@ has_room n client t rest hand some few clients =
     by_value (Some held) = subst (HasRoom t) (sym (here_room n (room_to ((client, t) ∷ rest)) client held some few)) (there held)
 
 -- one that is told to nobody
-pub none_told : (n client : ℕ) (t : Told) (rest : List (ℕ × Told)) (hand : List (Option Part)) → (1 ≤ client → client ≤ n → ⊥)
+pub none_told : (n client : ℕ) (t : ClientTold) (rest : List (ℕ × ClientTold)) (hand : List (Option Part)) → (1 ≤ client → client ≤ n → ⊥)
     → with_rooms (n + 1) (room_to ((client, t) ∷ rest)) hand ≡ with_rooms (n + 1) (room_to rest) hand
 none_told n client t rest hand nobody =
     placed_same (at_place (n + 1) (room_to ((client, t) ∷ rest))) (at_place (n + 1) (room_to rest)) hand (λ j held there. at_each j held)
@@ -383,18 +383,18 @@ settled_changed n client effect hand some few settled =
     here (Some other) = refl
 
 -- what holds of the parts while clients are told what is left
-pub record Tells (n : ℕ) (hand now : List (Option Part)) (done rest : List (ℕ × Told)) : Type 0 where
+pub record Tells (n : ℕ) (hand now : List (Option Part)) (done rest : List (ℕ × ClientTold)) : Type 0 where
   pub parts : now ≡ with_rooms (n + 1) (room_to rest) (told_all cell n (effects_told done) hand)
   pub settled : IsSettled (n + 1) (told_all cell n (effects_told done) hand)
   pub clients : AreClients n (told_all cell n (effects_told done) hand)
 
-told_next : (n : ℕ) (hand : List (Option Part)) (done : List (ℕ × Told)) (client : ℕ) (t : Told)
+told_next : (n : ℕ) (hand : List (Option Part)) (done : List (ℕ × ClientTold)) (client : ℕ) (t : ClientTold)
     → told_all cell n (effects_told (done ++ (client, t) ∷ [])) hand ≡ told_to cell n client (effect_of t) (told_all cell n (effects_told done) hand)
 told_next n hand done client t =
     ap (λ (l : List (ℕ × Effect)). told_all cell n l hand) (map-append (λ x. (x.0, effect_of x.1)) done ((client, t) ∷ []))
     ∙ told_more n (effects_told done) client (effect_of t) hand
 
-pub tells_one : (n : ℕ) (hand now new : List (Option Part)) (done rest : List (ℕ × Told)) (client : ℕ) (t : Told) → 1 ≤ client → client ≤ n
+pub tells_one : (n : ℕ) (hand now new : List (Option Part)) (done rest : List (ℕ × ClientTold)) (client : ℕ) (t : ClientTold) → 1 ≤ client → client ≤ n
     → Tells n hand now done ((client, t) ∷ rest) → new ≡ change (option_map (telling t)) now (client_place client) → Tells n hand new (done ++ (client, t) ∷ []) rest
 tells_one n hand now new done rest client t some few tells is =
     let so_far = told_all cell n (effects_told done) hand in
@@ -408,7 +408,7 @@ tells_one n hand now new done rest client t some few tells is =
       clients = subst (AreClients n) (sym next) (clients_changed n (effect_of t) so_far (client_place client) tells.clients);
     }
 
-pub tells_none : (n : ℕ) (hand now : List (Option Part)) (done rest : List (ℕ × Told)) (client : ℕ) (t : Told) → (1 ≤ client → client ≤ n → ⊥)
+pub tells_none : (n : ℕ) (hand now : List (Option Part)) (done rest : List (ℕ × ClientTold)) (client : ℕ) (t : ClientTold) → (1 ≤ client → client ≤ n → ⊥)
     → Tells n hand now done ((client, t) ∷ rest) → Tells n hand now (done ++ (client, t) ∷ []) rest
 tells_none n hand now done rest client t nobody tells =
     let so_far = told_all cell n (effects_told done) hand in
@@ -420,10 +420,10 @@ tells_none n hand now done rest client t nobody tells =
     }
 
 -- when all is told no room is left
-pub tells_all : (n : ℕ) (hand now : List (Option Part)) (done : List (ℕ × Told)) → Tells n hand now done [] → now ≡ told_all cell n (effects_told done) hand
+pub tells_all : (n : ℕ) (hand now : List (Option Part)) (done : List (ℕ × ClientTold)) → Tells n hand now done [] → now ≡ told_all cell n (effects_told done) hand
 tells_all n hand now done tells = tells.parts ∙ tells.settled
 
-pub tells_next : (n : ℕ) (hand now new : List (Option Part)) (done rest : List (ℕ × Told)) (client : ℕ) (t : Told) → Tells n hand now done ((client, t) ∷ rest)
+pub tells_next : (n : ℕ) (hand now new : List (Option Part)) (done rest : List (ℕ × ClientTold)) (client : ℕ) (t : ClientTold) → Tells n hand now done ((client, t) ∷ rest)
     → (1 ≤ client → client ≤ n → new ≡ change (option_map (telling t)) now (client_place client)) → ((1 ≤ client → client ≤ n → ⊥) → new ≡ now)
     → Tells n hand new (done ++ (client, t) ∷ []) rest
 tells_next n hand now new done rest client t tells one nobody = by_tests (nat_lt 0 client) (nat_lt n client) refl refl
@@ -460,7 +460,7 @@ clients_roomed n last room hand clients client some few =
     by_value f each (Some held) may = each held may
 
 -- at first nobody was told anything
-pub tells_first : (n : ℕ) (hand : List (Option Part)) (list : List (ℕ × Told)) → hand ≡ with_rooms (n + 1) (room_to list) (without_rooms (n + 1) hand) → AreClients n hand
+pub tells_first : (n : ℕ) (hand : List (Option Part)) (list : List (ℕ × ClientTold)) → hand ≡ with_rooms (n + 1) (room_to list) (without_rooms (n + 1) hand) → AreClients n hand
     → Tells n (without_rooms (n + 1) hand) hand [] list
 tells_first n hand list rooms clients = record {
   parts = rooms;
@@ -468,7 +468,7 @@ tells_first n hand list rooms clients = record {
   clients = clients_roomed n (n + 1) (λ client. no_room) hand clients;
 }
 
-pub room_there : (n : ℕ) (hand now : List (Option Part)) (done rest : List (ℕ × Told)) (client : ℕ) (t : Told) → Tells n hand now done ((client, t) ∷ rest)
+pub room_there : (n : ℕ) (hand now : List (Option Part)) (done rest : List (ℕ × ClientTold)) (client : ℕ) (t : ClientTold) → Tells n hand now done ((client, t) ∷ rest)
     → 1 ≤ client → client ≤ n → HasRoom t (held_at now (client_place client))
 room_there n hand now done rest client t tells some few =
     subst (λ (h : List (Option Part)). HasRoom t (held_at h (client_place client))) (sym tells.parts)

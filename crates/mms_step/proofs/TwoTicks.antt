@@ -8,7 +8,7 @@ use Rattle.mms_types.specs.declared.moment.Moment.{Moment}
 use Rattle.association.specs.Client.{ClientRow}
 use Rattle.parted_state.specs.Served.{delivered}
 use Rattle.variables.specs.Truth.{truth_of}
-use Rattle.variables.specs.declared.rows.Cell.{Cell}
+use Rattle.variables.specs.declared.rows.StoredCell.{StoredCell}
 use Rattle.mms_journal.specs.Journals.{Rows as Books}
 use Rattle.variable_services.specs.declared.tables.VariableTables.{VariableTables}
 use Rattle.mms_time.specs.Deadlines.{NamedDeadline}
@@ -92,8 +92,8 @@ journals_both : (xs ys : List ℕ) (j : Books) → journals_without (xs ++ ys) j
 journals_both [] ys j = refl
 journals_both (x ∷ xs) ys j = journals_both xs ys (journals_without (x ∷ []) j)
 
-says_so : List (ℕ × Cell) → Saying
-says_so cells number = unwrap_or (option_and_then (λ (c : Cell). truth_of c.value) (lookup (nat_eq number) cells)) false
+says_so : List (ℕ × StoredCell) → Saying
+says_so cells number = unwrap_or (option_and_then (λ (c : StoredCell). truth_of c.value) (lookup (nat_eq number) cells)) false
 
 still_saying : (clients : List ℕ) (v : VariableTables) → saying (without_clients clients v) ≡ saying v
 unfolding says_so

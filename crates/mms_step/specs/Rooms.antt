@@ -6,12 +6,12 @@ use Rattle.parted_state.specs.Cut.{with_places}
 use Rattle.mms_step.specs.declared.part.Part.{Part}
 use Rattle.mms_step.specs.declared.part.Part.TheVariants.{Client}
 use Rattle.mms_step.specs.declared.telling.Room.{Room}
-use Rattle.cell_client.specs.declared.told.Told.{Told}
+use Rattle.cell_client.specs.declared.told.ClientTold.{ClientTold}
 use Rattle.cell_client.specs.Telling.{effect_of, is_output, is_wait, output_count, told_row, wait_count}
 use Rattle.mms_step.specs.Partition.{client_place}
 
 -- how many outputs a client is told, and how many requests that wait
-abbrev pub room_to : List (ℕ × Told) → ℕ → Room
+abbrev pub room_to : List (ℕ × ClientTold) → ℕ → Room
 room_to list client = record {
   outputs = length (filter (λ t. (t.0 == client) && is_output t.1) list);
   waiting = length (filter (λ t. (t.0 == client) && is_wait t.1) list);
@@ -49,12 +49,12 @@ IsSettled last hand = without_rooms last hand ≡ hand
 
 -- ---- a client is told something, which uses room
 
-abbrev pub telling : Told → Part → Part
+abbrev pub telling : ClientTold → Part → Part
 telling t (Client client) = Client (told_row (effect_of t) (output_count t) (wait_count t) client)
 telling t other = other
 
 -- there is room for it, where a client's part is held
-abbrev pub HasRoom : Told → Option Part → Type 0
+abbrev pub HasRoom : ClientTold → Option Part → Type 0
 HasRoom t (Some (Client client)) = (output_count t ≤ client.output_room) × (wait_count t ≤ client.waiting_room)
 HasRoom t other = Unit {0}
 

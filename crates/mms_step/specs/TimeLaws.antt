@@ -24,7 +24,7 @@ use Rattle.event_cond.specs.Skips.{Saying, any_due, first_due}
 use Rattle.event_cond.specs.declared.condition.Condition.{Condition}
 use Rattle.event_ticks.specs.Settling.{settle}
 use Rattle.event_ticks.specs.Ticks as event_part
-use Rattle.event_ticks.specs.declared.ticks.Told.{Told}
+use Rattle.event_ticks.specs.declared.ticks.TurnTold.{TurnTold}
 use Rattle.event_ticks.proofs.Settling.{settle_by}
 use Rattle.cell_ticks.specs.Deadlines.{evaluation, evaluation_due, next_due}
 use Rattle.cell_ticks.specs.Ticks.{Ticking, aborted, aborted_one, evaluated, met, next_met, semaphore_met, with_semaphores, without_clients}
@@ -55,14 +55,14 @@ aborted_both (x ∷ xs) ys = ap (cons_option (aborted_one x)) (aborted_both xs y
 abbrev pub in_semaphores : Moment → List sem_happening.Happening → List DatedHappening
 in_semaphores at happened = map (λ h. device.dated at (Semaphores h)) happened
 
-abbrev pub in_turns : Moment → List Told → List DatedHappening
+abbrev pub in_turns : Moment → List TurnTold → List DatedHappening
 in_turns at told = map (λ t. device.dated at (Turns t)) told
 
 pub lost_semaphores : (at : Moment) (happened : List sem_happening.Happening) → lost_in (in_semaphores at happened) ≡ aborted happened
 lost_semaphores at [] = refl
 lost_semaphores at (h ∷ hs) = ap (cons_option (aborted_one h)) (lost_semaphores at hs)
 
-pub lost_turns : (at : Moment) (told : List Told) → lost_in (in_turns at told) ≡ []
+pub lost_turns : (at : Moment) (told : List TurnTold) → lost_in (in_turns at told) ≡ []
 lost_turns at [] = refl
 lost_turns at (t ∷ ts) = lost_turns at ts
 
@@ -208,7 +208,7 @@ module _ (cells : Saying) (until : Moment) (s : Ticking) where
         lost = lost_both s.happened (in_turns e.at (turns e)) ∙ ap (λ (l : List ℕ). lost_in s.happened ++ l) (lost_turns e.at (turns e));
       })
     where
-      turns : NamedDeadline → List Told
+      turns : NamedDeadline → List TurnTold
       turns e = (event_part.evaluated cells (event_part.begun s.conditions s.enrolments []) (e.at, e.key)).told
 
   goes : (t : Ticking) → next_met cells until s ≡ Some t → Goes until s t

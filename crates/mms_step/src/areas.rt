@@ -29,7 +29,7 @@ use crate::programs::programs_held;
 use crate::tables::{VARIABLES, semaphores as semaphores_part};
 use crate::telling::{make_rooms, tell_all};
 use crate::{Cell, Part};
-use cell_client::Told;
+use cell_client::ClientTold;
 use cell_services::NameTables;
 use mms_journal::Journals;
 use mms_time::Semaphores;
@@ -158,7 +158,7 @@ fn semaphores_in_parts(
     live: bool,
     invoke: u32,
     asked: SemaphoreRequest<'_>,
-) -> Result<Option<Vec<(u32, Told)>>, Memory>
+) -> Result<Option<Vec<(u32, ClientTold)>>, Memory>
     requires now { IsDated now }
     requires client { IsClient (Some part.old) }
     requires semaphores { IsSemaphores (Some table.old) }
@@ -198,7 +198,7 @@ fn serve_alone(
     now: Moment,
     invoke: u32,
     asked: SemaphoreRequest<'_>,
-) -> Result<Option<Vec<(u32, Told)>>, Memory>
+) -> Result<Option<Vec<(u32, ClientTold)>>, Memory>
     requires of { (s : State) × IsHandOf held.old (parts_of s) }
     requires many { clients ≡ clients_among (length held.old) }
     requires few { clients ≤ 64 }
@@ -249,7 +249,7 @@ fn finish_and_tell(
     client: u32,
     now: Moment,
     asked: SemaphoreRequest<'_>,
-    told: Vec<(u32, Told)>,
+    told: Vec<(u32, ClientTold)>,
 ) -> Result<(), Memory>
     requires of { (s : State) × IsHandOf held.old (parts_of s) }
     requires many { clients ≡ clients_among (length held.old) }

@@ -26,7 +26,7 @@ use crate::needs::{now_held, variables_held};
 use crate::tables::EVENTS;
 use crate::telling::{make_rooms, tell_all};
 use crate::{Cell, Part};
-use cell_client::Told;
+use cell_client::ClientTold;
 use mms_types::{CellFact, EventRequest, Memory, Moment, Turned};
 use part_table::Hand;
 use serve_events::{EventTables, Turning, cell_watched, variable_asked};

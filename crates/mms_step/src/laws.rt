@@ -14,7 +14,7 @@ ghost use Rattle.domain_upload.specs.Uploads.{AreOf};
 ghost use Rattle.token_sem.specs.Semaphore.{Rises, Sem, is_queued, tokens_held};
 ghost use Rattle.pool_sem.specs.Pools.{Pool as NamedTokens, has, is_free, wants};
 ghost use Rattle.variables.specs.Rows.{cell_at};
-ghost use Rattle.variables.specs.declared.rows.Cell.{Cell};
+ghost use Rattle.variables.specs.declared.rows.StoredCell.{StoredCell};
 ghost use Rattle.mms_step.specs.Guarded.{IsWrittenByOwner};
 ghost use Rattle.event_cond.specs.Evaluations.{evaluations};
 ghost use Rattle.event_ticks.specs.Sound as events;
@@ -116,7 +116,7 @@ pub fn no_free_token_is_waited_for()
 /// The value of a cell that has a guard is changed by a write alone that is served, of a client that has an owner entry
 /// of the guard's semaphore in the state on which it is served.
 pub fn a_guarded_cell_is_written_by_an_owner()
-    ensures { (s : State) (event : CellEvent) (number : ℕ) (was : Cell) (guard : List ℕ)
+    ensures { (s : State) (event : CellEvent) (number : ℕ) (was : StoredCell) (guard : List ℕ)
         → cell_at number s.variables.vars ≡ Some was → was.guard ≡ Some guard
         → (cell_at number (step s event).variables.vars ≡ Some was)
         ⊎ IsWrittenByOwner guard s event }

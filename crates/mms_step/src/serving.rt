@@ -14,7 +14,7 @@ use crate::Cell;
 use crate::lifted::{lift, lower};
 use crate::needs::client_held;
 use crate::telling::{make_rooms, release_all, tell_all};
-use cell_client::{Act, Told};
+use cell_client::{Act, ClientTold};
 use cell_services::{Plan, Tables, planned, time_planned};
 use mms_types::Memory;
 use part_table::Hand;
@@ -58,7 +58,7 @@ fn done(
     clients: u32,
     tables: &mut Tables,
     task: &Task<'_>,
-) -> Result<Vec<(u32, Told)>, Memory>
+) -> Result<Vec<(u32, ClientTold)>, Memory>
     requires few { clients ≤ 64 }
     requires settled { IsSettled (clients + 1) held.old }
     requires own { HoldsOwn task.now held.old }

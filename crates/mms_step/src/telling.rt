@@ -13,7 +13,7 @@ ghost use Rattle.mms_step.specs.Rooms.{no_room, room_to, telling, with_room, wit
 
 use crate::tables::BEFORE_CLIENTS;
 use crate::{Cell, Part};
-use cell_client::Told;
+use cell_client::ClientTold;
 use mms_types::Memory;
 use part_table::Hand;
 
@@ -27,14 +27,14 @@ pub(crate) struct Room {
 }
 
 /// Whether a client is told anything.
-fn is_told(told: &[(u32, Told)], client: u32) -> bool
+fn is_told(told: &[(u32, ClientTold)], client: u32) -> bool
     ensures { result ≡ list_any (λ t. t.0 == client) told.now }
 {
     told.iter().any(|t| t.0 == client)
 }
 
 /// How many outputs a client is told.
-fn outputs_to(told: &[(u32, Told)], client: u32) -> usize
+fn outputs_to(told: &[(u32, ClientTold)], client: u32) -> usize
     ensures { result ≡ (room_to told.now client).outputs }
 {
     told.iter()
@@ -43,7 +43,7 @@ fn outputs_to(told: &[(u32, Told)], client: u32) -> usize
 }
 
 /// How many requests that wait a client is told.
-fn waits_to(told: &[(u32, Told)], client: u32) -> usize
+fn waits_to(told: &[(u32, ClientTold)], client: u32) -> usize
     ensures { result ≡ (room_to told.now client).waiting }
 {
     told.iter()
@@ -52,7 +52,7 @@ fn waits_to(told: &[(u32, Told)], client: u32) -> usize
 }
 
 /// The room that is used by what a client is told.
-fn room_to(told: &[(u32, Told)], client: u32) -> Room
+fn room_to(told: &[(u32, ClientTold)], client: u32) -> Room
     ensures { result ≡ room_to told.now client }
 {
     Room {
@@ -116,7 +116,7 @@ pub(crate) fn release_all(held: &mut Hand<Cell>, clients: u32)
 pub(crate) fn make_rooms(
     held: &mut Hand<Cell>,
     clients: u32,
-    told: &[(u32, Told)],
+    told: &[(u32, ClientTold)],
 ) -> Result<(), Memory>
     requires few { clients ≤ 64 }
     requires settled { IsSettled (clients + 1) held.old }
@@ -136,7 +136,7 @@ pub(crate) fn make_rooms(
 }
 
 /// Tells a client something, where its part is held. It uses room that there is.
-fn tell(held: &mut Hand<Cell>, client: u32, told: Told)
+fn tell(held: &mut Hand<Cell>, client: u32, told: ClientTold)
     requires small { client ≤ 64 }
     requires room { HasRoom told (held_at held.old (client_place client)) }
     ensures { held.new ≡ change (option_map (telling told)) held.old (client_place client) }
@@ -154,7 +154,7 @@ fn tell(held: &mut Hand<Cell>, client: u32, told: Told)
 }
 
 /// Tells one of clients 1 to n something, and nobody where it is none of them.
-fn tell_one(held: &mut Hand<Cell>, clients: u32, client: u32, told: Told)
+fn tell_one(held: &mut Hand<Cell>, clients: u32, client: u32, told: ClientTold)
     requires few { clients ≤ 64 }
     requires room { 1 ≤ client → client ≤ clients
         → HasRoom told (held_at held.old (client_place client)) }
@@ -168,7 +168,7 @@ fn tell_one(held: &mut Hand<Cell>, clients: u32, client: u32, told: Told)
 }
 
 /// Tells those of clients 1 to n something that are told it, in order. There is room for it.
-pub(crate) fn tell_all(held: &mut Hand<Cell>, clients: u32, told: Vec<(u32, Told)>)
+pub(crate) fn tell_all(held: &mut Hand<Cell>, clients: u32, told: Vec<(u32, ClientTold)>)
     requires few { clients ≤ 64 }
     requires rooms { held.old
         ≡ with_rooms (clients + 1) (room_to told.items) (without_rooms (clients + 1) held.old) }

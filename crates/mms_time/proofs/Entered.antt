@@ -18,8 +18,8 @@ use Rattle.token_sem.proofs.Serving.{numbered-at}
 use Rattle.token_sem.specs.Semaphore.{Rises, Sem, after, answer_of, deadline_after, effect_of, entry_of, grant_to, has_claim, has_token, hung_to_preempt, is_hung, numbered, outcome, outcome_later, outcome_now, tokens_held, without}
 use Rattle.token_sem.specs.declared.entry.Ask.{Ask}
 use Rattle.token_sem.specs.declared.entry.Grant.{Grant}
-use Rattle.token_sem.specs.declared.entry.Outcome.{Outcome}
-use Rattle.token_sem.specs.declared.entry.Outcome.TheVariants.{Gets, Preempts, Refused, TimesOut, WaitsForEver, WaitsUntil}
+use Rattle.token_sem.specs.declared.entry.TakeOutcome.{TakeOutcome}
+use Rattle.token_sem.specs.declared.entry.TakeOutcome.TheVariants.{Gets, Preempts, Refused, TimesOut, WaitsForEver, WaitsUntil}
 use Rattle.token_sem.specs.declared.entry.SemEntry.{SemEntry}
 use Rattle.token_sem.specs.declared.entry.SemState.TheVariants.{Owner, Queued}
 use Rattle.token_sem.specs.declared.entry.TakeRefused.{TakeRefused}
@@ -160,7 +160,7 @@ module _ (s : Sem) (ask : Ask) (now : Moment) where
       by_claim true g = absurd (cc g)
       by_claim false g = by_hung (hung_to_preempt ask.preempt s.entries) refl g
 
-  each_stays : Rises 0 s.entries s.made → (o : Outcome) → outcome s ask now ≡ o → (e : SemEntry) → numbered e.number s.entries ≡ Some e
+  each_stays : Rises 0 s.entries s.made → (o : TakeOutcome) → outcome s ask now ≡ o → (e : SemEntry) → numbered e.number s.entries ≡ Some e
       → (numbered e.number (effect_of o s ask now).entries ≡ Some e) ⊎ ((is_hung e ≡ true) × (ask.preempt ≡ Some e.client))
   each_stays rises Refused is e h = inl h
   each_stays rises (Preempts n) is e h = stays_but_one s.made n ask.preempt s.entries (entry_of (s.made + 1) ask Owner (deadline_after now ask.control)) e rises (preempts_so n is) h
@@ -169,14 +169,14 @@ module _ (s : Sem) (ask : Ask) (now : Moment) where
   each_stays rises (WaitsUntil d) is e h = inl (in_front e.number s.entries _ e h)
   each_stays rises WaitsForEver is e h = inl (in_front e.number s.entries _ e h)
 
-  one_comes : (o : Outcome) (e : SemEntry) → numbered e.number (effect_of o s ask now).entries ≡ Some e → (numbered e.number s.entries ≡ Some e) ⊎ (e.number ≡ s.made + 1)
+  one_comes : (o : TakeOutcome) (e : SemEntry) → numbered e.number (effect_of o s ask now).entries ≡ Some e → (numbered e.number s.entries ≡ Some e) ⊎ (e.number ≡ s.made + 1)
   one_comes o e h = by_outcome o h
     where
       last : (x : SemEntry) → x.number ≡ s.made + 1 → (numbered e.number s.entries ≡ Some e) ⊎ (x ≡ e) → (numbered e.number s.entries ≡ Some e) ⊎ (e.number ≡ s.made + 1)
       last x is (inl k) = inl k
       last x is (inr k) = inr (ap (λ (y : SemEntry). y.number) (sym k) ∙ is)
 
-      by_outcome : (o : Outcome) → numbered e.number (effect_of o s ask now).entries ≡ Some e → (numbered e.number s.entries ≡ Some e) ⊎ (e.number ≡ s.made + 1)
+      by_outcome : (o : TakeOutcome) → numbered e.number (effect_of o s ask now).entries ≡ Some e → (numbered e.number s.entries ≡ Some e) ⊎ (e.number ≡ s.made + 1)
       by_outcome Refused k = inl k
       by_outcome (Preempts n) k = last (entry_of (s.made + 1) ask Owner (deadline_after now ask.control)) refl (no_other_but_last n s.entries _ e k)
       by_outcome Gets k = last (entry_of (s.made + 1) ask Owner (deadline_after now ask.control)) refl (is_old_or_last e.number s.entries _ e k)
@@ -185,7 +185,7 @@ module _ (s : Sem) (ask : Ask) (now : Moment) where
       by_outcome WaitsForEver k = last (entry_of (s.made + 1) ask Queued None) refl (is_old_or_last e.number s.entries _ e k)
 
   -- the new entry
-  comes_owner : Rises 0 s.entries s.made → (o : Outcome) (g : Grant) → answer_of o (s.made + 1) ask ≡ Ok (taken.Granted g)
+  comes_owner : Rises 0 s.entries s.made → (o : TakeOutcome) (g : Grant) → answer_of o (s.made + 1) ask ≡ Ok (taken.Granted g)
       → numbered (s.made + 1) (effect_of o s ask now).entries ≡ Some (entry_of (s.made + 1) ask Owner (deadline_after now ask.control))
   comes_owner rises Refused g h = absurd (cc h)
   comes_owner rises (Preempts n) g h = comes_last 0 s.made (without n s.entries) (entry_of (s.made + 1) ask Owner (deadline_after now ask.control)) (rises-without 0 s.made n s.entries rises) (omega arith)
@@ -194,7 +194,7 @@ module _ (s : Sem) (ask : Ask) (now : Moment) where
   comes_owner rises (WaitsUntil d) g h = absurd (cc h)
   comes_owner rises WaitsForEver g h = absurd (cc h)
 
-  comes_waiter : Rises 0 s.entries s.made → (o : Outcome) (n : ℕ) → answer_of o (s.made + 1) ask ≡ Ok (taken.Waits n)
+  comes_waiter : Rises 0 s.entries s.made → (o : TakeOutcome) (n : ℕ) → answer_of o (s.made + 1) ask ≡ Ok (taken.Waits n)
       → (d : Option Moment) × (numbered (s.made + 1) (effect_of o s ask now).entries ≡ Some (entry_of (s.made + 1) ask Queued d))
   comes_waiter rises Refused n h = absurd (cc h)
   comes_waiter rises (Preempts k) n h = absurd (cc h)

@@ -12,8 +12,8 @@ use Rattle.pool_sem.specs.declared.outcome.PoolOutcome.{PoolOutcome}
 use Rattle.pool_sem.specs.declared.outcome.PoolOutcome.TheVariants as comes_to
 use Rattle.token_sem.specs.Semaphore.{Sem, after, answer_giving_back, answer_of, grant_to, has_claim, has_token, heir_of, hung_to_preempt, outcome_later, outcome_now, owned_by, owner_of, relinquish_answer, take_answer, tokens_held}
 use Rattle.token_sem.specs.declared.entry.Ask.{Ask}
-use Rattle.token_sem.specs.declared.entry.Outcome.{Outcome}
-use Rattle.token_sem.specs.declared.entry.Outcome.TheVariants.{Gets, Refused, TimesOut, WaitsUntil}
+use Rattle.token_sem.specs.declared.entry.TakeOutcome.{TakeOutcome}
+use Rattle.token_sem.specs.declared.entry.TakeOutcome.TheVariants.{Gets, Refused, TimesOut, WaitsUntil}
 use Rattle.token_sem.specs.declared.entry.SemEntry.{SemEntry}
 use Rattle.token_sem.specs.declared.entry.Taken.TheVariants.{Granted, Waits}
 use Rattle.mms_time.specs.Services.{ask_of, is_missing, is_zero, place_asked, relinquish_conditions_in, relinquish_grant_in, take_conditions_in}
@@ -39,7 +39,7 @@ module _ (s : Sem) (n : ℕ) (ask : Ask) (now : Moment) where
   by_hung delay (Some hung) e = refl
   by_hung delay None e = by_free delay (nat_lt (tokens_held s.entries) s.tokens) e
 
-unclaimed : (claim : Bool) (outcome : Outcome) (n : ℕ) (ask : Ask) → claim ≡ false → answer_of (if claim then Refused else outcome) n ask ≡ answer_of outcome n ask
+unclaimed : (claim : Bool) (outcome : TakeOutcome) (n : ℕ) (ask : Ask) → claim ≡ false → answer_of (if claim then Refused else outcome) n ask ≡ answer_of outcome n ask
 unclaimed true outcome n ask e = absurd cc
 unclaimed false outcome n ask e = refl
 

@@ -6,10 +6,10 @@ use Rattle.pool_sem.specs.declared.outcome.PoolOutcome.{PoolOutcome}
 use Rattle.pool_sem.specs.declared.outcome.PoolOutcome.TheVariants as comes_to
 use Rattle.token_sem.specs.Semaphore.{Sem, after_take, effect_of, makes_entry, outcome}
 use Rattle.token_sem.specs.declared.entry.Ask.{Ask}
-use Rattle.token_sem.specs.declared.entry.Outcome.{Outcome}
-use Rattle.token_sem.specs.declared.entry.Outcome.TheVariants.{Refused, Preempts, Gets, TimesOut, WaitsUntil, WaitsForEver}
+use Rattle.token_sem.specs.declared.entry.TakeOutcome.{TakeOutcome}
+use Rattle.token_sem.specs.declared.entry.TakeOutcome.TheVariants.{Refused, Preempts, Gets, TimesOut, WaitsUntil, WaitsForEver}
 
-no_effect : (o : Outcome) (s : Sem) (ask : Ask) (now : Moment) → makes_entry o ≡ false → s ≡ effect_of o s ask now
+no_effect : (o : TakeOutcome) (s : Sem) (ask : Ask) (now : Moment) → makes_entry o ≡ false → s ≡ effect_of o s ask now
 no_effect Refused s ask now e = refl
 no_effect TimesOut s ask now e = refl
 no_effect (Preempts number) s ask now e = absurd cc

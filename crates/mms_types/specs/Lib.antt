@@ -18,12 +18,12 @@ pub mod Serves
 pub mod Wanting
 pub mod Datum
 pub mod DatumCode
-pub mod DataFalls
+pub mod DataFallsLaws
 pub mod SeenData
 pub mod Shape
 pub mod ShapeCode
 pub mod SeenType
-pub mod TypeFalls
+pub mod TypeFallsLaws
 pub mod Matches
 pub mod Equal
 pub mod Depths

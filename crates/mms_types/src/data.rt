@@ -69,7 +69,7 @@ impl Model for Data {
 
     ghost size = { depth };
 
-    ghost use Rattle.mms_types.specs.DataFalls.{deep_le-depth};
+    ghost use Rattle.mms_types.specs.DataFallsLaws.{deep_le-depth};
 
     ghost size_decreases = { λ x h. deep_le-depth x.kind };
 }

@@ -76,7 +76,7 @@ impl Model for TypeSpec {
 
     ghost size = { shape_depth };
 
-    ghost use Rattle.mms_types.specs.TypeFalls.{deep_le-shape_depth};
+    ghost use Rattle.mms_types.specs.TypeFallsLaws.{deep_le-shape_depth};
 
     ghost size_decreases = { λ t h. deep_le-shape_depth t.kind };
 }

@@ -3,8 +3,8 @@ use Rattle.std.proofs.Common.{◌≡◌, ◌∙◌, ℕ, zero, suc, ◌+◌, ◌
 use Rattle.std.proofs.lemmas.Bool.Decides.{nat_tests}
 use Rattle.part_table.specs.Held.{held_at, IsHandOf}
 use Rattle.parted_state.specs.declared.example.Asked.{Asked}
-use Rattle.parted_state.specs.declared.example.Part.{Part}
-use Rattle.parted_state.specs.declared.example.Part.TheVariants as part
+use Rattle.parted_state.specs.declared.example.ShopPart.{ShopPart}
+use Rattle.parted_state.specs.declared.example.ShopPart.TheVariants as part
 use Rattle.parted_state.specs.declared.example.Tables.{Tables}
 use Rattle.parted_state.specs.declared.example.Word.{Word}
 use Rattle.parted_state.specs.declared.example.Word.TheVariants as word
@@ -12,26 +12,26 @@ use Rattle.parted_state.specs.Cut.{is_held}
 use Rattle.parted_state.specs.CutLaws.{same_itself}
 use Rattle.parted_state.specs.DeviceLaws.{around_at}
 use Rattle.parted_state.specs.Lifted.{tables_shown, with_tables, told_all, put_in_place}
-use Rattle.parted_state.specs.LiftedLaws as lifted
+use Rattle.parted_state.proofs.LiftedLaws as lifted
 use Rattle.parted_state.specs.Rows.{settled}
 use Rattle.parted_state.specs.Served.{Done, around, is_told, done_of, table_place}
 use Rattle.parted_state.specs.Shop.{State, shop, services, parts_of, state_in, clients_among, shelf_in, tool_in, told_heir, serve, step, need, after, roomy_in, IsRow}
 use Rattle.parted_state.specs.ShopLaws.{is_device, each_served}
 use Rattle.parted_state.proofs.Putting.{is_row, room_is, at_place}
 
-pub shown_there : (hand : List (Option Part)) (n : ℕ) → n ≡ clients_among (length hand)
+pub shown_there : (hand : List (Option ShopPart)) (n : ℕ) → n ≡ clients_among (length hand)
     → record { shelf = shelf_in (held_at hand 0); tool = tool_in (held_at hand (1 + n)) } ≡ tables_shown shop hand
 shown_there hand n many =
     ap (λ (m : ℕ). of (held_at hand 0) (held_at hand (1 + m))) many
-    ∙ sym (ap₂ (λ (o q : Option Part). of o q) (at 0) (at 1))
+    ∙ sym (ap₂ (λ (o q : Option ShopPart). of o q) (at 0) (at 1))
   where
-    of : Option Part → Option Part → Tables
+    of : Option ShopPart → Option ShopPart → Tables
     of o q = record { shelf = shelf_in o; tool = tool_in q }
 
     at : (k : ℕ) → held_at (around 1 (clients_among (length hand)) hand) k ≡ held_at hand (table_place shop (clients_among (length hand)) k)
-    at k = ap (λ (o : Option (Option Part)). unwrap_or o None) (around_at shop is_device (clients_among (length hand)) hand k)
+    at k = ap (λ (o : Option (Option ShopPart)). unwrap_or o None) (around_at shop is_device (clients_among (length hand)) hand k)
 
-module _ (hand : List (Option Part)) (asked : Asked) (s : State) (of : IsHandOf hand (parts_of s)) (enough : need asked hand ≡ [])
+module _ (hand : List (Option ShopPart)) (asked : Asked) (s : State) (of : IsHandOf hand (parts_of s)) (enough : need asked hand ≡ [])
     (some : 1 ≤ asked.client) (few : asked.client ≤ clients_among (length hand)) (found : Tables) (shows : found ≡ tables_shown shop hand) where
   -- ---- parts that are held
 
@@ -88,7 +88,7 @@ module _ (hand : List (Option Part)) (asked : Asked) (s : State) (of : IsHandOf 
 
   -- ---- what is put in place
 
-  module _ (new : List (Option Part)) (n : ℕ) (tables : Tables) (told : List (ℕ × Word)) (many : n ≡ clients_among (length hand))
+  module _ (new : List (Option ShopPart)) (n : ℕ) (tables : Tables) (told : List (ℕ × Word)) (many : n ≡ clients_among (length hand))
       (same_tables : tables ≡ (serve found asked.client asked.ask).tables) (same_told : told ≡ (serve found asked.client asked.ask).told)
       (put : new ≡ told_all shop n told (with_tables shop n tables hand)) where
     in_place : new ≡ put_in_place shop (serve (tables_shown shop hand) asked.client asked.ask) hand
@@ -102,4 +102,4 @@ module _ (hand : List (Option Part)) (asked : Asked) (s : State) (of : IsHandOf 
     is_after = in_place ∙ lifted.in_place shop is_device services asked (each_served asked) s hand of enough few
 
     pub of_state : IsHandOf new (parts_of (step s asked))
-    of_state = subst (λ (l : List (Option Part)). IsHandOf l (parts_of (step s asked))) (sym in_place) (lifted.of_state shop is_device services asked (each_served asked) s hand of enough few)
+    of_state = subst (λ (l : List (Option ShopPart)). IsHandOf l (parts_of (step s asked))) (sym in_place) (lifted.of_state shop is_device services asked (each_served asked) s hand of enough few)

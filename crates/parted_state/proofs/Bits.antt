@@ -15,7 +15,7 @@ use Rattle.std.proofs.lemmas.Nat.Bits.{bit_at-trailing_zeros, bit_at_set_same, b
 use Rattle.parted_state.specs.Cut.{is_in}
 use Rattle.parted_state.specs.CutLaws.{same_number, same_itself}
 use Rattle.parted_state.specs.Sets.{IsSetOf, is_bit, numbers_of}
-use Rattle.parted_state.specs.SetLaws.{IsFrom, from_lower, from_increasing, none_in, same_from, increasing_from}
+use Rattle.parted_state.proofs.SetLaws.{IsFrom, from_lower, from_increasing, none_in, same_from, increasing_from}
 
 in_range : (a n p : ℕ) → is_in (range_with_len a n) p ≡ (nat_le a p && nat_lt p (a + n))
 in_range a zero p = grind (arith, nat_tests)

@@ -3,3 +3,5 @@ pub mod Bits
 pub mod Places
 pub mod Putting
 mod Worked
+pub mod LiftedLaws
+pub mod SetLaws

@@ -2,8 +2,8 @@
 use Rattle.std.proofs.Common.{◌≡◌, ◌∙◌, ℕ, zero, suc, List, [], ◌∷◌, set, slice_set, Option, Some, None, refl, ap, sym}
 use Rattle.std.specs.Option.{option_map}
 use Rattle.part_table.specs.Held.{held_at}
-use Rattle.parted_state.specs.declared.example.Part.{Part}
-use Rattle.parted_state.specs.declared.example.Part.TheVariants as part
+use Rattle.parted_state.specs.declared.example.ShopPart.{ShopPart}
+use Rattle.parted_state.specs.declared.example.ShopPart.TheVariants as part
 use Rattle.parted_state.specs.Rows.{Roomy}
 use Rattle.parted_state.specs.Served.{change}
 use Rattle.parted_state.specs.Shop.{on_row}
@@ -30,22 +30,22 @@ put_back {P} (h ∷ hand) zero x held = ap (λ (o : Option P). o ∷ hand) (sym 
 put_back {P} (h ∷ hand) (suc i) x held = ap (λ (l : List (Option P)). h ∷ l) (put_back hand i x held)
 
 -- the part of a client that is taken out, changed and put back
-pub row_changed : (f : Roomy → Roomy) (hand taken new : List (Option Part)) (place : ℕ) (there value : Part) (row after : Roomy)
+pub row_changed : (f : Roomy → Roomy) (hand taken new : List (Option ShopPart)) (place : ℕ) (there value : ShopPart) (row after : Roomy)
     → Some there ≡ held_at hand place → taken ≡ set hand place None → value ≡ there → value ≡ part.Client row → after ≡ f row
     → new ≡ set taken place (Some (part.Client after)) → new ≡ change (option_map (on_row f)) hand place
 row_changed f hand taken new place there value row after held out same is done back =
     back
-    ∙ ap (λ (l : List (Option Part)). set l place (Some (part.Client after))) out
+    ∙ ap (λ (l : List (Option ShopPart)). set l place (Some (part.Client after))) out
     ∙ ap (λ (r : Roomy). set (set hand place None) place (Some (part.Client r))) done
     ∙ changed_part (on_row f) hand place (part.Client row) (sym held ∙ ap Some (sym same ∙ is))
 
 -- and one that is put back as it was
-pub row_kept : (hand taken new : List (Option Part)) (place : ℕ) (there value : Part) (row after : Roomy)
+pub row_kept : (hand taken new : List (Option ShopPart)) (place : ℕ) (there value : ShopPart) (row after : Roomy)
     → Some there ≡ held_at hand place → taken ≡ set hand place None → value ≡ there → value ≡ part.Client row → after ≡ row
     → new ≡ set taken place (Some (part.Client after)) → new ≡ hand
 row_kept hand taken new place there value row after held out same is kept back =
     back
-    ∙ ap (λ (l : List (Option Part)). set l place (Some (part.Client after))) out
+    ∙ ap (λ (l : List (Option ShopPart)). set l place (Some (part.Client after))) out
     ∙ ap (λ (r : Roomy). set (set hand place None) place (Some (part.Client r))) kept
     ∙ put_back hand place (part.Client row) (sym held ∙ ap Some (sym same ∙ is))
 

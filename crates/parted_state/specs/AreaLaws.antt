@@ -8,7 +8,7 @@ use native.Mathlib.Decide.{ℕ_discrete}
 use Rattle.parted_state.specs.Area.{Own, no_table, both, Within, AllIn, IsTable, Tells, Area, Plan, facts_told, questions, facts_of, area_plan, planned, IsOwn, AreTold, IsPlan}
 use Rattle.parted_state.specs.Cut.{is_in}
 use Rattle.parted_state.specs.CutLaws.{in_front, in_back, same_itself}
-use Rattle.parted_state.specs.Lists.{get_changed, get_change, get_veiled, held_of_all, same_list}
+use Rattle.parted_state.specs.ListsLaws.{get_changed, get_change, get_veiled, held_of_all, same_list}
 use Rattle.parted_state.specs.Served.{Done, Device, change, veiled, masked, merged, done_within, IsServed, IsDevice}
 use Rattle.parted_state.specs.ServedLaws as served
 

@@ -7,7 +7,7 @@ use Rattle.std.proofs.lemmas.List.{length-map, length-take}
 use Rattle.part_table.specs.Held.{held_at}
 use Rattle.parted_state.specs.Cut.{IsCut}
 use Rattle.parted_state.specs.Served.{Device, around, front, client_place, table_place, clients_among, parts_of, state_in, IsDevice}
-use Rattle.parted_state.specs.Lists.{get_some, get_front, get_behind, get_past, get_take, get_drop, same_list, around_front, around_behind}
+use Rattle.parted_state.specs.ListsLaws.{get_some, get_front, get_behind, get_past, get_take, get_drop, same_list, around_front, around_behind}
 
 module _ {S T R F P : Type 0} (d : Device S T R F P) (is : IsDevice d) where
   -- ---- where the parts stand

@@ -4,12 +4,10 @@ pub mod Cut
 pub mod CutLaws
 pub mod DeviceLaws
 pub mod Lifted
-pub mod LiftedLaws
-pub mod Lists
+pub mod ListsLaws
 pub mod Served
 pub mod ServedLaws
 pub mod Sets
-pub mod SetLaws
 pub mod Rows
 pub mod Shop
 pub mod ShopLaws

@@ -9,7 +9,7 @@ use Rattle.parted_state.specs.CutLaws as laws
 use Rattle.parted_state.specs.Cut.{is_in, wanted_of, SameAt, Agree, AreTold, IsFramed}
 use Rattle.parted_state.specs.CutLaws.{in_front, in_back, in_either, same_itself, same_number}
 use Rattle.parted_state.specs.Served.{Done, Device, Services, change, veiled, chosen, is_told, front, client_place, table_place, parts_of, state_in, masked, merged, done_within, row_at, reached, delivered, told_if, told_places, asked, uses, row_of, done_of, step, own_place, places, footprint, table_stages, wants, need, after, parts_after, AreAsked, IsServed, IsDevice}
-use Rattle.parted_state.specs.Lists.{get_some, get_veiled, chosen_same, held_of_all, get_past, length-change, get_changed, get_change, same_veiled, get_chosen, append_none, in_mapped, no_more}
+use Rattle.parted_state.specs.ListsLaws.{get_some, get_veiled, chosen_same, held_of_all, get_past, length-change, get_changed, get_change, same_veiled, get_chosen, append_none, in_mapped, no_more}
 use Rattle.parted_state.specs.DeviceLaws.{as_many, table_at, client_at, spot, cut}
 
 module _ {S T R F P : Type 0} (d : Device S T R F P) (is : IsDevice d) where

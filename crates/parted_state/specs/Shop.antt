@@ -18,8 +18,8 @@ use Rattle.parted_state.specs.declared.example.Facts.{Facts}
 use Rattle.parted_state.specs.declared.example.Shelf.{Shelf}
 use Rattle.parted_state.specs.declared.example.Tool.{Tool}
 use Rattle.parted_state.specs.declared.example.Tables.{Tables}
-use Rattle.parted_state.specs.declared.example.Part.{Part}
-use Rattle.parted_state.specs.declared.example.Part.TheVariants as part
+use Rattle.parted_state.specs.declared.example.ShopPart.{ShopPart}
+use Rattle.parted_state.specs.declared.example.ShopPart.TheVariants as part
 
 -- the tables, and what clients 1 to n were told
 pub record State : Type 0 where
@@ -28,19 +28,19 @@ pub record State : Type 0 where
 
 -- ---- parts
 
-abbrev pub shelf_in : Option Part → Shelf
+abbrev pub shelf_in : Option ShopPart → Shelf
 shelf_in (Some (part.Shelf shelf)) = shelf
 shelf_in other = record { pieces = 0 }
 
-abbrev pub tool_in : Option Part → Tool
+abbrev pub tool_in : Option ShopPart → Tool
 tool_in (Some (part.Tool tool)) = tool
 tool_in other = record { owner = 0; next = 0 }
 
-abbrev pub row_in : Option Part → List Word
+abbrev pub row_in : Option ShopPart → List Word
 row_in (Some (part.Client row)) = row.words
 row_in other = []
 
-abbrev pub shop : Device State Tables (List Word) Word Part
+abbrev pub shop : Device State Tables (List Word) Word ShopPart
 shop = record {
   tables_of = λ s. s.tables;
   clients_of = λ s. s.clients;
@@ -55,22 +55,22 @@ shop = record {
   felt = λ told row. row ++ told ∷ [];
 }
 
-abbrev pub parts_of : State → List Part
+abbrev pub parts_of : State → List ShopPart
 parts_of s = parted.parts_of shop s
 
 -- ---- on held parts
 
 -- the part of a client that is held, with its row changed
-abbrev pub on_row : (Roomy → Roomy) → Part → Part
+abbrev pub on_row : (Roomy → Roomy) → ShopPart → ShopPart
 on_row f (part.Client row) = part.Client (f row)
 on_row f other = other
 
-abbrev pub roomy_in : Option Part → Roomy
+abbrev pub roomy_in : Option ShopPart → Roomy
 roomy_in (Some (part.Client row)) = row
 roomy_in other = settled []
 
 -- a client's part is held
-abbrev pub IsRow : Option Part → Type 0
+abbrev pub IsRow : Option ShopPart → Type 0
 IsRow held = held ≡ Some (part.Client (roomy_in held))
 
 -- how many clients there are, by the number of parts
@@ -194,14 +194,14 @@ step s asked = parted.step shop services s asked
 abbrev pub wants : Asked → List (State → List ℕ)
 wants asked = parted.wants shop services asked
 
-abbrev pub state_in : List (Option Part) → State
+abbrev pub state_in : List (Option ShopPart) → State
 state_in hand = parted.state_in shop hand
 
-abbrev pub need : Asked → List (Option Part) → List ℕ
+abbrev pub need : Asked → List (Option ShopPart) → List ℕ
 need asked hand = parted.need shop services asked hand
 
-abbrev pub after : Asked → List (Option Part) → List (Option Part)
+abbrev pub after : Asked → List (Option ShopPart) → List (Option ShopPart)
 after asked hand = parted.after shop services asked hand
 
-abbrev pub parts_after : Asked → List Part → List Part
+abbrev pub parts_after : Asked → List ShopPart → List ShopPart
 parts_after asked parts = parted.parts_after shop services asked parts

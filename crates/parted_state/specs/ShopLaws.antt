@@ -12,16 +12,16 @@ use Rattle.parted_state.specs.declared.example.Asked.{Asked}
 use Rattle.parted_state.specs.declared.example.Facts.{Facts}
 use Rattle.parted_state.specs.declared.example.Tables.{Tables}
 use Rattle.parted_state.specs.declared.example.Tool.{Tool}
-use Rattle.parted_state.specs.declared.example.Part.{Part}
-use Rattle.parted_state.specs.declared.example.Part.TheVariants as part
+use Rattle.parted_state.specs.declared.example.ShopPart.{ShopPart}
+use Rattle.parted_state.specs.declared.example.ShopPart.TheVariants as part
 use Rattle.parted_state.specs.Shop.{State, Question, HasTool, tables_for, shop, services, shelf_table, tool_table, tells, noted, shelf_area, tool_area, plan_of, parts_of, shelf_in, tool_in, step, need, after, parts_after}
 
 -- ---- once
 
-by_place : (one other : List (Option Part)) (table : ℕ) → held_at one table ≡ held_at other table
+by_place : (one other : List (Option ShopPart)) (table : ℕ) → held_at one table ≡ held_at other table
     → slice_get (shop.table_parts (shop.tables_in one)) table ≡ slice_get (shop.table_parts (shop.tables_in other)) table
-by_place one other zero same = ap (λ (o : Option Part). Some (part.Shelf (shelf_in o))) same
-by_place one other (suc zero) same = ap (λ (o : Option Part). Some (part.Tool (tool_in o))) same
+by_place one other zero same = ap (λ (o : Option ShopPart). Some (part.Shelf (shelf_in o))) same
+by_place one other (suc zero) same = ap (λ (o : Option ShopPart). Some (part.Tool (tool_in o))) same
 by_place one other (suc (suc table)) same = refl
 
 pub is_device : IsDevice shop
@@ -60,16 +60,16 @@ each_served asked = planned_served shop is_device (λ asked. asked.client) (λ r
 
 -- ---- and so, for every event
 
-pub after_holds_the_same : (asked : Asked) (hand : List (Option Part)) → places_held (after asked hand) ≡ places_held hand
+pub after_holds_the_same : (asked : Asked) (hand : List (Option ShopPart)) → places_held (after asked hand) ≡ places_held hand
 after_holds_the_same asked = served.after_holds_the_same shop is_device services asked (each_served asked)
 
-pub after_is_laid_over : (asked : Asked) (hand : List (Option Part)) (parts : List Part) → IsHandOf hand parts → need asked hand ≡ []
+pub after_is_laid_over : (asked : Asked) (hand : List (Option ShopPart)) (parts : List ShopPart) → IsHandOf hand parts → need asked hand ≡ []
     → parts_after asked parts ≡ laid_over (after asked hand) parts
 after_is_laid_over asked = served.after_is_laid_over shop is_device services asked (each_served asked)
 
 pub parts_step : (s : State) (asked : Asked) → parts_of (step s asked) ≡ parts_after asked (parts_of s)
 parts_step s asked = served.parts_step shop is_device services asked (each_served asked) s
 
-pub others_stay : (s : State) (hand : List (Option Part)) (asked : Asked) (place : ℕ) → IsHandOf hand (parts_of s) → need asked hand ≡ [] → held_at hand place ≡ None
+pub others_stay : (s : State) (hand : List (Option ShopPart)) (asked : Asked) (place : ℕ) → IsHandOf hand (parts_of s) → need asked hand ≡ [] → held_at hand place ≡ None
     → slice_get (parts_of (step s asked)) place ≡ slice_get (parts_of s) place
 others_stay s hand asked = served.free_parts_stay shop is_device services asked (each_served asked) s hand

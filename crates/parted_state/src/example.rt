@@ -138,7 +138,7 @@ impl Row {
 
 /// A part. With n clients there are n + 2 of them.
 #[derive(Drop)]
-pub enum Part {
+pub enum ShopPart {
     /// Part 0.
     Shelf(Shelf),
     /// Part c, of client c.
@@ -155,7 +155,7 @@ impl Object for Shop {
     ghost use Rattle.parted_state.specs.Shop.{after, need, parts_after};
     ghost use Rattle.parted_state.specs.ShopLaws.{after_holds_the_same, after_is_laid_over};
 
-    type Part = Part;
+    type Part = ShopPart;
 
     type Event = Asked;
 
@@ -177,7 +177,7 @@ impl Object for Shop {
 pub fn a_step_is_of_the_held_parts()
     ensures parts { (s : State) (event : Asked)
         → parts_of (step s event) ≡ parts_after event (parts_of s) }
-    ensures others { (s : State) (hand : List (Option Part)) (event : Asked) (place : ℕ)
+    ensures others { (s : State) (hand : List (Option ShopPart)) (event : Asked) (place : ℕ)
         → IsHandOf hand (parts_of s) → need event hand ≡ [] → held_at hand place ≡ None
         → slice_get (parts_of (step s event)) place ≡ slice_get (parts_of s) place }
 {}
@@ -316,11 +316,11 @@ fn lift(held: &Hand<Shop>, clients: u32) -> Tables
     } }
 {
     let shelf = match held.get(0) {
-        Some(Part::Shelf(shelf)) => *shelf,
+        Some(ShopPart::Shelf(shelf)) => *shelf,
         _ => Shelf { pieces: 0 },
     };
     let tool = match held.get(1 + clients) {
-        Some(Part::Tool(tool)) => *tool,
+        Some(ShopPart::Tool(tool)) => *tool,
         _ => Tool { owner: 0, next: 0 },
     };
     Tables { shelf, tool }
@@ -328,7 +328,7 @@ fn lift(held: &Hand<Shop>, clients: u32) -> Tables
 
 /// Puts a part into its place, where one is held there.
 #[tactic(auto, using(crate::proofs::Places::written, crate::proofs::Places::free_stays))]
-fn put_back(held: &mut Hand<Shop>, place: u32, part: Part)
+fn put_back(held: &mut Hand<Shop>, place: u32, part: ShopPart)
     ensures { held.new ≡ change (option_map (λ there. part)) held.old place }
 {
     match held.get_mut(place) {
@@ -342,8 +342,8 @@ fn lower(held: &mut Hand<Shop>, clients: u32, tables: Tables)
     requires few { clients < 256 }
     ensures { held.new ≡ with_tables shop clients tables held.old }
 {
-    put_back(held, 0, Part::Shelf(tables.shelf));
-    put_back(held, 1 + clients, Part::Tool(tables.tool));
+    put_back(held, 0, ShopPart::Shelf(tables.shelf));
+    put_back(held, 1 + clients, ShopPart::Tool(tables.tool));
 }
 
 /// Makes room for words in the part of a client, in place of the room that there was.
@@ -357,7 +357,7 @@ fn make_room(held: &mut Hand<Shop>, client: u32, words: usize) -> Result<(), All
         unreachable!()
     };
     let made = match &mut *part {
-        Part::Client(row) => row.reserve(words),
+        ShopPart::Client(row) => row.reserve(words),
         _ => unreachable!(),
     };
     held.put(client, part);
@@ -373,7 +373,7 @@ fn release(held: &mut Hand<Shop>, client: u32)
         unreachable!()
     };
     match &mut *part {
-        Part::Client(row) => row.release(),
+        ShopPart::Client(row) => row.release(),
         _ => unreachable!(),
     }
     held.put(client, part);
@@ -389,7 +389,7 @@ fn tell(held: &mut Hand<Shop>, client: u32, word: Word)
         unreachable!()
     };
     match &mut *part {
-        Part::Client(row) => row.tell(word),
+        ShopPart::Client(row) => row.tell(word),
         _ => unreachable!(),
     }
     held.put(client, part);

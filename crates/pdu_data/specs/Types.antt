@@ -12,7 +12,7 @@ use Rattle.mms_types.specs.Spelling.{widest}
 use Rattle.mms_types.specs.Shape.{Shape, Fields, array, structure, boolean, bits, integer, unsigned, floating, octets, visible, time, no_field, field}
 use Rattle.pdu_names.specs.Names.{identifier}
 use Rattle.pdu_names.specs.Said.{truth_of, natural_of, text_of, if_given}
-use Rattle.pdu_names.specs.Again.{if_given_again}
+use Rattle.pdu_names.specs.AgainLaws.{if_given_again}
 use Rattle.pdu_names.specs.Alike.{SpellAlike, ChoicesAlike, tagged_alike, required_alike, optional_alike, defaulted_alike, sequence_alike, list_alike, or_alike, choice_alike}
 use Rattle.pdu_names.specs.Kinds.{Choice}
 

@@ -7,7 +7,7 @@ use Rattle.ber_forms.specs.Form.{Form, tagged}
 use Rattle.ber_forms.specs.Fits.{Fits, is_sound, sound_member}
 use Rattle.ber_forms.proofs.Spelled.{form_spelled}
 use Rattle.ber_forms.proofs.Again.{spelled_says, one_spelling, no_other_member}
-pub use Rattle.pdu_names.specs.Again.{if_given_again, each_given_again}
+pub use Rattle.pdu_names.specs.AgainLaws.{if_given_again, each_given_again}
 use Rattle.pdu_names.specs.Spells.{Spells}
 
 member_sound : (class n : ℕ) (f : Form) → class < 4 → n < 16384 → IsTrue (is_sound f) → IsTrue (sound_member (tagged class n f))

@@ -10,7 +10,7 @@ use Rattle.ber_forms.specs.Fits.{Fits}
 use Rattle.mms_types.specs.declared.identifier.Edition.{Edition}
 use Rattle.mms_types.specs.Spelling.{widest}
 use Rattle.pdu_names.specs.Said.{truth_of, natural_of, number_of, bits_of, text_of, if_given, members_of}
-use Rattle.pdu_names.specs.Again.{if_given_again, each_given_again}
+use Rattle.pdu_names.specs.AgainLaws.{if_given_again, each_given_again}
 use Rattle.pdu_names.specs.Alike.{SpellAlike, MembersAlike, ComponentsAlike, ChoicesAlike, tagged_alike, required_alike, optional_alike, defaulted_alike, skipped_alike, sequence_alike, list_alike, such_alike, or_alike, choice_alike, alike_itself}
 
 -- contents

@@ -1,6 +1,6 @@
 pub mod Editions
 pub mod Said
-pub mod Again
+pub mod AgainLaws
 pub mod Alike
 pub mod Spells
 pub mod Kinds

@@ -11,8 +11,8 @@ use Rattle.mms_types.specs.declared.semaphore.TakeControl.{TakeControl}
 use Rattle.token_sem.specs.Semaphore as token
 use Rattle.token_sem.specs.Semaphore.{Loss, Sem, after_cancel, after_freeing, after_giving_back, after_take, deadline_after, deadline_of, deadline_with, deadlines, effect_of, entry_of, grant_of, granted_entry, granted_to, hung_entry, is_queued, loss_of_one, next, numbered, outcome, outcome_later, outcome_now, owned_by, owner_of, tokens_held, waits_for, without}
 use Rattle.token_sem.specs.declared.entry.Ask.{Ask}
-use Rattle.token_sem.specs.declared.entry.Outcome.{Outcome}
-use Rattle.token_sem.specs.declared.entry.Outcome.TheVariants.{Refused, Preempts, Gets, TimesOut, WaitsUntil, WaitsForEver}
+use Rattle.token_sem.specs.declared.entry.TakeOutcome.{TakeOutcome}
+use Rattle.token_sem.specs.declared.entry.TakeOutcome.TheVariants.{Refused, Preempts, Gets, TimesOut, WaitsUntil, WaitsForEver}
 use Rattle.token_sem.specs.declared.entry.SemEntry.{SemEntry}
 use Rattle.token_sem.specs.declared.entry.SemState.{SemState}
 use Rattle.token_sem.proofs.Least.{Stands}
@@ -79,7 +79,7 @@ module _ (P : Moment → Type 0) (now : Moment) (past : (ms : ℕ) → (ms == 0)
 
   -- ---- one semaphore
 
-  taken_by : (o : Outcome) (s : Sem) (ask : Ask) → ((d : Moment) → o ≡ WaitsUntil d → P d) → AreAt s.entries → AreAt (effect_of o s ask now).entries
+  taken_by : (o : TakeOutcome) (s : Sem) (ask : Ask) → ((d : Moment) → o ≡ WaitsUntil d → P d) → AreAt s.entries → AreAt (effect_of o s ask now).entries
   taken_by Refused s ask later all = all
   taken_by (Preempts n) s ask later all = one_more (without n s.entries) _ (kept (λ e. not (e.number == n)) s.entries all) (controlled ask.control)
   taken_by Gets s ask later all = one_more s.entries _ all (controlled ask.control)

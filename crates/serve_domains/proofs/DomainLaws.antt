@@ -22,7 +22,7 @@ use Rattle.cell_client.specs.Facts.{Facts}
 use Rattle.cell_client.specs.Requests.{answer_told, fits, refuses, request_told, size_of}
 use Rattle.serve_domains.specs.Domains.{AnswersLoad, asks_next, calling_left, delete, download_told, initiate_download, replied, replied_to, reply_of, reply_told, request_in}
 use Rattle.serve_domains.specs.Tables.{DomainTables}
-use Rattle.cell_client.specs.ServedLaws.{became, by_outcome, refused}
+use Rattle.cell_client.proofs.ServedLaws.{became, by_outcome, refused}
 
 -- ---- refused, or answered
 

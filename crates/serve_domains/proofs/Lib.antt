@@ -4,3 +4,4 @@ pub mod LoadLaws
 pub mod NumberLaws
 pub mod UserLaws
 mod Worked
+pub mod AnswerLaws

@@ -1,4 +1,3 @@
-pub mod AnswerLaws
 pub mod Domains
 pub mod Loads
 pub mod Tables

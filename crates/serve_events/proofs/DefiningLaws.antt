@@ -24,7 +24,7 @@ use Rattle.cell_client.specs.Facts.{Facts}
 use Rattle.cell_client.specs.Requests.{fits, is_done, refuses, request_told, size_of}
 use Rattle.serve_events.specs.Events.{condition_named, define_condition, define_enrolment, delete_enrolments, is_there, report_status}
 use Rattle.serve_events.specs.declared.tables.EventTables.{EventTables}
-use Rattle.cell_client.specs.ServedLaws.{became, refused}
+use Rattle.cell_client.proofs.ServedLaws.{became, refused}
 
 module _ (row : ClientRow) (invoke client : ℕ) (by : client ≡ row.client) (t : EventTables) (new : RoomyRow) where
   -- ---- a condition

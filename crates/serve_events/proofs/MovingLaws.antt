@@ -20,7 +20,7 @@ use Rattle.cell_client.specs.Facts.{Facts}
 use Rattle.cell_client.specs.Requests.{refuses}
 use Rattle.serve_events.specs.Events.{after_alter, after_delete, after_trigger, alter_condition, alter_turns, delete_conditions, delete_turns, trigger, trigger_turns, turned}
 use Rattle.serve_events.specs.declared.tables.EventTables.{EventTables}
-use Rattle.cell_client.specs.ServedLaws.{refused}
+use Rattle.cell_client.proofs.ServedLaws.{refused}
 
 -- a service is refused for its cause
 pub error_said : {X : Type 0} (f : Refuse) (e : ServiceError) (why : Option ServiceError) (told : Option X) → f ≡ refuse.Service e → Serves (Err f) why told → why ≡ Some e

@@ -6,7 +6,7 @@ ghost use Rattle.event_cond.specs.Services.{time_of_day};
 ghost use Rattle.cell_client.specs.Telling.{effect_of, effects_told};
 ghost use Rattle.serve_events.specs.Told.{notice_told, notices_told, state_numbered, turns_told};
 
-use cell_client::{Told, notification};
+use cell_client::{ClientTold, notification};
 use event_enrol::Enrolments;
 use mms_pdu::Writer;
 use mms_types::{
@@ -56,7 +56,7 @@ fn told_of(
     out: &mut Writer,
     turned: &Turned,
     notice: &Notice,
-) -> Result<(u32, Told), Memory>
+) -> Result<(u32, ClientTold), Memory>
     ensures { IfOk result (λ told. (told.0, effect_of told.1) ≡ notice_told turned.now notice.now) }
 {
     let told = EventNotification {
@@ -74,7 +74,7 @@ fn told_of(
 pub fn tell_notices(
     alloc: Global,
     out: &mut Writer,
-    told: &mut Vec<(u32, Told)>,
+    told: &mut Vec<(u32, ClientTold)>,
     turned: &Turned,
     notices: &[Notice],
 ) -> Result<(), Memory>
@@ -93,7 +93,7 @@ pub fn tell_notices(
 /// have its bit, in the order in which they were defined.
 pub fn tell_turns(
     alloc: Global,
-    told: &mut Vec<(u32, Told)>,
+    told: &mut Vec<(u32, ClientTold)>,
     enrolments: &Enrolments,
     turns: &[Turned],
 ) -> Result<(), Memory>

@@ -15,7 +15,7 @@ ghost use Rattle.serve_events.specs.Turns.{turned_after, turns_of};
 
 use crate::EventTables;
 use crate::notices::tell_turns;
-use cell_client::{Client, Told, answer_within, size_of};
+use cell_client::{Client, ClientTold, answer_within, size_of};
 use event_cond::Conditions;
 use event_enrol::Enrolments;
 use mms_types::{Answer, EventRequest, Listed, Memory, Moment, ServiceError, Turned};
@@ -25,7 +25,7 @@ use std::alloc::Global;
 #[derive(Drop)]
 pub struct Turning {
     /// Who is told what, in order: first its own client, that it is answered.
-    pub told: Vec<(u32, Told)>,
+    pub told: Vec<(u32, ClientTold)>,
     /// The transitions that it makes, in order.
     pub turns: Listed<Turned>,
 }
@@ -121,8 +121,8 @@ fn answer_first(
     own: &mut Client,
     invoke: u32,
     answer: &Answer,
-    told: Vec<(u32, Told)>,
-) -> Result<Option<Vec<(u32, Told)>>, Memory>
+    told: Vec<(u32, ClientTold)>,
+) -> Result<Option<Vec<(u32, ClientTold)>>, Memory>
     ensures fits { IfOk result (λ all. IfSome all (λ _.
         fits (size_of own.old.row.association) invoke (Some answer.now) ≡ true)) }
     ensures told { IfOk result (λ all. IfSome all (λ list. effects_told list.items

@@ -1,1 +1,2 @@
 pub mod ServedLaws
+pub mod AnswerLaws

@@ -17,7 +17,7 @@ use Rattle.cell_client.specs.Areas.{IsServedIn, RequestIn}
 use Rattle.cell_client.specs.Effects.{felt, felt_all, settled}
 use Rattle.cell_client.specs.Facts.{Facts}
 use Rattle.cell_client.specs.Requests.{fits, refuses, request_told, size_of}
-use Rattle.cell_client.specs.ServedLaws.{answered, became, refused}
+use Rattle.cell_client.proofs.ServedLaws.{answered, became, refused}
 use Rattle.serve_journals.specs.Journals.{create}
 
 module _ (r : RequestIn Rows) (row : ClientRow) (invoke : ℕ) (was : Rows) (new : RoomyRow) where

@@ -9,7 +9,7 @@ use Rattle.cell_client.specs.Areas.{IsServedIn, RequestIn}
 use Rattle.cell_client.specs.Effects.{felt, felt_all, settled}
 use Rattle.cell_client.specs.Facts.{Facts}
 use Rattle.cell_client.specs.Requests.{fits, refuses, request_told, size_of}
-use Rattle.cell_client.specs.ServedLaws.{became, refused}
+use Rattle.cell_client.proofs.ServedLaws.{became, refused}
 
 -- on one table, or on two
 module _ {A : Type 0} (r : RequestIn A) (row : ClientRow) (invoke : ℕ) (was : A) (new : RoomyRow) where

@@ -1,3 +1,2 @@
-pub mod AnswerLaws
 pub mod Programs
 pub mod Users

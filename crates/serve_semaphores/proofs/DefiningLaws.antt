@@ -14,7 +14,7 @@ use Rattle.cell_client.specs.Effects.{felt, felt_all, settled}
 use Rattle.cell_client.specs.Facts.{Facts}
 use Rattle.cell_client.specs.Requests.{fits, refuses, request_told, size_of}
 use Rattle.serve_semaphores.specs.Semaphores.{define_semaphore, delete_semaphore}
-use Rattle.cell_client.specs.ServedLaws.{became, refused}
+use Rattle.cell_client.proofs.ServedLaws.{became, refused}
 
 module _ (row : ClientRow) (invoke client : ℕ) (by : client ≡ row.client) (rows : Rows) (new : RoomyRow) where
   define_why : (live : Bool) (x : DefineSemaphore) (why : Option ServiceError) → why ≡ define_cause live client x rows

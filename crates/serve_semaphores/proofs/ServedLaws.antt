@@ -9,7 +9,7 @@ use Rattle.cell_client.specs.Effects.{Effect, Waits, felt, felt_all, settled, te
 use Rattle.cell_client.specs.Facts.{Facts}
 use Rattle.cell_client.specs.Association.{other_error}
 use Rattle.cell_client.specs.Requests.{answer_told, fits, is_done, refuses, request_told, size_of}
-use Rattle.cell_client.specs.ServedLaws.{by_outcome}
+use Rattle.cell_client.proofs.ServedLaws.{by_outcome}
 
 module _ {A : Type 0} (r : RequestIn A) (facts : Facts) (invoke : ℕ) (row : ClientRow) (was now : A) (new : RoomyRow) where
   -- it waits

@@ -29,11 +29,11 @@ use Rattle.cell_client.specs.Association.{missing_error, other_error}
 use Rattle.cell_client.specs.Effects.{felt, felt_all, settled}
 use Rattle.cell_client.specs.Facts.{Facts}
 use Rattle.cell_client.specs.Telling.{effects_told}
-use Rattle.cell_client.specs.declared.told.Told.{Told}
+use Rattle.cell_client.specs.declared.told.ClientTold.{ClientTold}
 use Rattle.cell_client.specs.Requests.{fits, is_done, refuses, request_told, size_of}
 use Rattle.serve_semaphores.specs.Semaphores.{given_back, relinquish_control, take_control, taken}
 use Rattle.serve_semaphores.specs.Tokens.{grants_nobody, grants_nobody_among, is_taken, relinquish_cause_on, relinquish_on, relinquished_on, take_cause_on, take_effects, take_on, taken_on}
-use Rattle.cell_client.specs.ServedLaws.{became, refused}
+use Rattle.cell_client.proofs.ServedLaws.{became, refused}
 use Rattle.serve_semaphores.proofs.ServedLaws.{unfitting, waits}
 
 -- ---- one semaphore among all
@@ -221,7 +221,7 @@ give_unanswered row new invoke facts x rows grants fit is = by_row (lookup (key_
     by_row None there none = absurd (cc none)
     by_row (Some s) there none = by_cause s there (relinquish_cause_on row.client x s) refl none
 
-pub told_same : {X : Type 0} (result : Result (Option X) Memory) (items : X → List (ℕ × Told)) (invoke : ℕ) (now : Moment) (x : RelinquishControl) (own was : RoomyRow) (rows before : Rows)
+pub told_same : {X : Type 0} (result : Result (Option X) Memory) (items : X → List (ℕ × ClientTold)) (invoke : ℕ) (now : Moment) (x : RelinquishControl) (own was : RoomyRow) (rows before : Rows)
     → (own ≡ was) × (rows ≡ before)
     → IfOk result (λ left. IfSome left (λ told. (facts : Facts)
     → IsToldIn (relinquish_control x) facts invoke own.row rows (relinquish_after own.row.client facts.now x rows) (effects_told (items told))))

@@ -1,3 +1,2 @@
-pub mod AnswerLaws
 pub mod Semaphores
 pub mod Tokens

@@ -13,7 +13,7 @@ ghost use Rattle.serve_semaphores.specs.Semaphores.{relinquish_control};
 ghost use Rattle.serve_semaphores.specs.Tokens.{grants_nobody, grants_nobody_on, relinquish_cause_on, relinquish_on, relinquished_on};
 
 use crate::granting::granting;
-use cell_client::{Client, Told, size_of};
+use cell_client::{Client, ClientTold, size_of};
 use mms_time::{SemaphoreRow, Semaphores};
 use mms_types::{Answer, Memory, Moment, RelinquishControl, ServiceError};
 use std::alloc::Global;
@@ -124,7 +124,7 @@ pub(crate) fn give_back(
     now: Moment,
     invoke: u32,
     asked: &RelinquishControl,
-) -> Result<Option<Vec<(u32, Told)>>, Memory>
+) -> Result<Option<Vec<(u32, ClientTold)>>, Memory>
     requires now { IsDated now }
     ensures served { IfOk result (λ left. IfNone left ((facts : Facts) → facts.now ≡ now
         → IsServedIn (relinquish_control asked.now) facts invoke own.old.row

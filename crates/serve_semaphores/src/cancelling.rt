@@ -7,7 +7,7 @@ ghost use Rattle.cell_client.specs.Effects.{felt_all, settled};
 ghost use Rattle.serve_semaphores.specs.Tokens.{rows_cancelled, waiting_of};
 
 use association::{ClientPart, Waiting};
-use cell_client::{Client, Told, cancel_response, refusal};
+use cell_client::{Client, ClientTold, cancel_response, refusal};
 use mms_time::{Semaphores, cancel_take};
 use mms_types::{Memory, ServiceError};
 use std::alloc::Global;
@@ -47,7 +47,7 @@ pub fn cancel(
     let refused = refusal(alloc, invoke, ServiceError::CANCEL)?;
     own.reserve(2, 0)?;
     take_out(rows, waiting_of(own.part(), invoke));
-    own.tell(Told::Answers(invoke));
+    own.tell(ClientTold::Answers(invoke));
     own.tell(response);
     own.tell(refused);
     Ok(())

@@ -13,7 +13,7 @@ ghost use Rattle.mms_time.specs.Services.{relinquish_after};
 ghost use Rattle.serve_semaphores.specs.Semaphores.{grant_told, grants_told, relinquish_control};
 ghost use Rattle.serve_semaphores.specs.Tokens.{grants_nobody};
 
-use cell_client::{Client, Told, answer_octets, one_told, size_of};
+use cell_client::{Client, ClientTold, answer_octets, one_told, size_of};
 use mms_time::Semaphores;
 use mms_types::{
     Answer, Memory, Octets, Refuse, RelinquishControl, ServiceError, TakeControlAnswer, What,
@@ -22,16 +22,20 @@ use sem_ticks::{Granted, relinquish_told};
 use std::alloc::Global;
 
 /// A client is sent the answer to a request for a token that waited.
-fn granted(alloc: Global, invoke: u32, answer: TakeControlAnswer) -> Result<Told, Memory>
+fn granted(alloc: Global, invoke: u32, answer: TakeControlAnswer) -> Result<ClientTold, Memory>
     ensures { IfOk result (λ told. effect_of told
         ≡ sends (pdu.ConfirmedResponse invoke (Answer.TakeControl answer))) }
 {
     let octets = answer_octets(alloc, invoke, &Answer::TakeControl(answer))?;
-    Ok(Told::Sends(What::Octets(octets)))
+    Ok(ClientTold::Sends(What::Octets(octets)))
 }
 
 /// Tells a client that waited that it has a token, after what is told before.
-pub fn tell_grant(alloc: Global, told: &mut Vec<(u32, Told)>, grant: Granted) -> Result<(), Memory>
+pub fn tell_grant(
+    alloc: Global,
+    told: &mut Vec<(u32, ClientTold)>,
+    grant: Granted,
+) -> Result<(), Memory>
     ensures { OnOk result (effects_told told.new.items
         ≡ effects_told told.old.items ++ grant_told grant) }
 {
@@ -40,7 +44,7 @@ pub fn tell_grant(alloc: Global, told: &mut Vec<(u32, Told)>, grant: Granted) ->
         invoke,
         answer,
     } = grant;
-    told.push((client, Told::Answers(invoke)))?;
+    told.push((client, ClientTold::Answers(invoke)))?;
     let answer = granted(alloc, invoke, answer)?;
     told.push((client, answer))?;
     Ok(())
@@ -49,7 +53,7 @@ pub fn tell_grant(alloc: Global, told: &mut Vec<(u32, Told)>, grant: Granted) ->
 /// Tells clients that waited that they have a token, in order, after what is told before.
 pub fn tell_grants(
     alloc: Global,
-    told: &mut Vec<(u32, Told)>,
+    told: &mut Vec<(u32, ClientTold)>,
     grants: Vec<Granted>,
 ) -> Result<(), Memory>
     ensures { OnOk result (effects_told told.new.items
@@ -88,7 +92,7 @@ pub(crate) fn granting(
     rows: &Semaphores,
     invoke: u32,
     asked: &RelinquishControl,
-) -> Result<Option<Vec<(u32, Told)>>, Memory>
+) -> Result<Option<Vec<(u32, ClientTold)>>, Memory>
     requires grants { grants_nobody own.old.row.client asked.now rows.now ≡ false }
     ensures served { IfOk result (λ left. IfNone left ((facts : Facts)
         → IsServedIn (relinquish_control asked.now) facts invoke own.old.row
@@ -104,7 +108,7 @@ pub(crate) fn granting(
         return Ok(None);
     };
     let client = own.part().client();
-    let mut told = one_told(alloc, client, Told::Sends(What::Octets(octets)))?;
+    let mut told = one_told(alloc, client, ClientTold::Sends(What::Octets(octets)))?;
     match relinquish_told(alloc, rows, client, asked) {
         Err(Refuse::Memory) => Err(Memory::wanting()),
         Ok(Some(grant)) => {

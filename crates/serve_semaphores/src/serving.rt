@@ -13,7 +13,7 @@ use crate::back::{finish_back, give_back};
 use crate::defining::{define, delete};
 use crate::status::{entry_status, pool_status, status};
 use crate::take::take;
-use cell_client::{Client, Told};
+use cell_client::{Client, ClientTold};
 use mms_time::Semaphores;
 use mms_types::{Memory, Moment, SemaphoreRequest};
 use std::alloc::Global;
@@ -30,7 +30,7 @@ pub fn serve(
     live: bool,
     invoke: u32,
     asked: SemaphoreRequest<'_>,
-) -> Result<Option<Vec<(u32, Told)>>, Memory>
+) -> Result<Option<Vec<(u32, ClientTold)>>, Memory>
     requires now { IsDated now }
     requires settled { own.old ≡ settled own.old.row }
     ensures served { IfOk result (λ left. IfNone left ((facts : Facts) → facts.now ≡ now

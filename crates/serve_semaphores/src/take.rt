@@ -13,7 +13,7 @@ ghost use Rattle.serve_semaphores.specs.Semaphores.{take_control};
 ghost use Rattle.serve_semaphores.specs.Tokens.{take_done, take_on, taken_done, taken_on};
 
 use association::Waiting;
-use cell_client::{Client, Told, size_of};
+use cell_client::{Client, ClientTold, size_of};
 use mms_time::{SemaphoreRow, Semaphores, TakeDone};
 use mms_types::{Answer, Memory, Moment, Refuse, ServiceError, TakeControl, TakeControlAnswer};
 use std::alloc::Global;
@@ -96,7 +96,7 @@ fn take_later(
     let key = asked.name.key(alloc, own.part().client())?;
     own.reserve(0, 1)?;
     take_with_room(own, row, now, invoke, asked)?;
-    own.tell(Told::Waits(Waiting { invoke, key, entry }));
+    own.tell(ClientTold::Waits(Waiting { invoke, key, entry }));
     Ok(())
 }
 

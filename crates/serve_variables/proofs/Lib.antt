@@ -1,2 +1,4 @@
 pub mod Deletions
 pub mod InLaws
+pub mod AnswerLaws
+pub mod GuardLaws

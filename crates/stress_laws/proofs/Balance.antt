@@ -12,7 +12,7 @@ use Rattle.association.specs.declared.waiting.Waiting.{Waiting}
 use Rattle.association.specs.Admission.{admission, waiting_if}
 use Rattle.association.specs.Client.{ClientRow}
 use Rattle.association.specs.Waiting.{AreDistinct, without}
-use Rattle.parted_state.specs.Lists.{get_changed}
+use Rattle.parted_state.specs.ListsLaws.{get_changed}
 use Rattle.parted_state.specs.Served.{delivered, reached, row_at}
 use Rattle.sem_ticks.specs.declared.granted.Granted.{Granted}
 use Rattle.cell_client.specs.Association.{sends}

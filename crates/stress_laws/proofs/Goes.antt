@@ -10,7 +10,7 @@ use Rattle.association.specs.declared.negotiation.Association.TheVariants.{Idle,
 use Rattle.association.specs.declared.negotiation.Negotiated.{Negotiated}
 use Rattle.association.specs.Client.{ClientRow}
 use Rattle.association.specs.Negotiation.{answer_to}
-use Rattle.parted_state.specs.Lists.{get_changed}
+use Rattle.parted_state.specs.ListsLaws.{get_changed}
 use Rattle.parted_state.specs.Served.{delivered, reached, row_at}
 use Rattle.cell_client.specs.Association.{Verdict, Tells, requested, sends, verdict}
 use Rattle.cell_client.specs.Effects.{Opens, Drains, felt}

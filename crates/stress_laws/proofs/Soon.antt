@@ -9,8 +9,8 @@ use Rattle.mms_types.specs.declared.semaphore.TakeControl.{TakeControl}
 use Rattle.token_sem.specs.Semaphore.{Sem, aborts, after_cancel, after_freeing, after_giving_back, effect_of, expired_entry, granted_entry, granted_to, has_claim, hung_to_preempt, is_owner, is_queued, next, numbered, outcome, outcome_later, outcome_now, owner_from, owner_of, tokens_held, without}
 use Rattle.token_sem.specs.declared.entry.Ask.{Ask}
 use Rattle.token_sem.specs.declared.entry.Expired.{Expired}
-use Rattle.token_sem.specs.declared.entry.Outcome.{Outcome}
-use Rattle.token_sem.specs.declared.entry.Outcome.TheVariants.{Refused, Preempts, Gets, TimesOut, WaitsUntil, WaitsForEver}
+use Rattle.token_sem.specs.declared.entry.TakeOutcome.{TakeOutcome}
+use Rattle.token_sem.specs.declared.entry.TakeOutcome.TheVariants.{Refused, Preempts, Gets, TimesOut, WaitsUntil, WaitsForEver}
 use Rattle.token_sem.specs.declared.entry.SemEntry.{SemEntry}
 use Rattle.token_sem.proofs.Keeping.{Among, among-find}
 use Rattle.mms_time.specs.Deadlines.{NamedDeadline, expire_after, expired, expired_in, without_due}
@@ -200,7 +200,7 @@ module _ (now : Moment) (ask : Ask) (delay : ask.delay ≡ Some 5) (abort : ask.
   spares_it : aborts ask.abort ≡ false
   spares_it = ap aborts abort
 
-  taken_by : (o : Outcome) (s : Sem) → ((d : Moment) → o ≡ WaitsUntil d → EndsSoon now (Some d)) → (o ≡ WaitsForEver → ⊥) → AreSoon now s.entries → AreSoon now (effect_of o s ask now).entries
+  taken_by : (o : TakeOutcome) (s : Sem) → ((d : Moment) → o ≡ WaitsUntil d → EndsSoon now (Some d)) → (o ≡ WaitsForEver → ⊥) → AreSoon now s.entries → AreSoon now (effect_of o s ask now).entries
   taken_by Refused s later never all = all
   taken_by (Preempts n) s later never all =
       one_more now (without n s.entries) _ (kept now (λ e. not (e.number == n)) s.entries all) (record { spares = spares_it; ends = λ q. absurd (cc q) })
@@ -210,7 +210,7 @@ module _ (now : Moment) (ask : Ask) (delay : ask.delay ≡ Some 5) (abort : ask.
   taken_by WaitsForEver s later never all = absurd (never refl)
 
   -- as it waits, it waits until then
-  abbrev IsWell : Outcome → Type 0
+  abbrev IsWell : TakeOutcome → Type 0
   IsWell (WaitsUntil d) = EndsSoon now (Some d)
   IsWell WaitsForEver = ⊥
   IsWell o = Unit {0}

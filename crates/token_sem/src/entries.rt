@@ -7,7 +7,7 @@ ghost use Rattle.token_sem.specs.Semaphore.{aborts, after, deadline_after, entry
 ghost use Rattle.token_sem.specs.declared.entry.SemState.TheVariants.{Owner, Queued};
 ghost use Rattle.token_sem.specs.declared.entry.TakeRefused.TheVariants.{Memory as OutOfMemory};
 
-use crate::{Ask, Grant, Outcome, SemEntry, SemState, TakeRefused};
+use crate::{Ask, Grant, SemEntry, SemState, TakeOutcome, TakeRefused};
 use mms_types::{Memory, Moment};
 use std::alloc::Global;
 
@@ -117,14 +117,14 @@ fn hung_of(client: u32, entries: &[SemEntry]) -> Option<SemEntry>
 }
 
 /// What a request comes to for which no token is there.
-pub(crate) fn outcome_later(delay: Option<u32>, now: Moment) -> Outcome
+pub(crate) fn outcome_later(delay: Option<u32>, now: Moment) -> TakeOutcome
     requires { IsDated now }
     ensures { result ≡ outcome_later delay now }
 {
     match delay {
-        None => Outcome::WaitsForEver,
-        Some(0) => Outcome::TimesOut,
-        Some(ms) => Outcome::WaitsUntil(after(now, ms)),
+        None => TakeOutcome::WaitsForEver,
+        Some(0) => TakeOutcome::TimesOut,
+        Some(ms) => TakeOutcome::WaitsUntil(after(now, ms)),
     }
 }
 

@@ -17,7 +17,7 @@ mod sem;
 mod table;
 
 pub use entry::{
-    Ask, Deadline, Expired, Grant, NotOwner, Outcome, SemEntry, SemState, TakeRefused, Taken,
+    Ask, Deadline, Expired, Grant, NotOwner, SemEntry, SemState, TakeOutcome, TakeRefused, Taken,
 };
 pub use laws::{a_freed_token_is_served, the_first_deadline_is_the_least};
 pub use sem::TokenSem;

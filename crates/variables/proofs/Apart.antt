@@ -7,7 +7,7 @@ use Rattle.mms_types.specs.declared.cells.CellRow.{CellRow}
 use Rattle.mms_types.specs.declared.cells.NamedCell.{NamedCell}
 use Rattle.mms_types.specs.declared.key.Scope.TheVariants.{Vmd}
 use Rattle.mms_types.specs.Order.{key_eq}
-use Rattle.variables.specs.declared.rows.Cell.{Cell}
+use Rattle.variables.specs.declared.rows.StoredCell.{StoredCell}
 use Rattle.variables.specs.Bounds.{AreSmall}
 use Rattle.variables.specs.Start.{cell_row, variable_row}
 
@@ -50,6 +50,6 @@ module _ {K X : Type 0} (eq : K → K → Bool) (symmetric : (a b : K) → eq a 
   pub not_there : (front rest all : List (K × X)) (row : K × X) → front ++ row ∷ rest ≡ all → IsDistinct eq (keys_of all) → lookup (eq row.0) front ≡ None
   not_there front rest all row is distinct = new_key front rest row (subst (λ (l : List (K × X)). IsDistinct eq (keys_of l)) (sym is) distinct)
 
-pub small_more : (cells : List (ℕ × Cell)) (row : ℕ × Cell) → AreSmall cells → row.0 < 65536 → AreSmall (cells ++ row ∷ [])
+pub small_more : (cells : List (ℕ × StoredCell)) (row : ℕ × StoredCell) → AreSmall cells → row.0 < 65536 → AreSmall (cells ++ row ∷ [])
 small_more [] row small less = (less, tt)
 small_more (c ∷ cells) row small less = (small.0, small_more cells row small.1 less)

@@ -6,7 +6,7 @@ use Rattle.std.specs.Option.{option_and_then}
 use Rattle.mms_types.specs.Datum.{Datum}
 use Rattle.mms_types.specs.declared.cells.CellRow.{CellRow}
 use Rattle.mms_types.specs.declared.variable.Spec.{Spec}
-use Rattle.variables.specs.declared.rows.Cell.{Cell}
+use Rattle.variables.specs.declared.rows.StoredCell.{StoredCell}
 use Rattle.variables.specs.Rows.{Rows, cell_at, number_told}
 use Rattle.variables.specs.Access.{are_guarded, change_cell, guard_in, guard_named}
 use Rattle.variables.specs.Bounds.{has_guard}
@@ -23,7 +23,7 @@ no_guard : (o : Option (List ℕ)) → is_some o ≡ false → o ≡ None
 no_guard None e = refl
 no_guard (Some guard) e = absurd cc
 
-none_at : (number : ℕ) (cells : List (ℕ × Cell)) → has_guard cells ≡ false → guard_in (lookup (nat_eq number) cells) ≡ None
+none_at : (number : ℕ) (cells : List (ℕ × StoredCell)) → has_guard cells ≡ false → guard_in (lookup (nat_eq number) cells) ≡ None
 none_at number [] none = refl
 none_at number (row ∷ rows) none =
     let both = first_none (is_some row.1.guard) (has_guard rows) none in
@@ -53,11 +53,11 @@ guard_of_rows (row ∷ rows) = ap (λ (b : Bool). is_some row.guard || b) (guard
 
 -- ---- a new value
 
-guard_kept : (b : Bool) (value : Datum) (cell : Cell) → (if b then with_data value cell else cell).guard ≡ cell.guard
+guard_kept : (b : Bool) (value : Datum) (cell : StoredCell) → (if b then with_data value cell else cell).guard ≡ cell.guard
 guard_kept true value cell = refl
 guard_kept false value cell = refl
 
-pub guards_kept : (number : ℕ) (value : Datum) (cells : List (ℕ × Cell)) → has_guard (change_cell number (with_data value) cells) ≡ has_guard cells
+pub guards_kept : (number : ℕ) (value : Datum) (cells : List (ℕ × StoredCell)) → has_guard (change_cell number (with_data value) cells) ≡ has_guard cells
 guards_kept number value [] = refl
 guards_kept number value (row ∷ rows) =
     ap (λ (o : Option (List ℕ)). is_some o || has_guard (change_cell number (with_data value) rows)) (guard_kept (nat_eq number row.0) value row.1)

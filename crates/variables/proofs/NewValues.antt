@@ -11,7 +11,7 @@ use Rattle.mms_types.specs.declared.variable.Spec.TheVariants as spec
 use Rattle.mms_types.specs.declared.access_result.WriteResult.{WriteResult}
 use Rattle.mms_types.specs.declared.access_result.WriteResult.TheVariants as write
 use Rattle.mms_types.specs.declared.access_result.DataAccessError.TheVariants.{ObjectAccessDenied, TypeInconsistent}
-use Rattle.variables.specs.declared.rows.Cell.{Cell}
+use Rattle.variables.specs.declared.rows.StoredCell.{StoredCell}
 use Rattle.variables.specs.declared.rows.NewValue.{NewValue}
 use Rattle.variables.specs.Rows.{Rows, cell_at, number_named, number_told}
 use Rattle.variables.specs.Access.{change_cell, change_named, flagged, flags_of, guard_named, guards, is_open, is_owned, result_of, taken_by, with_value, writes, written}
@@ -44,12 +44,12 @@ after_both (x ∷ a) b rows = after_both a b (record rows { cells = change_cell 
 
 -- ---- what was written before makes no difference
 
-there_is : (n : ℕ) (o : Option Cell) → option_map (λ (_ : Cell). n) o ≡ option_map (λ (_ : Shape × Option (List ℕ)). n) (fixed_of o)
+there_is : (n : ℕ) (o : Option StoredCell) → option_map (λ (_ : StoredCell). n) o ≡ option_map (λ (_ : Shape × Option (List ℕ)). n) (fixed_of o)
 there_is n None = refl
 there_is n (Some cell) = refl
 
-there_stays : (n number : ℕ) (owns : Bool) (value : Datum) (cells : List (ℕ × Cell))
-    → option_map (λ (_ : Cell). n) (lookup (nat_eq n) (change_cell number (with_value owns value) cells)) ≡ option_map (λ (_ : Cell). n) (lookup (nat_eq n) cells)
+there_stays : (n number : ℕ) (owns : Bool) (value : Datum) (cells : List (ℕ × StoredCell))
+    → option_map (λ (_ : StoredCell). n) (lookup (nat_eq n) (change_cell number (with_value owns value) cells)) ≡ option_map (λ (_ : StoredCell). n) (lookup (nat_eq n) cells)
 there_stays n number owns value cells =
     there_is n (lookup (nat_eq n) (change_cell number (with_value owns value) cells))
     ∙ ap (λ (o : Option (Shape × Option (List ℕ))). option_map (λ (_ : Shape × Option (List ℕ)). n) o) (types_stay n number owns value cells)
@@ -80,40 +80,40 @@ news_kept client (x ∷ xs) y rows =
 -- ---- one variable
 
 -- two changes that make the same of the cell of that number are one
-same_change : (number : ℕ) (f g : Cell → Cell) (cells : List (ℕ × Cell)) (cell : Cell) → IsDistinct nat_eq (keys_of cells) → lookup (nat_eq number) cells ≡ Some cell → f cell ≡ g cell
+same_change : (number : ℕ) (f g : StoredCell → StoredCell) (cells : List (ℕ × StoredCell)) (cell : StoredCell) → IsDistinct nat_eq (keys_of cells) → lookup (nat_eq number) cells ≡ Some cell → f cell ≡ g cell
     → change_cell number f cells ≡ change_cell number g cells
 same_change number f g cells cell d found e =
-    sym (changed number f cells cell d found) ∙ ap (λ (c : Cell). set_value (nat_eq number) cells c) e ∙ changed number g cells cell d found
+    sym (changed number f cells cell d found) ∙ ap (λ (c : StoredCell). set_value (nat_eq number) cells c) e ∙ changed number g cells cell d found
 
 -- no change
-no_change : (number : ℕ) (cells : List (ℕ × Cell)) → change_cell number (λ c. c) cells ≡ cells
+no_change : (number : ℕ) (cells : List (ℕ × StoredCell)) → change_cell number (λ c. c) cells ≡ cells
 no_change number [] = refl
 no_change number (row ∷ rows) = by_number (nat_eq number row.0) (no_change number rows)
   where
     by_number : (b : Bool) → change_cell number (λ c. c) rows ≡ rows → (row.0, if b then row.1 else row.1) ∷ change_cell number (λ c. c) rows ≡ row ∷ rows
-    by_number true rest = ap (λ (l : List (ℕ × Cell)). row ∷ l) rest
-    by_number false rest = ap (λ (l : List (ℕ × Cell)). row ∷ l) rest
+    by_number true rest = ap (λ (l : List (ℕ × StoredCell)). row ∷ l) rest
+    by_number false rest = ap (λ (l : List (ℕ × StoredCell)). row ∷ l) rest
 
 new_written : (client : ℕ) (owns : Bool) (s : Spec) (value : Datum) (rows : Rows) → IsDistinct nat_eq (keys_of rows.cells)
     → with_new_values (new_of client rows (owns, (s, value))) rows ≡ written client (owns, (s, value)) rows
 new_written client owns s value rows d = by_told (number_told client s rows)
   where
-    by_tests : (number : ℕ) (cell : Cell) → cell_at number rows ≡ Some cell → (opens fits : Bool)
+    by_tests : (number : ℕ) (cell : StoredCell) → cell_at number rows ≡ Some cell → (opens fits : Bool)
         → with_new_values (new_where (is_success (if not opens then write.Failure ObjectAccessDenied else if fits then write.Success else write.Failure TypeInconsistent)) value (Some number)) rows
         ≡ record rows { cells = change_cell number (λ _. if opens && fits then with_data value cell else cell) rows.cells }
     by_tests number cell f true true =
-        ap (λ (cells : List (ℕ × Cell)). record rows { cells = cells }) (same_change number (with_data value) (λ _. with_data value cell) rows.cells cell d f refl)
+        ap (λ (cells : List (ℕ × StoredCell)). record rows { cells = cells }) (same_change number (with_data value) (λ _. with_data value cell) rows.cells cell d f refl)
     by_tests number cell f true false =
-        ap (λ (cells : List (ℕ × Cell)). record rows { cells = cells }) (sym (same_change number (λ _. cell) (λ c. c) rows.cells cell d f refl ∙ no_change number rows.cells))
+        ap (λ (cells : List (ℕ × StoredCell)). record rows { cells = cells }) (sym (same_change number (λ _. cell) (λ c. c) rows.cells cell d f refl ∙ no_change number rows.cells))
     by_tests number cell f false fits =
-        ap (λ (cells : List (ℕ × Cell)). record rows { cells = cells }) (sym (same_change number (λ _. cell) (λ c. c) rows.cells cell d f refl ∙ no_change number rows.cells))
+        ap (λ (cells : List (ℕ × StoredCell)). record rows { cells = cells }) (sym (same_change number (λ _. cell) (λ c. c) rows.cells cell d f refl ∙ no_change number rows.cells))
 
-    by_cell : (number : ℕ) (o : Option Cell) → cell_at number rows ≡ o
+    by_cell : (number : ℕ) (o : Option StoredCell) → cell_at number rows ≡ o
         → with_new_values (new_where (is_success (taken_by owns value o)) value (option_map (λ _. number) o)) rows ≡ change_named (option_map (λ _. number) o) (with_value owns value) rows
     by_cell number None f = refl
     by_cell number (Some cell) f =
         by_tests number cell f (is_open owns cell) (matches value cell.of)
-        ∙ ap (λ (cells : List (ℕ × Cell)). record rows { cells = cells })
+        ∙ ap (λ (cells : List (ℕ × StoredCell)). record rows { cells = cells })
         (sym (same_change number (with_value owns value) (λ _. with_value owns value cell) rows.cells cell d f refl))
 
     by_told : (told : Option ℕ)
@@ -125,11 +125,11 @@ new_written client owns s value rows d = by_told (number_told client s rows)
 -- ---- all of them
 
 -- the numbers of the cells stay
-keys_stay : (number : ℕ) (f : Cell → Cell) (cells : List (ℕ × Cell)) → keys_of (change_cell number f cells) ≡ keys_of cells
+keys_stay : (number : ℕ) (f : StoredCell → StoredCell) (cells : List (ℕ × StoredCell)) → keys_of (change_cell number f cells) ≡ keys_of cells
 keys_stay number f [] = refl
 keys_stay number f (row ∷ rows) = ap (λ (ks : List ℕ). row.0 ∷ ks) (keys_stay number f rows)
 
-distinct_after : (number : Option ℕ) (f : Cell → Cell) (rows : Rows) → IsDistinct nat_eq (keys_of rows.cells) → IsDistinct nat_eq (keys_of (change_named number f rows).cells)
+distinct_after : (number : Option ℕ) (f : StoredCell → StoredCell) (rows : Rows) → IsDistinct nat_eq (keys_of rows.cells) → IsDistinct nat_eq (keys_of (change_named number f rows).cells)
 distinct_after None f rows d = d
 distinct_after (Some number) f rows d = subst (IsDistinct nat_eq) (sym (keys_stay number f rows.cells)) d
 

@@ -7,7 +7,7 @@ use Rattle.std.specs.Option.{option_map, option_and_then}
 use Rattle.mms_types.specs.Datum.{Datum}
 use Rattle.mms_types.specs.Shape.{Shape}
 use Rattle.mms_types.specs.declared.variable.Spec.{Spec}
-use Rattle.variables.specs.declared.rows.Cell.{Cell}
+use Rattle.variables.specs.declared.rows.StoredCell.{StoredCell}
 use Rattle.variables.specs.Rows.{Rows, cell_at, number_told, cell_named, number_named}
 use Rattle.variables.specs.Access.{change_cell, change_named, flagged, flags_of, guard_at, guard_in, guard_named, guards, is_owned, with_value, writes, written}
 use Rattle.variables.proofs.Writing.{fixed_of, types_kept}
@@ -18,7 +18,7 @@ abbrev guard_fixed : Option (Shape × Option (List ℕ)) → Option (List ℕ)
 guard_fixed None = None
 guard_fixed (Some kept) = kept.1
 
-guard_is : (o : Option Cell) → guard_in o ≡ guard_fixed (fixed_of o)
+guard_is : (o : Option StoredCell) → guard_in o ≡ guard_fixed (fixed_of o)
 guard_is None = refl
 guard_is (Some cell) = refl
 
@@ -36,7 +36,7 @@ guards_stay client x rows (s ∷ later) =
 -- ---- a cell that isn't open
 
 -- a change of a cell that leaves it as it is
-not_changed : (at number : ℕ) (f : Cell → Cell) (cells : List (ℕ × Cell)) → (nat_eq at number ≡ true → option_map f (lookup (nat_eq at) cells) ≡ lookup (nat_eq at) cells)
+not_changed : (at number : ℕ) (f : StoredCell → StoredCell) (cells : List (ℕ × StoredCell)) → (nat_eq at number ≡ true → option_map f (lookup (nat_eq at) cells) ≡ lookup (nat_eq at) cells)
     → lookup (nat_eq at) (change_cell number f cells) ≡ lookup (nat_eq at) cells
 not_changed at number f [] same = refl
 not_changed at number f (row ∷ rows) same = by_number (nat_eq at row.0) (nat_eq number row.0) refl refl same (not_changed at number f rows)
@@ -58,10 +58,10 @@ not_changed at number f (row ∷ rows) same = by_number (nat_eq at row.0) (nat_e
         rw e (rest other)
 
 module _ (guard : List ℕ) where
-  closed : (value : Datum) (cell : Cell) → cell.guard ≡ Some guard → with_value false value cell ≡ cell
+  closed : (value : Datum) (cell : StoredCell) → cell.guard ≡ Some guard → with_value false value cell ≡ cell
   closed value cell e = rw e refl
 
-  closed_there : (value : Datum) (o : Option Cell) → guard_in o ≡ Some guard → option_map (with_value false value) o ≡ o
+  closed_there : (value : Datum) (o : Option StoredCell) → guard_in o ≡ Some guard → option_map (with_value false value) o ≡ o
   closed_there value None e = refl
   closed_there value (Some cell) e = ap Some (closed value cell e)
 
@@ -69,7 +69,7 @@ module _ (guard : List ℕ) where
 named_at : (client : ℕ) (s : Spec) (rows : Rows) (number : ℕ) → number_named client s rows ≡ Some number → cell_named client s rows ≡ cell_at number rows
 named_at client s rows number e = by_told (number_told client s rows) e
   where
-    by_cell : (m : ℕ) (o : Option Cell) → option_map (λ _. m) o ≡ Some number → m ≡ number
+    by_cell : (m : ℕ) (o : Option StoredCell) → option_map (λ _. m) o ≡ Some number → m ≡ number
     by_cell m None e = absurd cc
     by_cell m (Some cell) e = cc
 
@@ -94,7 +94,7 @@ module _ (owns : List ℕ → Bool) (client number : ℕ) (guard : List ℕ) (un
 
           owned : nat_eq number m ≡ true → is_owned owns (guard_named client rows x.0) ≡ false
           owned h =
-              ap (λ (o : Option Cell). is_owned owns (guard_in o)) (named_at client x.0 rows m e ∙ ap (λ (n : ℕ). cell_at n rows) (is_of h))
+              ap (λ (o : Option StoredCell). is_owned owns (guard_in o)) (named_at client x.0 rows m e ∙ ap (λ (n : ℕ). cell_at n rows) (is_of h))
               ∙ ap (is_owned owns) guarded ∙ unowned
 
           same : nat_eq number m ≡ true → option_map (with_value (is_owned owns (guard_named client rows x.0)) x.1) (cell_at number rows) ≡ cell_at number rows

@@ -11,25 +11,25 @@ use Rattle.mms_types.specs.declared.variable.Spec.TheVariants as spec
 use Rattle.mms_types.specs.declared.access_result.WriteResult.{WriteResult}
 use Rattle.mms_types.specs.declared.access_result.WriteResult.TheVariants as write
 use Rattle.mms_types.specs.declared.access_result.DataAccessError.TheVariants.{ObjectAccessDenied, TypeInconsistent, ObjectNonExistent}
-use Rattle.variables.specs.declared.rows.Cell.{Cell}
+use Rattle.variables.specs.declared.rows.StoredCell.{StoredCell}
 use Rattle.variables.specs.Rows.{Rows, cell_at, number_told, cell_named, number_named}
 use Rattle.variables.specs.Access.{is_open, taken_by, with_value, change_cell, change_named, result_of, written, writes}
 
 -- the type of a cell and its guard, which a write leaves as they are
-abbrev pub fixed : Cell → Shape × Option (List ℕ)
+abbrev pub fixed : StoredCell → Shape × Option (List ℕ)
 fixed cell = (cell.of, cell.guard)
 
-abbrev pub fixed_of : Option Cell → Option (Shape × Option (List ℕ))
+abbrev pub fixed_of : Option StoredCell → Option (Shape × Option (List ℕ))
 fixed_of = option_map fixed
 
-pub same_type : (owns : Bool) (value : Datum) (cell : Cell) → fixed (with_value owns value cell) ≡ fixed cell
+pub same_type : (owns : Bool) (value : Datum) (cell : StoredCell) → fixed (with_value owns value cell) ≡ fixed cell
 same_type owns value cell = by_test (is_open owns cell && matches value cell.of) refl
   where
     by_test : (b : Bool) → (is_open owns cell && matches value cell.of) ≡ b → fixed (with_value owns value cell) ≡ fixed cell
     by_test true e = rw e refl
     by_test false e = rw e refl
 
-pub types_stay : (at number : ℕ) (owns : Bool) (value : Datum) (cells : List (ℕ × Cell)) → fixed_of (lookup (nat_eq at) (change_cell number (with_value owns value) cells)) ≡ fixed_of (lookup (nat_eq at) cells)
+pub types_stay : (at number : ℕ) (owns : Bool) (value : Datum) (cells : List (ℕ × StoredCell)) → fixed_of (lookup (nat_eq at) (change_cell number (with_value owns value) cells)) ≡ fixed_of (lookup (nat_eq at) cells)
 types_stay at number owns value [] = refl
 types_stay at number owns value (row ∷ rows) = by_number (nat_eq at row.0) (nat_eq number row.0) refl refl (types_stay at number owns value rows)
   where
@@ -46,7 +46,7 @@ taken owns value (Some kept) =
     if not (is_none kept.1 || owns) then write.Failure ObjectAccessDenied
     else if matches value kept.0 then write.Success else write.Failure TypeInconsistent
 
-taken_is : (owns : Bool) (value : Datum) (o : Option Cell) → taken_by owns value o ≡ taken owns value (fixed_of o)
+taken_is : (owns : Bool) (value : Datum) (o : Option StoredCell) → taken_by owns value o ≡ taken owns value (fixed_of o)
 taken_is owns value None = refl
 taken_is owns value (Some cell) = refl
 

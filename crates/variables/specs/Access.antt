@@ -9,12 +9,12 @@ use Rattle.mms_types.specs.declared.access_result.AccessResult.TheVariants as re
 use Rattle.mms_types.specs.declared.access_result.WriteResult.{WriteResult}
 use Rattle.mms_types.specs.declared.access_result.WriteResult.TheVariants as write
 use Rattle.mms_types.specs.declared.access_result.DataAccessError.TheVariants.{ObjectAccessDenied, TypeInconsistent, ObjectNonExistent}
-use Rattle.variables.specs.declared.rows.Cell.{Cell}
+use Rattle.variables.specs.declared.rows.StoredCell.{StoredCell}
 use Rattle.variables.specs.Rows.{Rows, cell_at, cell_named, number_named}
 
 -- ---- read: the data of each variable, or that it is missing
 
-abbrev pub data_of : Option Cell → AccessResult
+abbrev pub data_of : Option StoredCell → AccessResult
 data_of None = read.Failure ObjectNonExistent
 data_of (Some cell) = read.Success cell.value
 
@@ -27,23 +27,23 @@ reads client variables rows = map (read_of client rows) variables
 -- ---- write: a variable takes data of its type, from a client that owns a token of its guard, where it has one
 
 -- the cell has no guard, or the client owns a token of it
-abbrev pub is_open : Bool → Cell → Bool
+abbrev pub is_open : Bool → StoredCell → Bool
 is_open owns cell = is_none cell.guard || owns
 
-abbrev pub taken_by : Bool → Datum → Option Cell → WriteResult
+abbrev pub taken_by : Bool → Datum → Option StoredCell → WriteResult
 taken_by owns value None = write.Failure ObjectNonExistent
 taken_by owns value (Some cell) =
     if not (is_open owns cell) then write.Failure ObjectAccessDenied
     else if matches value cell.of then write.Success else write.Failure TypeInconsistent
 
-abbrev pub with_value : Bool → Datum → Cell → Cell
+abbrev pub with_value : Bool → Datum → StoredCell → StoredCell
 with_value owns value cell = if is_open owns cell && matches value cell.of then record cell { value = value } else cell
 
 -- the cell of that number is changed, and all others are as before
-abbrev pub change_cell : ℕ → (Cell → Cell) → List (ℕ × Cell) → List (ℕ × Cell)
+abbrev pub change_cell : ℕ → (StoredCell → StoredCell) → List (ℕ × StoredCell) → List (ℕ × StoredCell)
 change_cell number f cells = map (λ row. (row.0, if nat_eq number row.0 then f row.1 else row.1)) cells
 
-abbrev pub change_named : Option ℕ → (Cell → Cell) → Rows → Rows
+abbrev pub change_named : Option ℕ → (StoredCell → StoredCell) → Rows → Rows
 change_named None f rows = rows
 change_named (Some number) f rows = record rows { cells = change_cell number f rows.cells }
 
@@ -75,7 +75,7 @@ writes client (x ∷ xs) rows = let rest = writes client xs (written client x ro
 -- ---- guards
 
 -- the guard of a cell: none where the cell is missing or has none
-abbrev pub guard_in : Option Cell → Option (List ℕ)
+abbrev pub guard_in : Option StoredCell → Option (List ℕ)
 guard_in None = None
 guard_in (Some cell) = cell.guard
 

@@ -16,18 +16,18 @@ use Rattle.mms_types.specs.declared.variable.Deleted.{Deleted}
 use Rattle.object_names.specs.Deletion.{matched, deleted, left}
 use Rattle.object_names.specs.NewName.{new_name}
 use Rattle.object_names.specs.Scopes.{without_all_of}
-use Rattle.variables.specs.declared.rows.Cell.{Cell}
+use Rattle.variables.specs.declared.rows.StoredCell.{StoredCell}
 use Rattle.variables.specs.declared.rows.Variable.{Variable}
 use Rattle.variables.specs.Rows.{Rows, cell_at, variable_named}
 
 -- ---- what a variable is
 
 -- a cell can't be deleted, and its address isn't told to who gives it
-abbrev pub attributes_of_cell : Cell → VariableAttributes
+abbrev pub attributes_of_cell : StoredCell → VariableAttributes
 attributes_of_cell cell = record { deletable = false; address = None; of = cell.of }
 
 -- a named variable can be deleted unless it was configured
-abbrev pub attributes_of_name : Variable → Cell → VariableAttributes
+abbrev pub attributes_of_name : Variable → StoredCell → VariableAttributes
 attributes_of_name variable cell = record { deletable = not variable.configured; address = Some variable.cell; of = cell.of }
 
 -- none where the name or the cell is missing
@@ -42,7 +42,7 @@ abbrev pub most_variables : ℕ
 most_variables = 4096
 
 -- a type is given, and isn't that of the cell
-abbrev pub has_other_type : Option Shape → Option Cell → Bool
+abbrev pub has_other_type : Option Shape → Option StoredCell → Bool
 has_other_type (Some shape) (Some cell) = not (shape_eq shape cell.of)
 has_other_type (Some shape) None = true
 has_other_type None cell = false

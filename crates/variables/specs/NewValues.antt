@@ -4,12 +4,12 @@ use Rattle.mms_types.specs.Datum.{Datum}
 use Rattle.mms_types.specs.declared.access_result.WriteResult.{WriteResult}
 use Rattle.mms_types.specs.declared.access_result.WriteResult.TheVariants as write
 use Rattle.mms_types.specs.declared.variable.Spec.{Spec}
-use Rattle.variables.specs.declared.rows.Cell.{Cell}
+use Rattle.variables.specs.declared.rows.StoredCell.{StoredCell}
 use Rattle.variables.specs.declared.rows.NewValue.{NewValue}
 use Rattle.variables.specs.Access.{change_cell, result_of}
 use Rattle.variables.specs.Rows.{Rows, number_named}
 
-abbrev pub with_data : Datum → Cell → Cell
+abbrev pub with_data : Datum → StoredCell → StoredCell
 with_data value cell = record cell { value = value }
 
 -- the cell of that number gets the value, and all others are as before

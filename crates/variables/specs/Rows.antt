@@ -8,16 +8,16 @@ use Rattle.mms_types.specs.declared.object_name.ObjectName.{ObjectName}
 use Rattle.mms_types.specs.declared.variable.Spec.{Spec}
 use Rattle.mms_types.specs.declared.variable.Spec.TheVariants as spec
 use Rattle.mms_types.specs.Order.{key_eq, key_of}
-use Rattle.variables.specs.declared.rows.Cell.{Cell}
+use Rattle.variables.specs.declared.rows.StoredCell.{StoredCell}
 use Rattle.variables.specs.declared.rows.Variable.{Variable}
 
 -- the cells by their numbers, and the named variables by their names, each in the order in which they were made
 pub record Rows : Type 0 where
-  pub cells : List (ℕ × Cell)
+  pub cells : List (ℕ × StoredCell)
   pub variables : List (Key × Variable)
 
 -- the cell of that number
-abbrev pub cell_at : ℕ → Rows → Option Cell
+abbrev pub cell_at : ℕ → Rows → Option StoredCell
 cell_at number rows = lookup (nat_eq number) rows.cells
 
 -- the variable that a client names so
@@ -30,7 +30,7 @@ number_told client (spec.Address number) rows = Some number
 number_told client (spec.Name name) rows = option_map (λ variable. variable.cell) (variable_named client name rows)
 
 -- the cell that a client's specification names, and its number: none where the name or the cell is missing
-abbrev pub cell_named : ℕ → Spec → Rows → Option Cell
+abbrev pub cell_named : ℕ → Spec → Rows → Option StoredCell
 cell_named client s rows = option_and_then (λ number. cell_at number rows) (number_told client s rows)
 
 abbrev pub number_named : ℕ → Spec → Rows → Option ℕ

@@ -6,12 +6,12 @@ use Rattle.mms_types.specs.declared.cells.CellRow.{CellRow}
 use Rattle.mms_types.specs.declared.cells.NamedCell.{NamedCell}
 use Rattle.mms_types.specs.declared.key.Key.{Key}
 use Rattle.mms_types.specs.declared.key.Scope.TheVariants.{Vmd}
-use Rattle.variables.specs.declared.rows.Cell.{Cell}
+use Rattle.variables.specs.declared.rows.StoredCell.{StoredCell}
 use Rattle.variables.specs.declared.rows.Variable.{Variable}
 use Rattle.variables.specs.Rows.{Rows}
 
 -- a cell has its type, its first value, and its guard, where it has one
-abbrev pub cell_row : CellRow → ℕ × Cell
+abbrev pub cell_row : CellRow → ℕ × StoredCell
 cell_row row = (row.number, record { of = row.of; value = row.value; guard = row.guard })
 
 -- a configured variable is a name of the VMD

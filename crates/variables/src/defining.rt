@@ -8,7 +8,7 @@ ghost use Rattle.object_names.specs.Scopes.{has_any_of};
 ghost use Rattle.variables.specs.Rows.{cell_at, variable_named};
 ghost use Rattle.variables.specs.Definitions.{attributes, attributes_of_cell, define_cause, defined, has_other_type};
 
-use crate::{Cell, Variable, Vars};
+use crate::{StoredCell, Variable, Vars};
 use mms_types::{
     DefineNamedVariable, Identifier, Memory, ObjectName, Scope, ServiceError, Spec, TypeSpec,
     VariableAttributes,
@@ -20,7 +20,7 @@ use std::alloc::Global;
 const MOST_VARIABLES: usize = 4096;
 
 /// Whether a type is given that isn't that of the cell.
-fn has_other_type(given: &Option<TypeSpec>, cell: Option<&Cell>) -> bool
+fn has_other_type(given: &Option<TypeSpec>, cell: Option<&StoredCell>) -> bool
     ensures { result ≡ has_other_type given.now (option_copied cell.entry) }
 {
     match (given, cell) {

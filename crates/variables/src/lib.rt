@@ -16,6 +16,6 @@ mod truth;
 mod updating;
 mod vars;
 
-pub use rows::{Cell, NewValue, NewValues, Variable};
+pub use rows::{NewValue, NewValues, StoredCell, Variable};
 pub use updating::OwnsGuards;
 pub use vars::Vars;

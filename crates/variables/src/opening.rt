@@ -7,14 +7,14 @@ ghost use Rattle.std.specs.Map.{lookup};
 ghost use Rattle.variables.specs.Bounds.{AreSmall};
 ghost use Rattle.variables.specs.Start.{AreApart, cell_row, start, variable_row};
 
-use crate::{Cell, Variable, Vars};
+use crate::{StoredCell, Variable, Vars};
 use indexmap::IndexMap;
 use mms_types::{CellRow, Cells, Key, Memory, NamedCell, NamedCells, Scope, copied_name};
 use object_names::{Copied, Named};
 use std::alloc::Global;
 
 /// One cell more, of a number that none has.
-fn add(cells: &mut IndexMap<u16, Cell>, number: u16, cell: Cell) -> Result<(), Memory>
+fn add(cells: &mut IndexMap<u16, StoredCell>, number: u16, cell: StoredCell) -> Result<(), Memory>
     requires { lookup (nat_eq number) cells.old.entries ≡ None }
     ensures cells { OnOk result (cells.new.entries ≡ cells.old.entries ++ (number, cell) ∷ []) }
     ensures small { number < 65536 }
@@ -28,14 +28,14 @@ fn add(cells: &mut IndexMap<u16, Cell>, number: u16, cell: Cell) -> Result<(), M
 
 /// The cells of a configuration, under their numbers.
 #[tactic(auto, using(crate::proofs::Apart::small_more))]
-fn numbered(alloc: Global, rows: Vec<CellRow>) -> Result<IndexMap<u16, Cell>, Memory>
+fn numbered(alloc: Global, rows: Vec<CellRow>) -> Result<IndexMap<u16, StoredCell>, Memory>
     requires { IsDistinct nat_eq (map (λ row. row.number) rows.items) }
     ensures cells { IfOk result (λ cells. cells.entries ≡ map cell_row rows.items) }
     ensures small { IfOk result (λ cells. AreSmall cells.entries) }
 {
     let mut cells = IndexMap::new(alloc);
     for row in rows {
-        let cell = Cell {
+        let cell = StoredCell {
             of: row.of,
             value: row.value,
             guard: row.guard,
@@ -100,13 +100,16 @@ impl Vars {
 }
 
 /// The cells, copied.
-fn copied(alloc: Global, cells: &IndexMap<u16, Cell>) -> Result<IndexMap<u16, Cell>, Memory>
+fn copied(
+    alloc: Global,
+    cells: &IndexMap<u16, StoredCell>,
+) -> Result<IndexMap<u16, StoredCell>, Memory>
     ensures { IfOk result (λ copies. copies.entries ≡ cells.now.entries) }
 {
     let _distinct = cells.len();
     let mut copies = IndexMap::new(alloc);
     for (number, cell) in cells.iter() {
-        let copy = Cell {
+        let copy = StoredCell {
             of: cell.of.copy(alloc)?,
             value: cell.value.copy(alloc)?,
             guard: copied_name(alloc, &cell.guard)?,

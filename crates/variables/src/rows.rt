@@ -2,7 +2,7 @@ use mms_types::{Data, Identifier, Listed, TypeSpec};
 
 /// A cell: a variable that has an address (ISO 9506-1, unnamed variable).
 #[derive(Drop)]
-pub struct Cell {
+pub struct StoredCell {
     /// Its type, which stays.
     pub of: TypeSpec,
     /// Its value, which is of the type.

@@ -7,7 +7,7 @@ ghost use Rattle.variables.specs.Access.{change_cell, flagged, flags_of, guard_n
 ghost use Rattle.variables.specs.Bounds.{AreSmall, has_guard};
 ghost use Rattle.variables.specs.NewValues.{is_success, new_of, with_data, with_new_value, with_new_values};
 
-use crate::{Cell, NewValue, NewValues, Vars};
+use crate::{NewValue, NewValues, StoredCell, Vars};
 use indexmap::IndexMap;
 use mms_types::{
     Data, DataAccessError, Identifier, Listed, Memory, Spec, WriteResult, WriteResults,
@@ -36,14 +36,14 @@ fn is_owned<O: OwnsGuards>(by: &O, guard: Option<&Identifier>) -> bool
 }
 
 /// Whether the cell has no guard, or the client owns a token of it.
-fn is_open(owns: bool, cell: &Cell) -> bool
+fn is_open(owns: bool, cell: &StoredCell) -> bool
     ensures { result ≡ is_open owns cell.now }
 {
     cell.guard.is_none() || owns
 }
 
 /// What becomes of data for a cell.
-fn taken(cell: &Cell, owns: bool, value: &Data) -> WriteResult
+fn taken(cell: &StoredCell, owns: bool, value: &Data) -> WriteResult
     ensures { result ≡ taken_by owns value.now (Some cell.now) }
 {
     if !is_open(owns, cell) {
@@ -67,7 +67,7 @@ fn is_success(told: &WriteResult) -> bool
 }
 
 /// Whether the cell of that number stands at the place of its number.
-fn is_in_place(cells: &IndexMap<u16, Cell>, number: u16) -> bool
+fn is_in_place(cells: &IndexMap<u16, StoredCell>, number: u16) -> bool
     ensures { result ≡ true
         → option_map (λ row. row.0) (slice_get cells.now.entries number) ≡ Some number }
 {
@@ -78,7 +78,7 @@ fn is_in_place(cells: &IndexMap<u16, Cell>, number: u16) -> bool
 }
 
 /// Puts data into the cell of that number, which stands at the place of its number.
-fn put_in_place(cells: &mut IndexMap<u16, Cell>, number: u16, value: Data)
+fn put_in_place(cells: &mut IndexMap<u16, StoredCell>, number: u16, value: Data)
     requires place { option_map (λ row. row.0) (slice_get cells.old.entries number) ≡ Some number }
     ensures { cells.new.entries ≡ change_cell number (with_data value) cells.old.entries }
 {
@@ -88,7 +88,7 @@ fn put_in_place(cells: &mut IndexMap<u16, Cell>, number: u16, value: Data)
 }
 
 /// Puts data into the cell of that number, which is found by hashing, where it is there.
-fn put_by_number(cells: &mut IndexMap<u16, Cell>, number: u16, value: Data)
+fn put_by_number(cells: &mut IndexMap<u16, StoredCell>, number: u16, value: Data)
     ensures { cells.new.entries ≡ change_cell number (with_data value) cells.old.entries }
 {
     if let Some(cell) = cells.get_mut(&number) {
@@ -97,7 +97,7 @@ fn put_by_number(cells: &mut IndexMap<u16, Cell>, number: u16, value: Data)
 }
 
 /// Puts data into the cell of that number, where it is there. All cells keep their numbers and their guards.
-fn put(cells: &mut IndexMap<u16, Cell>, number: u16, value: Data)
+fn put(cells: &mut IndexMap<u16, StoredCell>, number: u16, value: Data)
     ensures changed { cells.new.entries ≡ change_cell number (with_data value) cells.old.entries }
     ensures small { AreSmall cells.old.entries → AreSmall cells.new.entries }
     ensures guards { has_guard cells.new.entries ≡ has_guard cells.old.entries }

@@ -2,7 +2,7 @@ ghost use Rattle.std.specs.Prelude.{◌≡◌, IfSome};
 ghost use Rattle.std.specs.Option.{option_copied, option_map};
 ghost use Rattle.variables.specs.Rows.{are_there, cell_at, cell_named, number_named, variable_named};
 
-use crate::{Cell, Variable};
+use crate::{StoredCell, Variable};
 use indexmap::IndexMap;
 use mms_types::{ObjectName, Spec};
 use object_names::Named;
@@ -12,7 +12,7 @@ use std::marker::Model;
 /// their names, each in the order in which they were made. Cells are found by number and names by hashing.
 #[derive(Drop)]
 pub struct Vars {
-    pub(crate) cells: IndexMap<u16, Cell>,
+    pub(crate) cells: IndexMap<u16, StoredCell>,
     pub(crate) variables: Named<Variable>,
     /// Whether some cell has a guard.
     pub(crate) guarded: bool,
@@ -26,7 +26,7 @@ impl Model for Vars {
     ghost Value = { Rows };
 
     ghost use Rattle.std.specs.Coded.{codes};
-    ghost use Rattle.variables.specs.contracts.rows.Cell as cell;
+    ghost use Rattle.variables.specs.contracts.rows.StoredCell as cell;
 
     ghost coded = { Prim.hlevel (codes, cell.the_row.coded) };
 
@@ -46,7 +46,7 @@ impl Vars {
 
     /// The cell of that number. Where cells are numbered from 0 in their order, it stands at the place of its number;
     /// else it is found by hashing.
-    pub(crate) fn cell(&self, number: u16) -> Option<&Cell>
+    pub(crate) fn cell(&self, number: u16) -> Option<&StoredCell>
         ensures { option_copied result ≡ cell_at number self.now }
     {
         if let Some((other, cell)) = self.cells.get_index(usize::from(number)) {
@@ -59,7 +59,7 @@ impl Vars {
 
     /// The cell of that address, with its number. No cell has a number of more than 16 bits.
     #[tactic(auto, using(crate::proofs::Cells::beyond))]
-    pub(crate) fn addressed(&self, address: u32) -> Option<(u16, &Cell)>
+    pub(crate) fn addressed(&self, address: u32) -> Option<(u16, &StoredCell)>
         ensures cell { option_map (λ found. found.1.now) result ≡ cell_at address self.now }
         ensures number { IfSome result (λ found. found.0 ≡ address) }
     {
@@ -70,7 +70,7 @@ impl Vars {
     }
 
     /// The cell of that address.
-    pub(crate) fn at(&self, address: u32) -> Option<&Cell>
+    pub(crate) fn at(&self, address: u32) -> Option<&StoredCell>
         ensures { option_copied result ≡ cell_at address self.now }
     {
         let (_, cell) = self.addressed(address)?;
@@ -78,7 +78,7 @@ impl Vars {
     }
 
     /// The cell that a client's specification names, with its number. None where the name or the cell is missing.
-    pub(crate) fn found(&self, client: u32, spec: &Spec) -> Option<(u16, &Cell)>
+    pub(crate) fn found(&self, client: u32, spec: &Spec) -> Option<(u16, &StoredCell)>
         ensures cell { option_map (λ found. found.1.now) result ≡ cell_named client spec.now self.now }
         ensures number { option_map (λ found. found.0) result ≡ number_named client spec.now self.now }
     {

@@ -1,5 +1,5 @@
 use Rattle.std.proofs.Common.{◌≡◌, ◌∙◌, IfOk, List, length, rules, subst}
-use Rattle.event_ticks.specs.declared.ticks.Told.{Told}
+use Rattle.event_ticks.specs.declared.ticks.TurnTold.{TurnTold}
 use Rattle.event_ticks.proofs.Ticked.{nothing_is, told_is}
 use Rattle.event_ticks.proofs.ticking.tick_told.Goals as goal
 
@@ -17,7 +17,7 @@ returns-then-is_empty-clause-told g c =
 pub returns-clause-told : goal.returns-clause-told
 returns-clause-told g c =
     let cells = g.C.Cells.says c.args.cells.now in
-    subst (λ (l : List Told). IfOk c.all_told.result (λ told. told.items ≡ l))
+    subst (λ (l : List TurnTold). IfOk c.all_told.result (λ told. told.items ≡ l))
     (told_is cells c.args.until c.args.conditions.now c.args.enrolments.now c.args.losses.now c.len-distinct.ensures.distinct c.each_condition_is_sound.ensures
     c.in_ok-turns.turns.items c.in_ok-turns.ensures.told)
     c.all_told.ensures

@@ -1,6 +1,6 @@
 use Rattle.std.proofs.Common.{◌≡◌, ◌+◌, refl, sym, arith}
 use Rattle.mms_types.specs.Datum.{row, depth, deepest}
-use Rattle.mms_types.specs.DataFalls.{sizes_below}
+use Rattle.mms_types.specs.DataFallsLaws.{sizes_below}
 use Rattle.mms_journal.proofs.Fitting.{formed_next}
 use Rattle.mms_journal.proofs.formed.+formed.Goals as goal
 

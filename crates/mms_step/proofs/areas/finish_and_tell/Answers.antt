@@ -1,6 +1,6 @@
 use Rattle.std.proofs.Common.{◌+◌, List, ℕ, Option, Some, ap, sym, ◌∙◌, subst}
 use Rattle.part_table.specs.Held.{held_at}
-use Rattle.cell_client.specs.declared.told.Told.{Told}
+use Rattle.cell_client.specs.declared.told.ClientTold.{ClientTold}
 use Rattle.serve_semaphores.specs.Tokens.{told_after}
 use Rattle.mms_step.specs.Partition.{semaphores_in, semaphores_place, IsSemaphores}
 use Rattle.mms_step.specs.Rooms.{room_to, with_rooms}
@@ -32,7 +32,7 @@ pub tell_all-requires-clause-rooms : goal.tell_all-requires-clause-rooms
 tell_all-requires-clause-rooms c =
     finish_rooms c.requires.of.0 c.args.held.now c.requires.of.1 c.args.clients c.requires.many c.args.told.items c.requires.table c.make_rooms.new.held c.take_semaphores-table.new.held
     c.put_semaphores.new.held c.take_semaphores-table.result.value c.finish_in_part.new.table (λ rows. told_after c.args.client c.args.now c.args.asked rows)
-    (c.in_ok-make_rooms.ensures.made ∙ ap (λ (l : List (ℕ × Told)). with_rooms (c.args.clients + 1) (room_to l) c.args.held.now) c.as_slice.ensures.value) c.take_semaphores-table.ensures.part c.take_semaphores-table.ensures.left
+    (c.in_ok-make_rooms.ensures.made ∙ ap (λ (l : List (ℕ × ClientTold)). with_rooms (c.args.clients + 1) (room_to l) c.args.held.now) c.as_slice.ensures.value) c.take_semaphores-table.ensures.part c.take_semaphores-table.ensures.left
     (c.finish_in_part.ensures ∙ ap (λ (p : Part). Semaphores (told_after c.args.client c.args.now c.args.asked (semaphores_in (Some p)))) c.deref_mut.ensures.value)
     c.put_semaphores.ensures
 
@@ -40,7 +40,7 @@ pub tell_all-requires-clause-are : goal.tell_all-requires-clause-are
 tell_all-requires-clause-are c =
     finish_clients c.requires.of.0 c.args.held.now c.requires.of.1 c.args.clients c.requires.many c.args.told.items c.requires.table c.make_rooms.new.held c.take_semaphores-table.new.held
     c.put_semaphores.new.held c.take_semaphores-table.result.value c.finish_in_part.new.table (λ rows. told_after c.args.client c.args.now c.args.asked rows)
-    (c.in_ok-make_rooms.ensures.made ∙ ap (λ (l : List (ℕ × Told)). with_rooms (c.args.clients + 1) (room_to l) c.args.held.now) c.as_slice.ensures.value) c.take_semaphores-table.ensures.part c.take_semaphores-table.ensures.left
+    (c.in_ok-make_rooms.ensures.made ∙ ap (λ (l : List (ℕ × ClientTold)). with_rooms (c.args.clients + 1) (room_to l) c.args.held.now) c.as_slice.ensures.value) c.take_semaphores-table.ensures.part c.take_semaphores-table.ensures.left
     (c.finish_in_part.ensures ∙ ap (λ (p : Part). Semaphores (told_after c.args.client c.args.now c.args.asked (semaphores_in (Some p)))) c.deref_mut.ensures.value)
     c.put_semaphores.ensures
 
@@ -49,6 +49,6 @@ returns-clause-put c =
     c.tell_all.ensures
     ∙ finished_in_place c.requires.of.0 c.args.held.now c.requires.of.1 c.args.clients c.requires.many c.args.told.items c.requires.table c.make_rooms.new.held c.take_semaphores-table.new.held
     c.put_semaphores.new.held c.take_semaphores-table.result.value c.finish_in_part.new.table (λ rows. told_after c.args.client c.args.now c.args.asked rows)
-    (c.in_ok-make_rooms.ensures.made ∙ ap (λ (l : List (ℕ × Told)). with_rooms (c.args.clients + 1) (room_to l) c.args.held.now) c.as_slice.ensures.value) c.take_semaphores-table.ensures.part c.take_semaphores-table.ensures.left
+    (c.in_ok-make_rooms.ensures.made ∙ ap (λ (l : List (ℕ × ClientTold)). with_rooms (c.args.clients + 1) (room_to l) c.args.held.now) c.as_slice.ensures.value) c.take_semaphores-table.ensures.part c.take_semaphores-table.ensures.left
     (c.finish_in_part.ensures ∙ ap (λ (p : Part). Semaphores (told_after c.args.client c.args.now c.args.asked (semaphores_in (Some p)))) c.deref_mut.ensures.value)
     c.put_semaphores.ensures

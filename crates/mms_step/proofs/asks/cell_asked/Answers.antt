@@ -4,7 +4,7 @@ use Rattle.part_table.specs.Held.{held_at}
 use Rattle.parted_state.specs.Sets.{IsSetOf}
 use Rattle.serve_events.specs.Events.{request_in}
 use Rattle.serve_events.specs.declared.tables.EventTables.{EventTables}
-use Rattle.cell_services.specs.AreaLaws.{more_events}
+use Rattle.cell_services.proofs.AreaTableLaws.{more_events}
 use Rattle.cell_services.specs.Facts.{cell_tables}
 use Rattle.mms_step.specs.Needs.{placed}
 use Rattle.mms_step.specs.Partition.{events_in}

@@ -3,7 +3,7 @@ use Rattle.std.specs.List.{flat_map}
 use Rattle.parted_state.specs.Lifted.{tables_shown}
 use Rattle.parted_state.specs.Sets.{IsSetOf}
 use Rattle.serve_events.specs.Events.{request_in}
-use Rattle.cell_services.specs.AreaLaws.{in_events}
+use Rattle.cell_services.proofs.AreaTableLaws.{in_events}
 use Rattle.cell_services.specs.Facts.{tables_for}
 use Rattle.cell_services.specs.Services.{InArea, area_of, more_of}
 use Rattle.cell_services.specs.Tables.{Tables}

@@ -1,6 +1,6 @@
 use Rattle.std.proofs.Common.{◌+◌, List, ℕ, Option, Some, ap, sym, ◌∙◌, subst}
 use Rattle.part_table.specs.Held.{held_at}
-use Rattle.cell_client.specs.declared.told.Told.{Told}
+use Rattle.cell_client.specs.declared.told.ClientTold.{ClientTold}
 use Rattle.cell_services.specs.Tables.{Tables}
 use Rattle.serve_events.specs.Turns.{turned_after, turns_of}
 use Rattle.mms_step.specs.Partition.{events_in, IsEvents}
@@ -47,7 +47,7 @@ pub tell_all-requires-clause-rooms : goal.tell_all-requires-clause-rooms
 tell_all-requires-clause-rooms c =
     turned_rooms c.requires.of.0 c.args.held.now c.requires.of.1 c.args.clients c.requires.many c.args.turning.told.items c.requires.table c.make_rooms.new.held c.take_events-table.new.held
     c.put_events.new.held c.take_events-table.result.value c.finish_in_part.new.table (λ e. turned_after c.args.client c.args.facts.now c.args.facts.is_true c.args.asked e)
-    (c.in_ok-make_rooms.ensures.made ∙ ap (λ (l : List (ℕ × Told)). with_rooms (c.args.clients + 1) (room_to l) c.args.held.now) c.as_slice.ensures.value)
+    (c.in_ok-make_rooms.ensures.made ∙ ap (λ (l : List (ℕ × ClientTold)). with_rooms (c.args.clients + 1) (room_to l) c.args.held.now) c.as_slice.ensures.value)
     c.take_events-table.ensures.part c.take_events-table.ensures.left
     (c.finish_in_part.ensures ∙ ap (λ (p : Part). Events (turned_after c.args.client c.args.facts.now c.args.facts.is_true c.args.asked (events_in (Some p)))) c.deref_mut.ensures.value)
     c.put_events.ensures
@@ -56,7 +56,7 @@ pub tell_all-requires-clause-are : goal.tell_all-requires-clause-are
 tell_all-requires-clause-are c =
     turned_clients c.requires.of.0 c.args.held.now c.requires.of.1 c.args.clients c.requires.many c.args.turning.told.items c.requires.table c.make_rooms.new.held c.take_events-table.new.held
     c.put_events.new.held c.take_events-table.result.value c.finish_in_part.new.table (λ e. turned_after c.args.client c.args.facts.now c.args.facts.is_true c.args.asked e)
-    (c.in_ok-make_rooms.ensures.made ∙ ap (λ (l : List (ℕ × Told)). with_rooms (c.args.clients + 1) (room_to l) c.args.held.now) c.as_slice.ensures.value)
+    (c.in_ok-make_rooms.ensures.made ∙ ap (λ (l : List (ℕ × ClientTold)). with_rooms (c.args.clients + 1) (room_to l) c.args.held.now) c.as_slice.ensures.value)
     c.take_events-table.ensures.part c.take_events-table.ensures.left
     (c.finish_in_part.ensures ∙ ap (λ (p : Part). Events (turned_after c.args.client c.args.facts.now c.args.facts.is_true c.args.asked (events_in (Some p)))) c.deref_mut.ensures.value)
     c.put_events.ensures
@@ -66,7 +66,7 @@ returns-clause-put c =
     c.tell_all.ensures
     ∙ turned_in_place c.requires.of.0 c.args.held.now c.requires.of.1 c.args.clients c.requires.many c.args.turning.told.items c.requires.table c.make_rooms.new.held c.take_events-table.new.held
     c.put_events.new.held c.take_events-table.result.value c.finish_in_part.new.table (λ e. turned_after c.args.client c.args.facts.now c.args.facts.is_true c.args.asked e)
-    (c.in_ok-make_rooms.ensures.made ∙ ap (λ (l : List (ℕ × Told)). with_rooms (c.args.clients + 1) (room_to l) c.args.held.now) c.as_slice.ensures.value)
+    (c.in_ok-make_rooms.ensures.made ∙ ap (λ (l : List (ℕ × ClientTold)). with_rooms (c.args.clients + 1) (room_to l) c.args.held.now) c.as_slice.ensures.value)
     c.take_events-table.ensures.part c.take_events-table.ensures.left
     (c.finish_in_part.ensures ∙ ap (λ (p : Part). Events (turned_after c.args.client c.args.facts.now c.args.facts.is_true c.args.asked (events_in (Some p)))) c.deref_mut.ensures.value)
     c.put_events.ensures

@@ -1,6 +1,6 @@
 use Rattle.std.proofs.Common.{sym, ◌∙◌, subst}
 use Rattle.std.proofs.lemmas.Result.{IfOk-weaker}
-use Rattle.parted_state.specs.SetLaws.{missing_set}
+use Rattle.parted_state.proofs.SetLaws.{missing_set}
 use Rattle.parted_state.specs.Sets.{IsSetOf}
 use Rattle.parted_state.specs.Cut.{missing}
 use Rattle.cell_client.specs.Meant.{meant}

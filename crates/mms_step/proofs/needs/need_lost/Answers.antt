@@ -3,7 +3,7 @@ use Rattle.parted_state.specs.Cut.{missing}
 use Rattle.parted_state.specs.Sets.{IsSetOf}
 use Rattle.mms_step.specs.Needs.{client_parts}
 use Rattle.std.proofs.Common.{sym, ◌∙◌}
-use Rattle.parted_state.specs.SetLaws.{missing_set}
+use Rattle.parted_state.proofs.SetLaws.{missing_set}
 use Rattle.parted_state.specs.Lifted.{tables_shown}
 use Rattle.parted_state.specs.Served as parted
 use Rattle.cell_services.specs.Serving.{also_lost, loss_asks}

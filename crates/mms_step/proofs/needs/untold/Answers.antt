@@ -1,5 +1,5 @@
 use denote.Param.Send.{param_send, arg_send}
-use Rattle.parted_state.specs.SetLaws.{missing_set}
+use Rattle.parted_state.proofs.SetLaws.{missing_set}
 use Rattle.mms_step.specs.Needs.{client_parts}
 use Rattle.mms_step.proofs.Sent.{part_send}
 use Rattle.mms_step.proofs.needs.untold.Goals as goal

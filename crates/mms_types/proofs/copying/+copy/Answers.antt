@@ -1,6 +1,6 @@
 use Rattle.std.proofs.Common.{◌≡◌, ◌+◌, refl, sym, arith}
 use Rattle.mms_types.specs.Datum.{row, depth, deepest}
-use Rattle.mms_types.specs.DataFalls.{sizes_below}
+use Rattle.mms_types.specs.DataFallsLaws.{sizes_below}
 use Rattle.mms_types.proofs.copying.+copy.Goals as goal
 
 pub copied-copied_all-requires : goal.copied-copied_all-requires

@@ -1,7 +1,7 @@
 use Rattle.std.proofs.Common.{◌≡◌, ◌+◌, refl, sym, arith}
 use Rattle.mms_types.specs.Shape.{shape_depth, fields_depth}
 use Rattle.mms_types.specs.SeenType.{fields}
-use Rattle.mms_types.specs.TypeFalls.{component_sizes_below}
+use Rattle.mms_types.specs.TypeFallsLaws.{component_sizes_below}
 use Rattle.mms_types.proofs.DataParts.{fields_next}
 use Rattle.mms_types.proofs.depth.+type_depth.Goals as goal
 

@@ -1,6 +1,6 @@
 use Rattle.std.proofs.Common.{◌≡◌, ◌≢◌, ◌+◌, true, false, length, refl, sym, ◌∙◌, rules, arith}
 use Rattle.mms_types.specs.Datum.{row, depth, deepest}
-use Rattle.mms_types.specs.DataFalls.{sizes_below}
+use Rattle.mms_types.specs.DataFallsLaws.{sizes_below}
 use Rattle.mms_types.specs.Equal.{datum_eq}
 use Rattle.mms_types.proofs.EqualParts.{rows_from, uneven_rows}
 use Rattle.mms_types.proofs.equal.+same_data.Goals as goal

@@ -1,7 +1,7 @@
 use Rattle.std.proofs.Common.{◌≡◌, ◌≢◌, ◌+◌, true, false, length, refl, sym, ◌∙◌, rules, arith}
 use Rattle.mms_types.specs.Shape.{shape_depth, fields_depth}
 use Rattle.mms_types.specs.SeenType.{fields}
-use Rattle.mms_types.specs.TypeFalls.{component_sizes_below}
+use Rattle.mms_types.specs.TypeFallsLaws.{component_sizes_below}
 use Rattle.mms_types.specs.Equal.{component_eq}
 use Rattle.mms_types.proofs.EqualParts.{fields_from, uneven_fields}
 use Rattle.mms_types.proofs.equal.+same_type.Goals as goal

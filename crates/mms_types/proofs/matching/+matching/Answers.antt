@@ -1,7 +1,7 @@
 use Rattle.std.proofs.Common.{◌≡◌, ◌≢◌, ◌+◌, length, refl, sym, rules, arith}
 use Rattle.std.proofs.lemmas.Bool.{eq-eqb, ne_eqb}
 use Rattle.mms_types.specs.Datum.{row, depth, deepest}
-use Rattle.mms_types.specs.DataFalls.{sizes_below}
+use Rattle.mms_types.specs.DataFallsLaws.{sizes_below}
 use Rattle.mms_types.specs.Shape as shape
 use Rattle.mms_types.proofs.DataParts.{array_then, array_else, uneven}
 use Rattle.mms_types.proofs.matching.+matching.Goals as goal

@@ -1,6 +1,6 @@
 use Rattle.std.proofs.Common.{◌∙◌, Option, List, ap, arith}
 use Rattle.part_table.specs.Held.{held_at}
-use Rattle.parted_state.specs.declared.example.Part.{Part}
+use Rattle.parted_state.specs.declared.example.ShopPart.{ShopPart}
 use Rattle.parted_state.specs.Lifted.{with_tables}
 use Rattle.parted_state.specs.Rows.{with_room}
 use Rattle.parted_state.specs.Shop.{shop, roomy_in}
@@ -12,7 +12,7 @@ tell-requires-clause-held c =
     let row = roomy_in (held_at c.args.held.now c.args.client) in
     let made = row_at (with_room 1) c.args.held.now c.args.client row c.requires.held in
     is_row (held_at c.lower.new.held c.args.client) (with_room 1 row)
-    (ap (λ (l : List (Option Part)). held_at l c.args.client) (c.lower.ensures ∙ ap (with_tables shop c.args.clients c.args.tables) c.in_ok-make_room.ensures.made)
+    (ap (λ (l : List (Option ShopPart)). held_at l c.args.client) (c.lower.ensures ∙ ap (with_tables shop c.args.clients c.args.tables) c.in_ok-make_room.ensures.made)
     ∙ beside_tables c.args.clients c.args.tables (roomed 1 c.args.client c.args.held.now) c.args.client c.requires.among.0 c.requires.among.1 ∙ made)
 
 pub tell-requires-clause-room : goal.tell-requires-clause-room
@@ -20,7 +20,7 @@ tell-requires-clause-room c =
     let row = roomy_in (held_at c.args.held.now c.args.client) in
     let made = row_at (with_room 1) c.args.held.now c.args.client row c.requires.held in
     let room = room_is (held_at c.lower.new.held c.args.client) (with_room 1 row)
-    (ap (λ (l : List (Option Part)). held_at l c.args.client) (c.lower.ensures ∙ ap (with_tables shop c.args.clients c.args.tables) c.in_ok-make_room.ensures.made)
+    (ap (λ (l : List (Option ShopPart)). held_at l c.args.client) (c.lower.ensures ∙ ap (with_tables shop c.args.clients c.args.tables) c.in_ok-make_room.ensures.made)
     ∙ beside_tables c.args.clients c.args.tables (roomed 1 c.args.client c.args.held.now) c.args.client c.requires.among.0 c.requires.among.1 ∙ made) in
     omega (arith, room)
 

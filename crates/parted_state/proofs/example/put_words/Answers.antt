@@ -1,6 +1,6 @@
 use Rattle.std.proofs.Common.{◌∙◌, Option, List, ap, arith}
 use Rattle.part_table.specs.Held.{held_at}
-use Rattle.parted_state.specs.declared.example.Part.{Part}
+use Rattle.parted_state.specs.declared.example.ShopPart.{ShopPart}
 use Rattle.parted_state.specs.Lifted.{with_tables}
 use Rattle.parted_state.specs.Rows.{with_room, with_word}
 use Rattle.parted_state.specs.Shop.{shop, roomy_in}
@@ -12,7 +12,7 @@ tell-requires-clause-held c =
     let row = roomy_in (held_at c.args.held.now c.args.client) in
     let made = row_at (with_room 2) c.args.held.now c.args.client row c.requires.held in
     is_row (held_at c.lower.new.held c.args.client) (with_room 2 row)
-    (ap (λ (l : List (Option Part)). held_at l c.args.client) (c.lower.ensures ∙ ap (with_tables shop c.args.clients c.args.tables) c.in_ok-make_room.ensures.made)
+    (ap (λ (l : List (Option ShopPart)). held_at l c.args.client) (c.lower.ensures ∙ ap (with_tables shop c.args.clients c.args.tables) c.in_ok-make_room.ensures.made)
     ∙ beside_tables c.args.clients c.args.tables (roomed 2 c.args.client c.args.held.now) c.args.client c.requires.among.0 c.requires.among.1 ∙ made)
 
 pub tell-requires-clause-room : goal.tell-requires-clause-room
@@ -20,7 +20,7 @@ tell-requires-clause-room c =
     let row = roomy_in (held_at c.args.held.now c.args.client) in
     let made = row_at (with_room 2) c.args.held.now c.args.client row c.requires.held in
     let room = room_is (held_at c.lower.new.held c.args.client) (with_room 2 row)
-    (ap (λ (l : List (Option Part)). held_at l c.args.client) (c.lower.ensures ∙ ap (with_tables shop c.args.clients c.args.tables) c.in_ok-make_room.ensures.made)
+    (ap (λ (l : List (Option ShopPart)). held_at l c.args.client) (c.lower.ensures ∙ ap (with_tables shop c.args.clients c.args.tables) c.in_ok-make_room.ensures.made)
     ∙ beside_tables c.args.clients c.args.tables (roomed 2 c.args.client c.args.held.now) c.args.client c.requires.among.0 c.requires.among.1 ∙ made) in
     omega (arith, room)
 
@@ -29,9 +29,9 @@ tell-requires-2-clause-held c =
     let row = roomy_in (held_at c.args.held.now c.args.client) in
     let made = row_at (with_room 2) c.args.held.now c.args.client row c.requires.held in
     is_row (held_at c.tell.new.held c.args.client) (with_word c.args.words.0 (with_room 2 row))
-    (ap (λ (l : List (Option Part)). held_at l c.args.client) c.tell.ensures
+    (ap (λ (l : List (Option ShopPart)). held_at l c.args.client) c.tell.ensures
     ∙ row_at (with_word c.args.words.0) c.lower.new.held c.args.client (with_room 2 row)
-    (ap (λ (l : List (Option Part)). held_at l c.args.client) (c.lower.ensures ∙ ap (with_tables shop c.args.clients c.args.tables) c.in_ok-make_room.ensures.made)
+    (ap (λ (l : List (Option ShopPart)). held_at l c.args.client) (c.lower.ensures ∙ ap (with_tables shop c.args.clients c.args.tables) c.in_ok-make_room.ensures.made)
     ∙ beside_tables c.args.clients c.args.tables (roomed 2 c.args.client c.args.held.now) c.args.client c.requires.among.0 c.requires.among.1 ∙ made))
 
 pub tell-requires-2-clause-room : goal.tell-requires-2-clause-room
@@ -39,9 +39,9 @@ tell-requires-2-clause-room c =
     let row = roomy_in (held_at c.args.held.now c.args.client) in
     let made = row_at (with_room 2) c.args.held.now c.args.client row c.requires.held in
     let room = room_is (held_at c.tell.new.held c.args.client) (with_word c.args.words.0 (with_room 2 row))
-    (ap (λ (l : List (Option Part)). held_at l c.args.client) c.tell.ensures
+    (ap (λ (l : List (Option ShopPart)). held_at l c.args.client) c.tell.ensures
     ∙ row_at (with_word c.args.words.0) c.lower.new.held c.args.client (with_room 2 row)
-    (ap (λ (l : List (Option Part)). held_at l c.args.client) (c.lower.ensures ∙ ap (with_tables shop c.args.clients c.args.tables) c.in_ok-make_room.ensures.made)
+    (ap (λ (l : List (Option ShopPart)). held_at l c.args.client) (c.lower.ensures ∙ ap (with_tables shop c.args.clients c.args.tables) c.in_ok-make_room.ensures.made)
     ∙ beside_tables c.args.clients c.args.tables (roomed 2 c.args.client c.args.held.now) c.args.client c.requires.among.0 c.requires.among.1 ∙ made)) in
     omega (arith, room)
 

@@ -1,4 +1,4 @@
-use Rattle.parted_state.specs.SetLaws.{one_set, empty_set}
+use Rattle.parted_state.proofs.SetLaws.{one_set, empty_set}
 use Rattle.parted_state.proofs.parts.a_set_is_one_list.Goals as goal
 
 pub returns-clause-one : goal.returns-clause-one

@@ -1,5 +1,5 @@
 use Rattle.std.proofs.Common.{◌≡◌, ◌+◌, ℕ, List, ◌++◌, take, refl, sym, ap, ◌∙◌, append_assoc, arith}
-use Rattle.mms_types.specs.TypeFalls.{component_sizes_below}
+use Rattle.mms_types.specs.TypeFallsLaws.{component_sizes_below}
 use Rattle.mms_types.specs.Shape.{shape_depth, fields_depth}
 use Rattle.mms_types.specs.SeenType.{fields}
 use Rattle.pdu_data.specs.Types.{field_octets}

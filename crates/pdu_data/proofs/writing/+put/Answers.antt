@@ -1,5 +1,5 @@
 use Rattle.std.proofs.Common.{◌≡◌, ◌+◌, ℕ, List, ◌++◌, take, refl, sym, ap, ◌∙◌, append_assoc, arith, lit<}
-use Rattle.mms_types.specs.DataFalls.{sizes_below}
+use Rattle.mms_types.specs.DataFallsLaws.{sizes_below}
 use Rattle.mms_types.specs.Datum.{row, depth, deepest}
 use Rattle.pdu_data.specs.Data.{data_octets, row_octets}
 use Rattle.pdu_data.proofs.Rows.{octets_next}

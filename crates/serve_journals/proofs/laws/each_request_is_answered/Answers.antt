@@ -1,4 +1,4 @@
-use Rattle.serve_journals.specs.AnswerLaws.{answers_or_waits, journals_alone}
+use Rattle.serve_journals.proofs.AnswerLaws.{answers_or_waits, journals_alone}
 use Rattle.serve_journals.proofs.laws.each_request_is_answered.Goals as goal
 
 pub returns-clause-answered : goal.returns-clause-answered

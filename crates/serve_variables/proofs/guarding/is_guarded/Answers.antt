@@ -2,7 +2,7 @@ use Rattle.std.specs.Prelude.{◌≡◌, is_some}
 use Rattle.std.specs.List.{list_any}
 use Rattle.std.proofs.Common.{subst, sym, ◌∙◌}
 use Rattle.mms_types.specs.declared.area.VariableRequest.{VariableRequest}
-use Rattle.serve_variables.specs.GuardLaws.{guarded}
+use Rattle.serve_variables.proofs.GuardLaws.{guarded}
 use Rattle.serve_variables.specs.Variables.{guards_asked}
 use Rattle.serve_variables.proofs.guarding.is_guarded.Goals as goal
 

@@ -3,7 +3,7 @@ use Rattle.std.specs.Prelude.{Contains}
 use Rattle.std.proofs.lemmas.Bool.{eqb-false}
 use Rattle.std.proofs.lemmas.List.{nil_from_length}
 use Rattle.part_table.specs.Held.{IsHandOf}
-use Rattle.parted_state.specs.SetLaws.{empty_set}
+use Rattle.parted_state.proofs.SetLaws.{empty_set}
 use Rattle.mms_step.specs.declared.part.Part.{Part}
 use Rattle.mms_step.specs.Needs.{need}
 use Rattle.mms_step.specs.Partition.{parts_of}

@@ -10,7 +10,7 @@ use Rattle.parted_state.specs.Cut.{is_held, are_held, wanted_of}
 use Rattle.parted_state.specs.CutLaws as laws
 use Rattle.parted_state.specs.DeviceLaws.{as_many, client_at, shown_many, shown_row, shown_rows, spot, cut}
 use Rattle.parted_state.specs.Lifted.{tables_shown, row_shown, put_from, with_tables, part_told, told_to, told_all, put_in_place}
-use Rattle.parted_state.specs.Lists.{get_change, get_changed}
+use Rattle.parted_state.specs.ListsLaws.{get_change, get_changed}
 use Rattle.parted_state.specs.Served.{Done, Device, Services, change, front, client_place, table_place, clients_among, parts_of, state_in, row_at, delivered, is_told, done_of, step, wants, need, after, IsServed, IsDevice}
 use Rattle.parted_state.specs.ServedLaws as served
 
