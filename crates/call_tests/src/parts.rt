@@ -27,7 +27,8 @@ fn serve_both<R: Threads + Sync>(
     second: Pass<Amounts>,
     by: u32,
 ) -> ((Pass<Amounts>, u32), (Pass<Amounts>, u32))
-    requires table { (first.table ≡ table.now) × (second.table ≡ table.now) × (length table.now.opening ≡ 5) }
+    requires table { (first.table ≡ table.now) × (second.table ≡ table.now)
+        × (length table.now.opening ≡ 5) }
     requires idle { HoldsNothing first × HoldsNothing second }
     requires by { (by ≡ first.by) × (by + 1 ≡ second.by) × (by < 64) }
     ensures table { (result.0.0.table ≡ table.now) × (result.1.0.table ≡ table.now) }
@@ -56,7 +57,8 @@ fn finish(
 
 /// Opens a table of these numbers, closes it with no event made, and answers how many events were made and the total.
 fn opened_and_closed(alloc: Global, numbers: &[u64], callers: u32) -> Option<(u64, u64)>
-    requires few { (1 ≤ length numbers.now) × (length numbers.now ≤ 256) × (1 ≤ callers) × (callers ≤ 65) }
+    requires few { (1 ≤ length numbers.now) × (length numbers.now ≤ 256) × (1 ≤ callers)
+        × (callers ≤ 65) }
 {
     let (table, passes) = table_of(alloc, numbers, callers, 1_000).ok()?;
     finish(alloc, table, passes)

@@ -31,8 +31,10 @@ pub(crate) struct Numbers {
 /// The numbers that a table tells, or those that stand where it tells none. None where one is out of range.
 pub(crate) fn read_numbers(table: &Table) -> Option<Numbers>
     ensures ranges { is_some result ≡ not (breaks_ranges (table_view table.now)) }
-    ensures clients { IfSome result (λ n. n.clients ≡ number_of (clients_of (table_view table.now))) }
-    ensures start { IfSome result (λ n. n.start.0 ≡ milliseconds (number_of (day_of (table_view table.now))) (number_of (ms_of (table_view table.now)))) }
+    ensures clients { IfSome result
+        (λ n. n.clients ≡ number_of (clients_of (table_view table.now))) }
+    ensures start { IfSome result (λ n. n.start.0 ≡ milliseconds
+        (number_of (day_of (table_view table.now))) (number_of (ms_of (table_view table.now)))) }
     ensures some_client { IfSome result (λ n. 1 ≤ n.clients) }
     ensures few_clients { IfSome result (λ n. n.clients ≤ 64) }
     ensures dated { IfSome result (λ n. IsDated n.start) }

@@ -8,7 +8,8 @@ use toml::{Table, Value};
 
 /// The value at a key, where the table has one there.
 pub(crate) fn value_at<'a>(table: &'a Table, key: &str) -> Option<&'a Value>
-    ensures { option_map (λ value. view value.now) result ≡ get_member key.now (table_view table.now) }
+    ensures { option_map (λ value. view value.now) result
+        ≡ get_member key.now (table_view table.now) }
 {
     table.get(key)
 }
@@ -25,7 +26,8 @@ pub(crate) fn integer_at(table: &Table, key: &str) -> Option<i64>
 
 /// The text at a key, where the table has one there.
 pub(crate) fn text_at<'a>(table: &'a Table, key: &str) -> Option<&'a str>
-    ensures { option_copied result ≡ option_and_then as_str (get_member key.now (table_view table.now)) }
+    ensures { option_copied result
+        ≡ option_and_then as_str (get_member key.now (table_view table.now)) }
 {
     match value_at(table, key) {
         Some(value) => value.as_str(),

@@ -155,11 +155,13 @@ impl Lines {
             IfSome (ahead self.old (S.left input.old)) (λ text. has_feed text ≡ true)) }
         ensures unended { IfOk result (λ more. more ≡ true → self.old.ended ≡ false) }
         ensures unread { self.old.ended ≡ true → (input.new ≡ input.old) × (self.new ≡ self.old) }
-        ensures seen { IsEndSeen self.old (S.left input.old) → IsEndSeen self.new (S.left input.new) }
+        ensures seen { IsEndSeen self.old (S.left input.old)
+            → IsEndSeen self.new (S.left input.new) }
 
         // Why it stops. A fault comes only before the line's end was read.
         ensures too_much { IfErr result (λ e. e ≡ Stop.TooMuch →
-            IfSome (ahead self.old (S.left input.old)) (λ text. 4294967296 < self.old.given + length (first_line text))) }
+            IfSome (ahead self.old (S.left input.old))
+            (λ text. 4294967296 < self.old.given + length (first_line text))) }
         ensures fault { IfErr result (λ e. e ≡ Stop.Fault →
             Rose (S.faults input.old) (S.faults input.new)) }
         ensures before_end { IfErr result (λ e. e ≡ Stop.Fault →
@@ -185,11 +187,14 @@ impl Lines {
     fn read_line<S: Source>(&mut self, input: &mut S, line: &mut Vec<u8>) -> Result<bool, Stop>
         requires unended { self.old.ended ≡ false }
         requires empty { line.old.items ≡ [] }
-        ensures line { OnOk result (IfSome (prepend_known self.old.octets (S.left input.old)) (λ text.
+        ensures line { OnOk result
+            (IfSome (prepend_known self.old.octets (S.left input.old)) (λ text.
             line.new.items ≡ kept_of (first_line text))) }
-        ensures rest { OnOk result (IfSome (prepend_known self.old.octets (S.left input.old)) (λ text.
+        ensures rest { OnOk result
+            (IfSome (prepend_known self.old.octets (S.left input.old)) (λ text.
             ahead self.new (S.left input.new) ≡ Some (after_line text))) }
-        ensures size { OnOk result (IfSome (prepend_known self.old.octets (S.left input.old)) (λ text.
+        ensures size { OnOk result
+            (IfSome (prepend_known self.old.octets (S.left input.old)) (λ text.
             self.new.given ≡ self.old.given + length (first_line text))) }
         ensures kept { OnOk result (length line.new.items ≤ 196612) }
         ensures there { IfOk result (λ more. more ≡ true →
@@ -200,10 +205,12 @@ impl Lines {
         ensures stays { IfOk result (λ more. more ≡ false → self.new.given ≡ self.old.given) }
         ensures over { IfOk result (λ more. more ≡ false → self.new.ended ≡ true) }
         ensures feed { IfOk result (λ more. more ≡ true → self.new.ended ≡ false →
-            IfSome (prepend_known self.old.octets (S.left input.old)) (λ text. has_feed text ≡ true)) }
+            IfSome (prepend_known self.old.octets (S.left input.old))
+            (λ text. has_feed text ≡ true)) }
         ensures seen { IsEndSeen self.new (S.left input.new) }
         ensures too_much { IfErr result (λ e. e ≡ Stop.TooMuch →
-            IfSome (prepend_known self.old.octets (S.left input.old)) (λ text. 4294967296 < self.old.given + length (first_line text))) }
+            IfSome (prepend_known self.old.octets (S.left input.old))
+            (λ text. 4294967296 < self.old.given + length (first_line text))) }
         ensures fault { IfErr result (λ e. e ≡ Stop.Fault →
             Rose (S.faults input.old) (S.faults input.new)) }
         ensures before_end { IfErr result (λ e. e ≡ Stop.Fault →
@@ -257,7 +264,8 @@ impl Lines {
 
     /// Takes octets from the source in place of what was held, by one read. Tells whether there were any.
     fn fill<S: Source>(&mut self, input: &mut S) -> Result<bool, Failed>
-        ensures moved { OnOk result (Keeps (S.left input.old) (prepend_known self.new.octets (S.left input.new))) }
+        ensures moved { OnOk result
+            (Keeps (S.left input.old) (prepend_known self.new.octets (S.left input.new))) }
         ensures some { IfOk result (λ more. more ≡ true → 0 < length self.new.octets) }
         ensures none { IfOk result (λ more. more ≡ false →
             (self.new.octets ≡ []) × IsAtEnd (S.left input.new)) }

@@ -77,7 +77,8 @@ fn room(buffer: &mut Vec<u8>, end: usize, more: usize) -> Result<usize, Memory>
 fn put_spelled(buffer: &mut Vec<u8>, end: usize, number: &Spelled) -> Result<usize, Memory>
     requires { end ≤ vec_len buffer.old }
     ensures within { IfOk result (λ new. new ≤ vec_len buffer.new) }
-    ensures text { IfOk result (λ new. take new buffer.new.items ≡ take end buffer.old.items ++ decimal number.now) }
+    ensures text { IfOk result
+        (λ new. take new buffer.new.items ≡ take end buffer.old.items ++ decimal number.now) }
     ensures order { IfOk result (λ new. end ≤ new) }
     ensures longer { vec_len buffer.old ≤ vec_len buffer.new }
     ensures kept { OnErr result (take end buffer.new.items ≡ take end buffer.old.items) }
@@ -92,7 +93,8 @@ fn put_spelled(buffer: &mut Vec<u8>, end: usize, number: &Spelled) -> Result<usi
 fn put_octets(buffer: &mut Vec<u8>, end: usize, octets: &[u8]) -> Result<usize, Memory>
     requires { end ≤ vec_len buffer.old }
     ensures within { IfOk result (λ new. new ≤ vec_len buffer.new) }
-    ensures text { IfOk result (λ new. take new buffer.new.items ≡ take end buffer.old.items ++ octets.now) }
+    ensures text { IfOk result
+        (λ new. take new buffer.new.items ≡ take end buffer.old.items ++ octets.now) }
     ensures longer { vec_len buffer.old ≤ vec_len buffer.new }
     ensures kept { OnErr result (take end buffer.new.items ≡ take end buffer.old.items) }
 {
@@ -174,7 +176,8 @@ impl Text {
     /// of it may have been written, and nothing waits.
     #[inline(always)]
     pub fn pass<K: Sink>(&mut self, out: &mut K) -> Result<(), Failed>
-        ensures whole { OnOk result (AppendsBefore (K.held out.old) (K.held out.new) self.new self.old) }
+        ensures whole { OnOk result
+            (AppendsBefore (K.held out.old) (K.held out.new) self.new self.old) }
         ensures few { OnOk result (length self.new < 16384) }
         ensures emptied { OnErr result (self.new ≡ []) }
         ensures part { OnErr result (AppendsPrefix (K.held out.old) (K.held out.new) self.old) }

@@ -171,7 +171,8 @@ fn stress_with(
     rounds: Option<&str>,
     workers: Option<&str>,
 ) -> Option<Command>
-    ensures { result ≡ stress_with (option_copied seed.entry) (option_copied clients.entry) (option_copied rounds.entry) (option_copied workers.entry) }
+    ensures { result ≡ stress_with (option_copied seed.entry) (option_copied clients.entry)
+        (option_copied rounds.entry) (option_copied workers.entry) }
 {
     let seed = number(seed?, 0, u64::MAX)?;
     let clients = number(clients?, 1, 64)?;

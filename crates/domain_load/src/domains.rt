@@ -200,7 +200,8 @@ impl Domains {
     {
         self.rows.retain(
             |_name: &Identifier, domain: &mut Domain| -> bool
-                ensures { (result ≡ not (is_loaded_by client domain.old)) × (domain.new ≡ domain.old) }
+                ensures { (result ≡ not (is_loaded_by client domain.old))
+                    × (domain.new ≡ domain.old) }
             { !domain.is_loaded_by(client) },
         );
     }

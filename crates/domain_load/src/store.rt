@@ -41,7 +41,8 @@ fn block_of(alloc: Global, octets: &[u8]) -> Result<Vec<u8>, Memory>
 
 /// Blocks of these octets, of which all but the last are full.
 fn blocks_of(alloc: Global, octets: &[u8]) -> Result<Vec<Vec<u8>>, Memory>
-    ensures joined { IfOk result (λ blocks. concat (map (λ block. block.items) blocks.items) ≡ octets.now) }
+    ensures joined { IfOk result
+        (λ blocks. concat (map (λ block. block.items) blocks.items) ≡ octets.now) }
     ensures blocks { IfOk result (λ blocks. AreBlocks (map (λ block. block.items) blocks.items)) }
     ensures none { octets.now ≡ [] → IfOk result (λ blocks. blocks.items ≡ []) }
 {

@@ -48,7 +48,8 @@ fn deletion_turn(now: Moment, key: Key, condition: &Condition) -> Turned
 
 /// Takes the rows of some names out.
 fn take_out(rows: &mut Named<Kept>, keys: &IndexSet<Key>)
-    ensures { rows.new ≡ filter (λ row. not (list_any (λ key. key_eq key row.0) keys.now.keys)) rows.old }
+    ensures { rows.new
+        ≡ filter (λ row. not (list_any (λ key. key_eq key row.0) keys.now.keys)) rows.old }
 {
     for place in 0..keys.len() {
         let Some(key) = keys.get_index(place) else {
@@ -124,7 +125,8 @@ impl Conditions {
         names: &[ObjectName],
     ) -> Result<ConditionsDeleted, Memory>
         ensures missing { IfOk result (λ told. told.missing ≡ missing client names.now self.now) }
-        ensures turned { IfOk result (λ told. told.turned ≡ deletions client now names.now self.now) }
+        ensures turned { IfOk result
+            (λ told. told.turned ≡ deletions client now names.now self.now) }
     {
         let keys = mentioned(alloc, client, names)?;
         let Ok(missing) = u32::try_from(self.missing(&keys)) else {

@@ -93,7 +93,8 @@ impl Conditions {
     ) -> Result<Option<Turned>, Memory>
         requires due { next_named key.now self.now ≡ Some now }
         requires now { IsDated now }
-        ensures told { IfOk result (λ told. told ≡ evaluate_told key.now now cell_is_true self.now) }
+        ensures told { IfOk result
+            (λ told. told ≡ evaluate_told key.now now cell_is_true self.now) }
         ensures wants { OnErr result (evaluate_told key.now now cell_is_true self.now ≢ None) }
     {
         match self.rows.get(key) {
@@ -116,7 +117,8 @@ impl Conditions {
     ) -> Result<Option<Turned>, Memory>
         requires due { next_named key.now self.old ≡ Some now }
         requires now { IsDated now }
-        ensures told { IfOk result (λ told. told ≡ evaluate_told key.now now cell_is_true self.old) }
+        ensures told { IfOk result
+            (λ told. told ≡ evaluate_told key.now now cell_is_true self.old) }
         ensures done { OnOk result (self.new ≡ after_evaluate key.now now cell_is_true self.old) }
         ensures wants { OnErr result (evaluate_told key.now now cell_is_true self.old ≢ None) }
         ensures kept { OnErr result (self.new ≡ self.old) }

@@ -108,7 +108,8 @@ impl Condition {
         now: Moment,
         class: ConditionClass,
     ) -> Result<Option<Turned>, Memory>
-        ensures { IfOk result (λ told. told ≡ move_told (key_of client name.now) now class self.now) }
+        ensures { IfOk result
+            (λ told. told ≡ move_told (key_of client name.now) now class self.now) }
     {
         match self.number_of_move(class) {
             None => Ok(None),

@@ -25,7 +25,8 @@ impl Condition {
         name: &ObjectName,
         now: Moment,
     ) -> Result<Listed<Turned>, Memory>
-        ensures { IfOk result (λ told. told ≡ triggered_told (key_of client name.now) now self.now) }
+        ensures { IfOk result
+            (λ told. told ≡ triggered_told (key_of client name.now) now self.now) }
     {
         let mut told = Listed::new(alloc);
         let key = name.key(alloc, client)?;

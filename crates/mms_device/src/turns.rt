@@ -98,7 +98,8 @@ impl<'a> Turn for CellTurns<'a> {
         ensures made { ∥ MadeOf job.old job.new ∥₁ }
         ensures done { result ≡ step.Done → ∥ job.new.rest ≡ [] ∥₁ }
         ensures short { result ≡ step.Memory → ∥ job.new.rest ≢ [] ∥₁ }
-        ensures same { (result ≡ step.Busy) ⊎ (result ≡ step.Memory) → ∥ SameWork job.old job.new ∥₁ }
+        ensures same { (result ≡ step.Busy) ⊎ (result ≡ step.Memory)
+            → ∥ SameWork job.old job.new ∥₁ }
         ensures ended { (result ≡ step.Done) ↔ (job.old.rest ≡ []) }
         ensures kept { result ≡ step.Done → job.new ≡ job.old }
         ensures as_before { result ≡ step.Memory → IsAsBefore job.old.pass job.new.pass }

@@ -205,7 +205,8 @@ fn first_told(
     no_more: bool,
 ) -> Result<ReadJournalAnswer, Memory>
     ensures entries { IfOk result (λ answer. answer.entries
-        ≡ map (told range.entry.now.tags) (take most (filter (in_range range.entry.now) entries.now))) }
+        ≡ map (told range.entry.now.tags)
+        (take most (filter (in_range range.entry.now) entries.now))) }
     ensures more { no_more ≡ false → IfOk result (λ answer. answer.more
         ≡ nat_lt most (length (filter (in_range range.entry.now) entries.now))) }
 {

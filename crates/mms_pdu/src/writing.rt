@@ -203,7 +203,8 @@ pub fn put_cancel_error(out: &mut Writer, error: &CancelError) -> Result<(), Mem
 /// Appends the one spelling of an initiate-Response, one element, as `put_pdu` appends that of the PDU. Where memory is wanting,
 /// nothing is changed.
 pub fn put_initiate_response(out: &mut Writer, negotiated: &InitiateAnswer) -> Result<(), Memory>
-    ensures ok { OnOk result (out.new ≡ out.old ++ pdu_octets (Pdu.InitiateResponse negotiated.now)) }
+    ensures ok { OnOk result
+        (out.new ≡ out.old ++ pdu_octets (Pdu.InitiateResponse negotiated.now)) }
     ensures err { OnErr result (out.new ≡ out.old) }
 {
     as_memory(InitiateResponse::put_part(out, 9, negotiated))

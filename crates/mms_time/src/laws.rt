@@ -84,13 +84,15 @@ pub fn a_take_is_as_told()
 pub fn a_take_is_entered()
     ensures taken { (s : AnySemaphore) (client invoke : ℕ) (asked : TakeControl) (now : Instant)
         → IsSound s → first_of (take_conditions_in client asked s) ≡ None
-        → IsTaken client invoke asked (take_told_in asked s) s (with_take client invoke asked now s) }
+        → IsTaken client invoke asked (take_told_in asked s) s
+        (with_take client invoke asked now s) }
     ensures stays { (s : AnySemaphore) (client invoke : ℕ) (asked : TakeControl) (now : Instant)
         (e : SemEntry) → IsSound s → numbered e.number (entries_in s) ≡ Some e
         → (numbered e.number (entries_in (with_take client invoke asked now s)) ≡ Some e)
         ⊎ MayBePreempted asked e }
     ensures no_other { (s : AnySemaphore) (client invoke : ℕ) (asked : TakeControl) (now : Instant)
-        (e : SemEntry) → numbered e.number (entries_in (with_take client invoke asked now s)) ≡ Some e
+        (e : SemEntry) → numbered e.number (entries_in (with_take client invoke asked now s))
+        ≡ Some e
         → (numbered e.number (entries_in s) ≡ Some e) ⊎ (e.number ≡ made_in s + 1) }
 {}
 

@@ -82,7 +82,8 @@ impl Events {
 
     /// Takes the first event off: None where there is none.
     pub fn take_first(&mut self) -> Option<CellEvent>
-        ensures { MatchOption result ((self.old ≡ []) × (self.new ≡ [])) (λ event. self.old ≡ event ∷ self.new) }
+        ensures { MatchOption result ((self.old ≡ []) × (self.new ≡ []))
+            (λ event. self.old ≡ event ∷ self.new) }
     {
         self.list.pop_front()
     }

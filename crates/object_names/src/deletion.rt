@@ -98,8 +98,10 @@ impl<'a, 'b, T: Deletable> Keeps<T> for Unselected<'a, 'b> {
 impl<T: Deletable> Named<T> {
     /// How many rows have the name, which is one at most, and how many of them can be deleted.
     fn count_one(&self, name: KeyRef<'_>) -> Deleted
-        ensures matched { result.matched ≡ matched_by (lookup (key_eq (key_meant name.entry)) self.now) }
-        ensures deleted { result.deleted ≡ deleted_by T.is_fixed (lookup (key_eq (key_meant name.entry)) self.now) }
+        ensures matched { result.matched
+            ≡ matched_by (lookup (key_eq (key_meant name.entry)) self.now) }
+        ensures deleted { result.deleted
+            ≡ deleted_by T.is_fixed (lookup (key_eq (key_meant name.entry)) self.now) }
     {
         match self.rows.get(name) {
             None => Deleted {
@@ -141,7 +143,8 @@ impl<T: Deletable> Named<T> {
     pub fn count(&self, selection: &Selection<'_>) -> Deleted
         requires { length self.now ≤ 4294967295 }
         ensures matched { result.matched ≡ matched (selected selection.entry.now) self.now }
-        ensures deleted { result.deleted ≡ deleted T.is_fixed (selected selection.entry.now) self.now }
+        ensures deleted { result.deleted
+            ≡ deleted T.is_fixed (selected selection.entry.now) self.now }
     {
         if let Selection::Names(names) = selection {
             return self.count_named(names);
@@ -216,7 +219,8 @@ impl<T: Deletable> Named<T> {
         );
         self.rows.retain(
             |key: &Key, value: &mut T| -> bool
-                ensures { (result ≡ not (goes T.is_fixed (selected selection.entry.now) (key.now, value.old))) × (value.new ≡ value.old) }
+                ensures { (result ≡ not (goes T.is_fixed (selected selection.entry.now)
+                    (key.now, value.old))) × (value.new ≡ value.old) }
             { !selection.has(key) || value.is_fixed() },
         );
     }

@@ -119,7 +119,8 @@ pub(crate) fn names_after<T: Drop>(
 ) -> Result<Names, Memory>
     requires { IsIndexOf (keys_of rows.now.entries) places.now }
     ensures list { IfOk result (λ names. names.list
-        ≡ take most (names_after (scope_meant scope.entry) (option_copied after.entry) rows.now.entries)) }
+        ≡ take most
+        (names_after (scope_meant scope.entry) (option_copied after.entry) rows.now.entries)) }
     ensures more { IfOk result (λ names. names.more
         ≡ nat_lt most (length (names_after (scope_meant scope.entry) (option_copied after.entry)
         rows.now.entries))) }
@@ -204,7 +205,8 @@ fn drop_unranked(places: &mut Vec<usize>, ranks: &[usize])
 
 /// Numbers the places by the ranks of their rows, from 0.
 fn renumber(places: &mut Vec<usize>, ranks: &[usize])
-    ensures { places.new.items ≡ map (λ place. slice_index_or ranks.now place 0 - 1) places.old.items }
+    ensures { places.new.items
+        ≡ map (λ place. slice_index_or ranks.now place 0 - 1) places.old.items }
 {
     for at in 0..places.len() {
         places[at] = rank_at(ranks, places[at]).saturating_sub(1);
@@ -221,7 +223,8 @@ pub(crate) fn leave<T: Drop, K: Keeps<T>>(
     requires index { IsIndexOf (keys_of rows.now.entries) places.old.items }
     requires room { length rows.now.entries ≤ length ranks.old.items }
     ensures len { length ranks.new.items ≡ length ranks.old.items }
-    ensures index { IsIndexOf (keys_of (filter (K.stays by.now) rows.now.entries)) places.new.items }
+    ensures index { IsIndexOf
+        (keys_of (filter (K.stays by.now) rows.now.entries)) places.new.items }
 {
     rank(rows, by, ranks);
     let numbers = ranks.as_slice();

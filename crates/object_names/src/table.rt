@@ -78,7 +78,8 @@ fn make_room(places: &mut Vec<usize>, ranks: &mut Vec<usize>, rows: usize) -> bo
 fn put_place(places: &mut Vec<usize>, front: usize, place: usize)
     requires within { front ≤ length places.old.items }
     requires room { vec_len places.old + 1 ≤ vec_capacity places.old }
-    ensures { places.new.items ≡ take front places.old.items ++ place ∷ drop front places.old.items }
+    ensures { places.new.items ≡ take front places.old.items ++ place
+        ∷ drop front places.old.items }
 {
     let Ok(()) = places.insert(front, place) else {
         unreachable!()
@@ -237,7 +238,8 @@ impl<T: Drop> Named<T> {
         );
         self.rows.retain(
             |key: &Key, value: &mut T| -> bool
-                ensures { (result ≡ not (scope_eq key.now.scope scope.entry.now)) × (value.new ≡ value.old) }
+                ensures { (result ≡ not (scope_eq key.now.scope scope.entry.now))
+                    × (value.new ≡ value.old) }
             { key.scope != *scope },
         );
     }

@@ -136,7 +136,8 @@ fn condition_parts(
 
 /// The condition of these components. Malformed where they are not those of its class.
 fn condition(parts: ConditionParts) -> Result<DefineEventCondition, Unread>
-    ensures { Gives define_condition.value result (if has_what_it_needs (condition_parts.value parts)
+    ensures { Gives define_condition.value result
+        (if has_what_it_needs (condition_parts.value parts)
         then Ok (condition_parts.value parts) else Err fault.malformed) }
 {
     let ConditionParts {

@@ -7,7 +7,8 @@ ghost use Rattle.sem_queue.specs.declared.row.Due.{Due};
 
 /// No row that wants a token is served before the first. None is told only where no row wants it.
 pub fn the_least_is_served_first()
-    ensures best { (token : ℕ) (rows : List Row) (r : Row) → least before (filter (wants token) rows) ≡ Some r
+    ensures best { (token : ℕ) (rows : List Row) (r : Row)
+        → least before (filter (wants token) rows) ≡ Some r
         → All (λ x. before x r ≡ false) (filter (wants token) rows) }
     ensures none { (token : ℕ) (rows : List Row) → least_number token rows ≡ None
         → filter (wants token) rows ≡ [] }

@@ -351,7 +351,8 @@ impl Ranks {
         steps: &mut Steps<L>,
     ) -> Result<usize, usize>
         requires { list ≤ self.now.tokens }
-        ensures place { result ≡ place_in priority number (listed self.now.tokens list self.now.rows) }
+        ensures place { result
+            ≡ place_in priority number (listed self.now.tokens list self.now.rows) }
         ensures counted { steps.old ≤ steps.new }
         ensures bound { 2 ^ (steps.new - steps.old)
             ≤ 2 * length (listed self.now.tokens list self.now.rows) + 1 }

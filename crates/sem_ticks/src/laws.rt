@@ -48,7 +48,8 @@ pub fn every_deadline_lies_ahead()
     ensures none { (now : Moment) → LieAhead now [] }
     ensures taken { (now : Moment) (client invoke : ℕ) (asked : TakeControl) (rows : Rows)
         → LieAhead now rows → LieAhead now (take_after client invoke now asked rows) }
-    ensures relinquished { (now : Moment) (key : Key) (client : ℕ) (token : Option (List ℕ)) (rows : Rows)
+    ensures relinquished { (now : Moment) (key : Key) (client : ℕ) (token : Option (List ℕ))
+        (rows : Rows)
         → LieAhead now rows → LieAhead now (relinquished key client token now rows) }
     ensures cancelled { (now : Moment) (key : Key) (number : ℕ) (rows : Rows)
         → LieAhead now rows → LieAhead now (cancelled key number rows) }
@@ -70,7 +71,8 @@ pub fn the_semaphores_stay_sound()
     ensures none { AreSound [] }
     ensures taken { (client invoke : ℕ) (now : Moment) (asked : TakeControl) (rows : Rows)
         → AreSound rows → AreSound (take_after client invoke now asked rows) }
-    ensures relinquished { (key : Key) (client : ℕ) (token : Option (List ℕ)) (now : Moment) (rows : Rows)
+    ensures relinquished { (key : Key) (client : ℕ) (token : Option (List ℕ)) (now : Moment)
+        (rows : Rows)
         → AreSound rows → AreSound (relinquished key client token now rows) }
     ensures cancelled { (key : Key) (number : ℕ) (rows : Rows)
         → AreSound rows → AreSound (cancelled key number rows) }

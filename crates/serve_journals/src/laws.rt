@@ -10,9 +10,11 @@ ghost use Rattle.serve_journals.specs.Journals.{request_in};
 
 /// Each request for journals that is not refused is answered at once, and nobody else is told anything.
 pub fn each_request_is_answered()
-    ensures answered { (facts : Facts) (row : ClientRow) (invoke : ℕ) (t : Rows) (asked : JournalRequest)
+    ensures answered { (facts : Facts) (row : ClientRow) (invoke : ℕ) (t : Rows)
+        (asked : JournalRequest)
         → (request_in asked).cause facts t row ≡ None
         → AnswersOrWaitsIn row.client invoke ((request_in asked).effect facts t row invoke) }
-    ensures alone { (facts : Facts) (row : ClientRow) (invoke : ℕ) (t : Rows) (asked : JournalRequest)
+    ensures alone { (facts : Facts) (row : ClientRow) (invoke : ℕ) (t : Rows)
+        (asked : JournalRequest)
         → ((request_in asked).effect facts t row invoke).also ≡ [] }
 {}

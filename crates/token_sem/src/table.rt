@@ -91,7 +91,8 @@ impl Entries {
 
     /// The place of the entry of that number.
     fn place_of(&self, number: u64) -> Option<usize>
-        ensures there { IfSome result (λ place. slice_get self.now.list place ≡ numbered number self.now.list) }
+        ensures there { IfSome result
+            (λ place. slice_get self.now.list place ≡ numbered number self.now.list) }
         ensures within { IfSome result (λ place. place < length self.now.list) }
         ensures absent { result ≡ None → numbered number self.now.list ≡ None }
     {
@@ -195,7 +196,8 @@ impl Entries {
         requires token { token < lists_of self.old.named }
         requires now { IsDated now }
         ensures grant { result ≡ told_freed self.old.named token self.old.list }
-        ensures state { self.new ≡ record self.old { list = freed self.old.named token now self.old.list } }
+        ensures state { self.new
+            ≡ record self.old { list = freed self.old.named token now self.old.list } }
     {
         let Some(first) = self.next_of(token) else {
             return None;
@@ -220,7 +222,8 @@ impl Entries {
         requires placed { is_placed (lists_of self.old.named) entry.now.token ≡ true }
         requires now { IsDated now }
         ensures grant { result ≡ told_left self.old.named entry.now self.old.list }
-        ensures state { self.new ≡ record self.old { list = left self.old.named entry.now now self.old.list } }
+        ensures state { self.new
+            ≡ record self.old { list = left self.old.named entry.now now self.old.list } }
     {
         self.remove(entry.number);
         match self.token_of(entry) {
@@ -258,7 +261,8 @@ impl Entries {
 
     /// The client's queued entries go. It takes no memory.
     pub fn lose_waiters(&mut self, client: u32)
-        ensures { self.new ≡ record self.old { list = filter (λ e. not (waits_for client e)) self.old.list } }
+        ensures { self.new
+            ≡ record self.old { list = filter (λ e. not (waits_for client e)) self.old.list } }
     {
         while let Some(entry) = self.waiter_of(client) {
             self.remove(entry.number);

@@ -132,7 +132,8 @@ impl Lists {
         client: u32,
         asked: &DefineNamedVariableList,
     ) -> Result<(), Memory>
-        requires { (live : Bool) × (there : Bool) × (define_cause live there client asked.now self.old ≡ None) }
+        requires { (live : Bool) × (there : Bool)
+            × (define_cause live there client asked.now self.old ≡ None) }
         ensures defined { OnOk result (self.new ≡ defined client asked.now self.old) }
         ensures kept { OnErr result (self.new ≡ self.old) }
     {

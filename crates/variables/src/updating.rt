@@ -121,10 +121,14 @@ impl Vars {
         value: &Data,
         new: &mut NewValues,
     ) -> Result<WriteResult, Memory>
-        ensures told { IfOk result (λ told. told ≡ result_of client self.now
-            (is_owned (O.owns by.now) (guard_named client self.now spec.now), (spec.now, value.now))) }
-        ensures values { OnOk result (new.new ≡ new.old ++ new_of client self.now
-            (is_owned (O.owns by.now) (guard_named client self.now spec.now), (spec.now, value.now))) }
+        ensures told { IfOk result (λ told. told ≡ result_of client self.now (
+          is_owned (O.owns by.now) (guard_named client self.now spec.now),
+          (spec.now, value.now),
+        )) }
+        ensures values { OnOk result (new.new ≡ new.old ++ new_of client self.now (
+          is_owned (O.owns by.now) (guard_named client self.now spec.now),
+          (spec.now, value.now),
+        )) }
     {
         let Some((cell, found)) = self.found(client, spec) else {
             return Ok(WriteResult::Failure(DataAccessError::ObjectNonExistent));

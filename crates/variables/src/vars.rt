@@ -79,8 +79,10 @@ impl Vars {
 
     /// The cell that a client's specification names, with its number. None where the name or the cell is missing.
     pub(crate) fn found(&self, client: u32, spec: &Spec) -> Option<(u16, &StoredCell)>
-        ensures cell { option_map (λ found. found.1.now) result ≡ cell_named client spec.now self.now }
-        ensures number { option_map (λ found. found.0) result ≡ number_named client spec.now self.now }
+        ensures cell { option_map (λ found. found.1.now) result
+            ≡ cell_named client spec.now self.now }
+        ensures number { option_map (λ found. found.0) result
+            ≡ number_named client spec.now self.now }
     {
         match spec {
             Spec::Address(address) => self.addressed(*address),
