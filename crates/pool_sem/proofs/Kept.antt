@@ -20,7 +20,7 @@ use Rattle.pool_sem.proofs.Counting.{weight, weight-yes, weight-no, count-cons, 
 use Rattle.pool_sem.proofs.Freeing.{owner-holds, queued-lacks, same-token, token-there, unplaced, wants-queued}
 use Rattle.pool_sem.proofs.Taking.{HungAt, outcome-gets, outcome-preempts}
 use Rattle.pool_sem.proofs.Finding.{free-found}
-use Rattle.pool_sem.proofs.Backwards.{count-weaker}
+use Rattle.pool_sem.proofs.Ends.{count-weaker}
 use Rattle.pool_sem.specs.declared.outcome.PoolOutcome.TheVariants.{Gets, Preempts}
 
 -- one passes where the count isn't 0

@@ -8,7 +8,7 @@ pub mod Bounding
 pub mod Unowned
 pub mod Marked
 pub mod Places
-pub mod Backwards
+pub mod Ends
 pub mod Kept
 pub mod Least
 mod Worked

@@ -1,8 +1,8 @@
 //! What is done on the entries of a pool. What equal tokens have in common with it stands in `token_sem`.
 
-ghost use Rattle.std.specs.Prelude.{◌≡◌, ℕ, ◌≤◌, Some, count_by, find, reverse};
+ghost use Rattle.std.specs.Prelude.{◌≡◌, ℕ, ◌≤◌, ◌&&◌, Some, count_by, find};
 ghost use Rattle.mms_types.specs.Moments.{IsDated};
-ghost use Rattle.token_sem.specs.Semaphore.{earlier};
+ghost use Rattle.token_sem.specs.Semaphore.{earlier, owned_by};
 ghost use Rattle.pool_sem.specs.Pools.{NamesRise, grant_to, has, has_claim, hung_to_preempt, is_claim, is_hung_of, lower, names, outcome_later, owner_entry, owner_of, place_of, queued_entry, suits, token_state, token_told};
 
 use crate::{PoolOutcome, TokenState};
@@ -38,21 +38,34 @@ fn token_told(asked: Option<u32>, got: Option<u32>) -> Option<u32>
     if asked.is_some() { None } else { got }
 }
 
-/// The client's last owner entry of that token: one that was made lately is met first.
-fn last_owner_of(client: u32, token: Option<u32>, entries: &[SemEntry]) -> Option<SemEntry>
-    ensures { result ≡ owner_of client token (reverse entries.now) }
+/// Whether the entry is the client's owner entry of that token.
+fn owns(client: u32, token: Option<u32>, entry: &SemEntry) -> bool
+    ensures { result ≡ (owned_by client entry.now && names token entry.now.token) }
 {
-    entries.iter().rev().copied().find(|entry| {
-        entry.client == client && entry.is_owner() && names(token, entry.token)
-    })
+    entry.client == client && entry.is_owner() && names(token, entry.token)
 }
 
-/// The client's owner entry of that token, of which there is one at most.
+/// The client's owner entry of that token, of which there is one at most. It is looked for from both ends: who took a
+/// token lately stands last where nobody waits, and where many wait they come after those that have tokens.
 pub(crate) fn owner_of(client: u32, token: Option<u32>, entries: &[SemEntry]) -> Option<SemEntry>
     requires { (place : ℕ) → count_by (has place) entries.now ≤ 1 }
     ensures { result ≡ owner_of client token entries.now }
 {
-    last_owner_of(client, token, entries)
+    let mut low = 0;
+    let mut high = entries.len();
+    while low < high {
+        high -= 1;
+        let last = &entries[high];
+        if owns(client, token, last) {
+            return Some(*last);
+        }
+        let first = &entries[low];
+        if owns(client, token, first) {
+            return Some(*first);
+        }
+        low += 1;
+    }
+    None
 }
 
 /// Whether the entry has the client refused.

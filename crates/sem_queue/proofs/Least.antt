@@ -16,7 +16,7 @@ Among [] x = ⊥
 Among (y ∷ ys) x = (y ≡ x) ⊎ Among ys x
 
 module _ {A : Type 0} where
-  count-among : (p : A → Bool) (xs : List A) (x : A) → Among xs x → p x ≡ true → 0 < count_by p xs
+  pub count-among : (p : A → Bool) (xs : List A) (x : A) → Among xs x → p x ≡ true → 0 < count_by p xs
   count-among p [] x h t = absurd h
   count-among p (y ∷ ys) x (inl same) t = let one = weight-yes p y (ap p same ∙ t) in omega (arith, count-cons p y ys)
   count-among p (y ∷ ys) x (inr h) t = omega (arith, count-cons p y ys, count-among p ys x h t)
@@ -51,7 +51,7 @@ module _ {A : Type 0} where
       by_test true ih h = elim (ih h) [ inl same ↦ inr (inl same) | inr more ↦ inr (inr more) ]
       by_test false ih h = elim (ih h) [ inl same ↦ inl same | inr more ↦ inr (inr more) ]
 
-  least-among : (less : A → A → Bool) (xs : List A) (m : A) → least less xs ≡ Some m → Among xs m
+  pub least-among : (less : A → A → Bool) (xs : List A) (m : A) → least less xs ≡ Some m → Among xs m
   least-among less [] m e = absurd cc
   least-among less (y ∷ ys) m e = fold-among less ys y m e
 
@@ -78,7 +78,7 @@ module _ {A : Type 0} (less : A → A → Bool) (order : IsStrictWeakOrder less)
       by_test false t (inr (inl same)) ih e = ih b e (inl (ap (λ z. less z b) (sym same) ∙ t))
       by_test false t (inr (inr h)) ih e = ih b e (inr h)
 
-  least-first : (xs : List A) (m x : A) → least less xs ≡ Some m → Among xs x → less x m ≡ false
+  pub least-first : (xs : List A) (m x : A) → least less xs ≡ Some m → Among xs x → less x m ≡ false
   least-first [] m x e h = absurd h
   least-first (y ∷ ys) m x e (inl same) = fold-first ys y m x e (inl (ap (λ z. less z y) (sym same) ∙ irreflexive y))
   least-first (y ∷ ys) m x e (inr h) = fold-first ys y m x e (inr h)
@@ -106,14 +106,14 @@ before-order = record {
   chain = λ x y z h k. grind (arith, nat_tests);
 }
 
-sooner-order : IsStrictWeakOrder sooner
+pub sooner-order : IsStrictWeakOrder sooner
 sooner-order = record {
   one_way = λ x y h. grind (arith, nat_tests);
   chain = λ x y z h k. grind (arith, nat_tests);
 }
 
 -- two rows of which neither is served first have one number
-tied : (a b : Row) → before a b ≡ false → before b a ≡ false → a.number ≡ b.number
+pub tied : (a b : Row) → before a b ≡ false → before b a ≡ false → a.number ≡ b.number
 tied a b p q = grind (arith, nat_tests)
 
 ranked : (m r : Row) → has_rank m.priority m.number r ≡ true → before m r ≡ false
@@ -145,16 +145,16 @@ least-no_number w rows z = ap (λ (kept : List Row). option_map (λ (r : Row). r
 abbrev pub same_due : Due → Due → Bool
 same_due a b = b.at.0 == a.at.0 && (b.kind == a.kind && b.number == a.number)
 
-tied-due : (a b : Due) → sooner a b ≡ false → sooner b a ≡ false → (a.at.0 ≡ b.at.0) × (a.kind ≡ b.kind) × (a.number ≡ b.number)
+pub tied-due : (a b : Due) → sooner a b ≡ false → sooner b a ≡ false → (a.at.0 ≡ b.at.0) × (a.kind ≡ b.kind) × (a.number ≡ b.number)
 tied-due a b p q = (grind (arith, nat_tests), grind (arith, nat_tests), grind (arith, nat_tests))
 
 ranked-due : (m d : Due) → same_due m d ≡ true → sooner m d ≡ false
 ranked-due m d t = grind (arith, nat_tests)
 
-moment_is : (a b : Moment) → a.0 ≡ b.0 → a ≡ b
+pub moment_is : (a b : Moment) → a.0 ≡ b.0 → a ≡ b
 moment_is a b e = ap (λ (n : ℕ). record { 0 = n }) e
 
-due_is : (a b : Due) → a.at ≡ b.at → a.kind ≡ b.kind → a.number ≡ b.number → a ≡ b
+pub due_is : (a b : Due) → a.at ≡ b.at → a.kind ≡ b.kind → a.number ≡ b.number → a ≡ b
 due_is a b at kind number =
     ap (λ m. record { at = m; kind = a.kind; number = a.number }) at ∙ ap (λ k. record { at = b.at; kind = k; number = a.number }) kind ∙ ap (λ n. record { at = b.at; kind = b.kind; number = n }) number
 
@@ -182,7 +182,7 @@ pub first_due-none : (rows : List Row) → count_by (λ r. passes (λ d. true) (
 first_due-none rows z = ap (λ (dues : List Due). least sooner dues) (filter_map-none rows z)
 
 -- laws of the least
-all-among : {A : Type 0} (P : A → Type 0) (xs : List A) → ((x : A) → Among xs x → P x) → All P xs
+pub all-among : {A : Type 0} (P : A → Type 0) (xs : List A) → ((x : A) → Among xs x → P x) → All P xs
 all-among P [] each = All-nil P
 all-among P (x ∷ xs) each = All-cons P x xs (each x (inl refl)) (all-among P xs (λ y h. each y (inr h)))
 

@@ -1,5 +1,5 @@
 -- Rows by rank and by deadline: ISO 9506-1, semaphore management.
-use Rattle.std.specs.Prelude.{ℕ, ◌+◌, Bool, true, false, not, ◌&&◌, ◌||◌, ◌==◌, nat_lt, if◌then◌else◌, List, ◌∷◌, ◌++◌, filter, filter_map, find, fold, count_by, Option, None, Some, option_map, Result, Ok, Err}
+use Rattle.std.specs.Prelude.{◌≡◌, ℕ, ◌+◌, ◌≤◌, Bool, true, false, not, ◌&&◌, ◌||◌, ◌==◌, nat_lt, if◌then◌else◌, List, ◌∷◌, ◌++◌, filter, filter_map, find, fold, count_by, All, Contains, Option, None, Some, IfSome, option_map, Result, Ok, Err}
 use Rattle.std.specs.List.{list_any}
 use Rattle.mms_types.specs.declared.moment.Moment.{Moment}
 use Rattle.sem_queue.specs.declared.row.Row.{Row}
@@ -121,3 +121,18 @@ first_due rows = least sooner (filter_map due_of rows)
 -- its moment, and the number of its row
 abbrev pub first_deadline : List Row → Option (Moment × ℕ)
 first_deadline rows = option_map (λ d. (d.at, d.number)) (first_due rows)
+
+-- no two rows have one number
+abbrev pub AreDistinct : List Row → Type 0
+AreDistinct rows = (number : ℕ) → count_numbered number rows ≤ 1
+
+-- the row stands among the rows and wants the token, and no other that wants it comes before it
+pub record IsServedFirst (token : ℕ) (rows : List Row) (r : Row) : Type 0 where
+  pub there : Contains rows r
+  pub waits : wants token r ≡ true
+  pub first : All (λ x. wants token x ≡ true → before x r ≡ false) rows
+
+-- the deadline is that of one of the rows, and no row has a sooner one
+pub record IsFirstDue (rows : List Row) (d : Due) : Type 0 where
+  pub had : (r : Row) × Contains rows r × (due_of r ≡ Some d)
+  pub first : All (λ x. IfSome (due_of x) (λ other. sooner other d ≡ false)) rows

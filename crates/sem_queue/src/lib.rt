@@ -9,8 +9,8 @@
 //! seen in the code, where one function looks and counts; no clause says it. Nothing here calls `find` and `after` yet:
 //! `insert` and `remove` search by the same loop, and have no bound.
 //!
-//! No row that wants a token is served before the least (`the_least_is_served_first`), and no deadline is met before the
-//! first (`the_first_deadline_is_the_least`).
+//! Who is served first is exactly the row that wants the token and that none that wants it comes before
+//! (`the_least_is_served_first`); which deadline is first is told likewise (`the_first_deadline_is_the_least`).
 #![tactic(auto)]
 
 mod keys;

@@ -306,6 +306,9 @@ impl Ranks {
         requires { token < self.now.tokens }
         ensures { result ≡ least_number token self.now.rows }
     {
+        if self.by_rank.is_empty() {
+            return None;
+        }
         let tokens = self.tokens;
         let by_rank = self.by_rank.as_slice();
         let begins = self.begins.as_slice();

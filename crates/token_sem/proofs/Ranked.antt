@@ -7,7 +7,7 @@ use Rattle.mms_types.specs.declared.moment.Moment.{Moment}
 use Rattle.token_sem.specs.declared.entry.SemEntry.{SemEntry}
 use Rattle.token_sem.specs.declared.entry.Deadline.{Deadline}
 use Rattle.token_sem.specs.Semaphore as s
-use Rattle.token_sem.specs.Semaphore.{is_queued, deadline_of, deadline_with, deadlines, first_deadline, Rises, without}
+use Rattle.token_sem.specs.Semaphore.{is_queued, deadline_with, deadlines, first_deadline, Rises, without}
 use Rattle.token_sem.specs.Entries.{row_of, rows_of, is_ranked, put_entry}
 use Rattle.token_sem.proofs.Keeping.{Among, rises-above, same_number, different, without-none}
 use Rattle.sem_queue.specs.declared.row.Row.{Row}

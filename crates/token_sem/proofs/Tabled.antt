@@ -99,6 +99,29 @@ removed tokens n es k k₁ is gone = record {
   placed = placed-filter (lists_of tokens) (λ e. not (e.number == n)) es is.placed;
 }
 
+-- an entry that is in no order goes
+unranked-rows : (low high : ℕ) (e : SemEntry) (es : List SemEntry) → Rises low es high → Among es e → is_ranked e ≡ false → rows_of (without e.number es) ≡ rows_of es
+unranked-rows low high e es r a t = ap (map row_of) (filter-without is_ranked e low high es r a t)
+
+pub removed-unranked : (tokens : Option ℕ) (e : SemEntry) (es : List SemEntry) (k : Queue) → IsTable tokens es k → Among es e → is_ranked e ≡ false → IsTable tokens (without e.number es) k
+removed-unranked tokens e es k is a t = record {
+  rows = is.rows ∙ sym (unranked-rows 0 is.rises.0 e es is.rises.1 a t);
+  lists = is.lists;
+  rises = (is.rises.0, rises-without 0 is.rises.0 e.number es is.rises.1);
+  placed = placed-filter (lists_of tokens) (λ x. not (x.number == e.number)) es is.placed;
+}
+
+-- an entry takes the place of another, and neither is in an order
+pub put-neither : (tokens : Option ℕ) (es : List SemEntry) (new o : SemEntry) (k : Queue) → IsTable tokens es k → Among es o → o.number ≡ new.number → is_placed (lists_of tokens) new.token ≡ true
+    → is_ranked o ≡ false → is_ranked new ≡ false → IsTable tokens (map (put_entry new) es) k
+put-neither tokens es new o k is a same t u r = record {
+  rows = is.rows ∙ sym (unranked-rows 0 is.rises.0 o es is.rises.1 a u) ∙ ap (λ (n : ℕ). rows_of (without n es)) same ∙ sym (without-row new.number es)
+      ∙ put-row 0 is.rises.0 es new o false is.rises.1 a same r;
+  lists = is.lists;
+  rises = (is.rises.0, rises-put 0 is.rises.0 new es is.rises.1);
+  placed = placed-put (lists_of tokens) new es t is.placed;
+}
+
 -- an entry takes the place of another
 module _ (tokens : Option ℕ) (es : List SemEntry) (new o : SemEntry) (k k₁ : Queue) (is : IsTable tokens es k) (a : Among es o) (same : o.number ≡ new.number)
     (t : is_placed (lists_of tokens) new.token ≡ true) (gone : k₁ ≡ q.after_remove (q.numbered new.number k.rows) k) where
@@ -262,6 +285,38 @@ left-some None e now es token f = (refl, refl)
 left-some (Some count) e now es token f =
     (sym (ap (λ (o : Option ℕ). named.after_freeing_of o now (without e.number es)) f), sym (ap (λ (o : Option ℕ). named.grant_freeing o (without e.number es)) f))
 
+-- where nobody waits, none is served
+any-fewer : (p q : SemEntry → Bool) → ((e : SemEntry) → p e ≡ false → q e ≡ false) → (es : List SemEntry) → list_any p es ≡ false → list_any q es ≡ false
+any-fewer p q fewer [] f = refl
+any-fewer p q fewer (e ∷ es) f = by_test (p e) refl f (any-fewer p q fewer es)
+  where
+    by_test : (b : Bool) → p e ≡ b → (b || list_any p es) ≡ false → (list_any p es ≡ false → list_any q es ≡ false) → (q e || list_any q es) ≡ false
+    by_test true t f ih = absurd cc
+    by_test false t f ih = ap (λ (b : Bool). b || list_any q es) (fewer e t) ∙ ih f
+
+any-without : (p : SemEntry → Bool) (n : ℕ) (es : List SemEntry) → list_any p es ≡ false → list_any p (without n es) ≡ false
+any-without p n [] f = refl
+any-without p n (e ∷ es) f = by_test (p e) refl f (any-without p n es) (not (e.number == n))
+  where
+    by_test : (b : Bool) → p e ≡ b → (b || list_any p es) ≡ false → (list_any p es ≡ false → list_any p (without n es) ≡ false) → (c : Bool) → list_any p (cond c (e ∷ without n es) (without n es)) ≡ false
+    by_test true t f ih c = absurd cc
+    by_test false t f ih true = ap (λ (b : Bool). b || list_any p (without n es)) t ∙ ih f
+    by_test false t f ih false = ih f
+
+pub next-nobody : (tokens : Option ℕ) (token : ℕ) (es : List SemEntry) → list_any is_queued es ≡ false → next_of tokens token es ≡ None
+next-nobody None token es f = ap (s.least s.before) (none_passes is_queued es f)
+next-nobody (Some count) token es f =
+    ap (s.least s.before) (none_passes (named.wants token) es (any-fewer is_queued (named.wants token) (λ e t. ap (λ (b : Bool). b && named.suits e.token (Some token)) t) es f))
+
+pub told-nobody : (tokens : Option ℕ) (e : SemEntry) (es : List SemEntry) → list_any is_queued es ≡ false → None ≡ told_left tokens e es
+told-nobody tokens e es f = by_token (token_of tokens e.token) refl
+  where
+    by_token : (o : Option ℕ) → token_of tokens e.token ≡ o → None ≡ told_left tokens e es
+    by_token None g = (left-none tokens e record { 0 = 0 } es g).1
+    by_token (Some token) g =
+        (freed-none tokens token record { 0 = 0 } (without e.number es) (next-nobody tokens token (without e.number es) (any-without is_queued e.number es f))).1
+        ∙ (left-some tokens e record { 0 = 0 } es token g).1
+
 -- one that doesn't wait is not who is served
 pub next-without : (tokens : Option ℕ) (token : ℕ) (es : List SemEntry) (high : ℕ) (e : SemEntry) → Rises 0 es high → Among es e → is_queued e ≡ false → next_of tokens token (without e.number es) ≡ next_of tokens token es
 next-without None token es high e r a t = ap (s.least s.before) (filter-without is_queued e 0 high es r a t)
@@ -320,6 +375,19 @@ no-waiter client (e ∷ es) f = by_test (waits_for client e) f (no-waiter client
         → cond (not b) (e ∷ filter (λ x. not (waits_for client x)) es) (filter (λ x. not (waits_for client x)) es) ≡ e ∷ es
     by_test true f ih = absurd cc
     by_test false f ih = ap (cons e) (ih f)
+
+-- where nobody waits, none waits for the client
+pub nobody-waits : (client : ℕ) (es : List SemEntry) → list_any is_queued es ≡ false → None ≡ find (waits_for client) es
+nobody-waits client [] f = refl
+nobody-waits client (e ∷ es) f = by_test (is_queued e) refl f (nobody-waits client es)
+  where
+    both : (b c : Bool) → c ≡ false → (b && c) ≡ false
+    both true c f = f
+    both false c f = refl
+
+    by_test : (b : Bool) → is_queued e ≡ b → (b || list_any is_queued es) ≡ false → (list_any is_queued es ≡ false → None ≡ find (waits_for client) es) → None ≡ find (waits_for client) (e ∷ es)
+    by_test true t f ih = absurd cc
+    by_test false t f ih = ih f ∙ sym (ap (λ (b : Bool). cond b (Some e) (find (waits_for client) es)) (both (e.client == client) (is_queued e) t))
 
 pub waiter-goes : (client : ℕ) (t : Table) (e : SemEntry) → AreEntries t → find (waits_for client) t.list ≡ Some e
     → (filter (λ x. not (waits_for client x)) (without e.number t.list) ≡ filter (λ x. not (waits_for client x)) t.list) × (length (without e.number t.list) < length t.list)

@@ -148,8 +148,10 @@ impl Entries {
         let Some(place) = self.place_of(number) else {
             return;
         };
-        self.list.remove(place);
-        let _row = self.ranks.remove(number);
+        let gone = self.list.remove(place);
+        if is_ranked(&gone) {
+            let _row = self.ranks.remove(number);
+        }
     }
 
     /// The entry takes the place of the one that has its number, if one has. It takes no memory.
@@ -162,7 +164,11 @@ impl Entries {
         let Some(place) = self.place_of(entry.number) else {
             return;
         };
+        let was_ranked = is_ranked(&self.list[place]);
         self.list[place] = *entry;
+        if !was_ranked {
+            return;
+        }
         let _row = self.ranks.remove(entry.number);
         if is_ranked(entry) {
             self.ranks.insert(row_of(entry));
@@ -199,6 +205,9 @@ impl Entries {
         ensures state { self.new
             ≡ record self.old { list = freed self.old.named token now self.old.list } }
     {
+        if !self.waits() {
+            return None;
+        }
         let Some(first) = self.next_of(token) else {
             return None;
         };
@@ -239,6 +248,9 @@ impl Entries {
         requires placed { is_placed (lists_of self.now.named) entry.now.token ≡ true }
         ensures { result ≡ told_left self.now.named entry.now self.now.list }
     {
+        if !self.waits() {
+            return None;
+        }
         let Some(token) = self.token_of(entry) else {
             return None;
         };
@@ -253,6 +265,9 @@ impl Entries {
         ensures waiter { result ≡ find (waits_for client) self.now.list }
         ensures always { AreEntries self.now }
     {
+        if !self.ranks.waits() {
+            return None;
+        }
         self.list
             .iter()
             .copied()

@@ -1,9 +1,18 @@
-use Rattle.std.proofs.Common.{◌≡◌, ℕ, List, Option, Some, map, sym, ap, ◌∙◌, subst}
+use Rattle.std.proofs.Common.{◌≡◌, ℕ, false, List, Option, None, Some, map, sym, ap, ◌∙◌, subst}
+use Rattle.std.specs.List.{list_any}
 use Rattle.token_sem.specs.declared.entry.SemEntry.{SemEntry}
-use Rattle.token_sem.specs.Semaphore.{numbered}
+use Rattle.token_sem.specs.Semaphore.{is_queued, numbered}
 use Rattle.token_sem.specs.Entries.{next_of, owner_from, lists_of, put_entry}
-use Rattle.token_sem.proofs.Tabled.{next-among, owner-placed, owner-ranks, freed-state, placed-among}
+use Rattle.token_sem.proofs.Tabled.{next-among, owner-placed, owner-ranks, freed-state, freed-none, next-nobody, placed-among}
 use Rattle.token_sem.proofs.table.Entries.free.Goals as goal
+
+pub returns-then-not-waits : goal.returns-then-not-waits
+returns-then-not-waits c =
+    let t = c.args.self.now in
+    let nobody : list_any is_queued t.list ≡ false = sym c.waits.ensures ∙ c.if-not-waits.true in
+    let none : next_of t.named c.args.token t.list ≡ None = next-nobody t.named c.args.token t.list nobody in
+    let same = freed-none t.named c.args.token c.args.now t.list none in
+    record { grant = same.1; state = ap (λ (l : List SemEntry). record t { list = l }) same.0 }
 
 pub put-requires-clause-placed : goal.put-requires-clause-placed
 put-requires-clause-placed c =

@@ -3,8 +3,11 @@ use Rattle.token_sem.specs.declared.entry.Grant.{Grant}
 use Rattle.token_sem.specs.Semaphore.{without}
 use Rattle.token_sem.specs.Entries.{grant_of}
 use Rattle.token_sem.proofs.Keeping.{among-find}
-use Rattle.token_sem.proofs.Tabled.{token-lists, left-some, next-without, freed-none, freed-told}
+use Rattle.token_sem.proofs.Tabled.{token-lists, left-some, next-without, freed-none, freed-told, told-nobody}
 use Rattle.token_sem.proofs.table.Entries.heir.Goals as goal
+
+pub returns-then-not-waits : goal.returns-then-not-waits
+returns-then-not-waits c = told-nobody c.args.self.now.named c.args.entry.now c.args.self.now.list (sym c.waits.ensures ∙ c.if-not-waits.true)
 
 pub next_of-requires : goal.next_of-requires
 next_of-requires c = token-lists c.args.self.now.named c.args.entry.now.token c.in-Some.token c.requires.placed (sym c.in-Some.ensures)
