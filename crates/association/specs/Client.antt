@@ -29,6 +29,10 @@ pub record Client : Type 0 where
   pub waiting_room : ℕ
   pub asked_room : ℕ
 
+-- a client of that row that has room for so many outputs, requests that wait and requests of the server
+abbrev pub row_with_room : ClientRow → ℕ → ℕ → ℕ → Client
+row_with_room row outputs waiting asked = record { row = row; output_room = outputs; waiting_room = waiting; asked_room = asked }
+
 -- the negotiated values, where the association is open
 abbrev pub negotiated_of : Association → Option Negotiated
 negotiated_of Idle = None

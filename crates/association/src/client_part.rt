@@ -2,7 +2,7 @@ ghost use Rattle.std.specs.Prelude.{◌≡◌, ◌≢◌, ◌↔◌, ◌<◌, �
 ghost use Rattle.std.specs.Option.{option_copied};
 ghost use Rattle.association.specs.Admission.{admission, row_with_admitted};
 ghost use Rattle.association.specs.Asked.{asked_of, is_asked, is_open, AskedAreNumbered};
-ghost use Rattle.association.specs.Client.{closed_row, drained_row, negotiated_of, new_row, next_ask, opened_row, row_settled, row_with_asked, row_with_output, row_with_waiting, row_without_waiting};
+ghost use Rattle.association.specs.Client.{closed_row, drained_row, negotiated_of, new_row, next_ask, opened_row, row_settled, row_with_asked, row_with_output, row_with_room, row_with_waiting, row_without_waiting};
 ghost use Rattle.association.specs.Negotiation.{negotiation, values_of};
 ghost use Rattle.association.specs.Waiting.{is_waiting, AreDistinct};
 
@@ -96,12 +96,7 @@ impl ClientPart {
     /// The part of a client of that number, with which there is no association. Nothing waits,
     /// nothing is asked, and there is no room for anything.
     pub fn new(alloc: Global, client: u32, device: Constants) -> ClientPart
-        ensures { result ≡ record {
-          row = new_row client device;
-          output_room = 0;
-          waiting_room = 0;
-          asked_room = 0;
-        } }
+        ensures { result ≡ row_with_room (new_row client device) 0 0 0 }
     {
         ClientPart {
             client,

@@ -1,8 +1,8 @@
 //! The part of a client, and what becomes of it.
 
-ghost use Rattle.std.specs.Prelude.{◌≡◌, ◌≤◌, ◌-◌, nat_le, length, is_none, is_some, true, false, OnOk, OnErr, OnSome, IfOk, IsOk, IfNone, IfSome, [], ◌∷◌, Option, None, Some};
+ghost use Rattle.std.specs.Prelude.{◌≡◌, ◌≤◌, ◌-◌, is_none, is_some, true, false, OnOk, OnErr, OnSome, IfOk, IsOk, IfNone, IfSome, Option, None, Some};
 ghost use Rattle.association.specs.Asked.{is_open};
-ghost use Rattle.association.specs.Client.{closed_row, drained_row, new_row, next_ask};
+ghost use Rattle.association.specs.Client.{drained_row, new_row, next_ask, row_with_room};
 ghost use Rattle.association.specs.Negotiation.{negotiation};
 ghost use Rattle.mms_pdu.specs.Pdus.{pdu_octets};
 ghost use Rattle.mms_types.specs.Serves.{Serves};
@@ -269,7 +269,7 @@ impl Client {
         ensures octets { IfOk result (λ ready. IfSome ready (λ octets.
             octets ≡ pdu_octets (pdu.ConfirmedResponse invoke answer.now))) }
         ensures room { IfOk result (λ ready. OnSome ready (self.new
-            ≡ record { row = self.old.row; output_room = 1; waiting_room = 0; asked_room = 0 })) }
+            ≡ row_with_room self.old.row 1 0 0)) }
         ensures refused { IfOk result (λ ready. IfNone ready (self.new
             ≡ settled (felt (refuses invoke other_error) self.old.row))) }
         ensures kept { OnErr result (self.new ≡ self.old) }
@@ -402,13 +402,7 @@ impl Client {
     /// Makes room for so many outputs and requests that wait, in place of the room that there was. It takes no memory
     /// where there is room for as many.
     pub fn reserve(&mut self, outputs: usize, waiting: usize) -> Result<(), Memory>
-        ensures made { OnOk result (self.new
-            ≡ record {
-              row = self.old.row;
-              output_room = outputs;
-              waiting_room = waiting;
-              asked_room = 0;
-            }) }
+        ensures made { OnOk result (self.new ≡ row_with_room self.old.row outputs waiting 0) }
         ensures kept { OnErr result (self.new ≡ self.old) }
         ensures enough { outputs ≤ self.old.output_room → waiting ≤ self.old.waiting_room
             → IsOk result }
@@ -468,13 +462,7 @@ impl Client {
     /// Makes room for so many outputs and for one request of the server, in place of the room that there was. Without
     /// memory there is none.
     pub fn reserve_to_ask(&mut self, outputs: usize) -> Result<(), Memory>
-        ensures made { OnOk result (self.new
-            ≡ record {
-              row = self.old.row;
-              output_room = outputs;
-              waiting_room = 0;
-              asked_room = 1;
-            }) }
+        ensures made { OnOk result (self.new ≡ row_with_room self.old.row outputs 0 1) }
         ensures none { OnErr result (self.new ≡ settled self.old.row) }
     {
         self.part.release();
@@ -494,12 +482,8 @@ impl Client {
         requires open { is_open self.old.row.association ≡ true }
         requires number { next_ask self.old.row ≡ Some self.old.row.next_invoke }
         requires octets { octets ≡ asking_octets self.old.row.next_invoke kind domain }
-        ensures { self.new ≡ record {
-          row = felt (Asks kind domain) self.old.row;
-          output_room = self.old.output_room - 1;
-          waiting_room = self.old.waiting_room;
-          asked_room = self.old.asked_room - 1;
-        } }
+        ensures { self.new ≡ row_with_room (felt (Asks kind domain) self.old.row)
+            (self.old.output_room - 1) self.old.waiting_room (self.old.asked_room - 1) }
     {
         let _number = self.part.ask(kind, domain);
         self.part.push(What::Octets(octets));

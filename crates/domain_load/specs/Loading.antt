@@ -122,3 +122,8 @@ brings name parts = map (λ part. reply.Segment name part.0 part.1) parts
 
 abbrev pub brought : List (List ℕ × Bool) → List (List ℕ)
 brought parts = map (λ part. part.0) parts
+
+-- the domains after a load that began, brought these segments and ended
+abbrev pub after_load : ℕ → InitiateDownloadSequence → List (List ℕ × Bool) → Rows → Rows
+after_load client request parts rows =
+    reply_after (reply.Ended request.domain) (replies_after (brings request.domain parts) (initiate_after client request rows))

@@ -4,10 +4,9 @@ ghost use Rattle.std.specs.Prelude.{◌≡◌, ◌≤◌, ℕ, Bool, List, None,
 ghost use Rattle.std.specs.List.{IsDistinct};
 ghost use Rattle.std.specs.Map.{keys_of};
 ghost use Rattle.mms_types.specs.declared.asked.Reply.{Reply};
-ghost use Rattle.mms_types.specs.declared.asked.Reply.TheVariants.{Ended};
 ghost use Rattle.mms_types.specs.declared.domain.InitiateDownloadSequence.{InitiateDownloadSequence};
 ghost use Rattle.domain_load.specs.Domains.{Rows, is_there, name_eq, named, without, without_loads};
-ghost use Rattle.domain_load.specs.Loading.{answers_load, asked_next, begun, brings, brought, domain_of, goes_on, initiate_after, initiate_cause, is_end, replies_after, reply_after};
+ghost use Rattle.domain_load.specs.Loading.{after_load, answers_load, asked_next, begun, brought, domain_of, goes_on, initiate_after, initiate_cause, is_end, reply_after};
 ghost use Rattle.domain_load.specs.Segmented.{most_octets, octets_in};
 ghost use Rattle.domain_load.specs.Standing.{is_live, is_loaded_by};
 ghost use Rattle.domain_load.specs.declared.domain.Domain.{Domain};
@@ -49,8 +48,7 @@ pub fn a_loaded_domain_is_what_came()
     ensures { (client : ℕ) (left : Bool) (request : InitiateDownloadSequence) (rows : Rows)
         (parts : List (List ℕ × Bool)) → initiate_cause left request rows ≡ None
         → octets_in (brought parts) ≤ most_octets
-        → named request.domain (reply_after (Ended request.domain)
-        (replies_after (brings request.domain parts) (initiate_after client request rows)))
+        → named request.domain (after_load client request parts rows)
         ≡ Some (record (begun client request) { loader = None; segments = brought parts }) }
 {}
 

@@ -125,6 +125,15 @@ ask_of client invoke token asked = record {
   preempt = asked.preempt;
 }
 
+-- what a client asks of a pool: any of its tokens, or the one that it names
+abbrev pub pool_ask : ℕ → ℕ → TakeControl → pool.Pool → Ask
+pool_ask client invoke asked p = ask_of client invoke (place_asked asked.token p.tokens) asked
+
+-- and what it is granted, where a token is to be had
+abbrev pub pool_grant : ℕ → ℕ → TakeControl → pool.Pool → Grant
+pool_grant client invoke asked p =
+    pool.grant_to (p.made + 1) (pool_ask client invoke asked p) (pool.token_got asked.preempt (place_asked asked.token p.tokens) p)
+
 abbrev pub with_take : ℕ → ℕ → TakeControl → Moment → Semaphore → Semaphore
 with_take client invoke asked now (Token s) = Token (after_take s (ask_of client invoke None asked) now)
 with_take client invoke asked now (Pool p) = Pool (pool.after_take p (ask_of client invoke (place_asked asked.token p.tokens) asked) now)

@@ -12,7 +12,7 @@ ghost use Rattle.mms_time.specs.Deadlines.{NamedDeadline, all_deadlines, due_soo
 ghost use Rattle.mms_time.specs.Entered.{IsTaken, MayBePreempted};
 ghost use Rattle.mms_time.specs.Semaphores.{IsSound, Rows, entries_in, made_in};
 ghost use Rattle.pool_sem.specs.Pools as pool;
-ghost use Rattle.mms_time.specs.Services.{ask_of, place_asked, relinquish_conditions_in, relinquish_grant_in, take_conditions_in, take_told_in, with_take};
+ghost use Rattle.mms_time.specs.Services.{ask_of, place_asked, pool_ask, pool_grant, relinquish_conditions_in, relinquish_grant_in, take_conditions_in, take_told_in, with_take};
 ghost use Rattle.mms_time.specs.declared.row.Semaphore.{Semaphore as AnySemaphore};
 ghost use Rattle.mms_time.specs.declared.row.Semaphore.TheVariants.{Token, Pool};
 
@@ -68,12 +68,9 @@ pub fn a_take_is_as_told()
         else Waits (s.made + 1)) }
     ensures pools { (p : pool.Pool) (client invoke : ℕ) (asked : TakeControl) (now : Instant)
         → first_of (take_conditions_in client asked (Pool p)) ≡ None
-        → pool.take_answer p (ask_of client invoke (place_asked asked.token p.tokens) asked) now
+        → pool.take_answer p (pool_ask client invoke asked p) now
         ≡ Ok (if pool.has_token asked.preempt (place_asked asked.token p.tokens) p
-        then Granted (pool.grant_to (p.made + 1)
-        (ask_of client invoke (place_asked asked.token p.tokens) asked)
-        (pool.token_got asked.preempt (place_asked asked.token p.tokens) p))
-        else Waits (p.made + 1)) }
+        then Granted (pool_grant client invoke asked p) else Waits (p.made + 1)) }
 {}
 
 /// A request for a token that nothing stands against enters the client into the semaphore, under the next number. Where

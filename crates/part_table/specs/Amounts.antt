@@ -1,6 +1,6 @@
 -- An example: an object whose parts are numbers, of which an event moves an amount from one to another. Where one of the two is odd, the amount goes to the third part, so that
 -- which parts an event touches depends on their numbers.
-use Rattle.std.specs.Prelude.{◌≡◌, ◌⊎◌, ℕ, ◌+◌, ◌-◌, ◌%◌, ◌^◌, Bool, true, false, not, ◌&&◌, ◌||◌, ◌==◌, nat_le, nat_lt, if◌then◌else◌, Option, Some, List, [], ◌∷◌, slice_index, slice_set, refl}
+use Rattle.std.specs.Prelude.{◌≡◌, ◌⊎◌, ℕ, ◌+◌, ◌-◌, ◌%◌, ◌^◌, Bool, true, false, not, ◌&&◌, ◌||◌, ◌==◌, nat_le, nat_lt, if◌then◌else◌, Option, Some, List, [], ◌∷◌, ◌++◌, slice_index, slice_set, refl}
 use Rattle.std.proofs.Common.{sym, ap, ◌∙◌, inl, inr}
 use native.Mathlib.Decide.{ℕ_discrete}
 use Rattle.std.proofs.lemmas.Option.{get_or_from_slice_get}
@@ -45,6 +45,14 @@ moved_in_hand move hand = transferred_in_hand hand move.from (target_in_hand mov
 -- the two parts that a move names are held, and the one to which the amount goes
 abbrev pub holds_touched : Move → List (Option ℕ) → Type 0
 holds_touched move hand = IsHeld hand move.from × IsHeld hand move.to × IsHeld hand (target_in_hand move hand)
+
+-- a pass that made a move at that place, behind that history, and holds again what it held
+abbrev pub with_move : List (ℕ × Move) → Move → ℕ → Known ℕ Move → Known ℕ Move
+with_move before move place pass = record pass { seen = before ++ (pass.by, move) ∷ []; own = pass.own ++ place ∷ []; left = pass.left - 1 }
+
+-- a pass that took parts, or lost a claim, and is else as it was
+abbrev pub IsTaking : Known ℕ Move → Known ℕ Move → Type 0
+IsTaking was is = is ≡ record was { lost = is.lost; taken = is.taken; hand = is.hand; order = is.order }
 
 -- a part that a move touches, where the numbers are these: the two that it names, and the one to which the amount goes
 abbrev pub IsTouched : Move → List ℕ → ℕ → Type 0

@@ -1,5 +1,5 @@
 -- A table of parts and the passes of its callers, as contracts see them (this profile's choice).
-use Rattle.std.specs.Prelude.{◌≡◌, ℕ, ◌+◌, ◌*◌, ◌^◌, ◌<◌, ◌≤◌, List, [], Option, None, filter, length, not, replicate, ◌==◌}
+use Rattle.std.specs.Prelude.{◌≡◌, ℕ, ◌+◌, ◌-◌, ◌*◌, ◌^◌, ◌<◌, ◌≤◌, List, [], ◌∷◌, ◌++◌, Option, None, Some, filter, length, not, replicate, slice_set, ◌==◌}
 use Rattle.atomic_table.specs.Seated.{TableId}
 use Rattle.part_table.specs.History.{places_of, IsMade}
 use Rattle.part_table.specs.Held.{places_held}
@@ -33,6 +33,35 @@ abbrev pub nothing : {T : Type 0} → ℕ → List (Option T)
 nothing parts = replicate parts None
 
 module _ {T E : Type 0} where
+  -- a pass that took a part, of that value
+  abbrev pub with_part : ℕ → T → Known T E → Known T E
+  with_part part value pass = record pass {
+    taken = slice_set pass.taken part (Some value);
+    hand = slice_set pass.hand part (Some value);
+    order = part ∷ pass.order;
+  }
+
+  -- a pass that gave a part back
+  abbrev pub without_part : ℕ → Known T E → Known T E
+  without_part part pass = record pass {
+    taken = slice_set pass.taken part None;
+    hand = slice_set pass.hand part None;
+    order = without part pass.order;
+  }
+
+  -- a pass that lost a claim of a part to that caller
+  abbrev pub with_claim_lost : ℕ → ℕ → Known T E → Known T E
+  with_claim_lost part owner pass = record pass { lost = pass.lost ++ (part, owner) ∷ [] }
+
+  -- a pass that committed an event at that place, behind that history: what its hand has is what it took
+  abbrev pub with_commit : List (ℕ × E) → E → ℕ → Known T E → Known T E
+  with_commit before event place pass = record pass {
+    seen = before ++ (pass.by, event) ∷ [];
+    own = pass.own ++ place ∷ [];
+    left = pass.left - 1;
+    taken = pass.hand;
+  }
+
   -- the pass of a caller at the start
   abbrev pub newcomer : Opened T → ℕ → Known T E
   newcomer table by = record {

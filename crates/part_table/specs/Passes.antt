@@ -3,9 +3,10 @@ use Rattle.std.specs.Prelude.{◌≡◌, ℕ, ◌+◌, ◌≤◌, List, [], ◌�
 use Rattle.atomic_table.specs.Seated.{TableId}
 use Rattle.atomic_table.specs.Table.{Me}
 use Rattle.part_table.specs.declared.view.Account.{Account}
+use Rattle.part_table.specs.declared.view.Setting.{Setting}
 use Rattle.part_table.specs.declared.view.View.{View}
 use Rattle.part_table.specs.Held.{held_at}
-use Rattle.part_table.specs.Known.{Known, IsTrueOf}
+use Rattle.part_table.specs.Known.{Known, Opened, IsTrueOf}
 use Rattle.part_table.specs.Lines.{slot_of}
 
 -- the number, the own places and the commits left of the first account
@@ -21,6 +22,14 @@ abbrev pub left_of : List Account → ℕ
 left_of [] = 0
 left_of (a ∷ accounts) = a.left
 
+-- the account of one caller alone
+abbrev pub IsAlone : List Account → Type 0
+IsAlone accounts = accounts ≡ record { number = number_of accounts; own = own_of accounts; left = left_of accounts } ∷ []
+
+-- and of the one that has that number
+abbrev pub IsAloneAs : ℕ → List Account → Type 0
+IsAloneAs by accounts = accounts ≡ record { number = by; own = own_of accounts; left = left_of accounts } ∷ []
+
 -- the slots of these parts, each empty
 abbrev pub empties : {S : Type 0} → List ℕ → List (ℕ × Option S)
 empties [] = []
@@ -32,6 +41,10 @@ times i [] = 0
 times i (j ∷ numbers) = (if i == j then 1 else 0) + times i numbers
 
 module _ {T : Type 0} where
+  -- the table of that number that was set up so, as contracts see it
+  abbrev pub table_of : TableId → Setting T → Opened T
+  table_of id setting = record { id = id; opening = setting.opening; callers = setting.callers; quota = setting.quota }
+
   -- 1 where the part is held
   abbrev pub one_if_held : Option T → ℕ
   one_if_held held = if is_some held then 1 else 0

@@ -43,6 +43,10 @@ module _ {T E : Type 0} where
   abbrev pub starting : Setting T → List Account → View T E
   starting setting accounts = record { setting = setting; callers = accounts; seen = []; told = []; held = nothing (length setting.opening); lost = [] }
 
+  -- a view that lost a claim of a part to that caller
+  abbrev pub with_loss : ℕ → ℕ → View T E → View T E
+  with_loss part owner v = record v { lost = v.lost ++ (part, owner) ∷ [] }
+
   -- the first one, which keeps all numbers
   abbrev pub founder : Key T → View T E
   founder key = starting (setting_of key) (accounts_from key.quota 0 key.callers)

@@ -3,10 +3,10 @@
 //! to what the event touches, so that a caller learns what it has to take while it holds parts.
 ghost use Rattle.std.specs.Prelude.{◌≡◌, ◌≢◌, ◌+◌, ◌-◌, ◌^◌, ◌<◌, ◌≤◌, ◌++◌, ◌∷◌, ◌⊎◌, [], true, ℕ, List, None, Some, IfOk, IfErr, OnErr, is_some, length, map, slice_get, slice_set};
 ghost use Rattle.std.specs.List.{range_with_len};
-ghost use Rattle.part_table.specs.Amounts.{IsShown, IsTouched, can_move, holds_touched, moved, moved_in_hand, target, target_in_hand};
+ghost use Rattle.part_table.specs.Amounts.{IsShown, IsTaking, IsTouched, can_move, holds_touched, moved, with_move, moved_in_hand, target, target_in_hand};
 ghost use Rattle.part_table.specs.Held.{held_at};
 ghost use Rattle.part_table.specs.History.{StartsWith, replayed};
-ghost use Rattle.part_table.specs.Known.{HoldsNothing, newcomer, nothing};
+ghost use Rattle.part_table.specs.Known.{HoldsNothing, newcomer, nothing, with_claim_lost};
 
 use crate::{
     Hand, Held, Memory, Object, PartTable, Pass, a_pass_has_a_place_for_each_part,
@@ -94,7 +94,7 @@ pub fn visit(table: &PartTable<Amounts>, pass: &mut Pass<Amounts>, part: u32) ->
     ensures seen { IfOk result (λ _. (pass.new ≡ record pass.old { seen = pass.new.seen })
         × StartsWith pass.new.seen pass.old.seen) }
     ensures lost { IfErr result (λ held. (held.by ≢ pass.old.by)
-        × (pass.new ≡ record pass.old { lost = pass.old.lost ++ (part, held.by) ∷ [] })) }
+        × (pass.new ≡ with_claim_lost part held.by pass.old)) }
 {
     a_pass_has_a_place_for_each_part(pass);
     a_pass_has_its_parts_in_order(pass);
@@ -118,12 +118,11 @@ pub fn take(table: &PartTable<Amounts>, pass: &mut Pass<Amounts>, part: u32) -> 
     ensures held { IfOk result (λ _. (is_some (held_at pass.new.taken part) ≡ true)
         × (pass.new.lost ≡ pass.old.lost)) }
     ensures lost { IfErr result (λ held. (held.by ≢ pass.old.by)
-        × (pass.new ≡ record pass.old { lost = pass.old.lost ++ (part, held.by) ∷ [] })) }
+        × (pass.new ≡ with_claim_lost part held.by pass.old)) }
     ensures others { (i : ℕ) (x : ℕ) → held_at pass.old.taken i ≡ Some x
         → held_at pass.new.taken i ≡ Some x }
     ensures hand { pass.new.hand ≡ pass.new.taken }
-    ensures kept { pass.new ≡ record pass.old
-        { lost = pass.new.lost; taken = pass.new.taken; hand = pass.new.hand; order = pass.new.order } }
+    ensures kept { IsTaking pass.old pass.new }
 {
     if pass.hand().holds(part) {
         return Ok(());
@@ -209,15 +208,11 @@ fn take_target(
     ensures touched { IfOk result (λ _. holds_touched event.now pass.new.taken
         × (pass.new.lost ≡ pass.old.lost)) }
     ensures lost { IfErr result (λ held. (held.by ≢ pass.old.by)
-        × (pass.new ≡ record pass.old {
-          lost = pass.old.lost
-              ++ (target_in_hand event.now pass.old.taken, held.by) ∷ [];
-        })) }
+        × (pass.new ≡ with_claim_lost (target_in_hand event.now pass.old.taken) held.by pass.old)) }
     ensures others { (i : ℕ) (x : ℕ) → held_at pass.old.taken i ≡ Some x
         → held_at pass.new.taken i ≡ Some x }
     ensures hand { pass.new.hand ≡ pass.new.taken }
-    ensures kept { pass.new ≡ record pass.old
-        { lost = pass.new.lost; taken = pass.new.taken; hand = pass.new.hand; order = pass.new.order } }
+    ensures kept { IsTaking pass.old pass.new }
 {
     let Some(a) = pass.hand().get(event.from).copied() else {
         unreachable!()
@@ -250,8 +245,7 @@ pub fn take_touched(
     ensures others { (i : ℕ) (x : ℕ) → held_at pass.old.taken i ≡ Some x
         → held_at pass.new.taken i ≡ Some x }
     ensures hand { pass.new.hand ≡ pass.new.taken }
-    ensures kept { pass.new ≡ record pass.old
-        { lost = pass.new.lost; taken = pass.new.taken; hand = pass.new.hand; order = pass.new.order } }
+    ensures kept { IsTaking pass.old pass.new }
 {
     take(table, pass, event.from)?;
     take(table, pass, event.to)?;
@@ -276,20 +270,11 @@ pub fn make(
         × (event.now.to < parts) }
     requires left { 0 < pass.old.left }
     ensures made { IfOk result (λ place. (h : List (ℕ × Move))
-        × (pass.new ≡ record pass.old {
-          seen = h ++ (pass.old.by, event.now)
-              ∷ [];
-          own = pass.old.own ++ place ∷ [];
-          left = pass.old.left - 1;
-        })
+        × (pass.new ≡ with_move h event.now place pass.old)
         × StartsWith h pass.old.seen × (place ≡ length h + 1)) }
     ensures lost { IfErr result (λ held. (held.by ≢ pass.old.by)
         × ((part : ℕ) × IsTouched event.now (replayed moved table.now.opening pass.new.seen) part
-        × (pass.new ≡ record pass.old {
-          seen = pass.new.seen;
-          lost = pass.old.lost
-              ++ (part, held.by) ∷ [];
-        }))) }
+        × (pass.new ≡ record (with_claim_lost part held.by pass.old) { seen = pass.new.seen }))) }
     ensures known { OnErr result (StartsWith pass.new.seen pass.old.seen) }
 {
     if let Err(held) = take_touched(table, pass, event) {

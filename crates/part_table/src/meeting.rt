@@ -1,8 +1,8 @@
-ghost use Rattle.std.specs.Prelude.{◌≡◌, ◌+◌, ◌-◌, ◌<◌, [], ◌∷◌, ◌++◌, ℕ, List, Some, length, slice_get};
+ghost use Rattle.std.specs.Prelude.{◌≡◌, ◌+◌, ◌-◌, ◌<◌, ℕ, List, Some, length, slice_get};
 ghost use Rattle.part_table.specs.Held.{IsHandOf};
 ghost use Rattle.part_table.specs.History.{StartsWith, replayed};
 ghost use Rattle.part_table.specs.Gathered.{AreAll, HasMetEach, HaveGathered};
-ghost use Rattle.part_table.specs.Known.{IsTrueOf, Known};
+ghost use Rattle.part_table.specs.Known.{IsTrueOf, Known, with_commit};
 
 use crate::object::Object;
 use crate::pass::{Pass, a_pass_knows_its_own_places};
@@ -20,14 +20,7 @@ impl<O: Object> PartTable<O> {
         requires left { 0 < pass.old.left }
         requires may { O.may_make pass.old.by event.now }
         ensures added { (h : List (ℕ × O.Event))
-            × (pass.new ≡ record pass.old {
-              seen = h ++ (pass.old.by, event.now)
-                  ∷ [];
-              own = pass.old.own ++ result
-                  ∷ [];
-              left = pass.old.left - 1;
-              taken = pass.old.hand;
-            })
+            × (pass.new ≡ with_commit h event.now result pass.old)
             × StartsWith h pass.old.seen × IsHandOf pass.old.taken
             (replayed O.step pass.old.table.opening h) }
         ensures place { result ≡ length pass.new.seen }

@@ -2,7 +2,7 @@ ghost use Rattle.std.specs.Prelude.{◌≡◌, ◌++◌, ◌∷◌, ◌-◌, [],
 ghost use Rattle.part_table.specs.Held.{held_at, unboxed};
 ghost use Rattle.part_table.specs.Known.{IsTrueOf, newcomer, nothing};
 ghost use Rattle.part_table.specs.Plays.{starting};
-ghost use Rattle.part_table.specs.Passes.{empties, one_if_held, times};
+ghost use Rattle.part_table.specs.Passes.{empties, one_if_held, table_of, times};
 
 use crate::hand::Hand;
 use crate::memory::Memory;
@@ -75,12 +75,7 @@ impl<O: Object> Pass<O> {
         requires few { (parts ≤ 256) × (by < seat.me.0.setting.callers)
             × (seat.me.0.setting.callers ≤ 65) }
         ensures { IfOk result (λ pass. pass
-            ≡ newcomer (record {
-              id = seat.table_id;
-              opening = seat.me.0.setting.opening;
-              callers = seat.me.0.setting.callers;
-              quota = seat.me.0.setting.quota;
-            }) by) }
+            ≡ newcomer (table_of seat.table_id seat.me.0.setting) by) }
     {
         let hand = Hand::of(empty_places(alloc, parts)?);
         let order = Vec::with_capacity(alloc, parts)?;

@@ -1,14 +1,12 @@
 //! The steps of a seat at the table.
-ghost use Rattle.std.specs.Prelude.{◌≡◌, ◌≢◌, ◌+◌, ◌<◌, ◌≤◌, [], ◌∷◌, ◌++◌, ℕ, List, Option, Some, None, length, IfOk, IfErr, slice_set};
-ghost use Rattle.std.specs.Box.{box_value};
-ghost use Rattle.std.specs.Option.{option_map};
+ghost use Rattle.std.specs.Prelude.{◌≡◌, ◌≢◌, ◌+◌, ◌<◌, ◌≤◌, [], ◌∷◌, ℕ, List, Option, Some, None, length, IfOk, IfErr, slice_set};
 ghost use Rattle.atomic_table.specs.Table.{rest};
 ghost use Rattle.part_table.specs.Held.{held_at};
 ghost use Rattle.part_table.specs.History.{BeginsEach};
 ghost use Rattle.part_table.specs.Known.{IsTrueOf};
 ghost use Rattle.part_table.specs.Lines.{slot_of};
-ghost use Rattle.part_table.specs.Passes.{known, number_of, own_of, left_of};
-ghost use Rattle.part_table.specs.Plays.{Informed, SeesTo, committed, joined, note_of};
+ghost use Rattle.part_table.specs.Passes.{IsAlone, IsAloneAs, known, number_of, left_of};
+ghost use Rattle.part_table.specs.Plays.{Informed, SeesTo, committed, joined, note_of, with_loss};
 ghost use Rattle.part_table.specs.Rule.{setting_of};
 ghost use Rattle.part_table.specs.Tables.{IsTable};
 ghost use Rattle.atomic_table.specs.Seated.{TableId};
@@ -42,13 +40,7 @@ pub(crate) fn claim<O: Object>(
     requires table { seat.old.table_id ≡ table.now.shared.table_id }
     requires sizes { IsTable table.now.shared.table_id table.now.shared.key }
     requires part { part < length (setting_of table.now.shared.key).opening }
-    requires number { seat.old.me.0.callers
-        ≡ record {
-          number = by;
-          own = own_of seat.old.me.0.callers;
-          left = left_of
-              seat.old.me.0.callers;
-        } ∷ [] }
+    requires number { IsAloneAs by seat.old.me.0.callers }
     requires few { seat.old.me.0.setting.callers ≤ 65 }
     requires by { by < seat.old.me.0.setting.callers }
     requires free { held_at seat.old.me.0.held part ≡ None }
@@ -59,11 +51,7 @@ pub(crate) fn claim<O: Object>(
           (slot_of part, None) ∷ seat.old.me.1,
         )) }
     ensures lost { IfErr result (λ held. (held.by ≢ by) × (held.by < seat.old.me.0.setting.callers)
-        × (seat.new.me ≡ (
-          record seat.old.me.0
-              { lost = seat.old.me.0.lost ++ (part, held.by) ∷ [] },
-          seat.old.me.1,
-        ))) }
+        × (seat.new.me ≡ (with_loss part held.by seat.old.me.0, seat.old.me.1))) }
 {
     let shared = &table.shared;
     let word = owner_word_at(part as usize);
@@ -110,12 +98,7 @@ pub(crate) fn release<O: Object>(
 pub(crate) fn look<O: Object>(table: &Slots<O>, seat: &mut PartSeat<O>) -> u64
     requires table { seat.old.table_id ≡ table.now.shared.table_id }
     requires words { 0 < table.now.shared.table_id.words }
-    requires number { seat.old.me.0.callers
-        ≡ record {
-          number = number_of seat.old.me.0.callers;
-          own = own_of seat.old.me.0.callers;
-          left = left_of seat.old.me.0.callers;
-        } ∷ [] }
+    requires number { IsAlone seat.old.me.0.callers }
     ensures same { (seat.new.table_id ≡ seat.old.table_id) × (seat.new.id ≡ seat.old.id) }
     ensures seen { (h : List (ℕ × O.Event))
         × (seat.new.me ≡ (record seat.old.me.0 { seen = h }, seat.old.me.1)) × (result ≡ length h)
@@ -132,12 +115,7 @@ fn add_chosen<O: Object, C: Chosen<O::Event>>(
     requires chosen { C.chosen ≡ event.now ∷ [] }
     requires table { seat.old.table_id ≡ table.now.shared.table_id }
     requires words { 0 < table.now.shared.table_id.words }
-    requires number { seat.old.me.0.callers
-        ≡ record {
-          number = number_of seat.old.me.0.callers;
-          own = own_of seat.old.me.0.callers;
-          left = left_of seat.old.me.0.callers;
-        } ∷ [] }
+    requires number { IsAlone seat.old.me.0.callers }
     requires left { 0 < left_of seat.old.me.0.callers }
     requires enough { O.suffices event.now seat.old.me.0.held }
     requires may { O.may_make (number_of seat.old.me.0.callers) event.now }
@@ -156,12 +134,7 @@ fn add_chosen<O: Object, C: Chosen<O::Event>>(
 pub(crate) fn add<O: Object>(table: &Slots<O>, seat: &mut PartSeat<O>, event: &O::Event) -> u64
     requires table { seat.old.table_id ≡ table.now.shared.table_id }
     requires words { 0 < table.now.shared.table_id.words }
-    requires number { seat.old.me.0.callers
-        ≡ record {
-          number = number_of seat.old.me.0.callers;
-          own = own_of seat.old.me.0.callers;
-          left = left_of seat.old.me.0.callers;
-        } ∷ [] }
+    requires number { IsAlone seat.old.me.0.callers }
     requires left { 0 < left_of seat.old.me.0.callers }
     requires enough { O.suffices event.now seat.old.me.0.held }
     requires may { O.may_make (number_of seat.old.me.0.callers) event.now }
@@ -205,20 +178,8 @@ pub(crate) fn inform<O: Object>(table: &Slots<O>, a: &mut PartSeat<O>, b: &mut P
     requires tables { (a.old.table_id ≡ table.now.shared.table_id)
         × (b.old.table_id ≡ table.now.shared.table_id) }
     requires words { 0 < table.now.shared.table_id.words }
-    requires a_number { a.old.me.0.callers
-        ≡ record {
-          number = number_of a.old.me.0.callers;
-          own = own_of a.old.me.0.callers;
-          left =
-              left_of a.old.me.0.callers;
-        } ∷ [] }
-    requires b_number { b.old.me.0.callers
-        ≡ record {
-          number = number_of b.old.me.0.callers;
-          own = own_of b.old.me.0.callers;
-          left =
-              left_of b.old.me.0.callers;
-        } ∷ [] }
+    requires a_number { IsAlone a.old.me.0.callers }
+    requires b_number { IsAlone b.old.me.0.callers }
     ensures same { (a.new.table_id ≡ a.old.table_id) × (b.new.table_id ≡ b.old.table_id) }
     ensures a { Informed O.step O.may_make a.old.me b.old.me.0 a.new.me }
     ensures b { Informed O.step O.may_make b.old.me a.old.me.0 b.new.me }

@@ -1,8 +1,8 @@
-ghost use Rattle.std.specs.Prelude.{◌≡◌, ◌≢◌, ◌+◌, ◌-◌, ◌^◌, ◌<◌, ◌≤◌, true, ◌∷◌, [], ◌++◌, List, Some, None, IfOk, IfErr, is_some, length, map, replicate, slice_set, vec_capacity, vec_len};
+ghost use Rattle.std.specs.Prelude.{◌≡◌, ◌≢◌, ◌+◌, ◌-◌, ◌^◌, ◌<◌, ◌≤◌, true, [], ◌++◌, Some, None, IfOk, IfErr, is_some, length, map, replicate, vec_capacity, vec_len};
 ghost use Rattle.std.specs.Box.{box_value};
 ghost use Rattle.std.specs.List.{range_with_len};
 ghost use Rattle.part_table.specs.Held.{held_at};
-ghost use Rattle.part_table.specs.Known.{IsInHand, newcomer, without};
+ghost use Rattle.part_table.specs.Known.{IsInHand, newcomer, with_claim_lost, with_part, without_part};
 ghost use Rattle.part_table.specs.Lines.{laid_apart, owner_word};
 ghost use Rattle.part_table.specs.Plays.{founder};
 ghost use Rattle.part_table.specs.Rule.{setting_of};
@@ -143,14 +143,9 @@ impl<O: Object> PartTable<O> {
         requires part { part < length self.now.opening }
         requires free { held_at pass.old.taken part ≡ None }
         ensures taken { IfOk result (λ _. (value : O.Part)
-            × (pass.new ≡ record pass.old {
-              taken = slice_set pass.old.taken part
-                  (Some value);
-              hand = slice_set pass.old.hand part (Some value);
-              order = part ∷ pass.old.order;
-            })) }
+            × (pass.new ≡ with_part part value pass.old)) }
         ensures lost { IfErr result (λ held. (held.by ≢ pass.old.by) × (held.by < self.now.callers)
-            × (pass.new ≡ record pass.old { lost = pass.old.lost ++ (part, held.by) ∷ [] })) }
+            × (pass.new ≡ with_claim_lost part held.by pass.old)) }
     {
         let value = claim::<O>(&self.table, &mut pass.seat, pass.by, part)?;
         pass.hand.put(part, value);
@@ -165,12 +160,7 @@ impl<O: Object> PartTable<O> {
         requires hand { IsInHand pass.old }
         requires held { is_some (held_at pass.old.taken part) ≡ true }
         requires unchanged { held_at pass.old.hand part ≡ held_at pass.old.taken part }
-        ensures given { pass.new ≡ record pass.old {
-          taken = slice_set pass.old.taken part None;
-          hand = slice_set pass.old.hand part
-              None;
-          order = without part pass.old.order;
-        } }
+        ensures given { pass.new ≡ without_part part pass.old }
     {
         let Some(value) = pass.hand.take(part) else {
             unreachable!()

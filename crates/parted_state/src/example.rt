@@ -498,7 +498,8 @@ fn put_in_place(
     requires empty { (roomy_in (held_at held.old told.0)).room ≡ 0 }
     requires held_heir { 1 ≤ heir → heir ≤ clients → IsRow (held_at held.old heir) }
     ensures put { OnOk result (held.new
-        ≡ told_all shop clients (told ∷ told_heir heir) (with_tables shop clients tables held.old)) }
+        ≡ told_all shop clients (told ∷ told_heir heir)
+        (with_tables shop clients tables held.old)) }
     ensures kept { OnErr result (held.new ≡ held.old) }
 {
     if heir == 0 || heir > clients {

@@ -133,6 +133,20 @@ terminate_upload number = record {
       changes (record t { uploads = upload.after_terminate row.client number t.uploads }) answer.TerminateUploadSequence;
 }
 
+-- the tables after an upload was begun, or a segment of one sent, which they are where the client could be told; else they are as they were
+abbrev pub upload_begun : ClientRow → ℕ → List ℕ → DomainTables → DomainTables
+upload_begun row invoke name t =
+    if fits (size_of row.association) invoke (option_map answer.InitiateUploadSequence (upload.initiate_answer name t.domains t.uploads))
+    then record t { uploads = upload.after_initiate row.client name t.uploads }
+    else t
+
+abbrev pub segment_sent : ClientRow → ℕ → ℤ → DomainTables → DomainTables
+segment_sent row invoke number t =
+    if fits (size_of row.association) invoke
+    (option_map answer.UploadSegment (upload.segment_answer row.client number (size_of row.association) t.domains t.uploads))
+    then record t { uploads = upload.after_segment row.client number (size_of row.association) t.domains t.uploads }
+    else t
+
 -- ---- DeleteDomain, GetDomainAttributes
 
 abbrev pub delete : List ℕ → RequestIn DomainTables

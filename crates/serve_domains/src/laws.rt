@@ -7,13 +7,13 @@ ghost use Rattle.mms_types.specs.declared.asked.Asked.{Asked};
 ghost use Rattle.mms_types.specs.declared.asked.Asked.TheVariants.{Segment};
 ghost use Rattle.mms_types.specs.declared.asked.Reply.{Reply};
 ghost use Rattle.mms_types.specs.declared.domain.InitiateDownloadSequence.{InitiateDownloadSequence};
-ghost use Rattle.association.specs.Asked.{AreApart, asked_of, unsettled};
+ghost use Rattle.association.specs.Asked.{AreApart, asked_of};
 ghost use Rattle.association.specs.declared.unanswered.Unanswered.{Unanswered};
 ghost use Rattle.domain_load.specs.Domains.{Rows, is_there, name_eq, without, without_loads};
-ghost use Rattle.domain_load.specs.Loading.{answers_load, asked_next, domain_of, initiate_after, initiate_cause, reply_after};
+ghost use Rattle.domain_load.specs.Loading.{answers_load, domain_of, initiate_after, initiate_cause, reply_after};
 ghost use Rattle.domain_load.specs.Standing.{is_loaded_by, is_loading};
 ghost use Rattle.domain_load.specs.Used.{after_unused, after_used};
-ghost use Rattle.serve_domains.specs.Loads.{AreLoads, asked_after, is_of_load_kind};
+ghost use Rattle.serve_domains.specs.Loads.{AreLoads, LoadsAfterReply, asked_after, is_of_load_kind};
 
 /// What a client is asked, and which domains it loads, agree at any time: at the start; where it begins a load; and
 /// where it answers, and is asked what comes next. So a domain of which it answers is one that it loads.
@@ -27,10 +27,8 @@ pub fn what_is_asked_is_loaded()
     ensures replies { (client : ℕ) (answer : Reply) (domains : Rows)
         → IsDistinct name_eq (keys_of domains) → answers_load client answer domains ≡ true
         → (number next : ℕ) (rows : List Unanswered) (of : Asked × List ℕ) → AreApart rows
-        → asked_of number rows ≡ Some of → is_of_load_kind of.0 ≡ true
-        → of.1 ≡ domain_of answer → AreLoads client rows domains
-        → AreLoads client (asked_after (unsettled number rows) next (asked_next answer domains)
-        (domain_of answer)) (reply_after answer domains) }
+        → asked_of number rows ≡ Some of → is_of_load_kind of.0 ≡ true → of.1 ≡ domain_of answer
+        → AreLoads client rows domains → LoadsAfterReply client number next answer rows domains }
     ensures answers { (client number : ℕ) (rows : List Unanswered) (domains : Rows)
         (of : Asked × List ℕ) → AreLoads client rows domains → asked_of number rows ≡ Some of
         → is_of_load_kind of.0 ≡ true → is_there (is_loaded_by client) of.1 domains ≡ true }

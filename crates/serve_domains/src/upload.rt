@@ -2,12 +2,12 @@
 
 ghost use Rattle.std.specs.Prelude.{◌≡◌, IfOk, None, OnErr, OnOk, Some, if◌then◌else◌};
 ghost use Rattle.std.specs.Option.{option_map};
-ghost use Rattle.domain_upload.specs.Uploads.{after_initiate, after_segment, after_terminate, initiate_answer, initiate_cause, segment_answer, segment_cause};
+ghost use Rattle.domain_upload.specs.Uploads.{after_terminate, initiate_answer, initiate_cause, segment_answer, segment_cause};
 ghost use Rattle.cell_client.specs.Areas.{IsServedIn};
 ghost use Rattle.cell_client.specs.Effects.{felt_all, settled};
 ghost use Rattle.cell_client.specs.Facts.{Facts};
 ghost use Rattle.cell_client.specs.Requests.{fits, request_told, size_of};
-ghost use Rattle.serve_domains.specs.Domains.{initiate_upload, terminate_upload, upload_segment};
+ghost use Rattle.serve_domains.specs.Domains.{initiate_upload, segment_sent, terminate_upload, upload_begun, upload_segment};
 
 use crate::DomainTables;
 use cell_client::{Client, size_of};
@@ -41,12 +41,7 @@ fn begin_new(
         (option_map Answer.InitiateUploadSequence
         (initiate_answer name.now tables.old.domains tables.old.uploads))) own.old.row)) }
     ensures begun { OnOk result (tables.new
-        ≡ (if fits (size_of own.old.row.association) invoke
-        (option_map Answer.InitiateUploadSequence
-        (initiate_answer name.now tables.old.domains tables.old.uploads))
-        then record tables.old {
-          uploads = after_initiate own.old.row.client name.now tables.old.uploads;
-        } else tables.old)) }
+        ≡ upload_begun own.old.row invoke name.now tables.old) }
     ensures kept { OnErr result (own.new ≡ own.old) }
     ensures same { OnErr result (tables.new ≡ tables.old) }
 {
@@ -119,13 +114,7 @@ fn send_piece(
         (size_of own.old.row.association) tables.old.domains tables.old.uploads)))
         own.old.row)) }
     ensures sent { OnOk result (tables.new
-        ≡ (if fits (size_of own.old.row.association) invoke
-        (option_map Answer.UploadSegment (segment_answer own.old.row.client number
-        (size_of own.old.row.association) tables.old.domains tables.old.uploads))
-        then record tables.old {
-          uploads = after_segment own.old.row.client number
-              (size_of own.old.row.association) tables.old.domains tables.old.uploads;
-        } else tables.old)) }
+        ≡ segment_sent own.old.row invoke number tables.old) }
     ensures kept { OnErr result (own.new ≡ own.old) }
     ensures same { OnErr result (tables.new ≡ tables.old) }
 {

@@ -1,11 +1,12 @@
 -- Requests for event conditions and event enrollments (ISO 9506-1, event management): the services on the rows that hold them, at the moment of the device.
-use Rattle.std.specs.Prelude.{ℕ, Bool, false, not, ◌||◌, List, [], ◌∷◌, Option, None, Some, filter, is_some, option_to_list, option_and_then}
+use Rattle.std.specs.Prelude.{ℕ, Bool, false, not, ◌||◌, List, [], ◌∷◌, Option, None, Some, filter, is_some, option_to_list, option_and_then, if◌then◌else◌}
 use Rattle.std.specs.List.{list_any}
 use Rattle.std.specs.Option.{option_map, option_map_or, unwrap_or}
 use Rattle.mms_types.specs.Order.{key_eq, key_of}
 use Rattle.mms_types.specs.declared.area.EventRequest.{EventRequest}
 use Rattle.mms_types.specs.declared.area.EventRequest.TheVariants as request
 use Rattle.mms_types.specs.declared.condition.AlterEventConditionMonitoring.{AlterEventConditionMonitoring}
+use Rattle.mms_types.specs.declared.condition.CellFact.{CellFact}
 use Rattle.mms_types.specs.declared.condition.DefineEventCondition.{DefineEventCondition}
 use Rattle.mms_types.specs.declared.condition.DefineEventEnrollment.{DefineEventEnrollment}
 use Rattle.mms_types.specs.declared.condition.DeleteEventEnrollment.{DeleteEventEnrollment}
@@ -26,8 +27,10 @@ use Rattle.event_cond.specs.declared.condition.ConditionClass.{ConditionClass}
 use Rattle.event_cond.specs.declared.condition.ConditionClass.TheVariants.{NetworkTriggered, Monitored}
 use Rattle.event_enrol.specs.Enrolments.{Rows as Enrolments, is_on, number_on}
 use Rattle.event_enrol.specs.Enrolments as enrol
+use Rattle.association.specs.Client.{ClientRow}
 use Rattle.cell_client.specs.Areas.{OutcomeIn, RequestIn, answers, changes, domain_in, is_of_domain}
 use Rattle.cell_client.specs.Facts.{Question, Now, Live, Cell, Truth}
+use Rattle.cell_client.specs.Requests.{fits, size_of}
 use Rattle.serve_events.specs.Told.{turns_told}
 use Rattle.serve_events.specs.declared.tables.EventTables.{EventTables}
 
@@ -76,6 +79,20 @@ define_condition x = record {
   effect = λ facts t row invoke.
       changes (record t { conditions = cond.after_define row.client facts.now x (facts.cell row.client) t.conditions }) answer.DefineEventCondition;
 }
+
+-- the rows after a condition is defined, which it is where the client can be told; else they are as they were
+abbrev pub condition_defined : ClientRow → ℕ → Moment → DefineEventCondition → CellFact → EventTables → EventTables
+condition_defined row invoke now x cell t =
+    if fits (size_of row.association) invoke (Some answer.DefineEventCondition)
+    then record t { conditions = cond.after_define row.client now x cell t.conditions }
+    else t
+
+-- and after enrollments are deleted
+abbrev pub enrolments_deleted : ClientRow → ℕ → DeleteEventEnrollment → EventTables → EventTables
+enrolments_deleted row invoke x t =
+    if fits (size_of row.association) invoke (Some (answer.DeleteEventEnrollment (enrol.undeleted row.client x t.enrolments)))
+    then record t { enrolments = enrol.after_delete row.client x t.enrolments }
+    else t
 
 -- ---- transitions: a request is answered, and then what it makes conditions come to is told, transition by transition
 

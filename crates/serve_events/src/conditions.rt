@@ -1,17 +1,17 @@
 //! An event condition is defined, or told of (ISO 9506-1, DefineEventCondition and ReportEventConditionStatus).
 
-ghost use Rattle.std.specs.Prelude.{◌≡◌, Bool, None, OnErr, OnOk, Some, if◌then◌else◌};
+ghost use Rattle.std.specs.Prelude.{◌≡◌, Bool, None, OnErr, OnOk, Some};
 ghost use Rattle.mms_types.specs.Moments.{IsDated};
 ghost use Rattle.mms_types.specs.Order.{key_of};
 ghost use Rattle.mms_types.specs.Serves.{Serves};
-ghost use Rattle.event_cond.specs.Services.{after_define, define_cause, status, status_cause};
+ghost use Rattle.event_cond.specs.Services.{define_cause, status, status_cause};
 ghost use Rattle.event_enrol.specs.Enrolments.{number_on};
 ghost use Rattle.std.specs.Option.{option_map};
 ghost use Rattle.cell_client.specs.Areas.{IsServedIn};
 ghost use Rattle.cell_client.specs.Effects.{felt_all, settled};
 ghost use Rattle.cell_client.specs.Facts.{Facts};
-ghost use Rattle.cell_client.specs.Requests.{fits, request_told, size_of};
-ghost use Rattle.serve_events.specs.Events.{define_condition, report_status};
+ghost use Rattle.cell_client.specs.Requests.{request_told, size_of};
+ghost use Rattle.serve_events.specs.Events.{condition_defined, define_condition, report_status};
 
 use crate::EventTables;
 use cell_client::Client;
@@ -38,11 +38,7 @@ fn define_new(
         (request_told (size_of own.old.row.association) invoke None
         (Some Answer.DefineEventCondition)) own.old.row)) }
     ensures defined { OnOk result (tables.new
-        ≡ (if fits (size_of own.old.row.association) invoke (Some Answer.DefineEventCondition)
-        then record tables.old {
-          conditions = after_define own.old.row.client now asked.now cell
-              tables.old.conditions;
-        } else tables.old)) }
+        ≡ condition_defined own.old.row invoke now asked.now cell tables.old) }
     ensures kept { OnErr result (own.new ≡ own.old) }
     ensures same { OnErr result (tables.new ≡ tables.old) }
 {

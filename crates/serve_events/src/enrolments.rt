@@ -8,7 +8,7 @@ ghost use Rattle.cell_client.specs.Effects.{felt_all, settled};
 ghost use Rattle.cell_client.specs.Facts.{Facts};
 ghost use Rattle.cell_client.specs.Requests.{fits, request_told, size_of};
 ghost use Rattle.std.specs.Option.{option_map_or};
-ghost use Rattle.serve_events.specs.Events.{condition_named, define_enrolment, delete_enrolments, is_there};
+ghost use Rattle.serve_events.specs.Events.{condition_named, define_enrolment, delete_enrolments, enrolments_deleted, is_there};
 
 use crate::EventTables;
 use cell_client::Client;
@@ -121,12 +121,7 @@ fn delete_there(
         (Some (Answer.DeleteEventEnrollment
         (undeleted own.old.row.client asked.now tables.old.enrolments)))) own.old.row)) }
     ensures deleted { OnOk result (tables.new
-        ≡ (if fits (size_of own.old.row.association) invoke
-        (Some (Answer.DeleteEventEnrollment
-        (undeleted own.old.row.client asked.now tables.old.enrolments)))
-        then record tables.old {
-          enrolments = after_delete own.old.row.client asked.now tables.old.enrolments;
-        } else tables.old)) }
+        ≡ enrolments_deleted own.old.row invoke asked.now tables.old) }
     ensures kept { OnErr result (own.new ≡ own.old) }
     ensures same { OnErr result (tables.new ≡ tables.old) }
 {
