@@ -18,7 +18,8 @@ use Rattle.token_sem.specs.Semaphore as equal
 use Rattle.token_sem.specs.declared.entry.Grant.{Grant}
 use Rattle.token_sem.specs.declared.entry.SemEntry.{SemEntry}
 use Rattle.pool_sem.specs.Pools as pool
-use Rattle.mms_time.specs.Deadlines.{NamedDeadline, next_due}
+use Rattle.mms_time.specs.Deadlines.{NamedDeadline, expire_after, next_due}
+use Rattle.mms_time.specs.Loss.{lost}
 use Rattle.mms_time.specs.Semaphores.{Rows, changed, entries_of, entry_in}
 use Rattle.mms_time.specs.Services.{place_asked}
 use Rattle.mms_time.specs.declared.row.Semaphore.{Semaphore}
@@ -33,7 +34,7 @@ use Rattle.cell_services.specs.Tables.{moment_after}
 use Rattle.mms_step.specs.Answered.{EndsIt, grant_answer}
 use Rattle.mms_step.specs.Partition.{cell}
 use Rattle.mms_step.specs.State.{State}
-use Rattle.mms_step.specs.Step.{outbox_of}
+use Rattle.mms_step.specs.Step.{outbox_of, step}
 use Rattle.cell_laws.specs.Linked.{waiting_at}
 
 -- ---- the semaphore of a name
@@ -137,6 +138,14 @@ pub record IsFree (key : Key) (token : Option ℕ) (old new : Rows) : Type 0 whe
 abbrev pub IsPassedOn : Key → Option ℕ → Moment → Rows → Rows → State → Type 0
 IsPassedOn key token now old new s = ((waiter : SemEntry) × GoesTo key token now old new s waiter) ⊎ IsFree key token old new
 
+-- the moment of a state
+abbrev pub moment_at : State → Moment
+moment_at s = record { 0 = s.now }
+
+-- a token is passed on by an event, at the moment at which that comes
+abbrev pub PassesOn : State → CellEvent → Key → Option ℕ → Type 0
+PassesOn s event key token = IsPassedOn key token (moment_at s) s.semaphores (step s event).semaphores (step s event)
+
 -- ---- where a token is freed
 
 -- By these octets a client gives back a token of the semaphore of that name, which it names where that is a pool: its
@@ -164,6 +173,15 @@ pub record TimesOut (s : State) (ms : ℕ) (point : Ticking) (due : NamedDeadlin
   pub next : next_due (moment_after ms (cell.tables_of s)) point.rows ≡ Some due
   pub its : entry_in due.key due.entry point.rows ≡ Some entry
   pub holds : is_queued entry ≡ false
+
+-- the semaphores at that point, when that deadline is met: control of its entry has timed out
+abbrev pub after_time_out : Ticking → NamedDeadline → Rows
+after_time_out point due = expire_after due.key due.entry due.at point.rows
+
+-- The claim holds where control of an owner entry times out at that point, whose request asked that the association be
+-- aborted then.
+abbrev pub IfAborts : State → ℕ → Ticking → NamedDeadline → SemEntry → Type 0 → Type 0
+IfAborts s ms point due entry Claim = TimesOut s ms point due entry → is_owner entry ≡ true → entry.abort ≡ Some true → Claim
 
 -- The association of a client ends by an event: the client concludes, proposes another, has no number left for what
 -- would be asked of it, or is lost.
@@ -223,3 +241,47 @@ pub record OwnsNamed (key : Key) (rows : Rows) (client : ℕ) (first : List SemE
   pub unkept : owner.keep ≡ false
   pub named : are_named key rows ≡ true
   pub lasting : scope_eq key.scope (Association client) ≡ false
+
+-- ---- the loss of a client, of which tokens are freed
+
+-- A client is lost at a moment within an event: the semaphores before that and after it, and the device after the event.
+pub record ClientLoss : Type 0 where
+  pub client : ℕ
+  pub now : Moment
+  pub old : Rows
+  pub new : Rows
+  pub after : State
+
+-- its association ends by an event
+abbrev pub loss_by : State → CellEvent → ℕ → ClientLoss
+loss_by s event client = record {
+  client = client;
+  now = moment_at s;
+  old = s.semaphores;
+  new = (step s event).semaphores;
+  after = step s event;
+}
+
+-- or is aborted while so many milliseconds go by, as control of this entry of its times out at that point
+abbrev pub abort_at : State → ℕ → Ticking → NamedDeadline → SemEntry → ClientLoss
+abort_at s ms point due entry = record {
+  client = entry.client;
+  now = due.at;
+  old = after_time_out point due;
+  new = lost entry.client due.at (after_time_out point due);
+  after = step s (Tick ms);
+}
+
+-- by it a token of that semaphore is passed on, whose tokens are all equal
+abbrev pub IsFreedBy : Key → ClientLoss → Type 0
+IsFreedBy key l = IsPassedOn key None l.now l.old l.new l.after
+
+-- by it the token of an owner entry is passed on, when these are lost that the client owned before it in order
+abbrev pub IsNextFreed : Key → List SemEntry → SemEntry → ClientLoss → Type 0
+IsNextFreed key first owner l =
+    IsPassedOn key owner.token l.now (lost_so_far l.client l.now first key l.old)
+    (lost_so_far l.client l.now (first ++ owner ∷ []) key l.old) l.after
+
+-- the semaphores, when all owner entries of the client are lost in the one of that name
+abbrev pub all_lost : Key → ClientLoss → Rows
+all_lost key l = lost_so_far l.client l.now (owners_at key l.client l.old) key l.old

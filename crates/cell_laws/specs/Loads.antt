@@ -8,10 +8,12 @@ use Rattle.mms_types.specs.declared.event.CellEvent.{CellEvent}
 use Rattle.mms_types.specs.declared.event.CellEvent.TheVariants.{Heard, Lost, Tick, Ends, Drain}
 use Rattle.mms_types.specs.declared.pdu.Request.{Request}
 use Rattle.mms_types.specs.declared.pdu.Request.TheVariants as request
+use Rattle.cell_config.specs.declared.config.Config.{Config}
 use Rattle.association.specs.Asked.{asked_of}
 use Rattle.association.specs.Client.{ClientRow}
-use Rattle.domain_load.specs.Domains.{Rows, is_there, name_eq}
+use Rattle.domain_load.specs.Domains.{Rows, is_there, name_eq, named}
 use Rattle.domain_load.specs.Loading.{brings, brought, domain_of, would_pass}
+use Rattle.domain_load.specs.Standing.{is_loaded_by}
 use Rattle.domain_load.specs.declared.domain.Domain.{Domain}
 use Rattle.parted_state.specs.Served.{row_at}
 use Rattle.cell_client.specs.Association.{Verdict, Takes, Replies, verdict}
@@ -19,7 +21,7 @@ use Rattle.serve_domains.specs.Domains.{reply_of}
 use Rattle.cell_services.specs.Serving.{is_served, lost_in, meanwhile, resolved}
 use Rattle.cell_services.specs.Tables.{Tables}
 use Rattle.mms_step.specs.Partition.{cell}
-use Rattle.mms_step.specs.State.{State}
+use Rattle.mms_step.specs.State.{State, start}
 use Rattle.mms_step.specs.Step.{step}
 use Rattle.cell_laws.specs.Freed.{Leaves}
 
@@ -76,6 +78,10 @@ load_after name last (Answers client answer) = if name_eq name (domain_of answer
 abbrev pub last_load : List ℕ → List LoadStep → Option Load
 last_load name steps = fold (load_after name) None steps
 
+-- that in a history of the configured device
+abbrev pub last_load_in : Config → List CellEvent → List ℕ → Option Load
+last_load_in config history name = last_load name (load_steps (start config) history)
+
 -- ---- what a domain is by its last load
 
 -- one client answers these
@@ -119,6 +125,18 @@ pub record IsLoading (name : List ℕ) (client : ℕ) (domain : Domain) (last : 
 
 -- ---- the end of a load
 
+-- the domain of that name, if there is one
+abbrev pub domain_at : List ℕ → State → Option Domain
+domain_at name s = named name s.domains.domains
+
+-- the client is loading it
+abbrev pub loads : ℕ → List ℕ → State → Bool
+loads client name s = is_there (is_loaded_by client) name s.domains.domains
+
+-- the clients whose associations are aborted while so many milliseconds go by
+abbrev pub lost_meanwhile : ℕ → State → List ℕ
+lost_meanwhile ms s = lost_in (meanwhile ms (cell.tables_of s)).happened
+
 -- the answer breaks the load off: with its octets there would be too many, or it is an error or a reject
 abbrev pub breaks_off : Reply → Rows → Bool
 breaks_off (reply.Segment name octets more) rows = is_there (would_pass (length octets)) name rows
@@ -136,7 +154,7 @@ pub record IsBrokenOff (name : List ℕ) (client : ℕ) (s : State) (event : Cel
 pub record IsAbortedMeanwhile (client : ℕ) (s : State) (event : CellEvent) : Type 0 where
   pub ms : ℕ
   pub passes : event ≡ Tick ms
-  pub among : Contains (lost_in (meanwhile ms (cell.tables_of s)).happened) client
+  pub among : Contains (lost_meanwhile ms s) client
 
 -- why the client's load of that name ends before it is whole
 abbrev pub EndsLoad : List ℕ → ℕ → State → CellEvent → Type 0

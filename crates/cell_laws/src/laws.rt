@@ -1,6 +1,6 @@
 //! What holds of every history.
 
-ghost use Rattle.std.specs.Prelude.{◌≡◌, ◌⊎◌, ℕ, ◌+◌, ◌≤◌, IfSome, false, true, All, List, None, Option, Some, [], ◌∷◌, ◌++◌, length};
+ghost use Rattle.std.specs.Prelude.{◌≡◌, ◌⊎◌, ℕ, ◌+◌, ◌≤◌, IfSome, false, true, All, List, None, Option, Some, [], ◌++◌, length};
 ghost use Rattle.std.specs.Map.{lookup};
 ghost use Rattle.mms_types.specs.Order.{key_eq, scope_eq};
 ghost use Rattle.mms_types.specs.declared.event.CellEvent.{CellEvent};
@@ -10,8 +10,8 @@ ghost use Rattle.mms_types.specs.declared.key.Key.{Key};
 ghost use Rattle.mms_types.specs.declared.key.Scope.TheVariants.{Association};
 ghost use Rattle.mms_types.specs.declared.moment.Moment.{Moment};
 ghost use Rattle.token_sem.specs.declared.entry.SemEntry.{SemEntry};
-ghost use Rattle.token_sem.specs.Semaphore.{holds, is_owner};
-ghost use Rattle.mms_time.specs.Deadlines.{NamedDeadline, all_deadlines, expire_after};
+ghost use Rattle.token_sem.specs.Semaphore.{holds};
+ghost use Rattle.mms_time.specs.Deadlines.{NamedDeadline, all_deadlines};
 ghost use Rattle.mms_time.specs.Loss.{lost};
 ghost use Rattle.mms_time.specs.Semaphores.{Rows, entry_in};
 ghost use Rattle.mms_time.specs.Statuses.{entry_status};
@@ -24,7 +24,7 @@ ghost use Rattle.association.specs.declared.negotiation.Association.TheVariants.
 ghost use Rattle.association.specs.declared.negotiation.Negotiated.{Negotiated};
 ghost use Rattle.parted_state.specs.Served.{row_at};
 ghost use Rattle.mms_step.specs.Partition.{cell};
-ghost use Rattle.cell_laws.specs.Freed.{GivesBack, IsPassedOn, Leaves, OwnsNamed, OwnsUnkept, TimesOut, lost_so_far, owners_at, token_held, token_named};
+ghost use Rattle.cell_laws.specs.Freed.{GivesBack, IfAborts, IsFreedBy, IsNextFreed, IsPassedOn, Leaves, OwnsNamed, OwnsUnkept, PassesOn, TimesOut, abort_at, after_time_out, all_lost, loss_by, lost_so_far, moment_at, owners_at, token_held, token_named};
 ghost use Rattle.cell_laws.specs.Linked.{AreLinked};
 ghost use Rattle.cell_laws.specs.Lost.{HasStill, IsLostFor};
 ghost use Rattle.cell_laws.specs.Tally.{HaveOneAnswerEach, account, drained, drains, sent_to, told_in};
@@ -56,8 +56,10 @@ pub fn each_request_is_answered_once()
 pub fn what_is_sent_is_in_the_outbox()
     ensures sent { (s : State) (event : CellEvent) (client : ℕ)
         → 1 ≤ client → client ≤ length s.clients → drains client event ≡ false
-        → outbox_of (step s event) client ≡ outbox_of s client ++ sent_to client s.clients (told_in s event) }
-    ensures taken { (s : State) (client : ℕ) → 1 ≤ client → outbox_of (step s (Drain client)) client ≡ [] }
+        → outbox_of (step s event) client
+        ≡ outbox_of s client ++ sent_to client s.clients (told_in s event) }
+    ensures taken { (s : State) (client : ℕ) → 1 ≤ client
+        → outbox_of (step s (Drain client)) client ≡ [] }
     ensures history { (config : Config) (history : List CellEvent) (client : ℕ)
         → 1 ≤ client → client ≤ length (replay config history).clients
         → (older : List What)
@@ -73,29 +75,25 @@ pub fn what_is_sent_is_in_the_outbox()
 /// as control times out. Of equal tokens a client owns one at most; of a pool it may own several, of which the next law
 /// tells.
 pub fn a_freed_token_is_passed_on()
-    ensures given_back { (config : Config) (history : List CellEvent) (client : ℕ) (octets : List ℕ) (key : Key)
-        (token : Option (List ℕ))
-        → IsConfig config → GivesBack (replay config history) client octets key token
-        → IsPassedOn key (token_named key token (replay config history).semaphores)
-        (record { 0 = (replay config history).now }) (replay config history).semaphores
-        (step (replay config history) (Heard client octets)).semaphores
-        (step (replay config history) (Heard client octets)) }
-    ensures timed_out { (config : Config) (history : List CellEvent) (ms : ℕ) (point : Ticking) (due : NamedDeadline)
-        (entry : SemEntry) → IsConfig config → TimesOut (replay config history) ms point due entry
-        → IsPassedOn due.key (token_held due.key entry point.rows) due.at point.rows
-        (expire_after due.key due.entry due.at point.rows) (step (replay config history) (Tick ms)) }
-    ensures left { (config : Config) (history : List CellEvent) (event : CellEvent) (client : ℕ) (key : Key)
-        → IsConfig config → Leaves client (replay config history) event
+    ensures given_back { (config : Config) (history : List CellEvent) (client : ℕ) (octets : List ℕ)
+        (key : Key) (token : Option (List ℕ)) → IsConfig config
+        → GivesBack (replay config history) client octets key token
+        → PassesOn (replay config history) (Heard client octets) key
+        (token_named key token (replay config history).semaphores) }
+    ensures timed_out { (config : Config) (history : List CellEvent) (ms : ℕ) (point : Ticking)
+        (due : NamedDeadline) (entry : SemEntry) → IsConfig config
+        → TimesOut (replay config history) ms point due entry
+        → IsPassedOn due.key (token_held due.key entry point.rows) due.at
+        point.rows (after_time_out point due) (step (replay config history) (Tick ms)) }
+    ensures left { (config : Config) (history : List CellEvent) (event : CellEvent) (client : ℕ)
+        (key : Key) → IsConfig config → Leaves client (replay config history) event
         → OwnsUnkept key (replay config history).semaphores client
-        → IsPassedOn key None (record { 0 = (replay config history).now }) (replay config history).semaphores
-        (step (replay config history) event).semaphores (step (replay config history) event) }
-    ensures aborted { (config : Config) (history : List CellEvent) (ms : ℕ) (point : Ticking) (due : NamedDeadline)
-        (entry : SemEntry) (key : Key) → IsConfig config → TimesOut (replay config history) ms point due entry
-        → is_owner entry ≡ true → entry.abort ≡ Some true
-        → OwnsUnkept key (expire_after due.key due.entry due.at point.rows) entry.client
-        → IsPassedOn key None due.at (expire_after due.key due.entry due.at point.rows)
-        (lost entry.client due.at (expire_after due.key due.entry due.at point.rows))
-        (step (replay config history) (Tick ms)) }
+        → IsFreedBy key (loss_by (replay config history) event client) }
+    ensures aborted { (config : Config) (history : List CellEvent) (ms : ℕ) (point : Ticking)
+        (due : NamedDeadline) (entry : SemEntry) (key : Key) → IsConfig config
+        → IfAborts (replay config history) ms point due entry
+        (OwnsUnkept key (after_time_out point due) entry.client
+        → IsFreedBy key (abort_at (replay config history) ms point due entry)) }
 {}
 
 /// The tokens of a pool that a client owns who is lost are freed one after the other, in order of number of their
@@ -103,29 +101,21 @@ pub fn a_freed_token_is_passed_on()
 /// rank of those that wait for it or for any then, whose positive answer is in its client's outbox after the event; or
 /// no entry waits for it, and it is free. After the last of them the semaphore is as the loss leaves it.
 pub fn tokens_of_a_pool_are_passed_on_in_order()
-    ensures left { (config : Config) (history : List CellEvent) (event : CellEvent) (client : ℕ) (key : Key)
-        (first : List SemEntry) (owner : SemEntry)
-        → IsConfig config → Leaves client (replay config history) event
+    ensures left { (config : Config) (history : List CellEvent) (event : CellEvent) (client : ℕ)
+        (key : Key) (first : List SemEntry) (owner : SemEntry) → IsConfig config
+        → Leaves client (replay config history) event
         → OwnsNamed key (replay config history).semaphores client first owner
-        → IsPassedOn key owner.token (record { 0 = (replay config history).now })
-        (lost_so_far client (record { 0 = (replay config history).now }) first key (replay config history).semaphores)
-        (lost_so_far client (record { 0 = (replay config history).now }) (first ++ owner ∷ []) key
-        (replay config history).semaphores) (step (replay config history) event) }
-    ensures left_last { (config : Config) (history : List CellEvent) (event : CellEvent) (client : ℕ) (key : Key)
-        → IsConfig config → Leaves client (replay config history) event
+        → IsNextFreed key first owner (loss_by (replay config history) event client) }
+    ensures left_last { (config : Config) (history : List CellEvent) (event : CellEvent)
+        (client : ℕ) (key : Key) → IsConfig config → Leaves client (replay config history) event
         → scope_eq key.scope (Association client) ≡ false
         → lookup (key_eq key) (step (replay config history) event).semaphores
-        ≡ lookup (key_eq key) (lost_so_far client (record { 0 = (replay config history).now })
-        (owners_at key client (replay config history).semaphores) key (replay config history).semaphores) }
+        ≡ lookup (key_eq key) (all_lost key (loss_by (replay config history) event client)) }
     ensures aborted { (config : Config) (history : List CellEvent) (ms : ℕ) (point : Ticking)
-        (due : NamedDeadline) (entry : SemEntry) (key : Key) (first : List SemEntry) (owner : SemEntry)
-        → IsConfig config → TimesOut (replay config history) ms point due entry
-        → is_owner entry ≡ true → entry.abort ≡ Some true
-        → OwnsNamed key (expire_after due.key due.entry due.at point.rows) entry.client first owner
-        → IsPassedOn key owner.token due.at
-        (lost_so_far entry.client due.at first key (expire_after due.key due.entry due.at point.rows))
-        (lost_so_far entry.client due.at (first ++ owner ∷ []) key
-        (expire_after due.key due.entry due.at point.rows)) (step (replay config history) (Tick ms)) }
+        (due : NamedDeadline) (entry : SemEntry) (key : Key) (first : List SemEntry)
+        (owner : SemEntry) → IsConfig config → IfAborts (replay config history) ms point due entry
+        (OwnsNamed key (after_time_out point due) entry.client first owner
+        → IsNextFreed key first owner (abort_at (replay config history) ms point due entry)) }
     ensures aborted_last { (client : ℕ) (now : Moment) (key : Key) (rows : Rows)
         → scope_eq key.scope (Association client) ≡ false
         → lookup (key_eq key) (lost client now rows)
@@ -139,9 +129,10 @@ pub fn no_deadline_is_far()
     ensures near { (config : Config) (history : List CellEvent)
         → All (λ due. due.at.0 ≤ (replay config history).now + 4294967295)
         (all_deadlines (replay config history).semaphores) }
-    ensures told { (config : Config) (history : List CellEvent) (key : Key) (number : ℕ) (entry : SemEntry)
-        (names : List (List ℕ)) → entry_in key number (replay config history).semaphores ≡ Some entry
-        → IfSome (entry_status names (record { 0 = (replay config history).now }) entry).remaining
+    ensures told { (config : Config) (history : List CellEvent) (key : Key) (number : ℕ)
+        (entry : SemEntry) (names : List (List ℕ))
+        → entry_in key number (replay config history).semaphores ≡ Some entry
+        → IfSome (entry_status names (moment_at (replay config history)) entry).remaining
         (λ left. left ≤ 4294967295) }
 {}
 
@@ -153,12 +144,14 @@ pub fn no_deadline_is_far()
 /// one of these holds the entry is there no more. So an owner entry is never preempted, and no semaphore is deleted
 /// that has an entry.
 pub fn a_token_is_lost_for_a_cause()
-    ensures lost { (config : Config) (history : List CellEvent) (event : CellEvent) (key : Key) (entry : SemEntry)
-        → IsConfig config → entry_in key entry.number (replay config history).semaphores ≡ Some entry
-        → holds entry ≡ true
-        → HasStill (replay config history) event key entry ⊎ IsLostFor (replay config history) event key entry }
-    ensures gone { (config : Config) (history : List CellEvent) (event : CellEvent) (key : Key) (entry : SemEntry)
-        → IsConfig config → entry_in key entry.number (replay config history).semaphores ≡ Some entry
+    ensures lost { (config : Config) (history : List CellEvent) (event : CellEvent) (key : Key)
+        (entry : SemEntry) → IsConfig config
+        → entry_in key entry.number (replay config history).semaphores ≡ Some entry
+        → holds entry ≡ true → HasStill (replay config history) event key entry
+        ⊎ IsLostFor (replay config history) event key entry }
+    ensures gone { (config : Config) (history : List CellEvent) (event : CellEvent) (key : Key)
+        (entry : SemEntry) → IsConfig config
+        → entry_in key entry.number (replay config history).semaphores ≡ Some entry
         → holds entry ≡ true → IsLostFor (replay config history) event key entry
         → entry_in key entry.number (step (replay config history) event).semaphores ≡ None }
 {}

@@ -44,6 +44,11 @@ pub record IsDoneIn {A : Type 0} (own : Own Tables A) (t : Tables) (row : Client
   pub is : new ≡ settled (felt_all effects row)
   pub done : hears t row row.client v ≡ record { tables = own.put now t; told = tell row.client effects }
 
+-- Or it is done on the table of one area, which becomes another, and several clients are told something: all that is
+-- told, in order.
+abbrev pub TellsSeveral : {A : Type 0} → Own Tables A → Tables → ClientRow → A → List (ℕ × ClientTold) → Verdict → Type 0
+TellsSeveral own t row now told v = hears t row row.client v ≡ all_done (own.put now t) told
+
 -- what is left to be done on several tables: a client is lost
 abbrev pub IsLeft : Act → Type 0
 IsLeft (act.Request invoke asked) = ⊥

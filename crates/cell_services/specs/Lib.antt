@@ -1,6 +1,7 @@
 pub mod Acts
 pub mod Changes
 pub mod Device
+pub mod EventFacts
 pub mod Facts
 pub mod Looked
 pub mod Meant

@@ -9,7 +9,6 @@ ghost use Rattle.serve_semaphores.specs.Tokens.{told_after};
 ghost use Rattle.serve_domains.specs.Domains as of_domains;
 ghost use Rattle.serve_domains.specs.Domains.{AnswersLoad};
 ghost use Rattle.serve_programs.specs.Users.{AreUsed};
-ghost use Rattle.serve_events.specs.Events as of_events;
 ghost use Rattle.serve_events.specs.Turns.{turned_after, turns_of};
 ghost use Rattle.serve_journals.specs.Journals as of_journals;
 ghost use Rattle.serve_semaphores.specs.Semaphores as of_semaphores;
@@ -19,8 +18,8 @@ ghost use Rattle.cell_client.specs.Association.{Cancels, Replies, Takes};
 ghost use Rattle.cell_client.specs.Facts.{Facts};
 ghost use Rattle.cell_client.specs.Meant.{came};
 ghost use Rattle.cell_client.specs.Effects.{settled};
-ghost use Rattle.cell_services.specs.Acts.{all_done, IsDoneIn};
-ghost use Rattle.cell_services.specs.Serving.{hears};
+ghost use Rattle.cell_services.specs.Acts.{IsDoneIn, TellsSeveral};
+ghost use Rattle.cell_services.specs.EventFacts.{event_facts, IfToldOfEvents};
 ghost use Rattle.cell_services.specs.Facts.{is_domain_live, is_scope_used};
 ghost use Rattle.cell_services.specs.Requests.{told_in};
 ghost use Rattle.cell_services.specs.Tables.{Tables as Rows, own_domains, own_events, own_invocations, own_journals, own_programs, own_semaphores, own_variables};
@@ -102,9 +101,8 @@ pub fn serve_semaphores(
     ensures left { IfOk result (λ left. IfSome left (λ told. (t : Rows)
         → t.semaphores ≡ semaphores.old → t.now ≡ now.0
         → live ≡ is_domain_live (of_semaphores.domain_asked asked.entry) t.domains
-        → hears t own.old.row own.old.row.client (Takes invoke (semaphore_request asked.entry))
-        ≡ all_done (own_semaphores.put
-        (told_after own.old.row.client now asked.entry semaphores.old) t) told.items)) }
+        → TellsSeveral own_semaphores t own.old.row (told_after own.old.row.client now asked.entry
+        semaphores.old) told.items (Takes invoke (semaphore_request asked.entry)))) }
     ensures unchanged { IfOk result (λ left. OnSome left (
         (own.new ≡ own.old) × (semaphores.new ≡ semaphores.old))) }
     ensures kept { OnErr result (own.new ≡ own.old) }
@@ -177,7 +175,8 @@ pub fn serve_reply(
     requires number { (facts : Facts) (invoke : ℕ) → lacks_number_in
         (of_domains.replied number (came answer)) facts own.old.row invoke domains.old ≡ false }
     ensures served { OnOk result ((t : Rows) → t.domains ≡ domains.old
-        → IsDoneIn own_domains t own.old.row domains.new own.new (Replies number (came answer.entry))) }
+        → IsDoneIn own_domains t own.old.row domains.new
+        own.new (Replies number (came answer.entry))) }
     ensures kept { OnErr result (own.new ≡ own.old) }
     ensures same { OnErr result (domains.new ≡ domains.old) }
 {
@@ -245,18 +244,14 @@ pub fn serve_events(
     requires settled { own.old ≡ settled own.old.row }
     ensures served { IfOk result (λ left. IfNone left ((t : Rows)
         → t.events ≡ events.old → t.now ≡ now.0
-        → (told_in own_events t own.old.row (of_events.request_in asked.entry)).live ≡ live
-        → (told_in own_events t own.old.row (of_events.request_in asked.entry)).cell
-        own.old.row.client ≡ cell
-        → (told_in own_events t own.old.row (of_events.request_in asked.entry)).truth ≡ is_true
-        → IsDoneIn own_events t own.old.row events.new
-        own.new (Takes invoke (event_request asked.entry)))) }
+        → IfToldOfEvents t own.old.row asked.entry live cell is_true
+        (IsDoneIn own_events t own.old.row events.new
+        own.new (Takes invoke (event_request asked.entry))))) }
     ensures left { IfOk result (λ left. IfSome left (λ l. (t : Rows)
         → t.events ≡ events.old → t.now ≡ now.0
-        → (told_in own_events t own.old.row (of_events.request_in asked.entry)).truth ≡ is_true
-        → hears t own.old.row own.old.row.client (Takes invoke (event_request asked.entry))
-        ≡ all_done (own_events.put
-        (turned_after own.old.row.client now is_true asked.entry events.old) t) l.told.items)) }
+        → (event_facts t own.old.row asked.entry).truth ≡ is_true
+        → TellsSeveral own_events t own.old.row (turned_after own.old.row.client now is_true
+        asked.entry events.old) l.told.items (Takes invoke (event_request asked.entry)))) }
     ensures turns { IfOk result (λ left. IfSome left (λ l. l.turns
         ≡ turns_of own.old.row.client now is_true asked.entry events.old)) }
     ensures unchanged { IfOk result (λ left. OnSome left (

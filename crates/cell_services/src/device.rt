@@ -28,7 +28,7 @@ use std::alloc::Global;
 use variable_services::VariableTables;
 
 /// The most names that one answer has.
-const MOST_NAMES: usize = 12;
+const MOST: usize = 12;
 
 /// The tables with the names of objects, as they are looked at.
 #[derive(Clone, Copy)]
@@ -82,7 +82,7 @@ fn domains_listed(
         ≡ listed (domains_listed domains.now scope.now (option_copied after.entry))) }
 {
     match scope {
-        Scope::Vmd => domains.names_after(alloc, after, MOST_NAMES),
+        Scope::Vmd => domains.names_after(alloc, after, MOST),
         Scope::Domain(_) | Scope::Association(_) => Ok(Names {
             list: Identifiers::new(alloc),
             more: false,
@@ -101,7 +101,7 @@ fn programs_listed(
         ≡ listed (programs_listed programs.now scope.now (option_copied after.entry))) }
 {
     match scope {
-        Scope::Vmd => programs.names_after(alloc, after, MOST_NAMES),
+        Scope::Vmd => programs.names_after(alloc, after, MOST),
         Scope::Domain(_) | Scope::Association(_) => Ok(Names {
             list: Identifiers::new(alloc),
             more: false,
@@ -119,38 +119,16 @@ fn names_in(
     ensures { IfOk result (λ told. (t : Rows) → IsLookedAt tables.entry t
         → told ≡ listed (names_in t scope.now asked.now.class asked.now.after)) }
 {
+    let variables = tables.variables;
+    let events = tables.events;
     let after = asked.after.as_ref();
     let names = match asked.class {
-        ObjectClass::NamedVariable => {
-            tables
-                .variables
-                .vars
-                .names_after(alloc, scope, after, MOST_NAMES)?
-        }
-        ObjectClass::NamedVariableList => {
-            tables
-                .variables
-                .lists
-                .names_after(alloc, scope, after, MOST_NAMES)?
-        }
-        ObjectClass::EventCondition => {
-            tables
-                .events
-                .conditions
-                .names_after(alloc, scope, after, MOST_NAMES)?
-        }
-        ObjectClass::EventEnrollment => {
-            tables
-                .events
-                .enrolments
-                .names_after(alloc, scope, after, MOST_NAMES)?
-        }
-        ObjectClass::Journal => tables
-            .journals
-            .names_after(alloc, scope, after, MOST_NAMES)?,
-        ObjectClass::Semaphore => tables
-            .semaphores
-            .names_after(alloc, scope, after, MOST_NAMES)?,
+        ObjectClass::NamedVariable => variables.vars.names_after(alloc, scope, after, MOST)?,
+        ObjectClass::NamedVariableList => variables.lists.names_after(alloc, scope, after, MOST)?,
+        ObjectClass::EventCondition => events.conditions.names_after(alloc, scope, after, MOST)?,
+        ObjectClass::EventEnrollment => events.enrolments.names_after(alloc, scope, after, MOST)?,
+        ObjectClass::Journal => tables.journals.names_after(alloc, scope, after, MOST)?,
+        ObjectClass::Semaphore => tables.semaphores.names_after(alloc, scope, after, MOST)?,
         ObjectClass::Domain => domains_listed(alloc, tables.domains, scope, after)?,
         ObjectClass::ProgramInvocation => programs_listed(alloc, tables.programs, scope, after)?,
         _ => Names {

@@ -11,7 +11,8 @@ ghost use Rattle.cell_stress.specs.Stress.{stress_config, stress_phases};
 /// made, and one for each request of a round, whatever bodies serve the phases. A reject counts as well; an abort is no
 /// PDU.
 pub fn stress_is_answered()
-    ensures replies { (seed clients rounds : ℕ) (bodies : List (List CellEvent)) → 1 ≤ clients → clients ≤ 64
-        → rounds ≤ 1000 → Interleaves bodies (stress_phases seed clients rounds)
-        → replies_in (said (stress_config clients)) clients bodies ≡ clients + 1 + rounds * clients }
+    ensures replies { (seed clients rounds : ℕ) (bodies : List (List CellEvent)) → 1 ≤ clients
+        → clients ≤ 64 → rounds ≤ 1000 → Interleaves bodies (stress_phases seed clients rounds)
+        → replies_in (said (stress_config clients)) clients bodies
+        ≡ clients + 1 + rounds * clients }
 {}
