@@ -18,7 +18,7 @@ use Rattle.mms_step.specs.Needs.{need}
 use Rattle.mms_step.specs.After.{parts_after}
 use Rattle.mms_device.specs.Making.{MayMake}
 use Rattle.part_table.specs.Known.{IsTrueOf}
-use Rattle.mms_device.specs.Shared.{Caller, History, IsTimely, all_events, led_to, goes_by, ticks_in}
+use Rattle.mms_device.specs.Shared.{Shared, Caller, History, IsTimely, MayMakeNow, all_events, led_to, goes_by, ticks_in}
 use Rattle.mms_device.proofs.Steps.{parts_step, step_sized, length-start, now_step, clock_below}
 
 pub among_more : (event : CellEvent) (few many : ℕ) → few ≤ many → IsAmong few event → IsAmong many event
@@ -141,3 +141,21 @@ pub timely_taken : (config : Config) (event : CellEvent) (old p : Caller) → p 
 timely_taken config event old p same time =
     subst (λ (events : List CellEvent). IsInTime (config.start.0 + ticks_in events) event)
     (sym (ap₂ (λ (b : ℕ) (h : History). events_of b h) (ap (λ (x : Caller). x.by) same) (ap (λ (x : Caller). x.seen) same))) time
+
+-- a caller that may make an event now may make it when it has seen the history
+pub may_seen : (device : Shared) (event : CellEvent) (old saw : Caller) → saw ≡ record old { seen = saw.seen } → StartsWith saw.seen old.seen → IsTrueOf MayMake old → IsTrueOf MayMake saw
+    → MayMakeNow device event old → MayMakeNow device event saw
+may_seen device event old saw kept starts knew knows may = record {
+  table = ap (λ (x : Caller). x.table) kept ∙ may.table;
+  actor = subst (λ (b : ℕ). MayMake b event) (sym (ap (λ (x : Caller). x.by) kept)) may.actor;
+  time = timely_seen device.config event old saw kept starts knew knows may.time;
+}
+
+-- and when it has taken parts
+pub may_taken : (device : Shared) (event : CellEvent) (old p : Caller) → p ≡ record old { lost = p.lost; taken = p.taken; hand = p.hand; order = p.order }
+    → MayMakeNow device event old → MayMakeNow device event p
+may_taken device event old p same may = record {
+  table = ap (λ (x : Caller). x.table) same ∙ may.table;
+  actor = subst (λ (b : ℕ). MayMake b event) (sym (ap (λ (x : Caller). x.by) same)) may.actor;
+  time = timely_taken device.config event old p same may.time;
+}

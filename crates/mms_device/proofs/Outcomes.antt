@@ -14,6 +14,7 @@ use Rattle.part_table.proofs.Histories.{starts_trans}
 use Rattle.parted_state.specs.Sets.{IsSetOf}
 use Rattle.parted_state.specs.CutLaws as laws
 use Rattle.mms_step.specs.declared.part.Part.{Part}
+use Rattle.cell_client.specs.declared.verdict.Found.{Found}
 use Rattle.mms_step.specs.State.{State, start, IsSound}
 use Rattle.mms_step.specs.Partition.{parts_of, clients_among, clock_in}
 use Rattle.mms_step.specs.Step.{IsInTime}
@@ -22,13 +23,13 @@ use Rattle.mms_step.specs.After.{parts_after}
 use Rattle.mms_device.specs.declared.answers.Refused.{Refused}
 use Rattle.mms_device.specs.declared.answers.Refused.TheVariants as refused
 use Rattle.mms_device.specs.Making.{MayMake}
-use Rattle.mms_device.specs.Shared.{Caller, History, IsServed, IsAsBefore, IsBusy, IsOf, IsTimely, all_events, led_to}
-use Rattle.mms_device.specs.Taken.{HasGrown, HasTaken, HoldsWanted, HasLost, IsStopped, IsTaking, Wants, free_count}
+use Rattle.mms_device.specs.Shared.{Shared, Caller, History, IsServed, IsAsBefore, IsBusy, IsOf, IsTimely, all_events, led_to}
+use Rattle.mms_device.specs.Taken.{CanTake, HasGrown, HasTaken, HoldsWanted, HasLost, IsStopped, IsTaking, Wants, free_count}
 use Rattle.mms_device.specs.Refusals.{IsRefused}
 use Rattle.mms_device.proofs.Steps.{clients_counted, parts_many, replay_sound, words_wanted, shown_wanted, wanted_within, length-start}
-use Rattle.mms_device.proofs.Growing.{taken_none, of_the_list, is_missing, one_fewer_free, still_held}
+use Rattle.mms_device.proofs.Growing.{taken_none, found_seen, found_taken, of_the_list, is_missing, one_fewer_free, still_held}
 use Rattle.mms_device.proofs.Wanting.{told_held, told_wants, shown_held, shown_wants, still_wants}
-use Rattle.mms_device.proofs.Leading.{leads, among_more, same_own, events_more, in_time, own_front}
+use Rattle.mms_device.proofs.Leading.{leads, among_more, same_own, events_more, in_time, may_seen, may_taken, own_front}
 
 -- ---- sets
 
@@ -137,6 +138,26 @@ module _ (event : CellEvent) where
   looked old saw is starts wanted same =
       let hand : saw.hand ≡ saw.taken = ap (λ (p : Caller). p.hand) is ∙ same ∙ sym (ap (λ (p : Caller). p.taken) is) in
       more_taken old saw saw [] is starts wanted (taken_none [] saw hand) (λ i none. absurd (none_contained i none))
+
+  -- it can take more when it has seen the history, and when it has taken parts then
+  pub can_seen : (device : Shared) (found : Option Found) (old saw : Caller) → saw ≡ record old { seen = saw.seen } → StartsWith saw.seen old.seen → IsTrueOf MayMake old → IsTrueOf MayMake saw
+      → CanTake device event found old → CanTake device event found saw
+  can_seen device found old saw is starts knew knows can =
+      let looks = looked old saw is starts can.wanted can.hand in record {
+        may = may_seen device event old saw is starts knew knows can.may;
+        hand = looks.hand;
+        wanted = looks.wanted;
+        found_of = found_seen found event old saw is can.found_of;
+      }
+
+  pub can_more : (device : Shared) (found : Option Found) (old saw new : Caller) (asked : List ℕ) → CanTake device event found saw → HasTaken asked saw new → IsTaking event old new
+      → CanTake device event found new
+  can_more device found old saw new asked can took taking = record {
+    may = may_taken device event saw new took.pass can.may;
+    hand = taking.hand;
+    wanted = taking.wanted;
+    found_of = found_taken found event saw saw new asked refl took can.found_of;
+  }
 
   pub taken_on : (a b c : Caller) → IsTaking event a b → IsTaking event b c → IsTaking event a c
   taken_on a b c first next = record {

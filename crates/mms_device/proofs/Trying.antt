@@ -6,7 +6,8 @@ use Rattle.cell_config.specs.declared.config.Config.{Config}
 use Rattle.part_table.specs.History.{StartsWith, events_of}
 use Rattle.part_table.proofs.Histories.{starts_refl, starts_trans}
 use Rattle.mms_step.specs.Step.{IsInTime}
-use Rattle.mms_device.specs.Shared.{Caller, History, IsServed, IsAsBefore, IsBusy, IsTimely, HasTried, ticks_in}
+use Rattle.mms_device.specs.Making.{MayMake}
+use Rattle.mms_device.specs.Shared.{Shared, Caller, History, IsServed, IsAsBefore, IsBusy, IsTimely, HasTried, MayMakeNow, ticks_in}
 
 pub not_tried : (pass : Caller) → HasTried pass pass
 not_tried pass = record { pass = refl; seen = starts_refl pass.seen; own = refl; lost = starts_refl pass.lost }
@@ -16,9 +17,16 @@ module _ (old p : Caller) (tried : HasTried old p) where
   same_by = ap (λ (x : Caller). x.by) tried.pass
 
   -- an event that was in time is in time
-  pub still_timely : (config : Config) (event : CellEvent) → IsTimely config old event → IsTimely config p event
+  still_timely : (config : Config) (event : CellEvent) → IsTimely config old event → IsTimely config p event
   still_timely config event time =
       subst (λ (events : List CellEvent). IsInTime (config.start.0 + ticks_in events) event) (sym (ap (λ (b : ℕ). events_of b p.seen) same_by ∙ tried.own)) time
+
+  pub still_may : (device : Shared) (event : CellEvent) → MayMakeNow device event old → MayMakeNow device event p
+  still_may device event may = record {
+    table = ap (λ (x : Caller). x.table) tried.pass ∙ may.table;
+    actor = subst (λ (b : ℕ). MayMake b event) (sym same_by) may.actor;
+    time = still_timely device.config event may.time;
+  }
 
   module _ (new : Caller) (own : events_of p.by new.seen ≡ events_of p.by p.seen) (seen : StartsWith new.seen p.seen) (lost : List (ℕ × ℕ)) (pass : new ≡ record p { seen = new.seen; lost = p.lost ++ lost }) where
     -- it tried once more

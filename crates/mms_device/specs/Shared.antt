@@ -11,6 +11,7 @@ use Rattle.mms_step.specs.State.{State, start}
 use Rattle.mms_step.specs.Step.{replay, IsInTime}
 use Rattle.mms_step.specs.Partition.{parts_of}
 use Rattle.mms_step.specs.Needs.{wanted}
+use Rattle.mms_device.specs.Making.{MayMake}
 
 -- the device: the table of its parts, and its configuration
 pub record Shared : Type 0 where
@@ -52,6 +53,13 @@ ticks_in (event ∷ events) = goes_by event + ticks_in events
 -- the configured moment, the ticks among the caller's own events, and this event come to no more than the last moment
 abbrev pub IsTimely : Config → Caller → CellEvent → Type 0
 IsTimely config pass event = IsInTime (config.start.0 + ticks_in (events_of pass.by pass.seen)) event
+
+-- The pass is the device's, and its caller may make the event now: the event's actor has its number, and the event is in
+-- time.
+pub record MayMakeNow (device : Shared) (event : CellEvent) (pass : Caller) : Type 0 where
+  pub table : pass.table ≡ device.table
+  pub actor : MayMake pass.by event
+  pub time : IsTimely device.config pass event
 
 -- The event was committed, once: it has that place behind a history that begins with what the pass knew. Beside those
 -- that were there it is the one event of the caller's own, and nothing else of the pass has changed.

@@ -6,10 +6,12 @@ use Rattle.part_table.specs.History.{StartsWith}
 use Rattle.mms_step.specs.declared.part.Part.{Part}
 use Rattle.mms_step.specs.State.{State}
 use Rattle.mms_step.specs.Partition.{parts_of}
-use Rattle.mms_step.specs.Needs.{is_held, wanted}
+use Rattle.mms_step.specs.Needs.{is_held, need, wanted}
+use Rattle.mms_step.specs.Tasks.{IsFoundOf}
+use Rattle.cell_client.specs.declared.verdict.Found.{Found}
 use Rattle.mms_device.specs.declared.answers.Refused.{Refused}
 use Rattle.mms_device.specs.declared.answers.Refused.TheVariants as refused
-use Rattle.mms_device.specs.Shared.{Caller}
+use Rattle.mms_device.specs.Shared.{Shared, Caller, MayMakeNow, led_to}
 
 -- what was held is held, and beside it at most those that are asked for
 pub record HasGrown (asked : List ℕ) (before after : List (Option Part)) : Type 0 where
@@ -34,6 +36,19 @@ Wants event hand part = (s : State) → IsHandOf hand (parts_of s) → Contains 
 -- and it wants each part that is held
 abbrev pub HoldsWanted : CellEvent → List (Option Part) → Type 0
 HoldsWanted event hand = (part : ℕ) → is_held hand part ≡ true → Wants event hand part
+
+-- A pass can take what the event needs besides what it holds: its caller may make the event now, what it holds is as it
+-- was taken, the event wants each part of that, and what was found is what the event's octets come to.
+pub record CanTake (device : Shared) (event : CellEvent) (found : Option Found) (pass : Caller) : Type 0 where
+  pub may : MayMakeNow device event pass
+  pub hand : pass.hand ≡ pass.taken
+  pub wanted : HoldsWanted event pass.taken
+  pub found_of : IsFoundOf found event pass.taken
+
+-- a pass holds all that the event needs, and these are parts of the state to which the history leads that it knows
+pub record HoldsAll (device : Shared) (event : CellEvent) (pass : Caller) : Type 0 where
+  pub enough : need event pass.taken ≡ []
+  pub of : IsHandOf pass.taken (parts_of (led_to device.config pass.seen))
 
 -- while a call takes parts: nothing of the pass has changed but what it knows, what it holds and the claims that it
 -- lost

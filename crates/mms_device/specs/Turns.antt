@@ -1,12 +1,14 @@
 -- Jobs of actors on a device that many callers share (this profile's choice).
-use Rattle.std.specs.Prelude.{◌≡◌, ◌≤◌, ℕ, ◌+◌, List, [], ◌∷◌, ◌++◌, map, length, vec_capacity, refl}
+use Rattle.std.specs.Prelude.{◌≡◌, ◌↔◌, ◌≤◌, ℕ, ◌+◌, List, [], ◌∷◌, ◌++◌, map, length, vec_capacity, refl}
 use Rattle.std.proofs.Common.{sym, ap, subst, ◌∙◌, append_assoc, append-nil, length-append, arith}
 use Rattle.mms_types.specs.declared.event.CellEvent.{CellEvent}
 use Rattle.part_table.specs.History.{StartsWith, events_of}
 use Rattle.part_table.specs.Known.{HoldsNothing}
+use Rattle.cell_pool.specs.declared.turn.Step.{Step}
+use Rattle.cell_pool.specs.declared.turn.Step.TheVariants as step
 use Rattle.cell_services.specs.Tables.{last_moment}
 use Rattle.mms_device.specs.Making.{MayMake}
-use Rattle.mms_device.specs.Shared.{Shared, Caller, History, IsBusy, IsServed, ticks_in}
+use Rattle.mms_device.specs.Shared.{Shared, Caller, History, IsAsBefore, IsBusy, IsServed, ticks_in}
 use Rattle.mms_device.specs.declared.turns.CellJob.{CellJob}
 
 -- each of the events is one that the caller may make
@@ -77,6 +79,16 @@ pub record IsHeldUp (device : Shared) (a b : CellJob) : Type 0 where
   pub rest : b.rest ≡ a.rest
   pub log : b.log ≡ a.log
   pub pass : IsBusy device.config event a.pass b.pass part by
+
+-- What the answer of a turn tells of a job: it is done exactly where no event was left, has moved exactly where the first
+-- one was served, and is busy exactly where a claim was lost on a part that it wants. A job that was done is as before,
+-- and so is, but for what it knows of others, the pass of one for which there was not enough memory.
+pub record IsTurn (device : Shared) (a b : CellJob) (answer : Step) : Type 0 where
+  pub ended : (answer ≡ step.Done) ↔ (a.rest ≡ [])
+  pub kept : answer ≡ step.Done → b ≡ a
+  pub moved : (answer ≡ step.Moved) ↔ HasMoved a b
+  pub held_up : (answer ≡ step.Busy) ↔ IsHeldUp device a b
+  pub as_before : answer ≡ step.Memory → IsAsBefore a.pass b.pass
 
 pub made_of_itself : (a : CellJob) → MadeOf a a
 made_of_itself a = record {

@@ -1,7 +1,7 @@
 //! Calls of the table of parts, where it is known that the parts are the cell's: that these may go from thread to
 //! thread is shown here once, and not in each caller's proof.
 
-ghost use Rattle.std.specs.Prelude.{◌≡◌, ◌≢◌, ◌+◌, ◌-◌, ◌<◌, ◌≤◌, ◌^◌, [], ◌∷◌, ◌++◌, ℕ, List, None, Some, IfErr, IfOk, OnErr, OnOk, length, map, slice_set, vec_len};
+ghost use Rattle.std.specs.Prelude.{◌≡◌, ◌≢◌, ◌<◌, ◌≤◌, ◌^◌, [], ◌∷◌, ◌++◌, None, IfErr, IfOk, OnErr, OnOk, length, map, vec_len};
 ghost use Rattle.std.specs.Box.{box_value};
 ghost use Rattle.std.specs.List.{range_with_len};
 ghost use Rattle.mms_types.specs.declared.event.CellEvent.{CellEvent};
@@ -9,12 +9,13 @@ ghost use Rattle.mms_types.specs.Actors.{IsAmong};
 ghost use Rattle.mms_types.specs.declared.event.CellEvent.TheVariants.{Drain};
 ghost use Rattle.part_table.specs.Held.{held_at, IsHandOf};
 ghost use Rattle.part_table.specs.History.{StartsWith, replayed};
-ghost use Rattle.part_table.specs.Known.{IsTrueOf, newcomer};
+ghost use Rattle.part_table.specs.Known.{IsTrueOf, newcomer, with_claim_lost, with_commit, with_part};
 ghost use Rattle.mms_step.specs.After.{after, parts_after};
 ghost use Rattle.mms_step.specs.Needs.{is_held, need};
 ghost use Rattle.mms_step.specs.Partition.{client_place, outbox_held, parts_of, IsClient};
 ghost use Rattle.mms_step.specs.State.{State};
 ghost use Rattle.mms_device.specs.Making.{MayMake};
+ghost use Rattle.mms_device.specs.Shared.{History};
 
 use mms_step::{Cell, Found, Part, apply_by};
 use mms_types::{CellEvent, Memory, What};
@@ -93,13 +94,9 @@ pub(crate) fn try_take(
     requires part { part < length table.now.opening }
     requires free { held_at pass.old.taken part ≡ None }
     ensures taken { IfOk result (λ _. (value : Part)
-        × (pass.new ≡ record pass.old {
-          taken = slice_set pass.old.taken part (Some value);
-          hand = slice_set pass.old.hand part (Some value);
-          order = part ∷ pass.old.order;
-        })) }
+        × (pass.new ≡ with_part part value pass.old)) }
     ensures lost { IfErr result (λ held. (held.by ≢ pass.old.by)
-        × (pass.new ≡ record pass.old { lost = pass.old.lost ++ (part, held.by) ∷ [] })) }
+        × (pass.new ≡ with_claim_lost part held.by pass.old)) }
 {
     table.try_take(pass, part)
 }
@@ -182,13 +179,7 @@ pub(crate) fn commit(table: &PartTable<Cell>, pass: &mut Pass<Cell>, event: &Cel
     requires stepped { pass.old.hand ≡ after event.now pass.old.taken }
     requires left { 0 < pass.old.left }
     requires may { MayMake pass.old.by event.now }
-    ensures added { (h : List (ℕ × CellEvent))
-        × (pass.new ≡ record pass.old {
-          seen = h ++ (pass.old.by, event.now) ∷ [];
-          own = pass.old.own ++ result ∷ [];
-          left = pass.old.left - 1;
-          taken = pass.old.hand;
-        })
+    ensures added { (h : History) × (pass.new ≡ with_commit h event.now result pass.old)
         × StartsWith h pass.old.seen
         × IsHandOf pass.old.taken (replayed parts_after pass.old.table.opening h) }
     ensures place { result ≡ length pass.new.seen }

@@ -1,20 +1,18 @@
 //! Serving an event on the parts that it wants.
 
-ghost use Rattle.std.specs.Prelude.{◌≡◌, ◌<◌, ◌≤◌, [], ℕ, true, false, List, IfOk, IfErr, OnOk, OnErr};
+ghost use Rattle.std.specs.Prelude.{◌≡◌, ◌<◌, ◌≤◌, ℕ, true, false, List, IfOk, IfErr, OnOk, OnErr};
 ghost use Rattle.mms_types.specs.declared.event.CellEvent.{CellEvent};
 ghost use Rattle.mms_types.specs.declared.event.CellEvent.TheVariants.{Drain};
-ghost use Rattle.part_table.specs.Held.{IsHandOf};
 ghost use Rattle.part_table.specs.History.{StartsWith};
 ghost use Rattle.part_table.specs.Known.{HoldsNothing};
-ghost use Rattle.mms_step.specs.Needs.{footprint, need};
-ghost use Rattle.mms_step.specs.Partition.{parts_of};
+ghost use Rattle.mms_step.specs.Needs.{footprint};
 ghost use Rattle.cell_client.specs.Reads.{IsReadingOf};
 ghost use Rattle.mms_step.specs.Step.{said};
 ghost use Rattle.mms_step.specs.Tasks.{IsFoundOf};
 ghost use Rattle.mms_device.specs.Making.{MayMake};
 ghost use Rattle.mms_device.specs.Refusals.{IsRefused};
-ghost use Rattle.mms_device.specs.Shared.{HasTried, IsBusy, IsServed, IsTimely, all_events, led_to};
-ghost use Rattle.mms_device.specs.Taken.{AreHeld, HasLost, HoldsWanted, IsStopped, IsTaking, free_count};
+ghost use Rattle.mms_device.specs.Shared.{HasTried, IsBusy, IsServed, IsTimely, MayMakeNow, all_events};
+ghost use Rattle.mms_device.specs.Taken.{AreHeld, CanTake, HasLost, HoldsAll, IsStopped, IsTaking, free_count};
 
 use crate::answers::{Busy, Refused, Served};
 use crate::giving::give_all;
@@ -37,17 +35,10 @@ impl Device {
         found: &Option<Found<'_>>,
         gate: &G,
     ) -> Result<bool, Refused>
-        requires table { pass.old.table ≡ self.now.table }
-        requires hand { pass.old.hand ≡ pass.old.taken }
-        requires actor { MayMake pass.old.by event.now }
-        requires time { IsTimely self.now.config pass.old event.now }
-        requires found { IsFoundOf found.now event.now pass.old.taken }
-        requires wanted { HoldsWanted event.now pass.old.taken }
+        requires can { CanTake self.now event.now found.now pass.old }
         ensures taking { IsTaking event.now pass.old pass.new }
-        ensures time { IsTimely self.now.config pass.new event.now }
-        ensures found { IsFoundOf found.now event.now pass.new.taken }
-        ensures all { IfOk result (λ all. all ≡ true → (need event.now pass.new.taken ≡ [])
-            × IsHandOf pass.new.taken (parts_of (led_to self.now.config pass.new.seen))) }
+        ensures can { CanTake self.now event.now found.now pass.new }
+        ensures all { IfOk result (λ all. all ≡ true → HoldsAll self.now event.now pass.new) }
         ensures more { IfOk result (λ all. all ≡ false
             → free_count pass.new.taken < free_count pass.old.taken) }
         ensures lost { OnOk result (pass.new.lost ≡ pass.old.lost) }
@@ -75,12 +66,10 @@ impl Device {
         event: &CellEvent,
         gate: &G,
     ) -> Result<(), Busy>
-        requires table { pass.old.table ≡ self.now.table }
+        requires may { MayMakeNow self.now event.now pass.old }
         requires idle { HoldsNothing pass.old }
-        requires actor { MayMake pass.old.by event.now }
-        requires time { IsTimely self.now.config pass.old event.now }
         ensures taking { IsTaking event.now pass.old pass.new }
-        ensures time { IsTimely self.now.config pass.new event.now }
+        ensures may { MayMakeNow self.now event.now pass.new }
         ensures told { IfOk result (λ _.
             AreHeld pass.new.taken (footprint self.now.config.clients event.now)
             × (pass.new.lost ≡ pass.old.lost)) }
@@ -102,15 +91,12 @@ impl Device {
         reading: &'a Reading,
         gate: &G,
     ) -> Result<Option<Found<'a>>, Refused>
-        requires table { pass.old.table ≡ self.now.table }
+        requires may { MayMakeNow self.now event.now pass.old }
         requires idle { HoldsNothing pass.old }
-        requires actor { MayMake pass.old.by event.now }
-        requires time { IsTimely self.now.config pass.old event.now }
         requires reading { IsReadingOf reading.now event.now }
         ensures taking { IsTaking event.now pass.old pass.new }
         ensures found { IfOk result (λ found. IsFoundOf found event.now pass.new.taken) }
-        ensures all { IfOk result (λ _. (need event.now pass.new.taken ≡ [])
-            × IsHandOf pass.new.taken (parts_of (led_to self.now.config pass.new.seen))
+        ensures all { IfOk result (λ _. HoldsAll self.now event.now pass.new
             × (pass.new.lost ≡ pass.old.lost)) }
         ensures stopped { IfErr result (IsStopped event.now pass.old pass.new) }
     {
@@ -135,11 +121,9 @@ impl Device {
         reading: &Reading,
         gate: &G,
     ) -> Result<Served, Refused>
-        requires table { pass.old.table ≡ self.now.table }
+        requires may { MayMakeNow self.now event.now pass.old }
         requires idle { HoldsNothing pass.old }
         requires left { 0 < pass.old.left }
-        requires actor { MayMake pass.old.by event.now }
-        requires time { IsTimely self.now.config pass.old event.now }
         requires reading { IsReadingOf reading.now event.now }
         ensures served { IfOk result (λ served. (h : List (ℕ × CellEvent))
             × IsServed event.now pass.old pass.new served.ticket h) }
@@ -206,11 +190,9 @@ impl Device {
         reading: &Reading,
         gate: &G,
     ) -> Result<Served, Memory>
-        requires table { pass.old.table ≡ self.now.table }
+        requires may { MayMakeNow self.now event.now pass.old }
         requires idle { HoldsNothing pass.old }
         requires left { 0 < pass.old.left }
-        requires actor { MayMake pass.old.by event.now }
-        requires time { IsTimely self.now.config pass.old event.now }
         requires reading { IsReadingOf reading.now event.now }
         ensures served { IfOk result (λ served. (h : List (ℕ × CellEvent)) × IsServed event.now
             (record pass.old { lost = pass.new.lost }) pass.new served.ticket h) }

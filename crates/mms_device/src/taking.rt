@@ -1,6 +1,6 @@
 //! Taking parts, as a caller of the device.
 
-ghost use Rattle.std.specs.Prelude.{◌≡◌, ◌≢◌, ◌<◌, ◌++◌, ◌∷◌, [], ℕ, true, List, IfOk, IfErr, length, Contains};
+ghost use Rattle.std.specs.Prelude.{◌≡◌, ◌≢◌, ◌<◌, ◌++◌, ◌∷◌, [], ℕ, true, IfOk, IfErr, length, Contains};
 ghost use Rattle.mms_step.specs.Needs.{is_held};
 ghost use Rattle.mms_device.specs.Taken.{AreHeld, HasTaken};
 

@@ -1,8 +1,7 @@
 //! Turns of jobs on the device: in each an actor has its next event served.
 
-ghost use Rattle.std.specs.Prelude.{◌≡◌, ◌≢◌, ◌↔◌, ◌⊎◌, []};
-ghost use Rattle.mms_device.specs.Shared.{IsAsBefore};
-ghost use Rattle.mms_device.specs.Turns.{HasMoved, IsFit, IsHeldUp, MadeOf, SameWork};
+ghost use Rattle.std.specs.Prelude.{◌≡◌, ◌≢◌, ◌⊎◌, []};
+ghost use Rattle.mms_device.specs.Turns.{IsFit, IsTurn, MadeOf, SameWork};
 ghost use Rattle.cell_pool.specs.declared.turn.Step.TheVariants as step;
 
 use crate::{Device, Refused};
@@ -44,11 +43,7 @@ fn serve_next<G: Gate>(device: &Device, alloc: Global, job: &mut CellJob, gate: 
     requires fit { IsFit device.now job.old }
     ensures fit { IsFit device.now job.new }
     ensures made { MadeOf job.old job.new }
-    ensures ended { (result ≡ step.Done) ↔ (job.old.rest ≡ []) }
-    ensures kept { result ≡ step.Done → job.new ≡ job.old }
-    ensures moved { (result ≡ step.Moved) ↔ HasMoved job.old job.new }
-    ensures held_up { (result ≡ step.Busy) ↔ IsHeldUp device.now job.old job.new }
-    ensures short { result ≡ step.Memory → IsAsBefore job.old.pass job.new.pass }
+    ensures turn { IsTurn device.now job.old job.new result }
     ensures some { result ≡ step.Memory → job.new.rest ≢ [] }
     ensures same { (result ≡ step.Busy) ⊎ (result ≡ step.Memory) → SameWork job.old job.new }
 {
@@ -100,11 +95,7 @@ impl<'a> Turn for CellTurns<'a> {
         ensures short { result ≡ step.Memory → ∥ job.new.rest ≢ [] ∥₁ }
         ensures same { (result ≡ step.Busy) ⊎ (result ≡ step.Memory)
             → ∥ SameWork job.old job.new ∥₁ }
-        ensures ended { (result ≡ step.Done) ↔ (job.old.rest ≡ []) }
-        ensures kept { result ≡ step.Done → job.new ≡ job.old }
-        ensures as_before { result ≡ step.Memory → IsAsBefore job.old.pass job.new.pass }
-        ensures moved { (result ≡ step.Moved) ↔ HasMoved job.old job.new }
-        ensures held_up { (result ≡ step.Busy) ↔ IsHeldUp self.now.device.now job.old job.new }
+        ensures turn { IsTurn self.now.device.now job.old job.new result }
     {
         serve_next(self.device, self.alloc, job, gate)
     }

@@ -1,7 +1,6 @@
 //! The device of one thread.
 
 ghost use Rattle.std.specs.Prelude.{◌≡◌, ◌+◌, ◌-◌, ◌<◌, ◌≤◌, ◌^◌, length, map, Some, IfOk, OnOk, OnErr};
-ghost use Rattle.mms_types.specs.Actors.{IsAmong};
 ghost use Rattle.mms_types.specs.Moments.{IsDated};
 ghost use Rattle.mms_types.specs.declared.event.CellEvent.TheVariants.{Drain};
 ghost use Rattle.cell_config.specs.Said.{IsConfig};

@@ -11,8 +11,12 @@ use Rattle.mms_device.specs.Taken.{AreHeld}
 use Rattle.mms_device.proofs.Draining.{may_drain, drain_small, drain_busy, drain_may, drain_client, drain_need, drain_step, drain_said, drain_served}
 use Rattle.mms_device.proofs.many.Device.drain.Goals as goal
 
-pub take_told-requires-clause-actor : goal.take_told-requires-clause-actor
-take_told-requires-clause-actor g c = may_drain c.args.pass.now.by c.by-client.result c.by-client.ensures c.requires.client
+pub take_told-requires-clause-may : goal.take_told-requires-clause-may
+take_told-requires-clause-may g c = record {
+  table = c.requires.table;
+  actor = may_drain c.args.pass.now.by c.by-client.result c.by-client.ensures c.requires.client;
+  time = tt;
+}
 
 pub returns-in-Err-clause-busy : goal.returns-in-Err-clause-busy
 returns-in-Err-clause-busy g c =

@@ -6,25 +6,25 @@ use Rattle.mms_device.specs.declared.answers.Busy.{Busy}
 use Rattle.mms_device.specs.Shared.{IsOf, Shared}
 use Rattle.mms_device.specs.Taken.{AreHeld, HasLost}
 use Rattle.mms_device.proofs.Outcomes.{clients_by_opening, actor_among, first_taken, first_wants, told_within, in_set}
-use Rattle.mms_device.proofs.Leading.{timely_taken}
+use Rattle.mms_device.proofs.Leading.{may_taken}
 use Rattle.mms_device.proofs.many.Device.take_told.Goals as goal
 
 pub take_each-requires-clause-parts : goal.take_each-requires-clause-parts
 take_each-requires-clause-parts g c =
     let config = c.self.inside.config.value in
-    let table = c.requires.table ∙ sym (ap (λ (d : Shared). d.table) c.self.view_is) in
-    let among = actor_among config c.args.pass.now c.args.event.now (subst (λ t. IsOf t config) (sym table) c.self.invariant.0) c.a_pass_knows_its_own_places.ensures.number c.requires.actor in
+    let table = c.requires.may.table ∙ sym (ap (λ (d : Shared). d.table) c.self.view_is) in
+    let among = actor_among config c.args.pass.now c.args.event.now (subst (λ t. IsOf t config) (sym table) c.self.invariant.0) c.a_pass_knows_its_own_places.ensures.number c.requires.may.actor in
     told_within config c.self.inside.table c.args.event.now c.footprint-parts.result c.self.inside.clients c.self.invariant.0 c.self.invariant.2 among c.footprint-parts.ensures
 
 pub returns-clause-taking : goal.returns-clause-taking
 returns-clause-taking g c =
     let config = c.self.inside.config.value in
-    let table = c.requires.table ∙ sym (ap (λ (d : Shared). d.table) c.self.view_is) in
+    let table = c.requires.may.table ∙ sym (ap (λ (d : Shared). d.table) c.self.view_is) in
     let many = clients_by_opening config c.args.pass.now.table (subst (λ t. IsOf t config) (sym table) c.self.invariant.0) ∙ sym c.self.invariant.2 in
     first_taken c.args.event.now c.self.inside.clients c.args.pass.now c.take_each.new.pass c.footprint-parts.result c.requires.idle many c.footprint-parts.ensures c.take_each.ensures.taken
 
-pub returns-clause-time : goal.returns-clause-time
-returns-clause-time g c = timely_taken c.args.self.now.config c.args.event.now c.args.pass.now c.take_each.new.pass c.take_each.ensures.taken.pass c.requires.time
+pub returns-clause-may : goal.returns-clause-may
+returns-clause-may g c = may_taken c.args.self.now c.args.event.now c.args.pass.now c.take_each.new.pass c.take_each.ensures.taken.pass c.requires.may
 
 pub returns-clause-told : goal.returns-clause-told
 returns-clause-told g c =
@@ -40,7 +40,7 @@ returns-clause-told g c =
 pub returns-clause-stopped : goal.returns-clause-stopped
 returns-clause-stopped g c =
     let config = c.self.inside.config.value in
-    let table = c.requires.table ∙ sym (ap (λ (d : Shared). d.table) c.self.view_is) in
+    let table = c.requires.may.table ∙ sym (ap (λ (d : Shared). d.table) c.self.view_is) in
     let many = clients_by_opening config c.args.pass.now.table (subst (λ t. IsOf t config) (sym table) c.self.invariant.0) ∙ sym c.self.invariant.2 in
     let old = c.args.pass.now in
     let new = c.take_each.new.pass in

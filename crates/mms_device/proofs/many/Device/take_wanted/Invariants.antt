@@ -1,15 +1,12 @@
 use Rattle.std.proofs.Common.{◌≡◌}
-use Rattle.mms_step.specs.Tasks.{IsFoundOf}
-use Rattle.mms_device.specs.Shared.{IsTimely}
-use Rattle.mms_device.specs.Taken.{IsTaking, free_count}
+use Rattle.mms_device.specs.Taken.{CanTake, IsTaking, free_count}
 use Rattle.mms_device.proofs.many.Device.take_wanted.Given as goal
 
 abbrev pub invariant-loop : goal.invariant-loop
 invariant-loop g l = record {
   taking : IsTaking l.event l.fn.pass l.pass;
   lost : l.pass.lost ≡ l.fn.pass.lost;
-  time : IsTimely l.self.config l.pass l.event;
-  found : IsFoundOf l.found l.event l.pass.taken;
+  can : CanTake l.self l.event l.found l.pass;
 }
 
 abbrev pub decreases-loop : goal.decreases-loop

@@ -14,7 +14,7 @@ use Rattle.mms_device.proofs.many.Device.try_read.Goals as goal
 pub returns-in-Err-clause-refused : goal.returns-in-Err-clause-refused
 returns-in-Err-clause-refused g c =
     let config = c.self.inside.config.value in
-    let table = c.requires.table ∙ sym (ap (λ (d : Shared). d.table) c.self.view_is) in
+    let table = c.requires.may.table ∙ sym (ap (λ (d : Shared). d.table) c.self.view_is) in
     let taking = c.take_wanted.ensures.taking in
     let saw_table = ap (λ (x : Caller). x.table) c.see.ensures.kept ∙ ap (λ (x : Caller). x.table) taking.pass ∙ table in
     let led = hand_led config c.see.new.pass (subst (λ t. IsOf t config) (sym saw_table) c.self.invariant.0) c.see.ensures.parts in
@@ -27,18 +27,18 @@ on_hand-requires g c =
     let config = c.self.inside.config.value in
     let p = c.take_wanted.new.pass in
     let taking = c.take_wanted.ensures.taking in
-    let table = c.requires.table ∙ sym (ap (λ (d : Shared). d.table) c.self.view_is) in
+    let table = c.requires.may.table ∙ sym (ap (λ (d : Shared). d.table) c.self.view_is) in
     let of_table = subst (λ t. IsOf t config) (sym table) c.self.invariant.0 in
     let knew = c.a_pass_knows_its_own_places.ensures in
     let knows = c.a_pass_knows_its_own_places-2.ensures in
-    let of = subst (λ (d : Shared). IsHandOf p.taken (parts_of (led_to d.config p.seen))) (sym c.self.view_is) c.in-Ok.ensures.all.1 in
-    let time = subst (λ (d : Shared). IsTimely d.config c.args.pass.now c.args.event.now) (sym c.self.view_is) c.requires.time in
+    let of = subst (λ (d : Shared). IsHandOf p.taken (parts_of (led_to d.config p.seen))) (sym c.self.view_is) c.in-Ok.ensures.all.0.of in
+    let time = subst (λ (d : Shared). IsTimely d.config c.args.pass.now c.args.event.now) (sym c.self.view_is) c.requires.may.time in
     let asked : MayStep c.args.event.now c.in-Ok.found p.hand = record {
       of = state_held config c.self.invariant.1 c.args.event.now c.args.pass.now p taking of_table knew knows of p.hand refl;
       found_of = subst (λ (h : List (Option Part)). IsFoundOf c.in-Ok.found c.args.event.now h) (sym taking.hand) c.in-Ok.ensures.found;
-      among = among_held config c.self.invariant.1 c.args.event.now c.args.pass.now p taking of_table knew knows of p.hand refl c.requires.actor;
-      held = ap (λ (h : List (Option Part)). need c.args.event.now h) taking.hand ∙ c.in-Ok.ensures.all.0;
-      time = time_held config c.self.invariant.1 c.args.event.now c.args.pass.now p taking of_table knew knows of p.hand refl c.requires.actor.0 time;
+      among = among_held config c.self.invariant.1 c.args.event.now c.args.pass.now p taking of_table knew knows of p.hand refl c.requires.may.actor;
+      held = ap (λ (h : List (Option Part)). need c.args.event.now h) taking.hand ∙ c.in-Ok.ensures.all.0.enough;
+      time = time_held config c.self.invariant.1 c.args.event.now c.args.pass.now p taking of_table knew knows of p.hand refl c.requires.may.actor.0 time;
     } in
     record { may = asked }
 
@@ -46,7 +46,7 @@ pub returns-in_default-clause-refused : goal.returns-in_default-clause-refused
 returns-in_default-clause-refused g c =
     let p = c.take_wanted.new.pass in
     kept c.args.event.now c.args.pass.now p c.take_wanted.ensures.taking c.requires.idle c.a_pass_knows_its_own_places.ensures c.on_hand.new.pass c.give_all-in_default.new.pass
-    c.a_pass_knows_its_own_places-2.ensures c.in-Ok.ensures.all.2 c.in_default.ensures.kept c.give_all-in_default.ensures
+    c.a_pass_knows_its_own_places-2.ensures c.in-Ok.ensures.all.1 c.in_default.ensures.kept c.give_all-in_default.ensures
 
 pub returns-clause-served : goal.returns-clause-served
 returns-clause-served g c =
@@ -54,5 +54,5 @@ returns-clause-served g c =
     let added = c.commit-ticket.ensures.added in (
       added.0,
       served c.args.event.now c.args.pass.now p c.take_wanted.ensures.taking c.requires.idle c.a_pass_knows_its_own_places.ensures c.on_hand.new.pass c.commit-ticket.new.pass c.give_all-2.new.pass
-          c.commit-ticket.result added.0 c.in-Ok.ensures.all.2 c.on_hand.ensures.pass added.1 added.2 c.commit-ticket.ensures.place c.commit-ticket.ensures.places c.give_all-2.ensures,
+          c.commit-ticket.result added.0 c.in-Ok.ensures.all.1 c.on_hand.ensures.pass added.1 added.2 c.commit-ticket.ensures.place c.commit-ticket.ensures.places c.give_all-2.ensures,
     )
