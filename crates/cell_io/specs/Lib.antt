@@ -1,4 +1,5 @@
 pub mod Faults
+pub mod Giving
 pub mod Held
 pub mod Hex
 pub mod InMemory

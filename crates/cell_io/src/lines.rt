@@ -1,8 +1,10 @@
-ghost use Rattle.std.specs.Prelude.{◌≡◌, ◌+◌, ◌-◌, ◌<◌, ◌≤◌, ◌^◌, [], ◌++◌, true, false, ℕ, List, length, take, drop, IfOk, IfSome, IfErr, OnErr, OnOk, Some};
-ghost use Rattle.std.specs.Io.KnownBytes.{IsAtEnd, Keeps, prepend_known};
-ghost use Rattle.cell_io.specs.Faults.{Rose, CountsFault, SteadyBut};
+ghost use Rattle.std.specs.Prelude.{◌≡◌, ◌+◌, ◌-◌, ◌<◌, ◌≤◌, [], ◌++◌, true, false, List, length, take, drop, IfOk, IfErr, OnErr, OnOk};
+ghost use Rattle.std.specs.Io.KnownBytes.{Keeps, prepend_known};
+ghost use Rattle.cell_io.specs.Faults.{CountsFault, CountsFaultAs};
 ghost use Rattle.cell_io.specs.Lines.{first_line, after_line, has_feed, kept_of};
-ghost use Rattle.cell_io.specs.Held.{Held, ahead, IsLaterPart, IsEndSeen, FailsInLine, StopsInLine};
+ghost use Rattle.cell_io.specs.Held.{Held};
+ghost use Rattle.cell_io.specs.Giving.{GivesLine, HadLine, HadNoLine, StopsFor, GoesAhead};
+ghost use Rattle.cell_io.specs.Giving.{GivesPart, StopsAtPart, HoldsMore, HoldsNoMore, FailsToRead};
 ghost use Rattle.cell_io.specs.declared.lines.Stop.TheVariants as stop;
 
 use crate::first_part::first_part;
@@ -129,51 +131,25 @@ impl Lines {
     /// false at the end of the input. A read that fails is the last one. After a `Stop` a front of the
     /// line was passed over and counted as given, and what is ahead begins with the rest of the line.
     pub fn next<S: Source>(&mut self, input: &mut S, line: &mut Vec<u8>) -> Result<bool, Stop>
-        // The line, what is ahead after it, and its size.
-        ensures line { OnOk result (IfSome (ahead self.old (S.left input.old)) (λ text.
-            line.new.items ≡ kept_of (first_line text))) }
-        ensures rest { OnOk result (IfSome (ahead self.old (S.left input.old)) (λ text.
-            ahead self.new (S.left input.new) ≡ Some (after_line text))) }
-        ensures size { OnOk result (IfSome (ahead self.old (S.left input.old)) (λ text.
-            self.new.given ≡ self.old.given + length (first_line text))) }
+        // The line: empty at the end of the input.
+        ensures line { OnOk result (GivesLine
+            self.old (S.left input.old) self.new (S.left input.new) line.new.items) }
 
-        // No more is kept, also where the source doesn't tell what is left.
-        ensures kept { OnOk result (length line.new.items ≤ 196612) }
-
-        // True exactly where something was ahead; then at least one octet was given.
-        ensures there { IfOk result (λ more. more ≡ true →
-            IfSome (ahead self.old (S.left input.old)) (λ text. 0 < length text)) }
-        ensures none { IfOk result (λ more. more ≡ false →
-            IfSome (ahead self.old (S.left input.old)) (λ text. text ≡ [])) }
-        ensures grows { IfOk result (λ more. more ≡ true → self.old.given < self.new.given) }
-        ensures stays { IfOk result (λ more. more ≡ false → self.new.given ≡ self.old.given) }
-
-        // The end is seen where no line is given, or one without its line feed. After it nothing
-        // is read, and no line is given.
-        ensures over { IfOk result (λ more. more ≡ false → self.new.ended ≡ true) }
-        ensures feed { IfOk result (λ more. more ≡ true → self.new.ended ≡ false →
-            IfSome (ahead self.old (S.left input.old)) (λ text. has_feed text ≡ true)) }
-        ensures unended { IfOk result (λ more. more ≡ true → self.old.ended ≡ false) }
+        // True exactly where something was ahead. After the end was seen nothing is read, and no
+        // line is given.
+        ensures there { IfOk result (λ more. more ≡ true
+            → HadLine self.old (S.left input.old) self.new) }
+        ensures none { IfOk result (λ more. more ≡ false
+            → HadNoLine self.old (S.left input.old) self.new) }
         ensures unread { self.old.ended ≡ true → (input.new ≡ input.old) × (self.new ≡ self.old) }
-        ensures seen { IsEndSeen self.old (S.left input.old)
-            → IsEndSeen self.new (S.left input.new) }
 
-        // Why it stops. A fault comes only before the line's end was read.
-        ensures too_much { IfErr result (λ e. e ≡ Stop.TooMuch →
-            IfSome (ahead self.old (S.left input.old))
-            (λ text. 4294967296 < self.old.given + length (first_line text))) }
-        ensures fault { IfErr result (λ e. e ≡ Stop.Fault →
-            Rose (S.faults input.old) (S.faults input.new)) }
-        ensures before_end { IfErr result (λ e. e ≡ Stop.Fault →
-            FailsInLine self.old (S.left input.old) (S.left input.new) self.new.given) }
-        ensures stops { OnErr result (StopsInLine
+        // Why it stops.
+        ensures stops { IfErr result (λ stop. StopsFor stop
             self.old (S.left input.old) self.new (S.left input.new)) }
 
         // On every answer.
-        ensures order { self.old.given ≤ self.new.given }
-        ensures most { self.new.given ≤ 4294967296 }
-        ensures left { IsLaterPart (S.left input.old) (S.left input.new) }
-        ensures steady { SteadyBut Stop.Fault (S.faults input.old) (S.faults input.new) result }
+        ensures goes { GoesAhead self.old (S.left input.old) self.new (S.left input.new) }
+        ensures faults { CountsFaultAs Stop.Fault (S.faults input.old) (S.faults input.new) result }
     {
         line.clear();
         let _given = self.given();
@@ -187,40 +163,16 @@ impl Lines {
     fn read_line<S: Source>(&mut self, input: &mut S, line: &mut Vec<u8>) -> Result<bool, Stop>
         requires unended { self.old.ended ≡ false }
         requires empty { line.old.items ≡ [] }
-        ensures line { OnOk result
-            (IfSome (prepend_known self.old.octets (S.left input.old)) (λ text.
-            line.new.items ≡ kept_of (first_line text))) }
-        ensures rest { OnOk result
-            (IfSome (prepend_known self.old.octets (S.left input.old)) (λ text.
-            ahead self.new (S.left input.new) ≡ Some (after_line text))) }
-        ensures size { OnOk result
-            (IfSome (prepend_known self.old.octets (S.left input.old)) (λ text.
-            self.new.given ≡ self.old.given + length (first_line text))) }
-        ensures kept { OnOk result (length line.new.items ≤ 196612) }
-        ensures there { IfOk result (λ more. more ≡ true →
-            IfSome (prepend_known self.old.octets (S.left input.old)) (λ text. 0 < length text)) }
-        ensures none { IfOk result (λ more. more ≡ false →
-            IfSome (prepend_known self.old.octets (S.left input.old)) (λ text. text ≡ [])) }
-        ensures grows { IfOk result (λ more. more ≡ true → self.old.given < self.new.given) }
-        ensures stays { IfOk result (λ more. more ≡ false → self.new.given ≡ self.old.given) }
-        ensures over { IfOk result (λ more. more ≡ false → self.new.ended ≡ true) }
-        ensures feed { IfOk result (λ more. more ≡ true → self.new.ended ≡ false →
-            IfSome (prepend_known self.old.octets (S.left input.old))
-            (λ text. has_feed text ≡ true)) }
-        ensures seen { IsEndSeen self.new (S.left input.new) }
-        ensures too_much { IfErr result (λ e. e ≡ Stop.TooMuch →
-            IfSome (prepend_known self.old.octets (S.left input.old))
-            (λ text. 4294967296 < self.old.given + length (first_line text))) }
-        ensures fault { IfErr result (λ e. e ≡ Stop.Fault →
-            Rose (S.faults input.old) (S.faults input.new)) }
-        ensures before_end { IfErr result (λ e. e ≡ Stop.Fault →
-            FailsInLine self.old (S.left input.old) (S.left input.new) self.new.given) }
-        ensures stops { OnErr result (StopsInLine
+        ensures line { OnOk result (GivesLine
+            self.old (S.left input.old) self.new (S.left input.new) line.new.items) }
+        ensures there { IfOk result (λ more. more ≡ true
+            → HadLine self.old (S.left input.old) self.new) }
+        ensures none { IfOk result (λ more. more ≡ false
+            → HadNoLine self.old (S.left input.old) self.new) }
+        ensures stops { IfErr result (λ stop. StopsFor stop
             self.old (S.left input.old) self.new (S.left input.new)) }
-        ensures order { self.old.given ≤ self.new.given }
-        ensures most { self.new.given ≤ 4294967296 }
-        ensures left { IsLaterPart (S.left input.old) (S.left input.new) }
-        ensures steady { SteadyBut Stop.Fault (S.faults input.old) (S.faults input.new) result }
+        ensures goes { GoesAhead self.old (S.left input.old) self.new (S.left input.new) }
+        ensures faults { CountsFaultAs Stop.Fault (S.faults input.old) (S.faults input.new) result }
     {
         let before = self.given();
         for _turn in 0..MOST + 2 {
@@ -237,16 +189,10 @@ impl Lines {
     /// Gives what is held of the line. Tells whether the line ends there.
     fn give_part(&mut self, line: &mut Vec<u8>) -> Result<bool, Stop>
         requires { length line.old.items ≤ 196612 }
-        ensures line { OnOk result (line.new.items
-            ≡ kept_of (line.old.items ++ first_line self.old.octets)) }
-        ensures rest { OnOk result (self.new.octets ≡ after_line self.old.octets) }
-        ensures size { OnOk result (self.new.given
-            ≡ self.old.given + length (first_line self.old.octets)) }
+        ensures part { OnOk result
+            (GivesPart self.old self.new line.old.items line.new.items) }
         ensures ended { IfOk result (λ ended. has_feed self.old.octets ≡ ended) }
-        ensures too_much { IfErr result (λ e. e ≡ Stop.TooMuch →
-            4294967296 < self.old.given + length (first_line self.old.octets)) }
-        ensures cause { IfErr result (λ e. ¬ (e ≡ Stop.Fault)) }
-        ensures stays { OnErr result (self.new ≡ self.old) }
+        ensures stops { IfErr result (λ stop. StopsAtPart stop self.old self.new) }
         ensures order { self.old.given ≤ self.new.given }
         ensures most { self.new.given ≤ 4294967296 }
         ensures same { self.new.ended ≡ self.old.ended }
@@ -266,14 +212,11 @@ impl Lines {
     fn fill<S: Source>(&mut self, input: &mut S) -> Result<bool, Failed>
         ensures moved { OnOk result
             (Keeps (S.left input.old) (prepend_known self.new.octets (S.left input.new))) }
-        ensures some { IfOk result (λ more. more ≡ true → 0 < length self.new.octets) }
-        ensures none { IfOk result (λ more. more ≡ false →
-            (self.new.octets ≡ []) × IsAtEnd (S.left input.new)) }
-        ensures unended { IfOk result (λ more. more ≡ true → self.new.ended ≡ false) }
-        ensures ended { IfOk result (λ more. more ≡ false → self.new.ended ≡ true) }
-        ensures kept { OnErr result (Keeps (S.left input.old) (S.left input.new)) }
-        ensures emptied { OnErr result (self.new.octets ≡ []) }
-        ensures same { OnErr result (self.new.ended ≡ self.old.ended) }
+        ensures some { IfOk result (λ more. more ≡ true → HoldsMore self.new) }
+        ensures none { IfOk result (λ more. more ≡ false
+            → HoldsNoMore self.new (S.left input.new)) }
+        ensures fails { OnErr result
+            (FailsToRead self.old (S.left input.old) self.new (S.left input.new)) }
         ensures cause { CountsFault (S.faults input.old) (S.faults input.new) result }
         ensures given { self.new.given ≡ self.old.given }
     {

@@ -1,10 +1,10 @@
 -- What is still to be read of a recording, and what a step of the reading leaves to be read
 -- (this profile's choice).
 use Rattle.std.specs.Prelude.{◌≡◌, ◌+◌, ◌<◌, ◌≤◌, ◌^◌, ℕ, true, false, List, length, All, Result}
-use Rattle.std.specs.Prelude.{Some, Err, IfSome, IfErr}
+use Rattle.std.specs.Prelude.{Some, Err, IfSome}
 use Rattle.std.specs.Option.{option_map}
 use Rattle.std.specs.declared.option.Option.{Option}
-use Rattle.cell_io.specs.Faults.{Rose, SteadyBut}
+use Rattle.cell_io.specs.Faults.{CountsFaultAs}
 use Rattle.cell_io.specs.Lines.{lines_of}
 use Rattle.cell_io.specs.Held.{Held, ahead, IsEndSeen, IsLaterPart}
 use Rattle.mms_types.specs.declared.event.CellEvent.{CellEvent}
@@ -63,9 +63,8 @@ pub record FailsInPhase (here : ToRead Reading) (e : RecordError)
   pub stops : e ≡ ReadFault → StopsInPhase here.says here.held here.place here.left last
 
 -- one fault more is counted exactly where it is told
-pub record CountsFaults {T : Type 0} (before now : ℕ) (result : Result T RecordError) : Type 0 where
-  pub steady : SteadyBut ReadFault before now result
-  pub fault : IfErr result (λ e. e ≡ ReadFault → Rose before now)
+abbrev pub CountsFaults : {T : Type 0} → ℕ → ℕ → Result T RecordError → Type 0
+CountsFaults before now result = CountsFaultAs ReadFault before now result
 
 -- the next phase was read: its events are the first of what is still said, each stands in a line of
 -- its own, and the moment goes on with its ticks

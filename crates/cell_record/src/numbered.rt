@@ -8,7 +8,7 @@ ghost use Rattle.cell_io.specs.Held.{ahead};
 ghost use Rattle.cell_record.specs.Words.{content as content_of};
 ghost use Rattle.cell_record.specs.EventLine.{same};
 ghost use Rattle.cell_record.specs.Numbered.{Gives, GoesOn, NextLine, NoLine, FailsAtLine};
-ghost use Rattle.cell_record.specs.PhaseLines.{BeginsWithLine};
+ghost use Rattle.cell_record.specs.PhaseLines.{HoldsLine};
 ghost use Rattle.cell_record.specs.ToRead.{CountsFaults};
 ghost use Rattle.cell_record.specs.Turned.{stop_told};
 
@@ -114,9 +114,7 @@ impl NumberedLines {
     /// Goes on behind the next line, which is held whole and has so many octets: the caller read it
     /// in its place, and nothing is kept of it.
     pub fn pass(&mut self, size: usize)
-        requires unended { self.old.held.ended ≡ false }
-        requires line { BeginsWithLine self.old.held.octets size }
-        requires few { self.old.held.given + size ≤ 4294967296 }
+        requires { HoldsLine self.old.held size }
         ensures gives { (left : Option (List ℕ))
             → Gives (ahead self.old.held left) (ahead self.new.held left)
             (first_line self.old.held.octets) self.old.held.given self.new.held.given }

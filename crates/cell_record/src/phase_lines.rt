@@ -3,11 +3,10 @@
 ghost use Rattle.std.specs.Prelude.{◌≡◌, ◌+◌, ◌<◌, ◌≤◌, ℕ, List, true, false};
 ghost use Rattle.std.specs.Prelude.{IfOk, IfErr, IfSome, IfNone, OnOk};
 ghost use Rattle.std.specs.declared.option.Option.{Option};
-ghost use Rattle.cell_record.specs.Recording.{refused};
 ghost use Rattle.cell_record.specs.Numbered.{phases, after_phase, IsWithin, GoesOn};
-ghost use Rattle.cell_record.specs.Progress.{IsStated};
-ghost use Rattle.cell_record.specs.PhaseLines.{BeginsWithLine, SaysSent, SaysLine, EndsPhases};
-ghost use Rattle.cell_record.specs.ToRead.{to_read, still_said, FailsInPhase, CountsFaults};
+ghost use Rattle.cell_record.specs.PhaseLines.{HoldsLine, SaysSent, SaysLine, RefusesLine};
+ghost use Rattle.cell_record.specs.PhaseLines.{EndsPhases};
+ghost use Rattle.cell_record.specs.ToRead.{to_read, FailsInPhase, CountsFaults};
 ghost use Rattle.cell_record.specs.ToRead.{IsNextPhase};
 ghost use Rattle.cell_record.specs.Turned.{line_told};
 
@@ -48,16 +47,11 @@ fn held_said(
     sent: Sent,
 ) -> Result<LineMeaning, RecordError>
     requires counts { IsWithin counts.old }
-    requires unended { lines.old.held.ended ≡ false }
-    requires line { BeginsWithLine lines.old.held.octets sent.size }
+    requires line { HoldsLine lines.old.held sent.size }
     requires says { SaysSent lines.old.held.octets sent.client sent.octets }
-    requires few { lines.old.held.given + sent.size ≤ 4294967296 }
     ensures says { IfOk result (λ said. (left : Option (List ℕ)) → SaysLine config.now said
         lines.old counts.old left lines.new counts.new left) }
-    ensures refused { IfErr result (λ e. (left : Option (List ℕ)) → IfSome
-        (still_said (to_read (phases config.now counts.old) lines.old left))
-        (λ r. r ≡ refused e)) }
-    ensures stated { IfErr result IsStated }
+    ensures refused { IfErr result (λ e. RefusesLine config.now e lines.old counts.old) }
     ensures unended { lines.new.held.ended ≡ false }
     ensures grows { lines.old.held.given < lines.new.held.given }
     ensures most { lines.new.held.given ≤ 4294967296 }

@@ -1,4 +1,4 @@
-use Rattle.std.proofs.Common.{◌+◌, ℕ, ◌∙◌, sym, ap}
+use Rattle.std.proofs.Common.{◌+◌, ℕ, ◌∙◌, sym, ap, rules}
 use Rattle.cell_io.specs.Held.{ahead}
 use Rattle.cell_io.specs.Lines.{first_line}
 use Rattle.cell_record.specs.Recording.{refused, makes, refusal_of}
@@ -20,7 +20,7 @@ returns-in-None-clause-says c = λ left.
             (ahead c.pass.new.self.held left) line p c.pass.new.self.held.given c.pass.ensures.most (c.pass.ensures.gives left)
             (λ l rest k n f. says c.args.config.now c.args.counts.now c.count.new.self p line l rest c.in-Ok.said e c.in-None.ensures.counts none k f));
         leads = rw c.pass.ensures.count (leads_there (phases c.args.config.now c.args.counts.now) (phases c.args.config.now c.count.new.self) (makes c.in-Ok.said) c.args.lines.now.held c.pass.new.self.held
-            left left line p c.requires.unended c.pass.ensures.most (c.pass.ensures.gives left) (λ _. c.pass.ensures.feed left)
+            left left line p c.requires.line.unended c.pass.ensures.most (c.pass.ensures.gives left) (λ _. c.pass.ensures.feed left)
             (λ l rest k n f. says c.args.config.now c.args.counts.now c.count.new.self p line l rest c.in-Ok.said e c.in-None.ensures.counts none k f));
       };
       may = c.in-Ok.ensures.may;
@@ -30,19 +30,25 @@ returns-in-None-clause-says c = λ left.
     }
 
 pub returns-in-Some-clause-refused : goal.returns-in-Some-clause-refused
-returns-in-Some-clause-refused c = λ left.
+returns-in-Some-clause-refused c =
     let p = place_at c.args.lines.now in
     let line = first_line c.args.lines.now.held.octets in
     let e = c.requires.says c.args.config.now ∙ sym c.in-Ok.ensures.says in
     let there = c.in-Some.ensures.refusal ∙ ap (λ (n : ℕ). refusal_of (n + 1) c.count.new.self c.in-Ok.said) c.count-number.ensures.count in
-    is (phases c.args.config.now c.args.counts.now) (refused c.in-Some.refusal) (ahead c.args.lines.now.held left) (ahead c.pass.new.self.held left) line p c.pass.new.self.held.given c.pass.ensures.most (c.pass.ensures.gives left)
-    (λ l rest k n f. says_much c.args.config.now c.args.counts.now c.count.new.self p line l rest c.in-Ok.said c.in-Some.refusal e c.in-Some.ensures.counts there k f)
+    record {
+      stated = search rules;
+      refused = λ left. is (phases c.args.config.now c.args.counts.now) (refused c.in-Some.refusal) (ahead c.args.lines.now.held left) (ahead c.pass.new.self.held left) line p c.pass.new.self.held.given c.pass.ensures.most (c.pass.ensures.gives left)
+          (λ l rest k n f. says_much c.args.config.now c.args.counts.now c.count.new.self p line l rest c.in-Ok.said c.in-Some.refusal e c.in-Some.ensures.counts there k f);
+    }
 
 pub returns-in-Err-clause-refused : goal.returns-in-Err-clause-refused
-returns-in-Err-clause-refused c = λ left.
+returns-in-Err-clause-refused c =
     let p = place_at c.args.lines.now in
     let line = first_line c.args.lines.now.held.octets in
     let e = c.requires.says c.args.config.now ∙ sym c.in-Err.ensures.says in
-    rw c.count-number.ensures.count (is (phases c.args.config.now c.args.counts.now) (refused (Bad (p.lines + 1) c.in-Err.word)) (ahead c.args.lines.now.held left)
-    (ahead c.pass.new.self.held left) line p c.pass.new.self.held.given c.pass.ensures.most (c.pass.ensures.gives left)
-    (λ l rest k n f. says_bad c.args.config.now c.args.counts.now p line l rest c.in-Err.word e k f))
+    record {
+      stated = search rules;
+      refused = λ left. rw c.count-number.ensures.count (is (phases c.args.config.now c.args.counts.now) (refused (Bad (p.lines + 1) c.in-Err.word)) (ahead c.args.lines.now.held left)
+          (ahead c.pass.new.self.held left) line p c.pass.new.self.held.given c.pass.ensures.most (c.pass.ensures.gives left)
+          (λ l rest k n f. says_bad c.args.config.now c.args.counts.now p line l rest c.in-Err.word e k f));
+    }

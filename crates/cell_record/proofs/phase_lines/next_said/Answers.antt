@@ -11,10 +11,12 @@ held_said-requires g c =
     let same = c.held.ensures.octets unended in
     record {
       counts = c.requires;
-      unended = unended;
-      line = subst (λ (text : List ℕ). BeginsWithLine text c.in-Some.sent.size) same front;
+      line = record {
+        unended = unended;
+        line = subst (λ (text : List ℕ). BeginsWithLine text c.in-Some.sent.size) same front;
+        few = search rules;
+      };
       says = subst (λ (text : List ℕ). SaysSent text c.in-Some.sent.client c.in-Some.sent.octets) same told;
-      few = search rules;
     }
 
 pub returns-in-Ok-clause-says : goal.returns-in-Ok-clause-says
