@@ -5,10 +5,9 @@ use Rattle.mms_types.specs.declared.event.CellEvent.TheVariants.{Heard}
 use Rattle.mms_types.specs.declared.pdu.Request.TheVariants as request
 use Rattle.mms_types.specs.declared.variable.Write.{Write}
 use Rattle.mms_time.specs.Guards.{owns_guard}
-use Rattle.parted_state.specs.Served.{row_at}
 use Rattle.cell_client.specs.Association.{Takes, verdict}
 use Rattle.cell_services.specs.Serving.{is_served}
-use Rattle.mms_step.specs.Partition.{cell}
+use Rattle.mms_step.specs.Partition.{cell, row_of}
 use Rattle.mms_step.specs.State.{State}
 
 -- By the event a client writes that has an owner entry of the semaphore of the VMD of that name: its request is taken,
@@ -19,6 +18,6 @@ pub record IsWrittenByOwner (guard : List ℕ) (s : State) (event : CellEvent) :
   pub heard : event ≡ Heard client octets
   pub invoke : ℕ
   pub asked : Write
-  pub taken : verdict (row_at cell client s.clients) octets ≡ Takes invoke (request.Write asked)
-  pub served : is_served (cell.tables_of s) (row_at cell client s.clients) invoke (request.Write asked) ≡ true
-  pub owner : owns_guard (row_at cell client s.clients).client guard s.semaphores ≡ true
+  pub taken : verdict (row_of s client) octets ≡ Takes invoke (request.Write asked)
+  pub served : is_served (cell.tables_of s) (row_of s client) invoke (request.Write asked) ≡ true
+  pub owner : owns_guard (row_of s client).client guard s.semaphores ≡ true

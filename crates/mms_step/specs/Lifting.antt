@@ -10,31 +10,33 @@ use Rattle.program_inv.specs.Programs.{Rows as Programs}
 use Rattle.serve_domains.specs.Tables.{DomainTables}
 use Rattle.serve_events.specs.declared.tables.EventTables.{EventTables}
 use Rattle.mms_step.specs.declared.part.Part.{Part}
-use Rattle.mms_step.specs.Partition.{clients_among, on_clock, on_domains, on_events, on_journals, on_programs, on_semaphores, on_variables, semaphores_place}
+use Rattle.mms_step.specs.Partition.{clients_among, clock_place, domains_place, events_place, journals_place, on_clock, on_domains, on_events, on_journals, on_programs, on_semaphores, on_variables, programs_place, semaphores_place, variables_place}
 
 -- ---- parts that are held have these tables in place of their own
 
+-- the clock, where it is held, shows this moment, and other parts stay as they are; and so below for each table
 abbrev pub clocked : ℕ → List (Option Part) → List (Option Part)
-clocked now hand = change (option_map (on_clock (λ was. now))) hand 0
+clocked now hand = change (option_map (on_clock (λ was. now))) hand clock_place
 
 abbrev pub varied : VariableTables → List (Option Part) → List (Option Part)
-varied variables hand = change (option_map (on_variables (λ was. variables))) hand 1
+varied variables hand = change (option_map (on_variables (λ was. variables))) hand variables_place
 
 abbrev pub domained : DomainTables → List (Option Part) → List (Option Part)
-domained domains hand = change (option_map (on_domains (λ was. domains))) hand 2
+domained domains hand = change (option_map (on_domains (λ was. domains))) hand domains_place
 
 abbrev pub with_programs : Programs → List (Option Part) → List (Option Part)
-with_programs programs hand = change (option_map (on_programs (λ was. programs))) hand 3
+with_programs programs hand = change (option_map (on_programs (λ was. programs))) hand programs_place
 
 abbrev pub with_events : EventTables → List (Option Part) → List (Option Part)
-with_events events hand = change (option_map (on_events (λ was. events))) hand 4
+with_events events hand = change (option_map (on_events (λ was. events))) hand events_place
 
 abbrev pub with_journals : Journals → List (Option Part) → List (Option Part)
-with_journals journals hand = change (option_map (on_journals (λ was. journals))) hand 5
+with_journals journals hand = change (option_map (on_journals (λ was. journals))) hand journals_place
 
 abbrev pub with_semaphores : Rows → List (Option Part) → List (Option Part)
 with_semaphores semaphores hand = change (option_map (on_semaphores (λ was. semaphores))) hand (semaphores_place (clients_among (length hand)))
 
+-- and so for all of them
 abbrev pub tabled : Tables → List (Option Part) → List (Option Part)
 tabled t hand =
     with_semaphores t.semaphores (with_journals t.journals (with_events t.events (with_programs t.programs (domained t.domains (varied t.variables (clocked t.now hand))))))

@@ -21,14 +21,32 @@ use Rattle.serve_events.specs.declared.tables.EventTables.{EventTables}
 use Rattle.variable_services.specs.declared.tables.VariableTables.{VariableTables}
 use Rattle.variable_services.specs.Services.{no_variables}
 
--- With n clients there are n + 7 parts: 0 the clock, 1 variables and their lists, 2 domains and uploads, 3 program
--- invocations, 4 event conditions and enrolments, 5 journals, 5 + c client c, 6 + n semaphores.
+-- With n clients there are n + 7 parts, each in a place of its own: the clock, the variables and their lists, the
+-- domains and their uploads, the program invocations, the event conditions and enrollments, the journals, the n clients
+-- in the order of their numbers, which begin with 1, and last the semaphores.
 abbrev pub clock_place : ℕ
 clock_place = 0
 
-abbrev pub client_place : ℕ → ℕ
-client_place client = 5 + client
+abbrev pub variables_place : ℕ
+variables_place = 1
 
+abbrev pub domains_place : ℕ
+domains_place = 2
+
+abbrev pub programs_place : ℕ
+programs_place = 3
+
+abbrev pub events_place : ℕ
+events_place = 4
+
+abbrev pub journals_place : ℕ
+journals_place = 5
+
+-- the place of a client, by its number: clients stand behind the journals
+abbrev pub client_place : ℕ → ℕ
+client_place client = journals_place + client
+
+-- the place of the semaphores, behind n clients
 abbrev pub semaphores_place : ℕ → ℕ
 semaphores_place n = 6 + n
 
@@ -44,17 +62,20 @@ clients_among places = places - tables_many
 abbrev pub client_part : ClientRow → Part
 client_part row = Client (settled row)
 
--- the parts of a state
+-- the parts of a state, each in its place
 abbrev pub parts_of : State → List Part
 parts_of s = Clock s.now ∷ Variables s.variables ∷ Domains s.domains ∷ Programs s.programs ∷ Events s.events ∷ Journals s.journals ∷ (map client_part s.clients ++ Semaphores s.semaphores ∷ [])
 
--- ---- what held parts show
+-- ---- what a part shows, where it is held
+
+-- Each of these is asked of what stands in one place: a part, or nothing where the part isn't held.
 
 -- the moment, where the clock is held, and else this one
 abbrev pub clock_or : ℕ → Option Part → ℕ
 clock_or now (Some (Clock held)) = held
 clock_or now other = now
 
+-- the moment, where the clock is held, and else 0; and so below the tables, and else empty ones
 abbrev pub clock_in : Option Part → ℕ
 clock_in part = clock_or 0 part
 
@@ -106,30 +127,37 @@ semaphores_or semaphores other = semaphores
 abbrev pub semaphores_in : Option Part → Rows
 semaphores_in part = semaphores_or [] part
 
--- what stands where there is no client
+-- the device and the row that stand for a client's where no client's part is held; nothing is said of them
 abbrev pub no_device : Constants
 no_device = record { edition = One; vendor = []; model = []; revision = [] }
 
 abbrev pub no_client : ClientRow
 no_client = new_row 0 no_device
 
--- the row, where a client's part is held
+-- the row of a client, where its part is held
 abbrev pub row_in : Option Part → ClientRow
 row_in (Some (Client client)) = client.row
 row_in other = no_client
 
--- what is to be sent, where a client's part is held
+-- what is to be sent to a client, where its part is held
 abbrev pub outbox_held : Option Part → List What
 outbox_held (Some (Client client)) = client.row.outbox
 outbox_held other = []
 
--- a client's part, or that of no client where none is held
+-- a client's row and the room that is made for what it is told, where its part is held
 abbrev pub client_in : Option Part → RoomyRow
 client_in (Some (Client client)) = client
 client_in other = settled no_client
 
--- the part of a client with its row changed, the clock with its moment changed, and variables, domains, program
--- invocations, event conditions and semaphores that are changed
+-- the number of the client whose part this is
+abbrev pub client_of : Part → ℕ
+client_of part = (row_in (Some part)).client
+
+-- ---- a part is changed
+
+-- Each of these changes the part of one kind, and leaves a part of another kind as it is: a client's row is changed,
+-- and no room is left in its part; and so the moment of the clock, the variables, the domains, the program invocations,
+-- the event conditions and enrollments, the journals, and the semaphores.
 abbrev pub on_client : (ClientRow → ClientRow) → Part → Part
 on_client f (Client client) = client_part (f client.row)
 on_client f other = other
@@ -162,11 +190,13 @@ abbrev pub on_semaphores : (Rows → Rows) → Part → Part
 on_semaphores f (Semaphores semaphores) = Semaphores (f semaphores)
 on_semaphores f other = other
 
--- a client's part is held
+-- ---- which part it is
+
+-- what stands in one place is the part of a client; and so below the variables, the domains, the program invocations,
+-- the event conditions and enrollments, the journals, and the semaphores
 abbrev pub IsClient : Option Part → Type 0
 IsClient part = part ≡ Some (Client (client_in part))
 
--- the variables are, the domains, the program invocations, the event conditions, and the semaphores
 abbrev pub IsVariables : Option Part → Type 0
 IsVariables part = part ≡ Some (Variables (variables_in part))
 
@@ -185,9 +215,33 @@ IsJournals part = part ≡ Some (Journals (journals_in part))
 abbrev pub IsSemaphores : Option Part → Type 0
 IsSemaphores part = part ≡ Some (Semaphores (semaphores_in part))
 
+-- ---- the tables that are held
+
+-- the tables of all held parts, with n clients; where a part isn't held, its table is empty, and the moment 0
+abbrev pub tables_held : ℕ → List (Option Part) → Tables
+tables_held n hand = record {
+  now = clock_in (held_at hand clock_place);
+  variables = variables_in (held_at hand variables_place);
+  domains = domains_in (held_at hand domains_place);
+  programs = programs_in (held_at hand programs_place);
+  events = events_in (held_at hand events_place);
+  journals = journals_in (held_at hand journals_place);
+  semaphores = semaphores_in (held_at hand (semaphores_place n));
+}
+
+-- But for the moment, which has no names, these tables are the ones that are held, with n clients.
+pub record AreHeld (n : ℕ) (hand : List (Option Part)) (t : Tables) : Type 0 where
+  pub variables : t.variables ≡ (tables_held n hand).variables
+  pub domains : t.domains ≡ (tables_held n hand).domains
+  pub programs : t.programs ≡ (tables_held n hand).programs
+  pub events : t.events ≡ (tables_held n hand).events
+  pub journals : t.journals ≡ (tables_held n hand).journals
+  pub semaphores : t.semaphores ≡ (tables_held n hand).semaphores
+
 -- ---- the device, as tables and clients
 
--- Where a part isn't held, its table is empty in what is shown.
+-- How a state is cut into tables and clients, and put together of them; and which tables parts show that stand in the
+-- order of the tables, without those of clients between them. Where a part isn't held, its table is empty.
 abbrev pub cell : Device State Tables ClientRow Effect Part
 cell = record {
   tables_of = λ s. record { now = s.now; variables = s.variables; domains = s.domains; programs = s.programs; events = s.events; journals = s.journals; semaphores = s.semaphores };
@@ -211,7 +265,10 @@ cell = record {
   felt = felt;
 }
 
--- the state that held parts show: the moment, the variables, the domains, the program invocations, the event conditions
--- and enrollments, the semaphores, and the rows of the clients
+-- the state that held parts show: the tables that are held, and the rows of the clients
 abbrev pub state_in : List (Option Part) → State
 state_in hand = parted.state_in cell hand
+
+-- the row of a client in a state
+abbrev pub row_of : State → ℕ → ClientRow
+row_of s client = parted.row_at cell client s.clients

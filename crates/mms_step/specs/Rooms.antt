@@ -8,7 +8,7 @@ use Rattle.mms_step.specs.declared.part.Part.TheVariants.{Client}
 use Rattle.mms_step.specs.declared.telling.Room.{Room}
 use Rattle.cell_client.specs.declared.told.ClientTold.{ClientTold}
 use Rattle.cell_client.specs.Telling.{effect_of, is_output, is_wait, output_count, told_row, wait_count}
-use Rattle.mms_step.specs.Partition.{client_place}
+use Rattle.mms_step.specs.Partition.{client_place, journals_place}
 
 -- how many outputs a client is told, and how many requests that wait
 abbrev pub room_to : List (ℕ × ClientTold) → ℕ → Room
@@ -20,7 +20,7 @@ room_to list client = record {
 abbrev pub no_room : Room
 no_room = record { outputs = 0; waiting = 0 }
 
--- a client's part with so much room
+-- a client's part with so much room for what the client is told; other parts have none
 abbrev pub with_room : Room → Part → Part
 with_room room (Client client) = Client (record { row = client.row; output_room = room.outputs; waiting_room = room.waiting; asked_room = 0 })
 with_room room other = other
@@ -29,7 +29,7 @@ abbrev pub room_or_same : Option Room → Part → Part
 room_or_same (Some room) part = with_room room part
 room_or_same None part = part
 
--- the clients before this one
+-- whether a client is one of those before this one
 abbrev pub is_before : ℕ → ℕ → Bool
 is_before last client = nat_lt 0 client && nat_lt client last
 
@@ -38,7 +38,7 @@ room_before last room client = if is_before last client then Some (room client) 
 
 -- the parts of the clients before one have as much room as this says
 abbrev pub with_rooms : ℕ → (ℕ → Room) → List (Option Part) → List (Option Part)
-with_rooms last room hand = with_places (λ place. option_map (room_or_same (room_before last room (place - 5)))) hand
+with_rooms last room hand = with_places (λ place. option_map (room_or_same (room_before last room (place - journals_place)))) hand
 
 -- they have none
 abbrev pub without_rooms : ℕ → List (Option Part) → List (Option Part)

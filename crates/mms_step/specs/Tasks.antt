@@ -1,15 +1,22 @@
--- What is done on the tables that are lifted out of held parts (this profile's choice).
-use Rattle.std.specs.Prelude.{◌≡◌, ◌≢◌, Bool, true, false, ℕ, ◌+◌, ◌≤◌, List, [], Option, None, Some}
+-- What is done on held parts: in place, on the parts that it changes, or on the tables that are lifted out of them
+-- (this profile's choice).
+use Rattle.std.specs.Prelude.{◌≡◌, ◌≢◌, Bool, true, false, ℕ, ◌+◌, ◌≤◌, List, [], Option, None, Some, length}
 use Rattle.std.specs.Option.{option_map}
-use Rattle.part_table.specs.Held.{held_at}
+use Rattle.part_table.specs.Held.{held_at, IsHandOf}
 use Rattle.association.specs.Client.{ClientRow, Client as RoomyRow}
 use Rattle.parted_state.specs.Area.{Own}
+use Rattle.parted_state.specs.Lifted.{put_in_place, tables_shown}
 use Rattle.parted_state.specs.Served.{Done, change}
-use Rattle.cell_services.specs.Acts.{act_done, IsDoneIn, IsLeft}
+use Rattle.cell_services.specs.Acts.{act_done, IsDoneIn, IsLeft, TellsSeveral}
+use Rattle.cell_services.specs.EventFacts.{event_facts, IfToldOfEvents}
+use Rattle.mms_types.specs.Moments.{IsDated}
+use Rattle.mms_types.specs.declared.area.EventRequest.{EventRequest}
 use Rattle.mms_types.specs.declared.event.CellEvent.{CellEvent}
 use Rattle.mms_types.specs.declared.event.CellEvent.TheVariants.{Heard}
+use Rattle.cell_client.specs.declared.told.ClientTold.{ClientTold}
 use Rattle.cell_client.specs.declared.verdict.Found.{Found}
 use Rattle.cell_client.specs.Association.{Verdict, verdict}
+use Rattle.cell_client.specs.Facts.{Facts}
 use Rattle.cell_client.specs.Meant.{meant}
 use Rattle.cell_client.specs.Reads.{Kept, edition_of}
 use Rattle.cell_client.specs.Effects.{Effect, settled, tell}
@@ -17,21 +24,25 @@ use Rattle.cell_services.specs.Meant.{no_tables, row_after}
 use Rattle.cell_services.specs.Serving.{hears, own_told, passes}
 use Rattle.cell_services.specs.Tables.{Tables, last_moment, own_invocations}
 use Rattle.program_inv.specs.Programs.{Rows}
+use Rattle.serve_domains.specs.Loads.{AreLoads}
 use Rattle.serve_domains.specs.Tables.{DomainTables}
 use Rattle.serve_programs.specs.Users.{AreUsed}
+use Rattle.mms_step.specs.declared.events.Facts.{Facts as EventFacts}
 use Rattle.mms_step.specs.declared.part.Part.{Part}
 use Rattle.mms_step.specs.declared.part.Part.TheVariants.{Client, Clock, Domains, Programs}
 use Rattle.mms_step.specs.declared.serving.Task.{Task}
 use Rattle.mms_step.specs.declared.serving.Task.TheVariants as task
 use Rattle.mms_step.specs.Needs.{verdict_need}
-use Rattle.mms_step.specs.Partition.{client_place, domains_in, on_client, programs_in, row_in, IsClient, IsDomains, IsPrograms}
+use Rattle.mms_step.specs.State.{State}
+use Rattle.mms_step.specs.Partition.{cell, client_of, client_place, clients_among, clock_in, clock_place, domains_in, domains_place, on_client, parts_of, programs_in, programs_place, row_in, IsClient, IsDomains, IsPrograms}
 
--- ---- tasks
+-- ---- tasks, which are done on tables that are lifted out of the parts that are held
 
 -- the row of a client whose part is held
 abbrev pub row_held : List (Option Part) → ℕ → ClientRow
 row_held hand client = row_in (held_at hand (client_place client))
 
+-- what a task does with the tables, and who is told what: a client does something, or time goes by
 abbrev pub task_done : Tables → List (Option Part) → Task → Done Tables Effect
 task_done t hand (task.Client client act) = act_done t (row_held hand client) client act
 task_done t hand (task.Time ms) = passes ms t
@@ -40,42 +51,60 @@ task_done t hand (task.Time ms) = passes ms t
 abbrev pub HoldsClient : ℕ → List (Option Part) → Type 0
 HoldsClient client hand = (client ≤ 64) × IsClient (held_at hand (client_place client))
 
--- the part of its client is held
+-- where a client does the task, its part is held
 abbrev pub HoldsOwn : Task → List (Option Part) → Type 0
 HoldsOwn (task.Client client act) hand = HoldsClient client hand
 HoldsOwn (task.Time ms) hand = Unit {0}
 
--- time ends no later than the last moment
+-- where time goes by, the moment after it is one that six octets name
 abbrev pub IsTimely : Task → Tables → Type 0
 IsTimely (task.Client client act) t = Unit {0}
 IsTimely (task.Time ms) t = t.now + ms ≤ last_moment
 
--- it is left to be done on several tables
+-- where a client does the task, it is lost by it, which may change several tables; all else that a client does is done
+-- in place, on its part and that of one area
 abbrev pub IsLeftTo : Task → Type 0
 IsLeftTo (task.Client client act) = IsLeft act
 IsLeftTo (task.Time ms) = Unit {0}
 
+-- ---- a client is served
+
+-- What holds where a client is served on the parts that are held: they are parts of a state with so many clients, no
+-- more than 64; the client is one of them, its part is held, and the row in it has the client's number.
+pub record IsServing (clients client : ℕ) (hand : List (Option Part)) : Type 0 where
+  pub of : (s : State) × IsHandOf hand (parts_of s)
+  pub many : clients ≡ clients_among (length hand)
+  pub few : clients ≤ 64
+  pub among : (1 ≤ client) × (client ≤ clients)
+  pub held : IsClient (held_at hand (client_place client))
+  pub number : (row_held hand client).client ≡ client
+
 -- ---- what octets come to
 
--- What the octets of an event come to is found once for all that it needs and for its step: the verdict by the row of
--- its client, whose part is held. Nothing may be found yet, and of other events nothing is.
+-- Octets that are heard from a client come to a verdict, by the row of that client: it tells what the event needs, and
+-- what its step does. It is found once for both. Where it was found, the part of the client is held, and what was found
+-- is the verdict by the row there. It may not be found yet, and of other events nothing is found.
 abbrev pub IsFoundOf : Option Found → CellEvent → List (Option Part) → Type 0
 IsFoundOf (Some found) (Heard client octets) hand = IsClient (held_at hand (client_place client)) × (meant found ≡ verdict (row_held hand client) octets)
 IsFoundOf found event hand = Unit {0}
 
--- it is found where the part of the client is held, and its octets were read by its edition
+-- Octets are read before any part is held, by one edition of the standard. Where nothing is found from what was read
+-- though the part of their client is held, they were read by another edition than that of the row there. So the verdict
+-- is found wherever the part is held and the octets were read by its edition.
 abbrev pub IsFoundWhereRead : Option Found → Kept → CellEvent → List (Option Part) → Type 0
 IsFoundWhereRead None kept (Heard client octets) hand = IsClient (held_at hand (client_place client)) → edition_of kept ≢ Some (row_held hand client).constants.edition
 IsFoundWhereRead found kept event hand = Unit {0}
 
 -- ---- what is done in place
 
--- what octets of a client come to is ready to be done: its row has its number, and nothing is needed that isn't held
+-- What octets of a client come to is ready to be done, with n clients: its row has its number, and nothing is needed
+-- that isn't held.
 pub record IsReady (n client : ℕ) (v : Verdict) (hand : List (Option Part)) : Type 0 where
   pub number : (row_held hand client).client ≡ client
   pub needed : verdict_need n hand (row_held hand client) v ≡ []
 
--- With these tables a verdict is done on the part of its client and that of one area's table: those parts after it
+-- With these tables a verdict on what a client sends is done in place, on two parts: that of the client becomes `new`,
+-- and that of the area's table becomes `now`. The client is told something, and nobody else is.
 pub record AreDone {A : Type 0} (own : Own Tables A) (wrap : A → Part) (t : Tables) (v : Verdict) (part new now : Part) : Type 0 where
   pub before : RoomyRow
   pub after : RoomyRow
@@ -85,8 +114,8 @@ pub record AreDone {A : Type 0} (own : Own Tables A) (wrap : A → Part) (t : Ta
   pub is_now : now ≡ wrap become
   pub done : IsDoneIn own t before.row become after v
 
--- The same of one that makes or deletes a program invocation: the parts of its client, of the domains and of the
--- program invocations after it
+-- The same of a verdict by which a program invocation is made or deleted, on three parts: what those of its client, of
+-- the domains and of the program invocations become
 pub record AreMade (t : Tables) (v : Verdict) (part new domains programs : Part) : Type 0 where
   pub before : RoomyRow
   pub after : RoomyRow
@@ -97,21 +126,60 @@ pub record AreMade (t : Tables) (v : Verdict) (part new domains programs : Part)
   pub is_programs : programs ≡ Programs become.1
   pub done : IsDoneIn own_invocations t before.row become after v
 
--- where domains and program invocations are held, the domains have the names of the invocations that name them
+-- With these tables a verdict on what the client of a part sends leaves something to be done: clients are told this, in
+-- order, and the table of one area becomes that.
+abbrev pub IsLeftToTell : {A : Type 0} → Own Tables A → Tables → Part → Verdict → List (ℕ × ClientTold) → A → Type 0
+IsLeftToTell own t part v told become = TellsSeveral own t (row_in (Some part)) become told v
+
+-- what the tables tell a request for event conditions and enrollments of the client of a part
+abbrev pub told_events : Tables → Part → EventRequest → Facts
+told_events t part asked = event_facts t (row_in (Some part)) asked
+
+-- This holds where the tables tell such a request what was found: whether the domain is live that has to be, what
+-- becomes of the cell that is to be watched, and whether the cell is TRUE that is watched.
+abbrev pub WhereTold : Tables → Part → EventRequest → EventFacts → Type 0 → Type 0
+WhereTold t part asked found holds = IfToldOfEvents t (row_in (Some part)) asked found.live found.cell found.is_true holds
+
+-- What was found for such a request of a client, on held parts, is so: the moment, which is the one that the clock
+-- shows, and six octets name it; and what the tables that are held tell the request
+pub record AreFound (asked : EventRequest) (client : ℕ) (hand : List (Option Part)) (found : EventFacts) : Type 0 where
+  pub now : found.now.0 ≡ clock_in (held_at hand clock_place)
+  pub dated : IsDated found.now
+  pub live : (row : ClientRow) → (event_facts (tables_shown cell hand) row asked).live ≡ found.live
+  pub watched : (row : ClientRow) → (event_facts (tables_shown cell hand) row asked).cell client ≡ found.cell
+  pub truth : (row : ClientRow) → row.client ≡ client
+      → (event_facts (tables_shown cell hand) row asked).truth ≡ found.is_true
+
+-- the held parts once a verdict on what a client sends is done on the tables that they show, and those are told that
+-- are told something
+abbrev pub heard_in_place : ℕ → Verdict → List (Option Part) → List (Option Part)
+heard_in_place client v hand = put_in_place cell (hears (tables_shown cell hand) (row_held hand client) client v) hand
+
+-- where the domains are held, of what a client is asked by the server, and hasn't answered, there is one request of a
+-- load for each domain that it loads, and none for another
+abbrev pub AreLoadsIn : ℕ → List (Option Part) → Type 0
+AreLoadsIn client hand =
+    IsDomains (held_at hand domains_place) → AreLoads client (row_held hand client).asked (domains_in (held_at hand domains_place)).domains
+
+-- where domains and program invocations are both held, the names that a domain has are those of the invocations that
+-- name it
 abbrev pub AreUsedIn : List (Option Part) → Type 0
 AreUsedIn hand =
-    IsDomains (held_at hand 2) → IsPrograms (held_at hand 3) → AreUsed (domains_in (held_at hand 2)).domains (programs_in (held_at hand 3))
+    IsDomains (held_at hand domains_place) → IsPrograms (held_at hand programs_place)
+    → AreUsed (domains_in (held_at hand domains_place)).domains (programs_in (held_at hand programs_place))
 
+-- what stands in one place is the clock
 abbrev pub is_clock : Option Part → Bool
 is_clock (Some (Clock clock)) = true
 is_clock other = false
 
--- a client's part in which no room is promised
+-- where it is a client's part, no room is kept in it for what the client will be told
 abbrev pub IsRoomless : Part → Type 0
 IsRoomless (Client own) = own ≡ settled own.row
 IsRoomless other = Unit {0}
 
--- the client is told all that comes of a verdict, which uses no table and tells nobody else anything
+-- A verdict on what a client sends uses no table and tells nobody else anything, and its client is told all that comes
+-- of it: of the parts that are held its own alone changes.
 pub record IsHeardInPlace (client : ℕ) (v : Verdict) (hand new : List (Option Part)) : Type 0 where
   pub is : new ≡ change (option_map (on_client (row_after v))) hand (client_place client)
   pub alone : (t : Tables) → hears t (row_held hand client) client v ≡ record { tables = t; told = tell client (own_told no_tables (row_held hand client) v) }

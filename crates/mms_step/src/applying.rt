@@ -1,27 +1,24 @@
 //! One event on the parts that are held.
 
-ghost use Rattle.std.specs.Prelude.{◌≡◌, ℕ, ◌+◌, ◌<◌, ◌≤◌, false, true, [], is_none, length, slice_set, None, Some, Result, OnOk, OnErr, OnSome, IfOk, IfNone, IfSome};
+ghost use Rattle.std.specs.Prelude.{◌≡◌, ℕ, ◌+◌, ◌<◌, ◌≤◌, true, [], is_none, length, slice_set, None, Some, Result, OnOk, OnErr, OnSome, IfOk, IfNone, IfSome};
 ghost use Rattle.std.specs.Option.{option_map};
 ghost use Rattle.mms_types.specs.Actors.{IsAmong};
 ghost use Rattle.mms_types.specs.declared.event.CellEvent.TheVariants.{Drain};
 ghost use Rattle.association.specs.Asked.{is_open};
 ghost use Rattle.association.specs.Client.{drained_row};
-ghost use Rattle.serve_domains.specs.Loads.{AreLoads};
 ghost use Rattle.mms_types.specs.declared.pdu.Pdu.{Pdu};
 ghost use Rattle.mms_pdu.specs.Hearing.{Hears};
 ghost use Rattle.part_table.specs.Held.{held_at, places_held, IsHandOf};
-ghost use Rattle.parted_state.specs.Lifted.{put_in_place, tables_shown};
 ghost use Rattle.parted_state.specs.Served.{change};
 ghost use Rattle.mms_step.specs.State.{State, IsSound};
 ghost use Rattle.cell_client.specs.Association.{verdict, verdict_by, Takes};
 ghost use Rattle.mms_step.specs.Step.{step, IsInTime};
-ghost use Rattle.mms_step.specs.Partition.{cell, domains_in, parts_of, clients_among, clock_in, client_place, outbox_held, on_client, IsClient, IsDomains};
+ghost use Rattle.mms_step.specs.Partition.{client_place, clients_among, clock_in, clock_place, on_client, outbox_held, parts_of, IsClient};
 ghost use Rattle.mms_step.specs.Needs.{need};
 ghost use Rattle.cell_client.specs.Reads.{IsDeep};
 ghost use Rattle.cell_client.specs.Meant.{act_verdict, meant, uses_no_table};
 ghost use Rattle.cell_client.specs.Requests.{plain_answer};
-ghost use Rattle.mms_step.specs.Tasks.{row_held, AreUsedIn, IsFoundOf, IsHeardInPlace, IsReady};
-ghost use Rattle.cell_services.specs.Serving.{hears};
+ghost use Rattle.mms_step.specs.Tasks.{heard_in_place, row_held, AreLoadsIn, AreUsedIn, IsFoundOf, IsHeardInPlace, IsReady, IsServing};
 ghost use Rattle.mms_step.specs.After.{after};
 
 use crate::areas::{cancel, serve_on_device, serve_on_semaphores, serve_on_variables};
@@ -101,18 +98,12 @@ fn serve_request(
     invoke: u32,
     asked: &Request,
 ) -> Result<(), Memory>
-    requires of { (s : State) × IsHandOf held.old (parts_of s) }
-    requires many { clients ≡ clients_among (length held.old) }
-    requires few { clients ≤ 64 }
-    requires among { (1 ≤ client) × (client ≤ clients) }
-    requires held { IsClient (held_at held.old (client_place client)) }
+    requires serving { IsServing clients client held.old }
     requires ready { IsReady clients client (Takes invoke asked.now) held.old }
     requires tables { plain_answer (row_held held.old client) asked.now ≡ None }
     requires open { is_open (row_held held.old client).association ≡ true }
     requires used { AreUsedIn held.old }
-    ensures put { OnOk result (held.new ≡ put_in_place cell
-        (hears (tables_shown cell held.old) (row_held held.old client) client
-        (Takes invoke asked.now)) held.old) }
+    ensures put { OnOk result (held.new ≡ heard_in_place client (Takes invoke asked.now) held.old) }
     ensures kept { OnErr result (held.new ≡ held.old) }
 {
     match asked.area() {
@@ -151,19 +142,13 @@ fn hear_found(
     client: u32,
     found: &Found<'_>,
 ) -> Result<(), Memory>
-    requires of { (s : State) × IsHandOf held.old (parts_of s) }
-    requires many { clients ≡ clients_among (length held.old) }
-    requires few { clients ≤ 64 }
-    requires among { (1 ≤ client) × (client ≤ clients) }
-    requires held { IsClient (held_at held.old (client_place client)) }
+    requires serving { IsServing clients client held.old }
     requires found { (told : Result Pdu Refusal) × (meant found.now
         ≡ verdict_by (row_held held.old client).association (row_held held.old client) told) }
     requires ready { IsReady clients client (meant found.now) held.old }
-    requires loads { IsDomains (held_at held.old 2) → AreLoads client
-        (row_held held.old client).asked (domains_in (held_at held.old 2)).domains }
+    requires loads { AreLoadsIn client held.old }
     requires used { AreUsedIn held.old }
-    ensures heard { OnOk result (held.new ≡ put_in_place cell (hears (tables_shown cell held.old)
-        (row_held held.old client) client (meant found.now)) held.old) }
+    ensures heard { OnOk result (held.new ≡ heard_in_place client (meant found.now) held.old) }
     ensures kept { OnErr result (held.new ≡ held.old) }
 {
     match hear_own(alloc, held, client, found)? {
@@ -187,23 +172,16 @@ fn hear_told(
     client: u32,
     read: &Result<Read, Refusal>,
 ) -> Result<(), Memory>
-    requires of { (s : State) × IsHandOf held.old (parts_of s) }
-    requires many { clients ≡ clients_among (length held.old) }
-    requires few { clients ≤ 64 }
-    requires among { (1 ≤ client) × (client ≤ clients) }
+    requires serving { IsServing clients client held.old }
     requires depth { IsDeep read.now }
-    requires held { IsClient (held_at held.old (client_place client)) }
     requires ready { (told : Result Pdu Refusal) × Hears (λ r. r.pdu) read.now told
         × IsReady clients client (verdict_by (row_held held.old client).association
         (row_held held.old client) told) held.old }
-    requires loads { IsDomains (held_at held.old 2) → AreLoads client
-        (row_held held.old client).asked (domains_in (held_at held.old 2)).domains }
+    requires loads { AreLoadsIn client held.old }
     requires used { AreUsedIn held.old }
     ensures heard { (told : Result Pdu Refusal) → Hears (λ r. r.pdu) read.now told
-        → OnOk result (held.new ≡ put_in_place cell
-        (hears (tables_shown cell held.old) (row_held held.old client) client
-        (verdict_by (row_held held.old client).association (row_held held.old client) told))
-        held.old) }
+        → OnOk result (held.new ≡ heard_in_place client (verdict_by
+        (row_held held.old client).association (row_held held.old client) told) held.old) }
     ensures kept { OnErr result (held.new ≡ held.old) }
 {
     if wants_memory(read) {
@@ -221,19 +199,13 @@ fn hear_octets(
     client: u32,
     octets: &[u8],
 ) -> Result<(), Memory>
-    requires of { (s : State) × IsHandOf held.old (parts_of s) }
-    requires many { clients ≡ clients_among (length held.old) }
-    requires few { clients ≤ 64 }
-    requires among { (1 ≤ client) × (client ≤ clients) }
-    requires held { IsClient (held_at held.old (client_place client)) }
+    requires serving { IsServing clients client held.old }
     requires ready { IsReady clients client (verdict (row_held held.old client) octets.now)
         held.old }
-    requires loads { IsDomains (held_at held.old 2) → AreLoads client
-        (row_held held.old client).asked (domains_in (held_at held.old 2)).domains }
+    requires loads { AreLoadsIn client held.old }
     requires used { AreUsedIn held.old }
-    ensures heard { OnOk result (held.new ≡ put_in_place cell
-        (hears (tables_shown cell held.old) (row_held held.old client) client
-        (verdict (row_held held.old client) octets.now)) held.old) }
+    ensures heard { OnOk result (held.new
+        ≡ heard_in_place client (verdict (row_held held.old client) octets.now) held.old) }
     ensures kept { OnErr result (held.new ≡ held.old) }
 {
     let edition = client_held(held, client).constants().edition;
@@ -251,21 +223,15 @@ fn hear_from(
     octets: &[u8],
     found: &Option<Found<'_>>,
 ) -> Result<(), Memory>
-    requires of { (s : State) × IsHandOf held.old (parts_of s) }
-    requires many { clients ≡ clients_among (length held.old) }
-    requires few { clients ≤ 64 }
-    requires among { (1 ≤ client) × (client ≤ clients) }
-    requires held { IsClient (held_at held.old (client_place client)) }
+    requires serving { IsServing clients client held.old }
     requires found { IfSome found.now (λ found.
         meant found ≡ verdict (row_held held.old client) octets.now) }
     requires ready { IsReady clients client (verdict (row_held held.old client) octets.now)
         held.old }
-    requires loads { IsDomains (held_at held.old 2) → AreLoads client
-        (row_held held.old client).asked (domains_in (held_at held.old 2)).domains }
+    requires loads { AreLoadsIn client held.old }
     requires used { AreUsedIn held.old }
-    ensures heard { OnOk result (held.new ≡ put_in_place cell
-        (hears (tables_shown cell held.old) (row_held held.old client) client
-        (verdict (row_held held.old client) octets.now)) held.old) }
+    ensures heard { OnOk result (held.new
+        ≡ heard_in_place client (verdict (row_held held.old client) octets.now) held.old) }
     ensures kept { OnErr result (held.new ≡ held.old) }
 {
     match found {
@@ -312,7 +278,7 @@ pub fn apply_by(
     requires found { IsFoundOf found.now event.now held.old }
     requires among { IsAmong (clients_among (length held.old)) event.now }
     requires held { need event.now held.old ≡ [] }
-    requires time { IsInTime (clock_in (held_at held.old 0)) event.now }
+    requires time { IsInTime (clock_in (held_at held.old clock_place)) event.now }
     // They are then parts of the state after the step, whichever state they were parts of.
     ensures step { OnOk result ((s : State) → IsHandOf held.old (parts_of s)
         → IsHandOf held.new (parts_of (step s event.now))) }
@@ -348,7 +314,7 @@ pub fn apply(alloc: Global, event: &CellEvent, held: &mut Hand<Cell>) -> Result<
     requires of { (s : State) × ((count : ℕ) × IsSound count s) × IsHandOf held.old (parts_of s) }
     requires among { IsAmong (clients_among (length held.old)) event.now }
     requires held { need event.now held.old ≡ [] }
-    requires time { IsInTime (clock_in (held_at held.old 0)) event.now }
+    requires time { IsInTime (clock_in (held_at held.old clock_place)) event.now }
     // They are then parts of the state after the step, whichever state they were parts of.
     ensures step { OnOk result ((s : State) → IsHandOf held.old (parts_of s)
         → IsHandOf held.new (parts_of (step s event.now))) }

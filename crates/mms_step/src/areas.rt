@@ -17,8 +17,8 @@ ghost use Rattle.serve_variables.specs.Variables as of_variables;
 ghost use Rattle.cell_services.specs.Facts.{is_domain_live};
 ghost use Rattle.cell_services.specs.Looked.{IsLookedAt};
 ghost use Rattle.mms_step.specs.State.{State};
-ghost use Rattle.mms_step.specs.Partition.{cell, parts_of, clients_among, clock_in, client_in, client_place, row_in, semaphores_in, semaphores_place, variables_in, domains_in, events_in, journals_in, programs_in, IsClient, IsSemaphores, IsVariables};
-ghost use Rattle.mms_step.specs.Tasks.{row_held, AreDone, IsRoomless};
+ghost use Rattle.mms_step.specs.Partition.{cell, client_in, client_of, clients_among, clock_in, clock_place, parts_of, row_in, semaphores_in, semaphores_place, variables_in, variables_place, IsClient, IsSemaphores, IsVariables, AreHeld};
+ghost use Rattle.mms_step.specs.Tasks.{heard_in_place, row_held, AreDone, IsRoomless, IsLeftToTell, IsServing};
 
 use crate::applying::{put_client, take_client};
 use crate::domains::{domains_held, live_held};
@@ -43,10 +43,10 @@ use variable_services::VariableTables;
 
 /// Takes the part of the variables, which is held, out of its place.
 fn take_variables(held: &mut Hand<Cell>) -> Box<Part>
-    requires held { IsVariables (held_at held.old 1) }
-    ensures part { Some result.value ≡ held_at held.old 1 }
-    ensures left { held.new ≡ slice_set held.old 1 None }
-    ensures place { 1 < length held.new }
+    requires held { IsVariables (held_at held.old variables_place) }
+    ensures part { Some result.value ≡ held_at held.old variables_place }
+    ensures left { held.new ≡ slice_set held.old variables_place None }
+    ensures place { variables_place < length held.new }
 {
     let Some(part) = held.take(u32::from(VARIABLES)) else {
         unreachable!()
@@ -70,8 +70,8 @@ pub(crate) fn take_semaphores(held: &mut Hand<Cell>, clients: u32) -> Box<Part>
 
 /// Puts the part of the variables into its place.
 fn put_variables(held: &mut Hand<Cell>, part: Box<Part>)
-    requires place { 1 < length held.old }
-    ensures { held.new ≡ slice_set held.old 1 (Some part.value) }
+    requires place { variables_place < length held.old }
+    ensures { held.new ≡ slice_set held.old variables_place (Some part.value) }
 {
     held.put(u32::from(VARIABLES), part);
 }
@@ -123,16 +123,10 @@ pub(crate) fn serve_on_variables(
     invoke: u32,
     asked: VariableRequest<'_>,
 ) -> Result<(), Memory>
-    requires of { (s : State) × IsHandOf held.old (parts_of s) }
-    requires many { clients ≡ clients_among (length held.old) }
-    requires few { clients ≤ 64 }
-    requires among { (1 ≤ client) × (client ≤ clients) }
-    requires held { IsClient (held_at held.old (client_place client)) }
-    requires number { (row_held held.old client).client ≡ client }
-    requires table { IsVariables (held_at held.old 1) }
-    ensures put { OnOk result (held.new ≡ put_in_place cell
-        (hears (tables_shown cell held.old) (row_held held.old client) client
-        (Takes invoke (variable_request asked.entry))) held.old) }
+    requires serving { IsServing clients client held.old }
+    requires table { IsVariables (held_at held.old variables_place) }
+    ensures put { OnOk result (held.new
+        ≡ heard_in_place client (Takes invoke (variable_request asked.entry)) held.old) }
     ensures kept { OnErr result (held.new ≡ held.old) }
 {
     let live = live_held(held, serve_variables::domain_asked(asked));
@@ -170,11 +164,9 @@ fn semaphores_in_parts(
         (Takes invoke (semaphore_request asked.entry)) part.old part.new table.new)) }
     ensures left { IfOk result (λ left. IfSome left (λ told. (t : Tables)
         → t.semaphores ≡ semaphores_in (Some table.old) → t.now ≡ now.0
-        → live ≡ is_domain_live (of_semaphores.domain_asked asked.entry) t.domains
-        → hears t (row_in (Some part.old)) (row_in (Some part.old)).client
-        (Takes invoke (semaphore_request asked.entry)) ≡ all_done (own_semaphores.put
-        (told_after (row_in (Some part.old)).client now asked.entry
-        (semaphores_in (Some table.old))) t) told.items)) }
+        → live ≡ is_domain_live (of_semaphores.domain_asked asked.entry) t.domains → IsLeftToTell
+        own_semaphores t part.old (Takes invoke (semaphore_request asked.entry)) told.items
+        (told_after (client_of part.old) now asked.entry (semaphores_in (Some table.old))))) }
     ensures unchanged { IfOk result (λ left. OnSome left (
         (part.new ≡ part.old) × (table.new ≡ table.old))) }
     ensures kept { OnErr result (part.new ≡ part.old) }
@@ -199,18 +191,12 @@ fn serve_alone(
     invoke: u32,
     asked: SemaphoreRequest<'_>,
 ) -> Result<Option<Vec<(u32, ClientTold)>>, Memory>
-    requires of { (s : State) × IsHandOf held.old (parts_of s) }
-    requires many { clients ≡ clients_among (length held.old) }
-    requires few { clients ≤ 64 }
-    requires among { (1 ≤ client) × (client ≤ clients) }
-    requires held { IsClient (held_at held.old (client_place client)) }
-    requires number { (row_held held.old client).client ≡ client }
+    requires serving { IsServing clients client held.old }
     requires table { IsSemaphores (held_at held.old (semaphores_place clients)) }
-    requires moment { now.0 ≡ clock_in (held_at held.old 0) }
+    requires moment { now.0 ≡ clock_in (held_at held.old clock_place) }
     requires dated { IsDated now }
-    ensures put { IfOk result (λ left. IfNone left (held.new ≡ put_in_place cell
-        (hears (tables_shown cell held.old) (row_held held.old client) client
-        (Takes invoke (semaphore_request asked.entry))) held.old)) }
+    ensures put { IfOk result (λ left. IfNone left (held.new
+        ≡ heard_in_place client (Takes invoke (semaphore_request asked.entry)) held.old)) }
     ensures left { IfOk result (λ left. IfSome left (λ told.
         hears (tables_shown cell held.old) (row_held held.old client) client
         (Takes invoke (semaphore_request asked.entry)) ≡ all_done (own_semaphores.put
@@ -278,16 +264,10 @@ pub(crate) fn serve_on_semaphores(
     invoke: u32,
     asked: SemaphoreRequest<'_>,
 ) -> Result<(), Memory>
-    requires of { (s : State) × IsHandOf held.old (parts_of s) }
-    requires many { clients ≡ clients_among (length held.old) }
-    requires few { clients ≤ 64 }
-    requires among { (1 ≤ client) × (client ≤ clients) }
-    requires held { IsClient (held_at held.old (client_place client)) }
-    requires number { (row_held held.old client).client ≡ client }
+    requires serving { IsServing clients client held.old }
     requires table { IsSemaphores (held_at held.old (semaphores_place clients)) }
-    ensures put { OnOk result (held.new ≡ put_in_place cell
-        (hears (tables_shown cell held.old) (row_held held.old client) client
-        (Takes invoke (semaphore_request asked.entry))) held.old) }
+    ensures put { OnOk result (held.new
+        ≡ heard_in_place client (Takes invoke (semaphore_request asked.entry)) held.old) }
     ensures kept { OnErr result (held.new ≡ held.old) }
 {
     let now = now_held(held);
@@ -328,16 +308,9 @@ pub(crate) fn cancel(
     client: u32,
     invoke: u32,
 ) -> Result<(), Memory>
-    requires of { (s : State) × IsHandOf held.old (parts_of s) }
-    requires many { clients ≡ clients_among (length held.old) }
-    requires few { clients ≤ 64 }
-    requires among { (1 ≤ client) × (client ≤ clients) }
-    requires held { IsClient (held_at held.old (client_place client)) }
-    requires number { (row_held held.old client).client ≡ client }
+    requires serving { IsServing clients client held.old }
     requires table { IsSemaphores (held_at held.old (semaphores_place clients)) }
-    ensures put { OnOk result (held.new ≡ put_in_place cell
-        (hears (tables_shown cell held.old) (row_held held.old client) client
-        (Cancels invoke)) held.old) }
+    ensures put { OnOk result (held.new ≡ heard_in_place client (Cancels invoke) held.old) }
     ensures kept { OnErr result (held.new ≡ held.old) }
 {
     let mut part = take_client(held, client);
@@ -382,12 +355,7 @@ fn device_on(
     requires few { clients ≤ 64 }
     requires client { IsClient (Some part.old) }
     requires tables { plain_answer (row_in (Some part.old)) (device_request asked) ≡ None }
-    ensures served { OnOk result ((t : Tables) → t.variables ≡ variables_in (held_at held.now 1)
-        → t.domains ≡ domains_in (held_at held.now 2)
-        → t.programs ≡ programs_in (held_at held.now 3)
-        → t.events ≡ events_in (held_at held.now 4)
-        → t.journals ≡ journals_in (held_at held.now 5)
-        → t.semaphores ≡ semaphores_in (held_at held.now (semaphores_place clients))
+    ensures served { OnOk result ((t : Tables) → AreHeld clients held.now t
         → IsDoneIn no_table t (row_in (Some part.old)) tt (client_in (Some part.new))
         (Takes invoke (device_request asked.entry))) }
     ensures client { IsClient (Some part.new) }
@@ -419,16 +387,10 @@ pub(crate) fn serve_on_device(
     invoke: u32,
     asked: DeviceRequest<'_>,
 ) -> Result<(), Memory>
-    requires of { (s : State) × IsHandOf held.old (parts_of s) }
-    requires many { clients ≡ clients_among (length held.old) }
-    requires few { clients ≤ 64 }
-    requires among { (1 ≤ client) × (client ≤ clients) }
-    requires held { IsClient (held_at held.old (client_place client)) }
-    requires number { (row_held held.old client).client ≡ client }
+    requires serving { IsServing clients client held.old }
     requires tables { plain_answer (row_held held.old client) (device_request asked) ≡ None }
-    ensures put { OnOk result (held.new ≡ put_in_place cell
-        (hears (tables_shown cell held.old) (row_held held.old client) client
-        (Takes invoke (device_request asked.entry))) held.old) }
+    ensures put { OnOk result (held.new
+        ≡ heard_in_place client (Takes invoke (device_request asked.entry)) held.old) }
     ensures kept { OnErr result (held.new ≡ held.old) }
 {
     let mut part = take_client(held, client);

@@ -9,7 +9,7 @@ ghost use Rattle.parted_state.specs.Lifted.{tables_shown};
 ghost use Rattle.serve_variables.specs.Variables.{guards_asked};
 ghost use Rattle.serve_events.specs.Events.{request_in};
 ghost use Rattle.mms_step.specs.Needs.{placed};
-ghost use Rattle.mms_step.specs.Partition.{cell, events_in, variables_in};
+ghost use Rattle.mms_step.specs.Partition.{cell, events_in, events_place, variables_in, variables_place};
 ghost use Rattle.cell_services.specs.Device.{domain_of, is_domain};
 ghost use Rattle.cell_services.specs.Facts.{Live, Names, cell_tables, domain_tables, guard_tables, scope_tables, tables_for};
 ghost use Rattle.serve_semaphores.specs.Semaphores.{at_its_moment};
@@ -179,7 +179,7 @@ fn guards_asked(
 ) -> Parts
     requires few { clients ≤ 64 }
     ensures { IsSetOf result (placed clients (guard_tables (list_any is_some
-        (guards_asked asked.entry client (variables_in (held_at held.now 1)))))) }
+        (guards_asked asked.entry client (variables_in (held_at held.now variables_place)))))) }
 {
     let none = VariableTables::empty(alloc);
     if is_guarded(variables_held(held, &none), client, asked) {
@@ -210,7 +210,8 @@ fn cell_asked(
     clients: u32,
 ) -> Parts
     ensures { (row : ClientRow) → row.client ≡ client → IsSetOf result (placed clients
-        (flat_map tables_for ((request_in asked.entry).more (events_in (held_at held.now 4)) row))) }
+        (flat_map tables_for
+        ((request_in asked.entry).more (events_in (held_at held.now events_place)) row))) }
 {
     let none = EventTables::empty(alloc);
     let cell = cell_watched(events_held(held, &none), client, asked);

@@ -4,8 +4,8 @@
 ghost use Rattle.std.specs.Prelude.{◌≡◌, ℕ, ◌<◌, ◌≤◌, false, true, length, slice_set, None, Some, OnErr, OnOk, IfOk};
 ghost use Rattle.std.specs.Option.{option_copied};
 ghost use Rattle.mms_types.specs.Areas.{domain_request};
-ghost use Rattle.part_table.specs.Held.{held_at, IsHandOf};
-ghost use Rattle.parted_state.specs.Lifted.{put_in_place, tables_shown};
+ghost use Rattle.part_table.specs.Held.{held_at};
+ghost use Rattle.parted_state.specs.Lifted.{tables_shown};
 ghost use Rattle.association.specs.Asked.{is_open};
 ghost use Rattle.association.specs.Client.{ClientRow};
 ghost use Rattle.cell_client.specs.Areas.{lacks_number_in};
@@ -16,11 +16,9 @@ ghost use Rattle.serve_domains.specs.Domains.{replied, request_in, AnswersLoad};
 ghost use Rattle.serve_domains.specs.Tables.{no_domains};
 ghost use Rattle.cell_services.specs.Facts.{is_domain_live};
 ghost use Rattle.cell_services.specs.Requests.{told_in};
-ghost use Rattle.cell_services.specs.Serving.{hears};
 ghost use Rattle.cell_services.specs.Tables.{Tables, own_domains};
-ghost use Rattle.mms_step.specs.State.{State};
-ghost use Rattle.mms_step.specs.Partition.{cell, parts_of, clients_among, client_place, domains_in, row_in, IsClient, IsDomains};
-ghost use Rattle.mms_step.specs.Tasks.{row_held, AreDone, IsRoomless};
+ghost use Rattle.mms_step.specs.Partition.{cell, client_place, clients_among, domains_in, domains_place, row_in, IsClient, IsDomains};
+ghost use Rattle.mms_step.specs.Tasks.{heard_in_place, row_held, AreDone, IsRoomless, IsServing};
 
 use crate::applying::{put_client, take_client};
 use crate::events::events_held;
@@ -42,10 +40,10 @@ use variable_services::VariableTables;
 
 /// Takes the part of the domains, which is held, out of its place.
 pub(crate) fn take_domains(held: &mut Hand<Cell>) -> Box<Part>
-    requires held { IsDomains (held_at held.old 2) }
-    ensures part { Some result.value ≡ held_at held.old 2 }
-    ensures left { held.new ≡ slice_set held.old 2 None }
-    ensures place { 2 < length held.new }
+    requires held { IsDomains (held_at held.old domains_place) }
+    ensures part { Some result.value ≡ held_at held.old domains_place }
+    ensures left { held.new ≡ slice_set held.old domains_place None }
+    ensures place { domains_place < length held.new }
 {
     let Some(part) = held.take(u32::from(DOMAINS)) else {
         unreachable!()
@@ -55,8 +53,8 @@ pub(crate) fn take_domains(held: &mut Hand<Cell>) -> Box<Part>
 
 /// Puts the part of the domains into its place.
 pub(crate) fn put_domains(held: &mut Hand<Cell>, part: Box<Part>)
-    requires place { 2 < length held.old }
-    ensures { held.new ≡ slice_set held.old 2 (Some part.value) }
+    requires place { domains_place < length held.old }
+    ensures { held.new ≡ slice_set held.old domains_place (Some part.value) }
 {
     held.put(u32::from(DOMAINS), part);
 }
@@ -64,7 +62,7 @@ pub(crate) fn put_domains(held: &mut Hand<Cell>, part: Box<Part>)
 /// The domains, where they are held, and else none.
 pub(crate) fn domains_held<'a>(held: &'a Hand<Cell>, none: &'a DomainTables) -> &'a DomainTables
     requires none { none.now ≡ no_domains }
-    ensures { result.now ≡ domains_in (held_at held.now 2) }
+    ensures { result.now ≡ domains_in (held_at held.now domains_place) }
 {
     match held.get(u32::from(DOMAINS)) {
         Some(Part::Domains(domains)) => domains,
@@ -74,8 +72,8 @@ pub(crate) fn domains_held<'a>(held: &'a Hand<Cell>, none: &'a DomainTables) -> 
 
 /// Whether that domain is live, by the domains that are held; false where none has to be.
 pub(crate) fn live_held(held: &Hand<Cell>, domain: Option<&Identifier>) -> bool
-    ensures { result
-        ≡ is_domain_live (option_copied domain.entry) (domains_in (held_at held.now 2)) }
+    ensures { result ≡ is_domain_live (option_copied domain.entry)
+        (domains_in (held_at held.now domains_place)) }
 {
     let Some(name) = domain else {
         return false;
@@ -122,10 +120,10 @@ fn lacks(
 ) -> Result<bool, Memory>
     requires small { client ≤ 64 }
     requires held { IsClient (held_at held.now (client_place client)) }
-    requires table { IsDomains (held_at held.now 2) }
+    requires table { IsDomains (held_at held.now domains_place) }
     ensures { IfOk result (λ lacks. (facts : Facts) → lacks ≡ lacks_number_in
         (request_in asked.entry) facts (row_held held.now client) invoke
-        (domains_in (held_at held.now 2))) }
+        (domains_in (held_at held.now domains_place))) }
 {
     match held.get(u32::from(DOMAINS)) {
         Some(Part::Domains(domains)) => {
@@ -141,7 +139,7 @@ fn reply_lacks(held: &Hand<Cell>, client: u32, number: u32, answer: Came<'_>) ->
     requires held { IsClient (held_at held.now (client_place client)) }
     ensures { (facts : Facts) (invoke : ℕ) → result ≡ lacks_number_in
         (replied number (came answer.entry)) facts (row_held held.now client) invoke
-        (domains_in (held_at held.now 2)) }
+        (domains_in (held_at held.now domains_place)) }
 {
     reply_lacks_number(client_held(held, client), number, answer)
 }
@@ -185,19 +183,13 @@ fn serve_in_place(
     invoke: u32,
     asked: DomainRequest<'_>,
 ) -> Result<(), Memory>
-    requires of { (s : State) × IsHandOf held.old (parts_of s) }
-    requires many { clients ≡ clients_among (length held.old) }
-    requires few { clients ≤ 64 }
-    requires among { (1 ≤ client) × (client ≤ clients) }
-    requires held { IsClient (held_at held.old (client_place client)) }
-    requires number { (row_held held.old client).client ≡ client }
-    requires table { IsDomains (held_at held.old 2) }
+    requires serving { IsServing clients client held.old }
+    requires table { IsDomains (held_at held.old domains_place) }
     requires open { is_open (row_held held.old client).association ≡ true }
     requires numbered { (facts : Facts) → lacks_number_in (request_in asked) facts
-        (row_held held.old client) invoke (domains_in (held_at held.old 2)) ≡ false }
-    ensures put { OnOk result (held.new ≡ put_in_place cell
-        (hears (tables_shown cell held.old) (row_held held.old client) client
-        (Takes invoke (domain_request asked.entry))) held.old) }
+        (row_held held.old client) invoke (domains_in (held_at held.old domains_place)) ≡ false }
+    ensures put { OnOk result (held.new
+        ≡ heard_in_place client (Takes invoke (domain_request asked.entry)) held.old) }
     ensures kept { OnErr result (held.new ≡ held.old) }
 {
     let scoped = scope_held(alloc, held, clients, asked)?;
@@ -219,17 +211,11 @@ pub(crate) fn serve_on_domains(
     invoke: u32,
     asked: DomainRequest<'_>,
 ) -> Result<(), Memory>
-    requires of { (s : State) × IsHandOf held.old (parts_of s) }
-    requires many { clients ≡ clients_among (length held.old) }
-    requires few { clients ≤ 64 }
-    requires among { (1 ≤ client) × (client ≤ clients) }
-    requires held { IsClient (held_at held.old (client_place client)) }
-    requires number { (row_held held.old client).client ≡ client }
-    requires table { IsDomains (held_at held.old 2) }
+    requires serving { IsServing clients client held.old }
+    requires table { IsDomains (held_at held.old domains_place) }
     requires open { is_open (row_held held.old client).association ≡ true }
-    ensures put { OnOk result (held.new ≡ put_in_place cell
-        (hears (tables_shown cell held.old) (row_held held.old client) client
-        (Takes invoke (domain_request asked.entry))) held.old) }
+    ensures put { OnOk result (held.new
+        ≡ heard_in_place client (Takes invoke (domain_request asked.entry)) held.old) }
     ensures kept { OnErr result (held.new ≡ held.old) }
 {
     if lacks(alloc, held, client, invoke, asked)? {
@@ -279,22 +265,16 @@ fn reply_in_place(
     number: u32,
     answer: Came<'_>,
 ) -> Result<(), Memory>
-    requires of { (s : State) × IsHandOf held.old (parts_of s) }
-    requires many { clients ≡ clients_among (length held.old) }
-    requires few { clients ≤ 64 }
-    requires among { (1 ≤ client) × (client ≤ clients) }
-    requires held { IsClient (held_at held.old (client_place client)) }
-    requires number { (row_held held.old client).client ≡ client }
-    requires table { IsDomains (held_at held.old 2) }
+    requires serving { IsServing clients client held.old }
+    requires table { IsDomains (held_at held.old domains_place) }
     requires open { is_open (row_held held.old client).association ≡ true }
     requires load { AnswersLoad (row_held held.old client) number (came answer)
-        (domains_in (held_at held.old 2)) }
+        (domains_in (held_at held.old domains_place)) }
     requires numbered { (facts : Facts) (invoke : ℕ) → lacks_number_in
         (replied number (came answer)) facts (row_held held.old client) invoke
-        (domains_in (held_at held.old 2)) ≡ false }
-    ensures put { OnOk result (held.new ≡ put_in_place cell
-        (hears (tables_shown cell held.old) (row_held held.old client) client
-        (Replies number (came answer.entry))) held.old) }
+        (domains_in (held_at held.old domains_place)) ≡ false }
+    ensures put { OnOk result (held.new
+        ≡ heard_in_place client (Replies number (came answer.entry)) held.old) }
     ensures kept { OnErr result (held.new ≡ held.old) }
 {
     let _clients = clients;
@@ -316,19 +296,13 @@ pub(crate) fn reply_on_domains(
     number: u32,
     answer: Came<'_>,
 ) -> Result<(), Memory>
-    requires of { (s : State) × IsHandOf held.old (parts_of s) }
-    requires many { clients ≡ clients_among (length held.old) }
-    requires few { clients ≤ 64 }
-    requires among { (1 ≤ client) × (client ≤ clients) }
-    requires held { IsClient (held_at held.old (client_place client)) }
-    requires number { (row_held held.old client).client ≡ client }
-    requires table { IsDomains (held_at held.old 2) }
+    requires serving { IsServing clients client held.old }
+    requires table { IsDomains (held_at held.old domains_place) }
     requires open { is_open (row_held held.old client).association ≡ true }
     requires load { AnswersLoad (row_held held.old client) number (came answer)
-        (domains_in (held_at held.old 2)) }
-    ensures put { OnOk result (held.new ≡ put_in_place cell
-        (hears (tables_shown cell held.old) (row_held held.old client) client
-        (Replies number (came answer.entry))) held.old) }
+        (domains_in (held_at held.old domains_place)) }
+    ensures put { OnOk result (held.new
+        ≡ heard_in_place client (Replies number (came answer.entry)) held.old) }
     ensures kept { OnErr result (held.new ≡ held.old) }
 {
     if reply_lacks(held, client, number, answer) {

@@ -17,8 +17,8 @@ ghost use Rattle.cell_services.specs.Requests.{told_in};
 ghost use Rattle.cell_services.specs.Serving.{hears};
 ghost use Rattle.cell_services.specs.Tables.{Tables, own_events};
 ghost use Rattle.mms_step.specs.State.{State};
-ghost use Rattle.mms_step.specs.Partition.{cell, parts_of, clients_among, clock_in, client_place, events_in, row_in, IsClient, IsEvents};
-ghost use Rattle.mms_step.specs.Tasks.{row_held, AreDone, IsRoomless};
+ghost use Rattle.mms_step.specs.Partition.{cell, client_of, clients_among, events_in, events_place, parts_of, IsClient, IsEvents};
+ghost use Rattle.mms_step.specs.Tasks.{heard_in_place, row_held, told_events, AreDone, AreFound, IsRoomless, IsLeftToTell, IsServing, WhereTold};
 
 use crate::applying::{put_client, take_client};
 use crate::domains::live_held;
@@ -35,10 +35,10 @@ use variable_services::VariableTables;
 
 /// Takes the part of the events, which is held, out of its place.
 fn take_events(held: &mut Hand<Cell>) -> Box<Part>
-    requires held { IsEvents (held_at held.old 4) }
-    ensures part { Some result.value ≡ held_at held.old 4 }
-    ensures left { held.new ≡ slice_set held.old 4 None }
-    ensures place { 4 < length held.new }
+    requires held { IsEvents (held_at held.old events_place) }
+    ensures part { Some result.value ≡ held_at held.old events_place }
+    ensures left { held.new ≡ slice_set held.old events_place None }
+    ensures place { events_place < length held.new }
 {
     let Some(part) = held.take(u32::from(EVENTS)) else {
         unreachable!()
@@ -48,8 +48,8 @@ fn take_events(held: &mut Hand<Cell>) -> Box<Part>
 
 /// Puts the part of the events into its place.
 fn put_events(held: &mut Hand<Cell>, part: Box<Part>)
-    requires place { 4 < length held.old }
-    ensures { held.new ≡ slice_set held.old 4 (Some part.value) }
+    requires place { events_place < length held.old }
+    ensures { held.new ≡ slice_set held.old events_place (Some part.value) }
 {
     held.put(u32::from(EVENTS), part);
 }
@@ -57,7 +57,7 @@ fn put_events(held: &mut Hand<Cell>, part: Box<Part>)
 /// The event conditions and enrollments, where they are held, and else none.
 pub(crate) fn events_held<'a>(held: &'a Hand<Cell>, none: &'a EventTables) -> &'a EventTables
     requires none { none.now ≡ no_events }
-    ensures { result.now ≡ events_in (held_at held.now 4) }
+    ensures { result.now ≡ events_in (held_at held.now events_place) }
 {
     match held.get(u32::from(EVENTS)) {
         Some(Part::Events(events)) => events,
@@ -111,14 +111,7 @@ struct Facts {
 
 /// They are those that the held parts tell.
 fn facts_held(alloc: Global, held: &Hand<Cell>, client: u32, asked: EventRequest<'_>) -> Facts
-    ensures now { result.now.0 ≡ clock_in (held_at held.now 0) }
-    ensures dated { IsDated result.now }
-    ensures live { (row : ClientRow) → (told_in own_events (tables_shown cell held.now) row
-        (request_in asked.entry)).live ≡ result.live }
-    ensures cell { (row : ClientRow) → (told_in own_events (tables_shown cell held.now) row
-        (request_in asked.entry)).cell client ≡ result.cell }
-    ensures truth { (row : ClientRow) → row.client ≡ client → (told_in own_events
-        (tables_shown cell held.now) row (request_in asked.entry)).truth ≡ result.is_true }
+    ensures { AreFound asked.entry client held.now result }
 {
     Facts {
         now: now_held(held),
@@ -144,24 +137,15 @@ fn events_in_parts(
     requires settled { IsRoomless part.old }
     ensures served { IfOk result (λ left. IfNone left ((t : Tables)
         → t.events ≡ events_in (Some table.old) → t.now ≡ facts.now.0
-        → (told_in own_events t (row_in (Some part.old)) (request_in asked.entry)).live ≡ facts.live
-        → (told_in own_events t (row_in (Some part.old)) (request_in asked.entry)).cell
-        (row_in (Some part.old)).client ≡ facts.cell
-        → (told_in own_events t (row_in (Some part.old)) (request_in asked.entry)).truth
-        ≡ facts.is_true
-        → AreDone own_events Part.Events t
-        (Takes invoke (event_request asked.entry)) part.old part.new table.new)) }
+        → WhereTold t part.old asked.entry facts (AreDone own_events Part.Events t
+        (Takes invoke (event_request asked.entry)) part.old part.new table.new))) }
     ensures left { IfOk result (λ left. IfSome left (λ l. (t : Tables)
         → t.events ≡ events_in (Some table.old) → t.now ≡ facts.now.0
-        → (told_in own_events t (row_in (Some part.old)) (request_in asked.entry)).truth
-        ≡ facts.is_true
-        → hears t (row_in (Some part.old)) (row_in (Some part.old)).client
-        (Takes invoke (event_request asked.entry)) ≡ all_done (own_events.put
-        (turned_after (row_in (Some part.old)).client facts.now facts.is_true asked.entry
-        (events_in (Some table.old))) t) l.told.items)) }
-    ensures turns { IfOk result (λ left. IfSome left (λ l. l.turns
-        ≡ turns_of (row_in (Some part.old)).client facts.now facts.is_true asked.entry
-        (events_in (Some table.old)))) }
+        → (told_events t part.old asked.entry).truth ≡ facts.is_true → IsLeftToTell own_events t
+        part.old (Takes invoke (event_request asked.entry)) l.told.items (turned_after
+        (client_of part.old) facts.now facts.is_true asked.entry (events_in (Some table.old))))) }
+    ensures turns { IfOk result (λ left. IfSome left (λ l. l.turns ≡ turns_of
+        (client_of part.old) facts.now facts.is_true asked.entry (events_in (Some table.old)))) }
     ensures unchanged { IfOk result (λ left. OnSome left (
         (part.new ≡ part.old) × (table.new ≡ table.old))) }
     ensures kept { OnErr result (part.new ≡ part.old) }
@@ -192,24 +176,11 @@ fn serve_alone(
     invoke: u32,
     asked: EventRequest<'_>,
 ) -> Result<Option<Turning>, Memory>
-    requires of { (s : State) × IsHandOf held.old (parts_of s) }
-    requires many { clients ≡ clients_among (length held.old) }
-    requires few { clients ≤ 64 }
-    requires among { (1 ≤ client) × (client ≤ clients) }
-    requires held { IsClient (held_at held.old (client_place client)) }
-    requires number { (row_held held.old client).client ≡ client }
-    requires table { IsEvents (held_at held.old 4) }
-    requires moment { facts.now.0 ≡ clock_in (held_at held.old 0) }
-    requires dated { IsDated facts.now }
-    requires live { (row : ClientRow) → (told_in own_events (tables_shown cell held.old) row
-        (request_in asked)).live ≡ facts.live }
-    requires cell { (row : ClientRow) → (told_in own_events (tables_shown cell held.old) row
-        (request_in asked)).cell client ≡ facts.cell }
-    requires truth { (row : ClientRow) → row.client ≡ client → (told_in own_events
-        (tables_shown cell held.old) row (request_in asked)).truth ≡ facts.is_true }
-    ensures put { IfOk result (λ left. IfNone left (held.new ≡ put_in_place cell
-        (hears (tables_shown cell held.old) (row_held held.old client) client
-        (Takes invoke (event_request asked.entry))) held.old)) }
+    requires serving { IsServing clients client held.old }
+    requires table { IsEvents (held_at held.old events_place) }
+    requires facts { AreFound asked client held.old facts }
+    ensures put { IfOk result (λ left. IfNone left (held.new
+        ≡ heard_in_place client (Takes invoke (event_request asked.entry)) held.old)) }
     ensures left { IfOk result (λ left. IfSome left (λ l.
         hears (tables_shown cell held.old) (row_held held.old client) client
         (Takes invoke (event_request asked.entry)) ≡ all_done (own_events.put
@@ -265,7 +236,7 @@ fn finish_and_tell(
     requires of { (s : State) × IsHandOf held.old (parts_of s) }
     requires many { clients ≡ clients_among (length held.old) }
     requires few { clients ≤ 64 }
-    requires table { IsEvents (held_at held.old 4) }
+    requires table { IsEvents (held_at held.old events_place) }
     requires dated { IsDated facts.now }
     requires turns { turning.turns ≡ turns_of client facts.now facts.is_true asked
         (tables_shown cell held.old).events }
@@ -294,16 +265,10 @@ pub(crate) fn serve_on_events(
     invoke: u32,
     asked: EventRequest<'_>,
 ) -> Result<(), Memory>
-    requires of { (s : State) × IsHandOf held.old (parts_of s) }
-    requires many { clients ≡ clients_among (length held.old) }
-    requires few { clients ≤ 64 }
-    requires among { (1 ≤ client) × (client ≤ clients) }
-    requires held { IsClient (held_at held.old (client_place client)) }
-    requires number { (row_held held.old client).client ≡ client }
-    requires table { IsEvents (held_at held.old 4) }
-    ensures put { OnOk result (held.new ≡ put_in_place cell
-        (hears (tables_shown cell held.old) (row_held held.old client) client
-        (Takes invoke (event_request asked.entry))) held.old) }
+    requires serving { IsServing clients client held.old }
+    requires table { IsEvents (held_at held.old events_place) }
+    ensures put { OnOk result (held.new
+        ≡ heard_in_place client (Takes invoke (event_request asked.entry)) held.old) }
     ensures kept { OnErr result (held.new ≡ held.old) }
 {
     let facts = facts_held(alloc, held, client, asked);

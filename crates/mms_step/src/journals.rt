@@ -2,16 +2,13 @@
 
 ghost use Rattle.std.specs.Prelude.{◌≡◌, ◌<◌, ◌≤◌, [], length, slice_set, None, Some, OnErr, OnOk};
 ghost use Rattle.mms_types.specs.Areas.{journal_request};
-ghost use Rattle.part_table.specs.Held.{held_at, IsHandOf};
-ghost use Rattle.parted_state.specs.Lifted.{put_in_place, tables_shown};
+ghost use Rattle.part_table.specs.Held.{held_at};
 ghost use Rattle.serve_journals.specs.Journals as of_journals;
 ghost use Rattle.cell_client.specs.Association.{Takes};
 ghost use Rattle.cell_services.specs.Facts.{is_domain_live};
-ghost use Rattle.cell_services.specs.Serving.{hears};
 ghost use Rattle.cell_services.specs.Tables.{Tables, own_journals};
-ghost use Rattle.mms_step.specs.State.{State};
-ghost use Rattle.mms_step.specs.Partition.{cell, parts_of, clients_among, client_place, journals_in, IsClient, IsJournals};
-ghost use Rattle.mms_step.specs.Tasks.{row_held, AreDone, IsRoomless};
+ghost use Rattle.mms_step.specs.Partition.{journals_in, journals_place, IsClient, IsJournals};
+ghost use Rattle.mms_step.specs.Tasks.{heard_in_place, AreDone, IsRoomless, IsServing};
 
 use crate::applying::{put_client, take_client};
 use crate::domains::live_held;
@@ -24,10 +21,10 @@ use std::alloc::Global;
 
 /// Takes the part of the journals, which is held, out of its place.
 fn take_journals(held: &mut Hand<Cell>) -> Box<Part>
-    requires held { IsJournals (held_at held.old 5) }
-    ensures part { Some result.value ≡ held_at held.old 5 }
-    ensures left { held.new ≡ slice_set held.old 5 None }
-    ensures place { 5 < length held.new }
+    requires held { IsJournals (held_at held.old journals_place) }
+    ensures part { Some result.value ≡ held_at held.old journals_place }
+    ensures left { held.new ≡ slice_set held.old journals_place None }
+    ensures place { journals_place < length held.new }
 {
     let Some(part) = held.take(u32::from(JOURNALS)) else {
         unreachable!()
@@ -37,8 +34,8 @@ fn take_journals(held: &mut Hand<Cell>) -> Box<Part>
 
 /// Puts the part of the journals into its place.
 fn put_journals(held: &mut Hand<Cell>, part: Box<Part>)
-    requires place { 5 < length held.old }
-    ensures { held.new ≡ slice_set held.old 5 (Some part.value) }
+    requires place { journals_place < length held.old }
+    ensures { held.new ≡ slice_set held.old journals_place (Some part.value) }
 {
     held.put(u32::from(JOURNALS), part);
 }
@@ -46,7 +43,7 @@ fn put_journals(held: &mut Hand<Cell>, part: Box<Part>)
 /// The journals, where they are held, and else none.
 pub(crate) fn journals_held<'a>(held: &'a Hand<Cell>, none: &'a Journals) -> &'a Journals
     requires none { none.now ≡ [] }
-    ensures { result.now ≡ journals_in (held_at held.now 5) }
+    ensures { result.now ≡ journals_in (held_at held.now journals_place) }
 {
     match held.get(u32::from(JOURNALS)) {
         Some(Part::Journals(journals)) => journals,
@@ -90,16 +87,10 @@ pub(crate) fn serve_on_journals(
     invoke: u32,
     asked: JournalRequest<'_>,
 ) -> Result<(), Memory>
-    requires of { (s : State) × IsHandOf held.old (parts_of s) }
-    requires many { clients ≡ clients_among (length held.old) }
-    requires few { clients ≤ 64 }
-    requires among { (1 ≤ client) × (client ≤ clients) }
-    requires held { IsClient (held_at held.old (client_place client)) }
-    requires number { (row_held held.old client).client ≡ client }
-    requires table { IsJournals (held_at held.old 5) }
-    ensures put { OnOk result (held.new ≡ put_in_place cell
-        (hears (tables_shown cell held.old) (row_held held.old client) client
-        (Takes invoke (journal_request asked.entry))) held.old) }
+    requires serving { IsServing clients client held.old }
+    requires table { IsJournals (held_at held.old journals_place) }
+    ensures put { OnOk result (held.new
+        ≡ heard_in_place client (Takes invoke (journal_request asked.entry)) held.old) }
     ensures kept { OnErr result (held.new ≡ held.old) }
 {
     let _clients = clients;

@@ -5,8 +5,6 @@ ghost use Rattle.std.specs.Map.{lookup};
 ghost use Rattle.mms_types.specs.Order.{key_eq};
 ghost use Rattle.mms_types.specs.declared.key.Key.{Key};
 ghost use Rattle.mms_types.specs.declared.pdu.Request.{Request};
-ghost use Rattle.mms_types.specs.declared.pdu.Request.TheVariants as request;
-ghost use Rattle.mms_types.specs.declared.semaphore.RelinquishControl.{RelinquishControl};
 ghost use Rattle.mms_types.specs.declared.event.CellEvent.TheVariants.{Heard, Lost, Tick};
 ghost use Rattle.association.specs.declared.negotiation.Association.TheVariants.{Open};
 ghost use Rattle.association.specs.declared.negotiation.Negotiated.{Negotiated};
@@ -24,17 +22,15 @@ ghost use Rattle.mms_types.specs.declared.moment.Moment.{Moment};
 ghost use Rattle.sem_ticks.specs.Sound as semaphores;
 ghost use Rattle.sem_ticks.specs.declared.granted.Granted.{Granted};
 ghost use Rattle.mms_time.specs.Deadlines.{all_deadlines};
-ghost use Rattle.sem_ticks.specs.Granted.{lost_granted};
-ghost use Rattle.sem_ticks.specs.Granted.{relinquish_granted};
 ghost use Rattle.mms_time.specs.declared.row.Semaphore.TheVariants.{Token, Pool};
 ghost use Rattle.mms_time.specs.declared.row.SemaphoreRow.{SemaphoreRow};
 ghost use Rattle.sem_ticks.specs.declared.ticks.Happening.TheVariants.{Grants};
-ghost use Rattle.parted_state.specs.Served.{done_of, row_at};
-ghost use Rattle.cell_client.specs.Association.{Takes, verdict};
-ghost use Rattle.cell_services.specs.Serving.{also_told, is_served, meanwhile, own_told, resolved, services};
+ghost use Rattle.parted_state.specs.Served.{done_of};
+ghost use Rattle.cell_client.specs.Association.{Takes};
+ghost use Rattle.cell_services.specs.Serving.{also_told, meanwhile, own_told, services};
 ghost use Rattle.cell_services.specs.Tables.{Tables};
 ghost use Rattle.association.specs.Client.{ClientRow};
-ghost use Rattle.mms_step.specs.Answered.{AnswersOrWaits, AreAnswered, EndsIt, IsAnswered};
+ghost use Rattle.mms_step.specs.Answered.{granted_by_loss, AnswersOrWaits, AreAnswered, EndsBy, GivesBackTo, IsAnswered};
 ghost use Rattle.mms_types.specs.declared.event.CellEvent.{CellEvent};
 ghost use Rattle.mms_types.specs.Actors.{IsAmong};
 ghost use Rattle.part_table.specs.Held.{held_at, IsHandOf};
@@ -43,7 +39,7 @@ ghost use Rattle.cell_config.specs.Said.{IsConfig};
 ghost use Rattle.mms_step.specs.declared.part.Part.{Part};
 ghost use Rattle.mms_step.specs.State.{State, HasDate, IsSound, start};
 ghost use Rattle.mms_step.specs.Step.{step, replay, MayFollow};
-ghost use Rattle.mms_step.specs.Partition.{cell, parts_of};
+ghost use Rattle.mms_step.specs.Partition.{cell, parts_of, row_of};
 ghost use Rattle.mms_step.specs.Needs.{need, shown, is_held};
 ghost use Rattle.mms_step.specs.After.{parts_after};
 
@@ -144,25 +140,13 @@ pub fn two_ticks_are_one()
 /// is among what is to be sent to it. A token is freed where a client gives it back, where a client ends its
 /// association or loses it, and where time goes by.
 pub fn a_grant_is_answered_at_once()
-    ensures given_back { (s : State) (client : ℕ) (octets : List ℕ) (g : Granted) (invoke : ℕ)
-        (asked : RelinquishControl)
-        → verdict (row_at cell client s.clients) octets
-        ≡ Takes invoke (request.RelinquishControl asked)
-        → is_served (cell.tables_of s) (row_at cell client s.clients) invoke
-        (request.RelinquishControl asked) ≡ true
-        → relinquish_granted (row_at cell client s.clients).client asked s.semaphores
-        ≡ Some (Some g)
-        → IsAnswered (step s (Heard client octets)) g }
+    ensures given_back { (s : State) (client : ℕ) (octets : List ℕ) (g : Granted)
+        → GivesBackTo s client octets g → IsAnswered (step s (Heard client octets)) g }
     ensures left { (s : State) (client : ℕ) (octets : List ℕ) (g : Granted)
-        → EndsIt (resolved (cell.tables_of s) (row_at cell client s.clients)
-        (verdict (row_at cell client s.clients) octets))
-        → Contains
-        (lost_granted (row_at cell client s.clients).client (record { 0 = s.now }) s.semaphores) g
+        → EndsBy s client octets → Contains (granted_by_loss s client) g
         → IsAnswered (step s (Heard client octets)) g }
     ensures lost { (s : State) (client : ℕ) (g : Granted) (values : Negotiated)
-        → (row_at cell client s.clients).association ≡ Open values
-        → Contains
-        (lost_granted (row_at cell client s.clients).client (record { 0 = s.now }) s.semaphores) g
+        → (row_of s client).association ≡ Open values → Contains (granted_by_loss s client) g
         → IsAnswered (step s (Lost client)) g }
     ensures ticked { (s : State) (ms : ℕ) (at : Moment) (g : Granted)
         → Contains (meanwhile ms (cell.tables_of s)).happened (dated at (Semaphores (Grants g)))

@@ -4,7 +4,7 @@ ghost use Rattle.std.specs.Prelude.{◌≡◌, ◌≤◌, length};
 ghost use Rattle.part_table.specs.Held.{held_at};
 ghost use Rattle.mms_step.specs.Lifting.{clocked, domained, tabled, varied, with_events, with_journals, with_programs, with_semaphores};
 ghost use Rattle.cell_services.specs.Meant.{no_tables};
-ghost use Rattle.mms_step.specs.Partition.{clients_among, clock_in, clock_or, domains_in, domains_or, events_in, events_or, journals_in, journals_or, programs_in, programs_or, semaphores_in, semaphores_or, semaphores_place, variables_in, variables_or};
+ghost use Rattle.mms_step.specs.Partition.{clients_among, clock_or, clock_place, domains_or, domains_place, events_or, events_place, journals_or, journals_place, programs_or, programs_place, semaphores_or, semaphores_place, tables_held, variables_or, variables_place};
 
 use crate::tables::semaphores as semaphores_part;
 use crate::{Cell, Part};
@@ -22,7 +22,7 @@ use variable_services::VariableTables;
 /// Exchanges the clock with that of the part, where it is held.
 fn exchange_clock(held: &mut Hand<Cell>, clock: &mut Clock)
     ensures part { held.new ≡ clocked clock.old held.old }
-    ensures clock { clock.new ≡ clock_or clock.old (held_at held.old 0) }
+    ensures clock { clock.new ≡ clock_or clock.old (held_at held.old clock_place) }
 {
     let Some(mut part) = held.take(0) else {
         return;
@@ -38,7 +38,8 @@ fn exchange_clock(held: &mut Hand<Cell>, clock: &mut Clock)
 /// Exchanges the variables with those of the part, where they are held.
 fn exchange_variables(held: &mut Hand<Cell>, variables: &mut VariableTables)
     ensures part { held.new ≡ varied variables.old held.old }
-    ensures variables { variables.new ≡ variables_or variables.old (held_at held.old 1) }
+    ensures variables { variables.new
+        ≡ variables_or variables.old (held_at held.old variables_place) }
 {
     let Some(mut part) = held.take(1) else {
         return;
@@ -54,7 +55,7 @@ fn exchange_variables(held: &mut Hand<Cell>, variables: &mut VariableTables)
 /// Exchanges the domains with those of the part, where they are held.
 fn exchange_domains(held: &mut Hand<Cell>, domains: &mut DomainTables)
     ensures part { held.new ≡ domained domains.old held.old }
-    ensures domains { domains.new ≡ domains_or domains.old (held_at held.old 2) }
+    ensures domains { domains.new ≡ domains_or domains.old (held_at held.old domains_place) }
 {
     let Some(mut part) = held.take(2) else {
         return;
@@ -70,7 +71,7 @@ fn exchange_domains(held: &mut Hand<Cell>, domains: &mut DomainTables)
 /// Exchanges the program invocations with those of the part, where they are held.
 fn exchange_programs(held: &mut Hand<Cell>, programs: &mut Programs)
     ensures part { held.new ≡ with_programs programs.old held.old }
-    ensures programs { programs.new ≡ programs_or programs.old (held_at held.old 3) }
+    ensures programs { programs.new ≡ programs_or programs.old (held_at held.old programs_place) }
 {
     let Some(mut part) = held.take(3) else {
         return;
@@ -86,7 +87,7 @@ fn exchange_programs(held: &mut Hand<Cell>, programs: &mut Programs)
 /// Exchanges the event conditions and enrollments with those of the part, where they are held.
 fn exchange_events(held: &mut Hand<Cell>, events: &mut EventTables)
     ensures part { held.new ≡ with_events events.old held.old }
-    ensures events { events.new ≡ events_or events.old (held_at held.old 4) }
+    ensures events { events.new ≡ events_or events.old (held_at held.old events_place) }
 {
     let Some(mut part) = held.take(4) else {
         return;
@@ -102,7 +103,7 @@ fn exchange_events(held: &mut Hand<Cell>, events: &mut EventTables)
 /// Exchanges the journals with those of the part, where they are held.
 fn exchange_journals(held: &mut Hand<Cell>, journals: &mut Journals)
     ensures part { held.new ≡ with_journals journals.old held.old }
-    ensures journals { journals.new ≡ journals_or journals.old (held_at held.old 5) }
+    ensures journals { journals.new ≡ journals_or journals.old (held_at held.old journals_place) }
 {
     let Some(mut part) = held.take(5) else {
         return;
@@ -139,15 +140,7 @@ fn exchange_semaphores(held: &mut Hand<Cell>, clients: u32, semaphores: &mut Sem
 pub(crate) fn lift(alloc: Global, held: &mut Hand<Cell>, clients: u32) -> Tables
     requires many { clients ≡ clients_among (length held.old) }
     requires few { clients ≤ 64 }
-    ensures tables { result ≡ record {
-      now = clock_in (held_at held.old 0);
-      variables = variables_in (held_at held.old 1);
-      domains = domains_in (held_at held.old 2);
-      programs = programs_in (held_at held.old 3);
-      events = events_in (held_at held.old 4);
-      journals = journals_in (held_at held.old 5);
-      semaphores = semaphores_in (held_at held.old (semaphores_place clients));
-    } }
+    ensures tables { result ≡ tables_held clients held.old }
     ensures left { held.new ≡ tabled no_tables held.old }
 {
     let mut tables = Tables::empty(alloc);

@@ -17,7 +17,7 @@ ghost use Rattle.mms_types.specs.Moments.{IsDated};
 ghost use Rattle.sem_ticks.specs.Ticks.{ticked};
 ghost use Rattle.parted_state.specs.Cut.{missing};
 ghost use Rattle.parted_state.specs.Sets.{IsSetOf};
-ghost use Rattle.mms_step.specs.Partition.{cell, parts_of, client_place, clients_among, clock_in, semaphores_in, semaphores_place, variables_in, IsClient};
+ghost use Rattle.mms_step.specs.Partition.{cell, client_place, clients_among, clock_in, clock_place, parts_of, semaphores_in, semaphores_place, variables_in, variables_place, IsClient};
 ghost use Rattle.cell_client.specs.Association.{verdict, verdict_by, Concludes, Replies, Takes};
 ghost use Rattle.cell_services.specs.Services.{area_of, lacks_number};
 ghost use Rattle.mms_step.specs.Needs.{also_parts, client_parts, footprint, heard_need, is_held, is_own, lost_need, need, placed, time_need, verdict_need};
@@ -241,7 +241,7 @@ fn part_held(held: &Hand<Cell>, client: u32) -> Option<&ClientPart>
 
 /// The moment, where the clock is held, and else 0.
 pub(crate) fn now_held(held: &Hand<Cell>) -> Moment
-    ensures moment { result.0 ≡ clock_in (held_at held.now 0) }
+    ensures moment { result.0 ≡ clock_in (held_at held.now clock_place) }
     ensures dated { IsDated result }
 {
     match held.get(0) {
@@ -256,7 +256,7 @@ pub(crate) fn variables_held<'a>(
     none: &'a VariableTables,
 ) -> &'a VariableTables
     requires none { none.now ≡ no_variables }
-    ensures { result.now ≡ variables_in (held_at held.now 1) }
+    ensures { result.now ≡ variables_in (held_at held.now variables_place) }
 {
     match held.get(u32::from(VARIABLES)) {
         Some(Part::Variables(variables)) => variables,
@@ -477,8 +477,8 @@ fn told_until(
 ) -> Result<Vec<u32>, Memory>
     requires { IsDated until }
     ensures { IfOk result (λ clients. (k : ℕ) → is_told (all_told
-        (device.ticked (saying (variables_in (held_at held.now 1))) until semaphores.now
-        events.now.conditions events.now.enrolments).happened) k
+        (device.ticked (saying (variables_in (held_at held.now variables_place))) until
+        semaphores.now events.now.conditions events.now.enrolments).happened) k
         ≡ list_any (λ c. c == k) clients.items) }
 {
     let none = VariableTables::empty(alloc);
@@ -511,8 +511,8 @@ fn told_by(
     requires dated { IsDated until }
     requires happened { happened.now ≡ (ticked until semaphores.now).happened }
     ensures { IfOk result (λ clients. (k : ℕ) → is_told (all_told
-        (device.ticked (saying (variables_in (held_at held.now 1))) until semaphores.now
-        events.now.conditions events.now.enrolments).happened) k
+        (device.ticked (saying (variables_in (held_at held.now variables_place))) until
+        semaphores.now events.now.conditions events.now.enrolments).happened) k
         ≡ list_any (λ c. c == k) clients.items) }
 {
     if events.conditions.is_due(until) {
@@ -542,7 +542,7 @@ fn happening_until(
 fn need_time(alloc: Global, clients: u32, held: &Hand<Cell>, ms: u32) -> Result<Parts, Memory>
     requires many { clients ≡ clients_among (length held.now) }
     requires few { clients ≤ 64 }
-    requires time { clock_in (held_at held.now 0) + ms ≤ last_moment }
+    requires time { clock_in (held_at held.now clock_place) + ms ≤ last_moment }
     ensures { IfOk result (λ parts. IsSetOf parts (time_need clients held.now ms)) }
 {
     let none = Semaphores::new(alloc);
@@ -573,7 +573,7 @@ fn need_more(
     requires clients { clients ≡ clients_among (length held.now) }
     requires among { IsAmong clients event.now }
     requires words { missing held.now (footprint clients event.now) ≡ [] }
-    requires time { IsInTime (clock_in (held_at held.now 0)) event.now }
+    requires time { IsInTime (clock_in (held_at held.now clock_place)) event.now }
     ensures { IfOk result (λ parts. IsSetOf parts (need event.now held.now)) }
 {
     match event {
@@ -629,7 +629,7 @@ pub fn need_by(
     requires of { (s : State) × ((count : ℕ) × IsSound count s) × IsHandOf held.now (parts_of s) }
     requires found { IsFoundOf found.now event.now held.now }
     requires among { IsAmong (clients_among (length held.now)) event.now }
-    requires time { IsInTime (clock_in (held_at held.now 0)) event.now }
+    requires time { IsInTime (clock_in (held_at held.now clock_place)) event.now }
     ensures { IfOk result (λ parts. IsSetOf parts (need event.now held.now)) }
 {
     let clients = clients_of(held);
@@ -646,7 +646,7 @@ pub fn need_by(
 pub fn need(alloc: Global, event: &CellEvent, held: &Hand<Cell>) -> Result<Parts, Memory>
     requires of { (s : State) × ((count : ℕ) × IsSound count s) × IsHandOf held.now (parts_of s) }
     requires among { IsAmong (clients_among (length held.now)) event.now }
-    requires time { IsInTime (clock_in (held_at held.now 0)) event.now }
+    requires time { IsInTime (clock_in (held_at held.now clock_place)) event.now }
     ensures { IfOk result (λ parts. IsSetOf parts (need event.now held.now)) }
 {
     need_by(alloc, event, &None, held)

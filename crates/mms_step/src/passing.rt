@@ -9,7 +9,7 @@ ghost use Rattle.cell_ticks.specs.Deadlines as device;
 ghost use Rattle.cell_services.specs.Serving.{passes};
 ghost use Rattle.cell_services.specs.Tables.{last_moment};
 ghost use Rattle.mms_step.specs.Lifting.{clocked};
-ghost use Rattle.mms_step.specs.Partition.{cell, clients_among, clock_in, events_in, parts_of, semaphores_in, semaphores_place, IsSemaphores};
+ghost use Rattle.mms_step.specs.Partition.{cell, clients_among, clock_in, clock_place, events_in, events_place, parts_of, semaphores_in, semaphores_place, IsSemaphores};
 ghost use Rattle.mms_step.specs.State.{State};
 ghost use Rattle.mms_step.specs.Tasks.{is_clock};
 
@@ -63,7 +63,7 @@ fn comes_due(held: &mut Hand<Cell>, clients: u32, until: Moment) -> bool
 
 /// Whether an event condition that is held is to be evaluated by then. It takes no memory.
 fn evaluates(held: &Hand<Cell>, until: Moment) -> bool
-    ensures { result ≡ any_due until (events_in (held_at held.now 4)).conditions }
+    ensures { result ≡ any_due until (events_in (held_at held.now events_place)).conditions }
 {
     match held.get(u32::from(EVENTS)) {
         Some(Part::Events(events)) => events.conditions.is_due(until),
@@ -75,12 +75,12 @@ fn evaluates(held: &Hand<Cell>, until: Moment) -> bool
 /// many milliseconds have gone by. The parts stay as they are. It takes no memory.
 fn is_quiet(held: &mut Hand<Cell>, clients: u32, ms: u32) -> bool
     requires few { clients ≤ 64 }
-    requires time { clock_in (held_at held.old 0) + ms ≤ last_moment }
-    ensures clock { result ≡ true → is_clock (held_at held.old 0) ≡ true }
+    requires time { clock_in (held_at held.old clock_place) + ms ≤ last_moment }
+    ensures clock { result ≡ true → is_clock (held_at held.old clock_place) ≡ true }
     ensures due { result ≡ true
-        → device.next_due (record { 0 = clock_in (held_at held.old 0) + ms })
+        → device.next_due (record { 0 = clock_in (held_at held.old clock_place) + ms })
         (semaphores_in (held_at held.old (semaphores_place clients)))
-        (events_in (held_at held.old 4)).conditions ≡ None }
+        (events_in (held_at held.old events_place)).conditions ≡ None }
     ensures same { held.new ≡ held.old }
 {
     let Some(Part::Clock(clock)) = held.get(0) else {
@@ -98,9 +98,9 @@ fn is_quiet(held: &mut Hand<Cell>, clients: u32, ms: u32) -> bool
 
 /// Lets so many milliseconds go by on the clock alone.
 fn advance(held: &mut Hand<Cell>, ms: u32)
-    requires clock { is_clock (held_at held.old 0) ≡ true }
-    requires time { clock_in (held_at held.old 0) + ms ≤ last_moment }
-    ensures { held.new ≡ clocked (clock_in (held_at held.old 0) + ms) held.old }
+    requires clock { is_clock (held_at held.old clock_place) ≡ true }
+    requires time { clock_in (held_at held.old clock_place) + ms ≤ last_moment }
+    ensures { held.new ≡ clocked (clock_in (held_at held.old clock_place) + ms) held.old }
 {
     let Some(mut part) = held.take(0) else {
         unreachable!()
@@ -123,7 +123,7 @@ pub(crate) fn tick(
     requires of { (s : State) × IsHandOf held.old (parts_of s) }
     requires many { clients ≡ clients_among (length held.old) }
     requires few { clients ≤ 64 }
-    requires time { clock_in (held_at held.old 0) + ms ≤ last_moment }
+    requires time { clock_in (held_at held.old clock_place) + ms ≤ last_moment }
     ensures put { OnOk result (held.new
         ≡ put_in_place cell (passes ms (tables_shown cell held.old)) held.old) }
     ensures kept { OnErr result (held.new ≡ held.old) }

@@ -3,17 +3,14 @@
 
 ghost use Rattle.std.specs.Prelude.{◌≡◌, ◌<◌, ◌≤◌, [], length, slice_set, None, Some, OnErr, OnOk};
 ghost use Rattle.mms_types.specs.Areas.{invocation_request, program_request};
-ghost use Rattle.part_table.specs.Held.{held_at, IsHandOf};
-ghost use Rattle.parted_state.specs.Lifted.{put_in_place, tables_shown};
+ghost use Rattle.part_table.specs.Held.{held_at};
 ghost use Rattle.program_inv.specs.Programs.{after_ends};
 ghost use Rattle.cell_client.specs.Association.{Takes};
-ghost use Rattle.cell_services.specs.Serving.{hears};
 ghost use Rattle.cell_services.specs.Tables.{Tables, own_programs};
 ghost use Rattle.serve_programs.specs.Users.{AreUsed};
 ghost use Rattle.mms_step.specs.Lifting.{with_programs};
-ghost use Rattle.mms_step.specs.State.{State};
-ghost use Rattle.mms_step.specs.Partition.{cell, parts_of, clients_among, client_place, domains_in, programs_in, IsClient, IsDomains, IsPrograms};
-ghost use Rattle.mms_step.specs.Tasks.{row_held, AreDone, AreMade, AreUsedIn, IsRoomless};
+ghost use Rattle.mms_step.specs.Partition.{domains_in, domains_place, programs_in, programs_place, IsClient, IsDomains, IsPrograms};
+ghost use Rattle.mms_step.specs.Tasks.{heard_in_place, AreDone, AreMade, AreUsedIn, IsRoomless, IsServing};
 
 use crate::applying::{put_client, take_client};
 use crate::domains::{put_domains, take_domains};
@@ -26,10 +23,10 @@ use std::alloc::Global;
 
 /// Takes the part of the program invocations, which is held, out of its place.
 fn take_programs(held: &mut Hand<Cell>) -> Box<Part>
-    requires held { IsPrograms (held_at held.old 3) }
-    ensures part { Some result.value ≡ held_at held.old 3 }
-    ensures left { held.new ≡ slice_set held.old 3 None }
-    ensures place { 3 < length held.new }
+    requires held { IsPrograms (held_at held.old programs_place) }
+    ensures part { Some result.value ≡ held_at held.old programs_place }
+    ensures left { held.new ≡ slice_set held.old programs_place None }
+    ensures place { programs_place < length held.new }
 {
     let Some(part) = held.take(u32::from(PROGRAMS)) else {
         unreachable!()
@@ -39,8 +36,8 @@ fn take_programs(held: &mut Hand<Cell>) -> Box<Part>
 
 /// Puts the part of the program invocations into its place.
 fn put_programs(held: &mut Hand<Cell>, part: Box<Part>)
-    requires place { 3 < length held.old }
-    ensures { held.new ≡ slice_set held.old 3 (Some part.value) }
+    requires place { programs_place < length held.old }
+    ensures { held.new ≡ slice_set held.old programs_place (Some part.value) }
 {
     held.put(u32::from(PROGRAMS), part);
 }
@@ -48,7 +45,7 @@ fn put_programs(held: &mut Hand<Cell>, part: Box<Part>)
 /// The program invocations, where they are held, and else none.
 pub(crate) fn programs_held<'a>(held: &'a Hand<Cell>, none: &'a Programs) -> &'a Programs
     requires none { none.now ≡ [] }
-    ensures { result.now ≡ programs_in (held_at held.now 3) }
+    ensures { result.now ≡ programs_in (held_at held.now programs_place) }
 {
     match held.get(u32::from(PROGRAMS)) {
         Some(Part::Programs(programs)) => programs,
@@ -70,7 +67,8 @@ fn make_in_parts(
     requires domains { IsDomains (Some domains.old) }
     requires programs { IsPrograms (Some programs.old) }
     requires settled { IsRoomless part.old }
-    requires used { AreUsed (domains_in (Some domains.old)).domains (programs_in (Some programs.old)) }
+    requires used { AreUsed (domains_in (Some domains.old)).domains
+        (programs_in (Some programs.old)) }
     ensures served { OnOk result ((t : Tables) → t.domains ≡ domains_in (Some domains.old)
         → t.programs ≡ programs_in (Some programs.old)
         → AreMade t (Takes invoke (invocation_request asked.entry))
@@ -97,18 +95,12 @@ pub(crate) fn make_on_programs(
     invoke: u32,
     asked: InvocationRequest<'_>,
 ) -> Result<(), Memory>
-    requires of { (s : State) × IsHandOf held.old (parts_of s) }
-    requires many { clients ≡ clients_among (length held.old) }
-    requires few { clients ≤ 64 }
-    requires among { (1 ≤ client) × (client ≤ clients) }
-    requires held { IsClient (held_at held.old (client_place client)) }
-    requires number { (row_held held.old client).client ≡ client }
-    requires domains { IsDomains (held_at held.old 2) }
-    requires programs { IsPrograms (held_at held.old 3) }
+    requires serving { IsServing clients client held.old }
+    requires domains { IsDomains (held_at held.old domains_place) }
+    requires programs { IsPrograms (held_at held.old programs_place) }
     requires used { AreUsedIn held.old }
-    ensures put { OnOk result (held.new ≡ put_in_place cell
-        (hears (tables_shown cell held.old) (row_held held.old client) client
-        (Takes invoke (invocation_request asked.entry))) held.old) }
+    ensures put { OnOk result (held.new
+        ≡ heard_in_place client (Takes invoke (invocation_request asked.entry)) held.old) }
     ensures kept { OnErr result (held.new ≡ held.old) }
 {
     let _clients = clients;
@@ -156,16 +148,10 @@ pub(crate) fn serve_on_programs(
     invoke: u32,
     asked: ProgramRequest<'_>,
 ) -> Result<(), Memory>
-    requires of { (s : State) × IsHandOf held.old (parts_of s) }
-    requires many { clients ≡ clients_among (length held.old) }
-    requires few { clients ≤ 64 }
-    requires among { (1 ≤ client) × (client ≤ clients) }
-    requires held { IsClient (held_at held.old (client_place client)) }
-    requires number { (row_held held.old client).client ≡ client }
-    requires table { IsPrograms (held_at held.old 3) }
-    ensures put { OnOk result (held.new ≡ put_in_place cell
-        (hears (tables_shown cell held.old) (row_held held.old client) client
-        (Takes invoke (program_request asked.entry))) held.old) }
+    requires serving { IsServing clients client held.old }
+    requires table { IsPrograms (held_at held.old programs_place) }
+    ensures put { OnOk result (held.new
+        ≡ heard_in_place client (Takes invoke (program_request asked.entry)) held.old) }
     ensures kept { OnErr result (held.new ≡ held.old) }
 {
     let _clients = clients;
@@ -190,9 +176,9 @@ fn end_in_part(table: &mut Part, name: &Identifier)
 
 /// The program invocation of that name ends by itself, where it is there and runs. They are held. It takes no memory.
 pub(crate) fn end_program(held: &mut Hand<Cell>, name: &Identifier)
-    requires { IsPrograms (held_at held.old 3) }
-    ensures { held.new
-        ≡ with_programs (after_ends name.now (programs_in (held_at held.old 3))) held.old }
+    requires { IsPrograms (held_at held.old programs_place) }
+    ensures { held.new ≡ with_programs
+        (after_ends name.now (programs_in (held_at held.old programs_place))) held.old }
 {
     let mut table = take_programs(held);
     end_in_part(&mut table, name);

@@ -1,4 +1,4 @@
-use Rattle.std.proofs.Common.{◌≡◌, List, length, [], ℕ, ap, refl, sym, ◌∙◌, subst}
+use Rattle.std.proofs.Common.{◌≡◌, List, length, [], ℕ, ap, arith, refl, sym, ◌∙◌, subst}
 use Rattle.std.proofs.lemmas.Result.{on_ok_weaker}
 use Rattle.mms_types.specs.Actors.{IsAmong}
 use Rattle.mms_types.specs.declared.event.CellEvent.{CellEvent}
@@ -12,16 +12,29 @@ use Rattle.mms_step.specs.Partition.{cell, clients_among, clock_in}
 use Rattle.mms_step.specs.Needs.{need}
 use Rattle.cell_services.specs.Serving.{hears}
 use Rattle.mms_step.proofs.Enough.{client_is_held, lost_is_held, heard_becomes, lost_becomes, ticked_becomes, ended_becomes, drained_becomes, becomes_as, places_either, programs_are_held}
+use Rattle.mms_step.proofs.Holding.{clients_counted}
 use Rattle.mms_step.proofs.Ready.{loads_held, ready_to_hear, used_held}
 use Rattle.mms_step.proofs.TakenOut.{found_heard}
 use Rattle.mms_step.proofs.applying.apply_by.Goals as goal
 
-pub hear_from-requires-clause-held : goal.hear_from-requires-clause-held
-hear_from-requires-clause-held c =
+pub hear_from-requires-clause-serving : goal.hear_from-requires-clause-serving
+hear_from-requires-clause-serving c =
     let hand = c.args.held.now in
     let told = Heard c.in-Heard.client c.in-Heard.octets in
-    client_is_held hand told c.in-Heard.client c.requires.of (subst (λ (e : CellEvent). IsAmong (clients_among (length hand)) e) c.in-Heard.is c.requires.among) refl
-    (subst (λ (e : CellEvent). need e hand ≡ []) c.in-Heard.is c.requires.held)
+    let counted = c.clients_of-clients.ensures in
+    let among = subst (λ (e : CellEvent). IsAmong (clients_among (length hand)) e) c.in-Heard.is c.requires.among in
+    let enough = subst (λ (e : CellEvent). need e hand ≡ []) c.in-Heard.is c.requires.held in
+    let is_held = client_is_held hand told c.in-Heard.client c.requires.of among refl enough in
+    let same = clients_counted c.requires.of.0 hand c.requires.of.2 in
+    let few = c.requires.of.1.1.few in
+    record {
+      of = (c.requires.of.0, c.requires.of.2);
+      many = counted;
+      few = omega (arith, counted, same, few);
+      among = subst (λ (n : ℕ). IsAmong n told) (sym counted) among;
+      held = is_held;
+      number = (ready_to_hear hand c.in-Heard.client c.in-Heard.octets c.requires.of among is_held enough).number;
+    }
 
 pub hear_from-requires-clause-found : goal.hear_from-requires-clause-found
 hear_from-requires-clause-found c =

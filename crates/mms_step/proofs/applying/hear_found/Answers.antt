@@ -13,7 +13,7 @@ use Rattle.serve_domains.proofs.Answered.{answers_load_by, is_open_reply, is_ope
 use Rattle.cell_client.specs.Meant.{act_verdict, came, meant, uses_no_table}
 use Rattle.cell_services.specs.Acts.{act_done}
 use Rattle.cell_services.specs.Serving.{hears}
-use Rattle.mms_step.specs.Tasks.{row_held, IsReady}
+use Rattle.mms_step.specs.Tasks.{row_held, IsReady, IsServing}
 use Rattle.cell_client.specs.Effects.{Effect}
 use Rattle.part_table.specs.Held.{held_at}
 use Rattle.mms_step.specs.Partition.{cell, domains_in, semaphores_place, IsDomains, IsSemaphores}
@@ -26,10 +26,15 @@ use Rattle.mms_step.proofs.applying.hear_found.Goals as goal
 
 pub returns-in-None-clause-heard : goal.returns-in-None-clause-heard
 returns-in-None-clause-heard c =
-    let few = c.requires.among.1 in
-    let many = c.requires.many in
-    alone_in_place c.requires.of.0 c.args.held.now c.requires.of.1 c.args.client (meant c.args.found.now) c.hear_own.new.held
-    c.requires.among.0 (omega (arith, few, many)) c.requires.held (if_none c.in_ok-hear_own.field-0 c.in-None.is c.in_ok-hear_own.ensures.done)
+    let few = c.requires.serving.among.1 in
+    let many = c.requires.serving.many in
+    alone_in_place c.requires.serving.of.0 c.args.held.now c.requires.serving.of.1 c.args.client (meant c.args.found.now) c.hear_own.new.held
+    c.requires.serving.among.0 (omega (arith, few, many)) c.requires.serving.held (if_none c.in_ok-hear_own.field-0 c.in-None.is c.in_ok-hear_own.ensures.done)
+
+pub serve_request-requires-clause-serving : goal.serve_request-requires-clause-serving
+serve_request-requires-clause-serving c =
+    let same = on_some c.in_ok-hear_own.field-0 (act.Request c.in-Some-Request.invoke c.in-Some-Request.asked) (c.in-Some-Request.is ∙ ap Some c.in-Some-Request.field-0-is) c.in_ok-hear_own.ensures.same in
+    subst (IsServing c.args.clients c.args.client) (sym same) c.requires.serving
 
 pub serve_request-requires-clause-ready : goal.serve_request-requires-clause-ready
 serve_request-requires-clause-ready c =
@@ -71,16 +76,16 @@ serve_request-requires-clause-open c =
 
 -- ---- what a client answers to the server
 
-pub reply_on_domains-requires-clause-number : goal.reply_on_domains-requires-clause-number
-reply_on_domains-requires-clause-number c =
+pub reply_on_domains-requires-clause-serving : goal.reply_on_domains-requires-clause-serving
+reply_on_domains-requires-clause-serving c =
     let same = on_some c.in_ok-hear_own.field-0 (act.Reply c.in-Some-Reply.number c.in-Some-Reply.answer) (c.in-Some-Reply.is ∙ ap Some c.in-Some-Reply.field-0-is) c.in_ok-hear_own.ensures.same in
-    subst (λ (h : List (Option Part)). (row_held h c.args.client).client ≡ c.args.client) (sym same) c.requires.ready.number
+    subst (IsServing c.args.clients c.args.client) (sym same) c.requires.serving
 
 pub reply_on_domains-requires-clause-table : goal.reply_on_domains-requires-clause-table
 reply_on_domains-requires-clause-table c =
     let same = on_some c.in_ok-hear_own.field-0 (act.Reply c.in-Some-Reply.number c.in-Some-Reply.answer) (c.in-Some-Reply.is ∙ ap Some c.in-Some-Reply.field-0-is) c.in_ok-hear_own.ensures.same in
     subst (λ (h : List (Option Part)). IsDomains (held_at h 2)) (sym same)
-    (domains_to_reply c.requires.of.0 c.args.held.now c.requires.of.1 c.args.clients c.args.client c.in-Some-Reply.number (came c.in-Some-Reply.answer)
+    (domains_to_reply c.requires.serving.of.0 c.args.held.now c.requires.serving.of.1 c.args.clients c.args.client c.in-Some-Reply.number (came c.in-Some-Reply.answer)
     (subst (λ (v : Verdict). IsReady c.args.clients c.args.client v c.args.held.now) (sym (replies_left (meant c.args.found.now) c.in_ok-hear_own.field-0 c.in-Some-Reply.number c.in-Some-Reply.answer (c.in-Some-Reply.is ∙ ap Some c.in-Some-Reply.field-0-is)
     c.in_ok-hear_own.ensures.left)) c.requires.ready))
 
@@ -95,7 +100,7 @@ reply_on_domains-requires-clause-open c =
 pub reply_on_domains-requires-clause-load : goal.reply_on_domains-requires-clause-load
 reply_on_domains-requires-clause-load c =
     let same = on_some c.in_ok-hear_own.field-0 (act.Reply c.in-Some-Reply.number c.in-Some-Reply.answer) (c.in-Some-Reply.is ∙ ap Some c.in-Some-Reply.field-0-is) c.in_ok-hear_own.ensures.same in
-    let table = domains_to_reply c.requires.of.0 c.args.held.now c.requires.of.1 c.args.clients c.args.client c.in-Some-Reply.number (came c.in-Some-Reply.answer)
+    let table = domains_to_reply c.requires.serving.of.0 c.args.held.now c.requires.serving.of.1 c.args.clients c.args.client c.in-Some-Reply.number (came c.in-Some-Reply.answer)
     (subst (λ (v : Verdict). IsReady c.args.clients c.args.client v c.args.held.now) (sym (replies_left (meant c.args.found.now) c.in_ok-hear_own.field-0 c.in-Some-Reply.number c.in-Some-Reply.answer (c.in-Some-Reply.is ∙ ap Some c.in-Some-Reply.field-0-is)
     c.in_ok-hear_own.ensures.left)) c.requires.ready) in
     subst (λ (h : List (Option Part)). AnswersLoad (row_held h c.args.client) c.in-Some-Reply.number (came c.in-Some-Reply.answer) (domains_in (held_at h 2))) (sym same)
@@ -115,16 +120,16 @@ returns-in-Some-Reply-clause-heard c =
     c.in_ok-hear_own.ensures.left))
     c.reply_on_domains.ensures.put
 
-pub cancel-requires-clause-number : goal.cancel-requires-clause-number
-cancel-requires-clause-number c =
+pub cancel-requires-clause-serving : goal.cancel-requires-clause-serving
+cancel-requires-clause-serving c =
     let same = on_some c.in_ok-hear_own.field-0 (act.Cancel c.in-Some-Cancel.invoke) (c.in-Some-Cancel.is ∙ ap Some c.in-Some-Cancel.field-0-is) c.in_ok-hear_own.ensures.same in
-    subst (λ (h : List (Option Part)). (row_held h c.args.client).client ≡ c.args.client) (sym same) c.requires.ready.number
+    subst (IsServing c.args.clients c.args.client) (sym same) c.requires.serving
 
 pub cancel-requires-clause-table : goal.cancel-requires-clause-table
 cancel-requires-clause-table c =
     let same = on_some c.in_ok-hear_own.field-0 (act.Cancel c.in-Some-Cancel.invoke) (c.in-Some-Cancel.is ∙ ap Some c.in-Some-Cancel.field-0-is) c.in_ok-hear_own.ensures.same in
     subst (λ (h : List (Option Part)). IsSemaphores (held_at h (semaphores_place c.args.clients))) (sym same)
-    (semaphores_to_cancel c.requires.of.0 c.args.held.now c.requires.of.1 c.args.clients c.args.client c.in-Some-Cancel.invoke c.requires.many
+    (semaphores_to_cancel c.requires.serving.of.0 c.args.held.now c.requires.serving.of.1 c.args.clients c.args.client c.in-Some-Cancel.invoke c.requires.serving.many
     (subst (λ (v : Verdict). IsReady c.args.clients c.args.client v c.args.held.now)
     (sym (cancels_left (meant c.args.found.now) c.in_ok-hear_own.field-0 c.in-Some-Cancel.invoke (c.in-Some-Cancel.is ∙ ap Some c.in-Some-Cancel.field-0-is)
     c.in_ok-hear_own.ensures.left))

@@ -16,16 +16,16 @@ serve_on_device-requires-clause-tables c =
 
 pub serve_on_variables-requires-clause-table : goal.serve_on_variables-requires-clause-table
 serve_on_variables-requires-clause-table c =
-    variables_there c.requires.of.0 c.args.held.now c.requires.of.1 c.args.clients c.args.client c.args.invoke c.in-Variables.asked c.args.asked.now c.in-Variables.ensures c.requires.ready
+    variables_there c.requires.serving.of.0 c.args.held.now c.requires.serving.of.1 c.args.clients c.args.client c.args.invoke c.in-Variables.asked c.args.asked.now c.in-Variables.ensures c.requires.ready
 
 pub serve_on_semaphores-requires-clause-table : goal.serve_on_semaphores-requires-clause-table
 serve_on_semaphores-requires-clause-table c =
-    semaphores_there c.requires.of.0 c.args.held.now c.requires.of.1 c.args.clients c.args.client c.args.invoke c.in-Semaphores.asked c.args.asked.now c.requires.many c.in-Semaphores.ensures
+    semaphores_there c.requires.serving.of.0 c.args.held.now c.requires.serving.of.1 c.args.clients c.args.client c.args.invoke c.in-Semaphores.asked c.args.asked.now c.requires.serving.many c.in-Semaphores.ensures
     c.requires.ready
 
 pub serve_on_domains-requires-clause-table : goal.serve_on_domains-requires-clause-table
 serve_on_domains-requires-clause-table c =
-    domains_there c.requires.of.0 c.args.held.now c.requires.of.1 c.args.clients c.args.client c.args.invoke c.in-Domains.asked c.args.asked.now c.in-Domains.ensures c.requires.ready
+    domains_there c.requires.serving.of.0 c.args.held.now c.requires.serving.of.1 c.args.clients c.args.client c.args.invoke c.in-Domains.asked c.args.asked.now c.in-Domains.ensures c.requires.ready
 
 pub returns-in-Domains-clause-put : goal.returns-in-Domains-clause-put
 returns-in-Domains-clause-put c =
@@ -57,16 +57,16 @@ returns-in-Semaphores-clause-put c =
 
 pub serve_on_programs-requires-clause-table : goal.serve_on_programs-requires-clause-table
 serve_on_programs-requires-clause-table c =
-    programs_there c.requires.of.0 c.args.held.now c.requires.of.1 c.args.clients c.args.client c.args.invoke c.in-Programs.asked c.args.asked.now c.in-Programs.ensures c.requires.ready
+    programs_there c.requires.serving.of.0 c.args.held.now c.requires.serving.of.1 c.args.clients c.args.client c.args.invoke c.in-Programs.asked c.args.asked.now c.in-Programs.ensures c.requires.ready
 
 pub make_on_programs-requires-clause-domains : goal.make_on_programs-requires-clause-domains
 make_on_programs-requires-clause-domains c =
-    (invocations_there c.requires.of.0 c.args.held.now c.requires.of.1 c.args.clients c.args.client c.args.invoke c.in-Invocations.asked c.args.asked.now c.in-Invocations.ensures
+    (invocations_there c.requires.serving.of.0 c.args.held.now c.requires.serving.of.1 c.args.clients c.args.client c.args.invoke c.in-Invocations.asked c.args.asked.now c.in-Invocations.ensures
     c.requires.ready).0
 
 pub make_on_programs-requires-clause-programs : goal.make_on_programs-requires-clause-programs
 make_on_programs-requires-clause-programs c =
-    (invocations_there c.requires.of.0 c.args.held.now c.requires.of.1 c.args.clients c.args.client c.args.invoke c.in-Invocations.asked c.args.asked.now c.in-Invocations.ensures
+    (invocations_there c.requires.serving.of.0 c.args.held.now c.requires.serving.of.1 c.args.clients c.args.client c.args.invoke c.in-Invocations.asked c.args.asked.now c.in-Invocations.ensures
     c.requires.ready).1
 
 pub returns-in-Programs-clause-put : goal.returns-in-Programs-clause-put
@@ -85,7 +85,7 @@ returns-in-Invocations-clause-put c =
 
 pub serve_on_events-requires-clause-table : goal.serve_on_events-requires-clause-table
 serve_on_events-requires-clause-table c =
-    events_there c.requires.of.0 c.args.held.now c.requires.of.1 c.args.clients c.args.client c.args.invoke c.in-Events.asked c.args.asked.now c.in-Events.ensures c.requires.ready
+    events_there c.requires.serving.of.0 c.args.held.now c.requires.serving.of.1 c.args.clients c.args.client c.args.invoke c.in-Events.asked c.args.asked.now c.in-Events.ensures c.requires.ready
 
 pub returns-in-Events-clause-put : goal.returns-in-Events-clause-put
 returns-in-Events-clause-put c =
@@ -96,7 +96,7 @@ returns-in-Events-clause-put c =
 
 pub serve_on_journals-requires-clause-table : goal.serve_on_journals-requires-clause-table
 serve_on_journals-requires-clause-table c =
-    journals_there c.requires.of.0 c.args.held.now c.requires.of.1 c.args.clients c.args.client c.args.invoke c.in-Journals.asked c.args.asked.now c.in-Journals.ensures c.requires.ready
+    journals_there c.requires.serving.of.0 c.args.held.now c.requires.serving.of.1 c.args.clients c.args.client c.args.invoke c.in-Journals.asked c.args.asked.now c.in-Journals.ensures c.requires.ready
 
 pub returns-in-Journals-clause-put : goal.returns-in-Journals-clause-put
 returns-in-Journals-clause-put c =

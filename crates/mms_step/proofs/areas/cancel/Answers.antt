@@ -15,11 +15,11 @@ pub returns-clause-put : goal.returns-clause-put
 returns-clause-put c =
     on_ok_weaker c.cancel_in_parts-done.result
     (λ served.
-    semaphores_served c.requires.of.0 c.args.held.now c.requires.of.1 (λ t. Unit {0}) c.args.client (Cancels c.args.invoke) c.take_client-part.new.held
+    semaphores_served c.requires.serving.of.0 c.args.held.now c.requires.serving.of.1 (λ t. Unit {0}) c.args.client (Cancels c.args.invoke) c.take_client-part.new.held
     c.take_semaphores-table.new.held c.put_semaphores.new.held c.put_client.new.held c.take_client-part.result.value c.take_semaphores-table.result.value c.cancel_in_parts-done.new.part
     c.cancel_in_parts-done.new.table
-    c.requires.among.0 (subst (λ (m : ℕ). c.args.client ≤ m) c.requires.many c.requires.among.1) c.requires.held c.requires.number c.take_client-part.ensures.part c.take_client-part.ensures.left
-    c.args.clients c.requires.many c.take_semaphores-table.ensures.part c.requires.table c.take_semaphores-table.ensures.left (clock_in (held_at c.args.held.now 0)) refl
+    c.requires.serving.among.0 (subst (λ (m : ℕ). c.args.client ≤ m) c.requires.serving.many c.requires.serving.among.1) c.requires.serving.held c.requires.serving.number c.take_client-part.ensures.part c.take_client-part.ensures.left
+    c.args.clients c.requires.serving.many c.take_semaphores-table.ensures.part c.requires.table c.take_semaphores-table.ensures.left (clock_in (held_at c.args.held.now 0)) refl
     (λ t stood at shown. subst (λ (p : Part). (t : Tables) → t.semaphores ≡ semaphores_in (Some c.take_semaphores-table.result.value)
     → AreDone own_semaphores Semaphores t (Cancels c.args.invoke) p c.cancel_in_parts-done.new.part c.cancel_in_parts-done.new.table) c.deref_mut.ensures.value
     (subst (λ (p : Part). (t : Tables) → t.semaphores ≡ semaphores_in (Some p)

@@ -5,13 +5,13 @@ use Rattle.mms_step.proofs.areas.device_on.Goals as goal
 pub returns-clause-served : goal.returns-clause-served
 returns-clause-served c =
     on_ok_weaker c.device_in_part.result
-    (λ served t variables domains programs events journals semaphores.
+    (λ served t are.
     served t (record {
-      variables = variables ∙ sym c.variables_held.ensures;
-      domains = domains ∙ sym c.domains_held.ensures;
-      programs = programs ∙ sym c.programs_held.ensures;
-      events = events ∙ sym c.events_held.ensures;
-      journals = journals ∙ sym c.journals_held.ensures;
-      semaphores = semaphores ∙ sym c.semaphores_held.ensures;
+      variables = are.variables ∙ sym c.variables_held.ensures;
+      domains = are.domains ∙ sym c.domains_held.ensures;
+      programs = are.programs ∙ sym c.programs_held.ensures;
+      events = are.events ∙ sym c.events_held.ensures;
+      journals = are.journals ∙ sym c.journals_held.ensures;
+      semaphores = are.semaphores ∙ sym c.semaphores_held.ensures;
     }))
     c.device_in_part.ensures.served

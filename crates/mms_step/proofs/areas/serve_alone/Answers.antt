@@ -20,17 +20,17 @@ use Rattle.mms_step.proofs.areas.serve_alone.Goals as goal
 pub semaphores_in_parts-left-requires-clause-settled : goal.semaphores_in_parts-left-requires-clause-settled
 semaphores_in_parts-left-requires-clause-settled c =
     subst IsRoomless (sym c.deref_mut.ensures.value)
-    (held_roomless c.requires.of.0 c.args.held.now c.requires.of.1 (5 + c.args.client) c.take_client-part.result.value c.take_client-part.ensures.part)
+    (held_roomless c.requires.serving.of.0 c.args.held.now c.requires.serving.of.1 (5 + c.args.client) c.take_client-part.result.value c.take_client-part.ensures.part)
 
 pub returns-clause-put : goal.returns-clause-put
 returns-clause-put c =
     if_ok_then c.semaphores_in_parts-left.result
     (λ left. none_then left (λ served.
-    semaphores_served c.requires.of.0 c.args.held.now c.requires.of.1 (λ t. c.live_held-live.result ≡ is_domain_live (domain_asked c.args.asked) t.domains) c.args.client (Takes c.args.invoke (semaphore_request c.args.asked)) c.take_client-part.new.held
+    semaphores_served c.requires.serving.of.0 c.args.held.now c.requires.serving.of.1 (λ t. c.live_held-live.result ≡ is_domain_live (domain_asked c.args.asked) t.domains) c.args.client (Takes c.args.invoke (semaphore_request c.args.asked)) c.take_client-part.new.held
     c.take_semaphores-table.new.held c.put_semaphores.new.held c.put_client.new.held c.take_client-part.result.value c.take_semaphores-table.result.value c.semaphores_in_parts-left.new.part
     c.semaphores_in_parts-left.new.table
-    c.requires.among.0 (subst (λ (m : ℕ). c.args.client ≤ m) c.requires.many c.requires.among.1) c.requires.held c.requires.number c.take_client-part.ensures.part c.take_client-part.ensures.left
-    c.args.clients c.requires.many c.take_semaphores-table.ensures.part c.requires.table c.take_semaphores-table.ensures.left c.args.now.0 c.requires.moment
+    c.requires.serving.among.0 (subst (λ (m : ℕ). c.args.client ≤ m) c.requires.serving.many c.requires.serving.among.1) c.requires.serving.held c.requires.serving.number c.take_client-part.ensures.part c.take_client-part.ensures.left
+    c.args.clients c.requires.serving.many c.take_semaphores-table.ensures.part c.requires.table c.take_semaphores-table.ensures.left c.args.now.0 c.requires.moment
     (subst (λ (p : Part). (t : Tables) → t.semaphores ≡ semaphores_in (Some c.take_semaphores-table.result.value) → t.now ≡ c.args.now.0
     → c.live_held-live.result ≡ is_domain_live (domain_asked c.args.asked) t.domains → AreDone own_semaphores Semaphores t (Takes c.args.invoke (semaphore_request c.args.asked)) p c.semaphores_in_parts-left.new.part c.semaphores_in_parts-left.new.table) c.deref_mut.ensures.value
     (subst (λ (p : Part). (t : Tables) → t.semaphores ≡ semaphores_in (Some p) → t.now ≡ c.args.now.0
@@ -45,11 +45,11 @@ pub returns-clause-left : goal.returns-clause-left
 returns-clause-left c =
     if_ok_then c.semaphores_in_parts-left.result
     (λ left. some_then left (λ told is.
-    semaphores_left c.requires.of.0 c.args.held.now c.requires.of.1 (λ t. c.live_held-live.result ≡ is_domain_live (domain_asked c.args.asked) t.domains) c.args.client (Takes c.args.invoke (semaphore_request c.args.asked)) c.take_client-part.new.held
+    semaphores_left c.requires.serving.of.0 c.args.held.now c.requires.serving.of.1 (λ t. c.live_held-live.result ≡ is_domain_live (domain_asked c.args.asked) t.domains) c.args.client (Takes c.args.invoke (semaphore_request c.args.asked)) c.take_client-part.new.held
     c.take_semaphores-table.new.held c.put_semaphores.new.held c.put_client.new.held c.take_client-part.result.value c.take_semaphores-table.result.value c.semaphores_in_parts-left.new.part
     c.semaphores_in_parts-left.new.table
-    c.requires.among.0 (subst (λ (m : ℕ). c.args.client ≤ m) c.requires.many c.requires.among.1) c.requires.held c.requires.number c.take_client-part.ensures.part c.take_client-part.ensures.left
-    c.args.clients c.requires.many c.take_semaphores-table.ensures.part c.args.now.0 c.requires.moment (λ k rows. told_after k c.args.now c.args.asked rows) told.items
+    c.requires.serving.among.0 (subst (λ (m : ℕ). c.args.client ≤ m) c.requires.serving.many c.requires.serving.among.1) c.requires.serving.held c.requires.serving.number c.take_client-part.ensures.part c.take_client-part.ensures.left
+    c.args.clients c.requires.serving.many c.take_semaphores-table.ensures.part c.args.now.0 c.requires.moment (λ k rows. told_after k c.args.now c.args.asked rows) told.items
     (subst (λ (p : Part). (t : Tables) → t.semaphores ≡ semaphores_in (Some c.take_semaphores-table.result.value) → t.now ≡ c.args.now.0
     → c.live_held-live.result ≡ is_domain_live (domain_asked c.args.asked) t.domains → hears t (row_in (Some p)) (row_in (Some p)).client (Takes c.args.invoke (semaphore_request c.args.asked))
     ≡ all_done (own_semaphores.put (told_after (row_in (Some p)).client c.args.now c.args.asked (semaphores_in (Some c.take_semaphores-table.result.value))) t) told.items) c.deref_mut.ensures.value

@@ -15,20 +15,21 @@ pub returns-clause-put : goal.returns-clause-put
 returns-clause-put c =
     on_ok_weaker c.device_on-done.result
     (λ served.
-    device_served c.requires.of.0 c.args.held.now c.requires.of.1 c.args.client (Takes c.args.invoke (device_request c.args.asked)) c.take_client-part.new.held c.put_client.new.held
+    device_served c.requires.serving.of.0 c.args.held.now c.requires.serving.of.1 c.args.client (Takes c.args.invoke (device_request c.args.asked)) c.take_client-part.new.held c.put_client.new.held
     c.take_client-part.result.value c.device_on-done.new.part
-    c.requires.among.0 (subst (λ (m : ℕ). c.args.client ≤ m) c.requires.many c.requires.among.1) c.requires.held c.requires.number c.take_client-part.ensures.part c.take_client-part.ensures.left
+    c.requires.serving.among.0 (subst (λ (m : ℕ). c.args.client ≤ m) c.requires.serving.many c.requires.serving.among.1) c.requires.serving.held c.requires.serving.number c.take_client-part.ensures.part c.take_client-part.ensures.left
     c.device_on-done.ensures.client
     (subst (λ (p : Part). IsDoneIn no_table (tables_shown cell c.args.held.now) (row_in (Some p)) tt (client_in (Some c.device_on-done.new.part)) (Takes c.args.invoke (device_request c.args.asked)))
     c.deref_mut.ensures.value
     (served (tables_shown cell c.args.held.now)
-    (variables_beside c.requires.of.0 c.args.held.now c.requires.of.1 c.args.client c.take_client-part.new.held _ c.take_client-part.ensures.left refl)
-    (domains_beside c.requires.of.0 c.args.held.now c.requires.of.1 c.args.client c.take_client-part.new.held _ c.take_client-part.ensures.left refl)
-    (programs_beside c.requires.of.0 c.args.held.now c.requires.of.1 c.args.client c.take_client-part.new.held _ c.take_client-part.ensures.left refl)
-    (events_beside c.requires.of.0 c.args.held.now c.requires.of.1 c.args.client c.take_client-part.new.held _ c.take_client-part.ensures.left refl)
-    (journals_beside c.requires.of.0 c.args.held.now c.requires.of.1 c.args.client c.take_client-part.new.held _ c.requires.among.0 c.take_client-part.ensures.left refl)
-    (semaphores_beside c.requires.of.0 c.args.held.now c.requires.of.1 c.args.client c.args.clients c.take_client-part.new.held _ c.requires.many
-    c.requires.among.1 c.take_client-part.ensures.left refl)))
+    (record {
+      variables = variables_beside c.requires.serving.of.0 c.args.held.now c.requires.serving.of.1 c.args.client c.take_client-part.new.held _ c.take_client-part.ensures.left refl;
+      domains = domains_beside c.requires.serving.of.0 c.args.held.now c.requires.serving.of.1 c.args.client c.take_client-part.new.held _ c.take_client-part.ensures.left refl;
+      programs = programs_beside c.requires.serving.of.0 c.args.held.now c.requires.serving.of.1 c.args.client c.take_client-part.new.held _ c.take_client-part.ensures.left refl;
+      events = events_beside c.requires.serving.of.0 c.args.held.now c.requires.serving.of.1 c.args.client c.take_client-part.new.held _ c.take_client-part.ensures.left refl;
+      journals = journals_beside c.requires.serving.of.0 c.args.held.now c.requires.serving.of.1 c.args.client c.take_client-part.new.held _ c.requires.serving.among.0 c.take_client-part.ensures.left refl;
+      semaphores = semaphores_beside c.requires.serving.of.0 c.args.held.now c.requires.serving.of.1 c.args.client c.args.clients c.take_client-part.new.held _ c.requires.serving.many c.requires.serving.among.1 c.take_client-part.ensures.left refl;
+    })))
     c.put_client.ensures)
     c.device_on-done.ensures.served
 

@@ -18,7 +18,7 @@ use Rattle.mms_step.proofs.areas.serve_on_variables.Goals as goal
 pub variables_in_parts-done-requires-clause-settled : goal.variables_in_parts-done-requires-clause-settled
 variables_in_parts-done-requires-clause-settled c =
     subst IsRoomless (sym c.deref_mut.ensures.value)
-    (held_roomless c.requires.of.0 c.args.held.now c.requires.of.1 (5 + c.args.client) c.take_client-part.result.value c.take_client-part.ensures.part)
+    (held_roomless c.requires.serving.of.0 c.args.held.now c.requires.serving.of.1 (5 + c.args.client) c.take_client-part.result.value c.take_client-part.ensures.part)
 
 pub variables_in_parts-done-requires-clause-variables : goal.variables_in_parts-done-requires-clause-variables
 variables_in_parts-done-requires-clause-variables c =
@@ -32,12 +32,12 @@ pub returns-clause-put : goal.returns-clause-put
 returns-clause-put c =
     on_ok_weaker c.variables_in_parts-done.result
     (λ served.
-    variables_served c.requires.of.0 c.args.held.now c.requires.of.1 (λ t. c.live_held-live.result ≡ is_domain_live (domain_asked c.args.asked) t.domains) c.args.client (Takes c.args.invoke (variable_request c.args.asked)) c.take_client-part.new.held c.take_variables-table.new.held
+    variables_served c.requires.serving.of.0 c.args.held.now c.requires.serving.of.1 (λ t. c.live_held-live.result ≡ is_domain_live (domain_asked c.args.asked) t.domains) c.args.client (Takes c.args.invoke (variable_request c.args.asked)) c.take_client-part.new.held c.take_variables-table.new.held
     c.put_variables.new.held c.put_client.new.held c.take_client-part.result.value c.take_variables-table.result.value c.variables_in_parts-done.new.part c.variables_in_parts-done.new.table
-    c.requires.among.0 (subst (λ (m : ℕ). c.args.client ≤ m) c.requires.many c.requires.among.1) c.requires.held c.requires.number c.take_client-part.ensures.part c.take_client-part.ensures.left
+    c.requires.serving.among.0 (subst (λ (m : ℕ). c.args.client ≤ m) c.requires.serving.many c.requires.serving.among.1) c.requires.serving.held c.requires.serving.number c.take_client-part.ensures.part c.take_client-part.ensures.left
     c.take_variables-table.ensures.part
     c.requires.table c.take_variables-table.ensures.left
-    c.semaphores_held-semaphores.result.now (c.semaphores_held-semaphores.ensures ∙ ap (λ (m : ℕ). semaphores_in (held_at c.take_variables-table.new.held (semaphores_place m))) c.requires.many)
+    c.semaphores_held-semaphores.result.now (c.semaphores_held-semaphores.ensures ∙ ap (λ (m : ℕ). semaphores_in (held_at c.take_variables-table.new.held (semaphores_place m))) c.requires.serving.many)
     (subst (λ (p : Part). (t : Tables) → t.variables ≡ variables_in (Some c.take_variables-table.result.value) → t.semaphores ≡ c.semaphores_held-semaphores.result.now
     → c.live_held-live.result ≡ is_domain_live (domain_asked c.args.asked) t.domains → AreDone own_variables Variables t (Takes c.args.invoke (variable_request c.args.asked)) p c.variables_in_parts-done.new.part c.variables_in_parts-done.new.table) c.deref_mut.ensures.value
     (subst (λ (p : Part). (t : Tables) → t.variables ≡ variables_in (Some p) → t.semaphores ≡ c.semaphores_held-semaphores.result.now

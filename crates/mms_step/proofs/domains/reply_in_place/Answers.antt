@@ -17,7 +17,7 @@ use Rattle.mms_step.proofs.domains.reply_in_place.Goals as goal
 pub reply_in_parts-done-requires-clause-settled : goal.reply_in_parts-done-requires-clause-settled
 reply_in_parts-done-requires-clause-settled c =
     subst IsRoomless (sym c.deref_mut.ensures.value)
-    (held_roomless c.requires.of.0 c.args.held.now c.requires.of.1 (5 + c.args.client) c.take_client-part.result.value c.take_client-part.ensures.part)
+    (held_roomless c.requires.serving.of.0 c.args.held.now c.requires.serving.of.1 (5 + c.args.client) c.take_client-part.result.value c.take_client-part.ensures.part)
 
 pub reply_in_parts-done-requires-clause-domains : goal.reply_in_parts-done-requires-clause-domains
 reply_in_parts-done-requires-clause-domains c =
@@ -53,9 +53,9 @@ pub returns-clause-put : goal.returns-clause-put
 returns-clause-put c =
     on_ok_weaker c.reply_in_parts-done.result
     (λ served.
-    domains_served c.requires.of.0 c.args.held.now c.requires.of.1 (λ t. Unit {0}) c.args.client (Replies c.args.number (came c.args.answer)) c.take_client-part.new.held c.take_domains-table.new.held
+    domains_served c.requires.serving.of.0 c.args.held.now c.requires.serving.of.1 (λ t. Unit {0}) c.args.client (Replies c.args.number (came c.args.answer)) c.take_client-part.new.held c.take_domains-table.new.held
     c.put_domains.new.held c.put_client.new.held c.take_client-part.result.value c.take_domains-table.result.value c.reply_in_parts-done.new.part c.reply_in_parts-done.new.table
-    c.requires.among.0 (subst (λ (m : ℕ). c.args.client ≤ m) c.requires.many c.requires.among.1) c.requires.held c.requires.number c.take_client-part.ensures.part c.take_client-part.ensures.left
+    c.requires.serving.among.0 (subst (λ (m : ℕ). c.args.client ≤ m) c.requires.serving.many c.requires.serving.among.1) c.requires.serving.held c.requires.serving.number c.take_client-part.ensures.part c.take_client-part.ensures.left
     c.take_domains-table.ensures.part
     c.requires.table c.take_domains-table.ensures.left
     (λ t shown any. subst (λ (p : Part). (t : Tables) → t.domains ≡ domains_in (Some c.take_domains-table.result.value)

@@ -19,7 +19,7 @@ use Rattle.mms_step.proofs.domains.serve_in_place.Goals as goal
 pub domains_in_parts-done-requires-clause-settled : goal.domains_in_parts-done-requires-clause-settled
 domains_in_parts-done-requires-clause-settled c =
     subst IsRoomless (sym c.deref_mut.ensures.value)
-    (held_roomless c.requires.of.0 c.args.held.now c.requires.of.1 (5 + c.args.client) c.take_client-part.result.value c.take_client-part.ensures.part)
+    (held_roomless c.requires.serving.of.0 c.args.held.now c.requires.serving.of.1 (5 + c.args.client) c.take_client-part.result.value c.take_client-part.ensures.part)
 
 pub domains_in_parts-done-requires-clause-domains : goal.domains_in_parts-done-requires-clause-domains
 domains_in_parts-done-requires-clause-domains c =
@@ -46,10 +46,10 @@ pub returns-clause-put : goal.returns-clause-put
 returns-clause-put c =
     on_ok_weaker c.domains_in_parts-done.result
     (λ served.
-    domains_served c.requires.of.0 c.args.held.now c.requires.of.1 (λ t. (row : ClientRow) → (told_in own_domains t row (request_in c.args.asked)).scoped ≡ c.in_ok-scoped.scoped) c.args.client
+    domains_served c.requires.serving.of.0 c.args.held.now c.requires.serving.of.1 (λ t. (row : ClientRow) → (told_in own_domains t row (request_in c.args.asked)).scoped ≡ c.in_ok-scoped.scoped) c.args.client
     (Takes c.args.invoke (domain_request c.args.asked)) c.take_client-part.new.held c.take_domains-table.new.held
     c.put_domains.new.held c.put_client.new.held c.take_client-part.result.value c.take_domains-table.result.value c.domains_in_parts-done.new.part c.domains_in_parts-done.new.table
-    c.requires.among.0 (subst (λ (m : ℕ). c.args.client ≤ m) c.requires.many c.requires.among.1) c.requires.held c.requires.number c.take_client-part.ensures.part c.take_client-part.ensures.left
+    c.requires.serving.among.0 (subst (λ (m : ℕ). c.args.client ≤ m) c.requires.serving.many c.requires.serving.among.1) c.requires.serving.held c.requires.serving.number c.take_client-part.ensures.part c.take_client-part.ensures.left
     c.take_domains-table.ensures.part
     c.requires.table c.take_domains-table.ensures.left
     (subst (λ (p : Part). (t : Tables) → t.domains ≡ domains_in (Some c.take_domains-table.result.value)

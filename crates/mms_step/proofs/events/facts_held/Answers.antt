@@ -9,9 +9,15 @@ use Rattle.mms_step.proofs.EventFacts.{live_told}
 use Rattle.mms_step.proofs.Tabled.{shown_own}
 use Rattle.mms_step.proofs.events.facts_held.Goals as goal
 
-pub returns-clause-live : goal.returns-clause-live
-returns-clause-live c row =
-    live_told c.args.asked (tables_shown cell c.args.held.now) row
-    ∙ ap (λ (t : Tables). is_domain_live (domain_asked c.args.asked) t.domains) (sym (shown_own c.args.held.now))
-    ∙ ap (λ (o : Option (List ℕ)). is_domain_live o (domains_in (held_at c.args.held.now 2))) (sym c.domain_asked.ensures)
-    ∙ sym c.live_held.ensures
+pub returns : goal.returns
+returns c = record {
+  now = c.now_held.ensures.moment;
+  dated = c.now_held.ensures.dated;
+  live = λ row.
+      live_told c.args.asked (tables_shown cell c.args.held.now) row
+      ∙ ap (λ (t : Tables). is_domain_live (domain_asked c.args.asked) t.domains) (sym (shown_own c.args.held.now))
+      ∙ ap (λ (o : Option (List ℕ)). is_domain_live o (domains_in (held_at c.args.held.now 2))) (sym c.domain_asked.ensures)
+      ∙ sym c.live_held.ensures;
+  watched = c.cell_held.ensures;
+  truth = c.truth_held.ensures;
+}

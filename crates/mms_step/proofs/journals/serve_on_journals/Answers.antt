@@ -18,23 +18,23 @@ use Rattle.mms_step.proofs.journals.serve_on_journals.Goals as goal
 pub journals_in_parts-done-requires-clause-settled : goal.journals_in_parts-done-requires-clause-settled
 journals_in_parts-done-requires-clause-settled c =
     subst IsRoomless (sym c.deref_mut.ensures.value)
-    (held_roomless c.requires.of.0 c.args.held.now c.requires.of.1 (5 + c.args.client) c.take_client-part.result.value c.take_client-part.ensures.part)
+    (held_roomless c.requires.serving.of.0 c.args.held.now c.requires.serving.of.1 (5 + c.args.client) c.take_client-part.result.value c.take_client-part.ensures.part)
 
 pub journals_in_parts-done-requires-clause-journals : goal.journals_in_parts-done-requires-clause-journals
 journals_in_parts-done-requires-clause-journals c =
     subst (λ (p : Part). IsJournals (Some p)) (sym c.deref_mut-2.ensures.value)
     (subst IsJournals
     (sym (c.take_journals-table.ensures.part ∙ ap (λ (l : List (Option Part)). held_at l 5) c.take_client-part.ensures.left
-    ∙ held_after_set c.args.held.now (5 + c.args.client) 5 None (λ same. omega (arith, same, c.requires.among.0))))
+    ∙ held_after_set c.args.held.now (5 + c.args.client) 5 None (λ same. omega (arith, same, c.requires.serving.among.0))))
     c.requires.table)
 
 pub returns-clause-put : goal.returns-clause-put
 returns-clause-put c =
     on_ok_weaker c.journals_in_parts-done.result
     (λ served.
-    journals_served c.requires.of.0 c.args.held.now c.requires.of.1 (λ t. c.live_held-live.result ≡ is_domain_live (domain_asked c.args.asked) t.domains) c.args.client (Takes c.args.invoke (journal_request c.args.asked)) c.take_client-part.new.held c.take_journals-table.new.held
+    journals_served c.requires.serving.of.0 c.args.held.now c.requires.serving.of.1 (λ t. c.live_held-live.result ≡ is_domain_live (domain_asked c.args.asked) t.domains) c.args.client (Takes c.args.invoke (journal_request c.args.asked)) c.take_client-part.new.held c.take_journals-table.new.held
     c.put_journals.new.held c.put_client.new.held c.take_client-part.result.value c.take_journals-table.result.value c.journals_in_parts-done.new.part c.journals_in_parts-done.new.table
-    c.requires.among.0 (subst (λ (m : ℕ). c.args.client ≤ m) c.requires.many c.requires.among.1) c.requires.held c.requires.number c.take_client-part.ensures.part c.take_client-part.ensures.left
+    c.requires.serving.among.0 (subst (λ (m : ℕ). c.args.client ≤ m) c.requires.serving.many c.requires.serving.among.1) c.requires.serving.held c.requires.serving.number c.take_client-part.ensures.part c.take_client-part.ensures.left
     c.take_journals-table.ensures.part
     c.requires.table c.take_journals-table.ensures.left
     (subst (λ (p : Part). (t : Tables) → t.journals ≡ journals_in (Some c.take_journals-table.result.value) → c.live_held-live.result ≡ is_domain_live (domain_asked c.args.asked) t.domains → AreDone own_journals Journals t (Takes c.args.invoke (journal_request c.args.asked)) p c.journals_in_parts-done.new.part c.journals_in_parts-done.new.table) c.deref_mut.ensures.value

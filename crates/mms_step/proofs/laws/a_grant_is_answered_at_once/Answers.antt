@@ -2,7 +2,7 @@ use Rattle.mms_step.proofs.Outboxes.{given_back, left_to, lost_to, ticked_to}
 use Rattle.mms_step.proofs.laws.a_grant_is_answered_at_once.Goals as goal
 
 pub returns-clause-given_back : goal.returns-clause-given_back
-returns-clause-given_back c = given_back
+returns-clause-given_back c s client octets g gives = given_back s client octets g gives.invoke gives.asked gives.taken gives.served gives.granted
 
 pub returns-clause-left : goal.returns-clause-left
 returns-clause-left c = left_to

@@ -15,7 +15,7 @@ use Rattle.mms_step.proofs.programs.make_on_programs.Goals as goal
 pub make_in_parts-done-requires-clause-settled : goal.make_in_parts-done-requires-clause-settled
 make_in_parts-done-requires-clause-settled c =
     subst IsRoomless (sym c.deref_mut.ensures.value)
-    (held_roomless c.requires.of.0 c.args.held.now c.requires.of.1 (5 + c.args.client) c.take_client-part.result.value c.take_client-part.ensures.part)
+    (held_roomless c.requires.serving.of.0 c.args.held.now c.requires.serving.of.1 (5 + c.args.client) c.take_client-part.result.value c.take_client-part.ensures.part)
 
 pub make_in_parts-done-requires-clause-domains : goal.make_in_parts-done-requires-clause-domains
 make_in_parts-done-requires-clause-domains c =
@@ -53,10 +53,10 @@ pub returns-clause-put : goal.returns-clause-put
 returns-clause-put c =
     on_ok_weaker c.make_in_parts-done.result
     (λ served.
-    invocations_served c.requires.of.0 c.args.held.now c.requires.of.1 (λ t. Unit {0}) c.args.client
+    invocations_served c.requires.serving.of.0 c.args.held.now c.requires.serving.of.1 (λ t. Unit {0}) c.args.client
     (Takes c.args.invoke (invocation_request c.args.asked)) c.take_client-part.new.held c.take_domains-domains.new.held
     c.put_domains.new.held c.put_client.new.held c.take_client-part.result.value c.take_domains-domains.result.value c.make_in_parts-done.new.part c.make_in_parts-done.new.domains
-    c.requires.among.0 (subst (λ (m : ℕ). c.args.client ≤ m) c.requires.many c.requires.among.1) c.requires.held c.requires.number c.take_client-part.ensures.part c.take_client-part.ensures.left
+    c.requires.serving.among.0 (subst (λ (m : ℕ). c.args.client ≤ m) c.requires.serving.many c.requires.serving.among.1) c.requires.serving.held c.requires.serving.number c.take_client-part.ensures.part c.take_client-part.ensures.left
     c.take_domains-domains.new.held c.take_programs-programs.new.held c.put_programs.new.held c.take_programs-programs.result.value c.make_in_parts-done.new.programs
     c.take_domains-domains.ensures.part c.requires.domains c.take_domains-domains.ensures.left
     c.take_programs-programs.ensures.part c.requires.programs c.take_programs-programs.ensures.left

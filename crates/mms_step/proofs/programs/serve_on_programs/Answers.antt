@@ -14,7 +14,7 @@ use Rattle.mms_step.proofs.programs.serve_on_programs.Goals as goal
 pub programs_in_parts-done-requires-clause-settled : goal.programs_in_parts-done-requires-clause-settled
 programs_in_parts-done-requires-clause-settled c =
     subst IsRoomless (sym c.deref_mut.ensures.value)
-    (held_roomless c.requires.of.0 c.args.held.now c.requires.of.1 (5 + c.args.client) c.take_client-part.result.value c.take_client-part.ensures.part)
+    (held_roomless c.requires.serving.of.0 c.args.held.now c.requires.serving.of.1 (5 + c.args.client) c.take_client-part.result.value c.take_client-part.ensures.part)
 
 pub programs_in_parts-done-requires-clause-programs : goal.programs_in_parts-done-requires-clause-programs
 programs_in_parts-done-requires-clause-programs c =
@@ -27,10 +27,10 @@ pub returns-clause-put : goal.returns-clause-put
 returns-clause-put c =
     on_ok_weaker c.programs_in_parts-done.result
     (λ served.
-    programs_served c.requires.of.0 c.args.held.now c.requires.of.1 (λ t. Unit {0}) c.args.client
+    programs_served c.requires.serving.of.0 c.args.held.now c.requires.serving.of.1 (λ t. Unit {0}) c.args.client
     (Takes c.args.invoke (program_request c.args.asked)) c.take_client-part.new.held c.take_programs-table.new.held
     c.put_programs.new.held c.put_client.new.held c.take_client-part.result.value c.take_programs-table.result.value c.programs_in_parts-done.new.part c.programs_in_parts-done.new.table
-    c.requires.among.0 (subst (λ (m : ℕ). c.args.client ≤ m) c.requires.many c.requires.among.1) c.requires.held c.requires.number c.take_client-part.ensures.part c.take_client-part.ensures.left
+    c.requires.serving.among.0 (subst (λ (m : ℕ). c.args.client ≤ m) c.requires.serving.many c.requires.serving.among.1) c.requires.serving.held c.requires.serving.number c.take_client-part.ensures.part c.take_client-part.ensures.left
     c.take_programs-table.ensures.part
     c.requires.table c.take_programs-table.ensures.left
     (subst (λ (p : Part). (t : Tables) → t.programs ≡ programs_in (Some c.take_programs-table.result.value) → Unit {0}
