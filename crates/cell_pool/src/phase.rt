@@ -346,9 +346,9 @@ fn serve_given<
 }
 
 /// Serves the jobs of a phase by 1 to 16 workers, each on a thread of its own. The jobs wait in one queue. A worker
-/// takes the first, turns it once and puts it back at the end, unless it is done; where it was held up, it goes back as
-/// it is. A worker that finds the queue empty ends, and once all have ended, what the queue still holds is served by
-/// who called.
+/// takes the first, turns it, up to sixteen times while a turn moves it on, and puts it back at the end, unless it is
+/// done; where it was held up, it goes back as it is. A worker that finds the queue empty ends, and once all have ended,
+/// what the queue still holds is served by who called.
 ///
 /// The jobs come back in their order, each fit, and made of the job that was given at its place: none is lost, and none
 /// comes back twice. With `Ok` each is done. The error is want of memory, before the first turn, and then the jobs are
