@@ -9,7 +9,7 @@ use Rattle.ber_core.specs.declared.fault.BerError.{BerError}
 use Rattle.ber_core.specs.declared.fault.BerError.TheVariants.{BadContents}
 use Rattle.ber_core.specs.Element.{number_of}
 use Rattle.ber_core.specs.Leaf.{complements, signed_of, integer_at, boolean_at, bits_at, IsInteger, IsTwosComplement, IsBoolean, IsBits, IsNoBits}
-use Rattle.ber_core.proofs.Elements.{IsBytes, IsBytes-rest, chosen, ok_is}
+use Rattle.ber_core.proofs.Definites.{IsBytes, IsBytes-rest, chosen, ok_is}
 
 -- ---- numbers
 

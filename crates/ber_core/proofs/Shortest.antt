@@ -6,13 +6,11 @@ use Rattle.std.proofs.lemmas.List.{length-append}
 use Rattle.std.proofs.lemmas.Grind.{pow_more}
 use Rattle.std.proofs.Math.Nat.{mul-le-mul_right}
 use Rattle.ber_core.specs.declared.element.Tag.{Tag}
-use Rattle.ber_core.specs.declared.element.Lengths.{Lengths}
-use Rattle.ber_core.specs.declared.element.Lengths.TheVariants.{Definite}
 use Rattle.ber_core.specs.Part.{Part}
-use Rattle.ber_core.specs.Element.{IsIdentifier, Announces, IsDefiniteElement, IsElement, number_of}
+use Rattle.ber_core.specs.Element.{IsIdentifier, Announces, IsDefiniteElement, number_of}
 use Rattle.ber_core.specs.Leaf.{complements, IsInteger}
 use Rattle.ber_core.specs.Spelling.{identifier_octets, digits, length_octets, integer_octets, element_octets}
-use Rattle.ber_core.proofs.Elements.{IsBytes, IsBytes-rest}
+use Rattle.ber_core.proofs.Definites.{IsBytes, IsBytes-rest}
 use Rattle.ber_core.proofs.Leaves.{complement_sum}
 use Rattle.ber_core.proofs.Written.{length-complements}
 
@@ -122,13 +120,10 @@ length_shortest (a ∷ b ∷ more) n fits h = by_test (ltb n 128) (subst (λ (m 
     by_test true less = omega arith
     by_test false less = omega arith
 
-definite_shortest : (octets : List ℕ) (p : Part) → IsBytes octets → IsDefiniteElement octets p → length (element_octets p.tag p.contents) ≤ length octets
+pub definite_shortest : (octets : List ℕ) (p : Part) → IsBytes octets → IsDefiniteElement octets p → length (element_octets p.tag p.contents) ≤ length octets
 unfolding element_octets
 definite_shortest octets p fits is =
     let whole : IsBytes (is.identifier ++ is.announced ++ p.contents) = subst IsBytes is.whole fits in
     let first = identifier_shortest is.identifier p.tag is.tag in
     let second = length_shortest is.announced (length p.contents) (IsBytes-right is.identifier is.announced (IsBytes-left (is.identifier ++ is.announced) p.contents whole)) is.size in
     omega (arith, first, second, ap length is.whole, length-append (is.identifier ++ is.announced) p.contents, length-append is.identifier is.announced, length-append (identifier_octets p.tag) (length_octets (length p.contents) ++ p.contents), length-append (length_octets (length p.contents)) p.contents)
-
-pub element_shortest : (lengths : Lengths) (octets : List ℕ) (p : Part) → IsBytes octets → IsElement lengths octets p → length (element_octets p.tag p.contents) ≤ length octets
-element_shortest Definite octets p fits is = definite_shortest octets p fits is

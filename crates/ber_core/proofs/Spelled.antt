@@ -7,11 +7,11 @@ use Rattle.std.proofs.lemmas.List.{length-append, get_or_append_left, get_or-app
 use Rattle.std.proofs.lemmas.Grind.{fold-append, pow_more}
 use Rattle.ber_core.specs.declared.element.Tag.{Tag}
 use Rattle.ber_core.specs.declared.element.Lengths.{Lengths}
-use Rattle.ber_core.specs.declared.element.Lengths.TheVariants.{Definite}
-use Rattle.ber_core.specs.Element.{head_of, IsIdentifier, Announces, IsDefiniteElement, IsElement, number_of}
+use Rattle.ber_core.specs.declared.element.Lengths.TheVariants.{Definite, Either}
+use Rattle.ber_core.specs.Element.{head_of, IsIdentifier, Announces, IsDefiniteElement, IsElement, of_definite, number_of}
 use Rattle.ber_core.specs.Leaf.{complements, IsInteger}
 use Rattle.ber_core.specs.Spelling.{identifier_octets, digits, length_octets, integer_octets, element_octets}
-use Rattle.ber_core.proofs.Elements.{IsBytes}
+use Rattle.ber_core.proofs.Definites.{IsBytes}
 use Rattle.ber_core.proofs.Leaves.{complement_sum}
 
 -- digits that spell a number
@@ -131,6 +131,7 @@ definite_spelled t c class number fits = record {
 -- What is written is one element.
 pub element_spelled : (lengths : Lengths) (t : Tag) (c : List ℕ) → t.class < 4 → t.number < 16384 → length c < 2 ^ 64 → IsElement lengths (element_octets t c) (record { tag = t; contents = c })
 element_spelled Definite t c class number fits = definite_spelled t c class number fits
+element_spelled Either t c class number fits = of_definite (element_octets t c) (record { tag = t; contents = c }) (definite_spelled t c class number fits)
 
 -- contents are no longer than their element
 pub contents_shorter : (t : Tag) (c : List ℕ) → length c ≤ length (element_octets t c)

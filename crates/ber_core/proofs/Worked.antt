@@ -6,8 +6,9 @@ use Rattle.ber_core.specs.declared.fault.BerError.{BerError}
 use Rattle.ber_core.specs.declared.fault.BerError.TheVariants.{Short, BadTag, BadLength, BadContents}
 use Rattle.ber_core.specs.Part.{Part}
 use Rattle.ber_core.specs.Leaf.{integer_at, boolean_at, bits_at}
-use Rattle.ber_core.specs.Reading.{definite_at, identifier_at, second_at, third_at, length_at, long_length_at}
-use Rattle.ber_core.specs.Spelling.{digits, identifier_octets, integer_octets, length_octets}
+use Rattle.ber_core.specs.Reading.{definite_at, identifier_at, second_at, third_at, length_at, long_length_at, opening_at, passed_at, closing, either_at}
+use Rattle.ber_core.specs.Respelling.{parts_in, respelled, definite}
+use Rattle.ber_core.specs.Spelling.{digits, identifier_octets, integer_octets, length_octets, element_octets}
 
 -- a function answers each row of a table with its second column
 abbrev Answers : {A B : Type 0} → (A → B) → List (A × B) → Type 0
@@ -149,3 +150,32 @@ spelled_integers : Answers integer_octets (
     [])
 unfolding digits
 spelled_integers = refl
+
+-- indefinite lengths (8.1.3.6 and 8.1.5): the end is 00 00 alone, and definite contents are not looked into
+either_elements : Answers either_at (
+    (163 ∷ 128 ∷ 0 ∷ 0 ∷ [], first (tag 2 true 3) [] []) ∷
+    (163 ∷ 128 ∷ 0 ∷ 129 ∷ 0 ∷ 0 ∷ 0 ∷ 7 ∷ [], first (tag 2 true 3) (0 ∷ 129 ∷ 0 ∷ []) (7 ∷ [])) ∷
+    (48 ∷ 128 ∷ 48 ∷ 128 ∷ 5 ∷ 0 ∷ 0 ∷ 0 ∷ 0 ∷ 0 ∷ [], first (tag 0 true 16) (48 ∷ 128 ∷ 5 ∷ 0 ∷ 0 ∷ 0 ∷ []) []) ∷
+    (48 ∷ 4 ∷ 48 ∷ 128 ∷ 31 ∷ 30 ∷ [], first (tag 0 true 16) (48 ∷ 128 ∷ 31 ∷ 30 ∷ []) []) ∷
+    (48 ∷ 128 ∷ 48 ∷ 2 ∷ 0 ∷ 0 ∷ 0 ∷ 0 ∷ [], first (tag 0 true 16) (48 ∷ 2 ∷ 0 ∷ 0 ∷ []) []) ∷
+    (48 ∷ 128 ∷ [], Err Short) ∷
+    (48 ∷ 128 ∷ 0 ∷ [], Err Short) ∷
+    (48 ∷ 128 ∷ 48 ∷ 128 ∷ 0 ∷ 0 ∷ [], Err Short) ∷
+    (48 ∷ 128 ∷ 4 ∷ 5 ∷ 0 ∷ 0 ∷ [], Err Short) ∷
+    (4 ∷ 128 ∷ 0 ∷ 0 ∷ [], Err BadLength) ∷
+    (48 ∷ 128 ∷ 0 ∷ 128 ∷ 0 ∷ 0 ∷ [], Err BadLength) ∷
+    (48 ∷ 128 ∷ 4 ∷ 137 ∷ 0 ∷ 0 ∷ [], Err BadLength) ∷
+    (48 ∷ 128 ∷ 31 ∷ 30 ∷ 0 ∷ 0 ∷ 0 ∷ [], Err BadTag) ∷
+    (48 ∷ 128 ∷ 48 ∷ 128 ∷ 5 ∷ 0 ∷ 191 ∷ 128 ∷ [], Err BadTag) ∷
+    [])
+unfolding either_at opening_at passed_at closing definite_at identifier_at second_at third_at length_at long_length_at
+either_elements = refl
+
+-- elements that are spelled anew, as far as contents are elements
+definites : Answers definite (
+    (163 ∷ 128 ∷ 0 ∷ 129 ∷ 0 ∷ 0 ∷ 0 ∷ [], 163 ∷ 2 ∷ 0 ∷ 0 ∷ []) ∷
+    (48 ∷ 128 ∷ 48 ∷ 128 ∷ 5 ∷ 0 ∷ 0 ∷ 0 ∷ 0 ∷ 0 ∷ [], 48 ∷ 4 ∷ 48 ∷ 2 ∷ 5 ∷ 0 ∷ []) ∷
+    (48 ∷ 130 ∷ 0 ∷ 2 ∷ 48 ∷ 128 ∷ [], 48 ∷ 2 ∷ 48 ∷ 128 ∷ []) ∷
+    [])
+unfolding respelled parts_in either_at opening_at passed_at closing definite_at identifier_at second_at third_at length_at long_length_at element_octets identifier_octets length_octets digits
+definites = refl

@@ -1,8 +1,8 @@
 -- What an element is.
-use Rattle.std.specs.Prelude.{◌≡◌, ℕ, ◌+◌, ◌*◌, ◌-◌, ◌<◌, ◌≤◌, Bool, true, false, List, [], ◌∷◌, ◌++◌, length, fold}
+use Rattle.std.specs.Prelude.{◌≡◌, ℕ, ◌+◌, ◌*◌, ◌-◌, ◌<◌, ◌≤◌, Bool, true, false, ◌&&◌, ◌==◌, List, [], ◌∷◌, ◌++◌, length, fold}
 use Rattle.ber_core.specs.declared.element.Tag.{Tag}
 use Rattle.ber_core.specs.declared.element.Lengths.{Lengths}
-use Rattle.ber_core.specs.declared.element.Lengths.TheVariants.{Definite}
+use Rattle.ber_core.specs.declared.element.Lengths.TheVariants.{Definite, Either}
 use Rattle.ber_core.specs.Part.{Part}
 
 -- the class and the form, in the high three bits (ITU-T X.690, 8.1.2.2 and 8.1.2.5)
@@ -41,9 +41,29 @@ pub record IsDefiniteElement (octets : List ℕ) (p : Part) : Type 0 where
   pub size : Announces announced (length p.contents)
   pub whole : octets ≡ identifier ++ announced ++ p.contents
 
+-- 00 00, the end of contents of indefinite length, stands in front (ITU-T X.690, 8.1.5)
+abbrev pub begins_end : List ℕ → Bool
+begins_end (a ∷ b ∷ rest) = (a == 0) && (b == 0)
+begins_end octets = false
+
+mutual
+  -- an element with a definite length, or a constructed one with the octet 80 in the place of a length and 00 00 after
+  -- its contents (ITU-T X.690, 8.1.3.6)
+  pub data IsEitherElement : List ℕ → Part → Type 0 where
+    of_definite : (octets : List ℕ) (p : Part) → IsDefiniteElement octets p → IsEitherElement octets p
+    of_indefinite : (octets identifier : List ℕ) (p : Part) → IsIdentifier identifier p.tag → p.tag.constructed ≡ true → AreContents p.contents
+        → octets ≡ identifier ++ 128 ∷ (p.contents ++ 0 ∷ 0 ∷ []) → IsEitherElement octets p
+
+  -- contents of indefinite length: elements one after the other, none of which begins with 00 00
+  pub data AreContents : List ℕ → Type 0 where
+    without_element : AreContents []
+    with_element : (octets first rest : List ℕ) (p : Part) → IsEitherElement first p → begins_end first ≡ false → AreContents rest
+        → octets ≡ first ++ rest → AreContents octets
+
 -- the octets of one element, with lengths of these forms
 abbrev pub IsElement : Lengths → List ℕ → Part → Type 0
 IsElement Definite octets p = IsDefiniteElement octets p
+IsElement Either octets p = IsEitherElement octets p
 
 -- the elements that octets are cut into, one after the other and nothing between them
 abbrev pub IsCut : Lengths → List ℕ → List Part → Type 0

@@ -4,3 +4,4 @@ pub mod Reading
 pub mod Refusal
 pub mod Leaf
 pub mod Spelling
+pub mod Respelling

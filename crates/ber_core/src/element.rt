@@ -7,6 +7,8 @@ ghost use Rattle.std.specs.Prelude.{◌≡◌, true, false};
 pub enum Lengths {
     /// The definite forms alone, also longer than needed.
     Definite,
+    /// The definite forms, and the indefinite one of a constructed element.
+    Either,
 }
 
 /// The tag of an element (ITU-T X.690, 8.1.2): its class from 0, universal, to 3, private; whether

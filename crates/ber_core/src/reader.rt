@@ -1,10 +1,10 @@
 //! Elements from left to right.
 
-ghost use Rattle.std.specs.Prelude.{◌≡◌, ◌<◌, ◌≤◌, ◌↔◌, ℕ, List, [], length, slice_index, ◌^◌, Ok, Err, MatchResult, OnErr, OnOk, IfOk, IfErr, IsErrOf, IsOkAnd, ◌++◌, ◌≢◌, IsTrue};
+ghost use Rattle.std.specs.Prelude.{◌≡◌, ◌<◌, ◌≤◌, ◌↔◌, ℕ, List, [], length, slice_index, ◌^◌, Ok, Err, MatchResult, OnErr, OnOk, IfOk, IfErr, IsErrOf, IsOkAnd, IfSome, option_map, ◌+◌, ◌*◌, ◌++◌, ◌≢◌, IsTrue};
 ghost use Rattle.ber_core.specs.Part.{Part, part, Remaining};
-ghost use Rattle.ber_core.specs.Element.{number_of, IsElement};
+ghost use Rattle.ber_core.specs.Element.{number_of, begins_end, IsElement};
 ghost use Rattle.ber_core.specs.Leaf.{complements};
-ghost use Rattle.ber_core.specs.Reading.{tag_at, identifier_at, second_at, third_at, length_at, long_length_at, definite_at, element_at};
+ghost use Rattle.ber_core.specs.Reading.{tag_at, identifier_at, second_at, third_at, length_at, long_length_at, definite_at, opening_of, passed_at, closing, opening_at, either_at, element_at};
 ghost use Rattle.ber_core.specs.Refusal.{HasBadTag, HasBadLength, EndsEarly};
 
 use crate::element::{Element, Lengths, Tag};
@@ -144,6 +144,7 @@ fn length_of(bytes: &[u8]) -> Result<(u64, &[u8]), BerError>
 }
 
 #[tactic(auto, unfolding(crate::specs::Reading::definite_at))]
+#[inline(always)]
 fn definite(bytes: &[u8]) -> Result<(Element<'_>, &[u8]), BerError>
     ensures exact { MatchResult result (λ x. definite_at bytes.now ≡ Ok (part x.0, x.1.now))
         (λ e. definite_at bytes.now ≡ Err e) }
@@ -158,13 +159,118 @@ fn definite(bytes: &[u8]) -> Result<(Element<'_>, &[u8]), BerError>
     Ok((Element { tag, contents }, rest))
 }
 
+/// 00 00, the end of contents of indefinite length, stands in front.
+fn is_end(octets: &[u8]) -> bool
+    ensures { result ≡ begins_end octets.now }
+{
+    match octets {
+        [a, b, ..] => *a == 0 && *b == 0,
+        _ => false,
+    }
+}
+
+/// The octet 80 stands in front: the tag, and the octets after it.
+fn after_tag(tag: Tag, octets: &[u8]) -> Option<(Tag, &[u8])>
+    ensures exact { option_map (λ x. (x.0, x.1.now)) result ≡ opening_of tag octets.now }
+    ensures shorter { IfSome result (λ x. length x.1.now < length octets.now) }
+{
+    match octets {
+        [] => None,
+        [a, rest @ ..] => { if *a == 128 { Some((tag, rest)) } else { None } }
+    }
+}
+
+/// An identifier with the octet 80 in the place of a length: its tag, and the octets after them.
+#[tactic(auto, unfolding(crate::specs::Reading::opening_at))]
+fn opening(octets: &[u8]) -> Option<(Tag, &[u8])>
+    ensures exact { option_map (λ x. (x.0, x.1.now)) result ≡ opening_at octets.now }
+    ensures shorter { IfSome result (λ x. 1 + length x.1.now < length octets.now) }
+{
+    match identifier(octets) {
+        Ok((tag, rest)) => after_tag(tag, rest),
+        Err(_) => None,
+    }
+}
+
+/// How many contents of indefinite length are open after one step within so many and one, and the octets after it.
+#[tactic(auto, unfolding(crate::specs::Reading::passed_at))]
+fn passed(depth: usize, octets: &[u8]) -> Result<(usize, &[u8]), BerError>
+    requires { depth + length octets.now < 2 ^ 64 }
+    ensures exact { MatchResult result (λ x. passed_at depth octets.now ≡ Ok (x.0, x.1.now))
+        (λ e. passed_at depth octets.now ≡ Err e) }
+    ensures fewer { IfOk result (λ x. x.0 + length x.1.now ≤ depth + length octets.now) }
+    ensures ends { IfOk result (λ x. length x.1.now + 2 * depth + 2 ≤ length octets.now + 2 * x.0) }
+    ensures shorter { IfOk result (λ x. length x.1.now < length octets.now) }
+{
+    if is_end(octets) {
+        return Ok((depth, &octets[2..]));
+    }
+    match opening(octets) {
+        Some((tag, rest)) => {
+            if tag.constructed {
+                Ok((depth + 2, rest))
+            } else {
+                Err(BerError::BadLength)
+            }
+        }
+        None => {
+            let (_element, rest) = definite(octets)?;
+            Ok((depth + 1, rest))
+        }
+    }
+}
+
+/// The octets after the end of contents of indefinite length, which one pass over them finds.
+fn close(octets: &[u8]) -> Result<&[u8], BerError>
+    ensures exact { MatchResult result (λ r. closing (length octets.now) 1 octets.now ≡ Ok r.now)
+        (λ e. closing (length octets.now) 1 octets.now ≡ Err e) }
+    ensures shorter { IfOk result (λ r. length r.now + 2 ≤ length octets.now) }
+{
+    let mut depth = 1usize;
+    let mut rest = octets;
+    while depth > 0 {
+        let (more, after) = passed(depth - 1, rest)?;
+        depth = more;
+        rest = after;
+    }
+    Ok(rest)
+}
+
+/// The first element and the octets after it, where it isn't one of definite length for this reason.
+#[cold]
+#[inline(never)]
+#[tactic(auto, unfolding(crate::specs::Reading::either_at))]
+fn indefinite(bytes: &[u8], refusal: BerError) -> Result<(Element<'_>, &[u8]), BerError>
+    requires { definite_at bytes.now ≡ Err refusal }
+    ensures exact { MatchResult result (λ x. either_at bytes.now ≡ Ok (part x.0, x.1.now))
+        (λ e. either_at bytes.now ≡ Err e) }
+    ensures shorter { IfOk result (λ x. length x.1.now < length bytes.now) }
+{
+    let Some((tag, inner)) = opening(bytes) else {
+        return Err(refusal);
+    };
+    if !tag.constructed {
+        return Err(BerError::BadLength);
+    }
+    let rest = close(inner)?;
+    let contents = &inner[..inner.len() - rest.len() - 2];
+    Ok((Element { tag, contents }, rest))
+}
+
+/// The first element with a length of these forms, and the octets after it. Nearly all lengths are definite, so these are
+/// tried first.
+#[tactic(auto, using(crate::proofs::Closed::either_ok))]
 fn cut(lengths: Lengths, bytes: &[u8]) -> Result<(Element<'_>, &[u8]), BerError>
     ensures exact { MatchResult result (λ x. element_at lengths bytes.now ≡ Ok (part x.0, x.1.now))
         (λ e. element_at lengths bytes.now ≡ Err e) }
     ensures shorter { IfOk result (λ x. length x.1.now < length bytes.now) }
 {
-    match lengths {
-        Lengths::Definite => definite(bytes),
+    match definite(bytes) {
+        Ok(found) => Ok(found),
+        Err(refusal) => match lengths {
+            Lengths::Definite => Err(refusal),
+            Lengths::Either => indefinite(bytes, refusal),
+        },
     }
 }
 
@@ -181,7 +287,7 @@ pub fn first_element(lengths: Lengths, bytes: &[u8]) -> Result<(Element<'_>, &[u
     ensures only { (taken rest : List ℕ) (p : Part) → IsElement lengths taken p
         → bytes.now ≡ taken ++ rest → IsOkAnd result (λ x. (part x.0 ≡ p) × (x.1.now ≡ rest)) }
 
-    ensures bad_tag { IsErrOf result BerError.BadTag ↔ HasBadTag bytes.now }
+    ensures bad_tag { IsErrOf result BerError.BadTag ↔ HasBadTag lengths bytes.now }
     ensures bad_length { IsErrOf result BerError.BadLength ↔ HasBadLength lengths bytes.now }
     ensures short { IsErrOf result BerError.Short ↔ EndsEarly lengths bytes.now }
     ensures no_other { IfErr result (λ e. e ≢ BerError.BadContents) }
@@ -202,6 +308,18 @@ impl<'a> Reader<'a> {
     {
         Reader {
             lengths: Lengths::Definite,
+            bytes,
+        }
+    }
+
+    /// A reader of definite and of indefinite lengths, from the first of these octets. What it hands out of contents of
+    /// indefinite length is without the 00 00 after them.
+    pub fn either(bytes: &'a [u8]) -> Reader<'a>
+        ensures lengths { result.lengths ≡ Lengths.Either }
+        ensures octets { result.octets ≡ bytes.entry.now }
+    {
+        Reader {
+            lengths: Lengths::Either,
             bytes,
         }
     }
@@ -230,7 +348,7 @@ impl<'a> Reader<'a> {
             → self.old.octets ≡ taken ++ rest
             → IsOkAnd result (λ e. (part e ≡ p) × (self.new.octets ≡ rest)) }
 
-        ensures bad_tag { IsErrOf result BerError.BadTag ↔ HasBadTag self.old.octets }
+        ensures bad_tag { IsErrOf result BerError.BadTag ↔ HasBadTag self.old.lengths self.old.octets }
         ensures bad_length { IsErrOf result BerError.BadLength
             ↔ HasBadLength self.old.lengths self.old.octets }
         ensures short { IsErrOf result BerError.Short ↔ EndsEarly self.old.lengths self.old.octets }

@@ -1,7 +1,7 @@
 -- What a reader answers where its reading is the form's, in the words of the form.
 use Rattle.std.proofs.Common.{◌≡◌, ℕ, inl, inr, List, Result, Ok, Err, refl, sym, ◌∙◌}
 use Rattle.ber_core.specs.declared.element.Lengths.{Lengths}
-use Rattle.ber_core.proofs.Elements.{IsBytes}
+use Rattle.ber_core.proofs.Definites.{IsBytes}
 use Rattle.ber_forms.specs.declared.unread.Unread.{Unread}
 use Rattle.ber_forms.specs.declared.unread.Unread.TheVariants as unread
 use Rattle.ber_forms.specs.Fault.{Fault}

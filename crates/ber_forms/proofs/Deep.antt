@@ -7,7 +7,7 @@ use Rattle.ber_core.specs.declared.fault.BerError.{BerError}
 use Rattle.ber_core.specs.Part.{Part}
 use Rattle.ber_core.specs.Leaf.{integer_at, boolean_at, bits_at}
 use Rattle.ber_core.specs.Reading.{element_at}
-use Rattle.ber_core.proofs.Elements.{IsBytes}
+use Rattle.ber_core.proofs.Definites.{IsBytes}
 use Rattle.ber_forms.specs.Fault.{Fault}
 use Rattle.ber_forms.specs.Fault as fault
 use Rattle.ber_forms.specs.Value.{Value, Slot, nothing, truth, number, bits, text, chosen, parts, missing, given, done, slot, all_of}

@@ -10,3 +10,6 @@ pub mod Again
 pub mod Numbered
 pub mod NamedBits
 pub mod Told
+pub mod Carried
+pub mod EitherForms
+pub mod Wider

@@ -1,7 +1,7 @@
 -- What is read is of the form.
 use Rattle.std.proofs.Common.{◌≡◌, ℕ, zero, suc, ◌+◌, ◌<◌, ℤ, ◌≤ℤ◌, ◌⊎◌, inl, inr, Bool, true, false, cond, ltb, eqb, ◌&&◌, List, [], ◌∷◌, ◌++◌, length, get_or, Option, Some, None, Result, Ok, Err, refl, sym, ap, subst, ◌∙◌, arith}
 use Rattle.ber_core.specs.declared.element.Lengths.{Lengths}
-use Rattle.ber_core.specs.declared.element.Lengths.TheVariants.{Definite}
+use Rattle.ber_core.specs.declared.element.Lengths.TheVariants.{Definite, Either}
 use Rattle.std.specs.Prelude.{IsTrue, MatchBool, int_le}
 use Rattle.std.proofs.lemmas.List.{get_or_append_left, get_or-append_right, get_or_past, length-append, append-nil}
 use Rattle.std.proofs.lemmas.Bool.{cases_lt, ltb-false, eqb-true}
@@ -12,7 +12,9 @@ use Rattle.ber_core.specs.Part.{Part}
 use Rattle.ber_core.specs.Element.{IsElement, IsCut}
 use Rattle.ber_core.specs.Leaf.{integer_at, boolean_at, bits_at, IsInteger, IsBoolean, IsBits}
 use Rattle.ber_core.specs.Reading.{element_at}
-use Rattle.ber_core.proofs.Elements.{IsBytes, chosen as which, element_takes, one_element, element_long}
+use Rattle.ber_core.proofs.Definites.{IsBytes, chosen as which}
+use Rattle.ber_core.proofs.Elements.{element_takes, one_element, element_long}
+use Rattle.ber_core.proofs.Respelled.{is_part}
 use Rattle.ber_core.proofs.Leaves.{integer_takes}
 use Rattle.ber_forms.specs.Fault.{Fault}
 use Rattle.ber_forms.specs.Fault as fault
@@ -62,6 +64,7 @@ bytes_right a b h i = subst (λ (n : ℕ). n < 256) (there a b i) (h (length a +
 -- the contents of an element are octets where the element is
 element_bytes : (lengths : Lengths) (octets : List ℕ) (p : Part) → IsElement lengths octets p → IsBytes octets → IsBytes p.contents
 element_bytes Definite octets p h fits = bytes_right (h.identifier ++ h.announced) p.contents (subst IsBytes h.whole fits)
+element_bytes Either octets p h fits = (is_part octets p h).bytes fits
 
 pub end_is : (octets : List ℕ) (u : Unit {0}) → at_end octets ≡ Ok u → octets ≡ []
 unfolding at_end

@@ -11,3 +11,4 @@ pub mod InForm
 pub mod Fits
 pub mod TooDeep
 pub mod Reads
+pub mod Kept

@@ -1,13 +1,16 @@
 //! What holds of every form.
 
-ghost use Rattle.std.specs.Prelude.{◌≡◌, ◌<◌, ◌^◌, ◌++◌, ℕ, List, length, slice_index, IsTrue, Ok, Err};
+ghost use Rattle.std.specs.Prelude.{◌≡◌, ◌↔◌, ◌<◌, ◌^◌, ◌++◌, true, ℕ, List, length, slice_index, IsTrue, Ok, Err};
 ghost use Rattle.ber_core.specs.declared.element.Lengths.{Lengths};
+ghost use Rattle.ber_core.specs.declared.element.Lengths.TheVariants.{Definite, Either};
 ghost use Rattle.ber_core.specs.Part.{Part};
 ghost use Rattle.ber_core.specs.Element.{IsElement};
+ghost use Rattle.ber_core.specs.Respelling.{respelled};
 ghost use Rattle.ber_forms.specs.Value.{Value};
 ghost use Rattle.ber_forms.specs.Form.{Form, Member};
 ghost use Rattle.ber_forms.specs.Fault as fault;
-ghost use Rattle.ber_forms.specs.Reading.{reading};
+ghost use Rattle.ber_forms.specs.Reading.{reading, is_constructed};
+ghost use Rattle.ber_forms.specs.Kept.{is_looked_into};
 ghost use Rattle.ber_forms.specs.Reads.{IsMalformed};
 ghost use Rattle.ber_forms.specs.Spelling.{spelling, member_octets};
 ghost use Rattle.ber_forms.specs.InForm.{InForm};
@@ -64,4 +67,17 @@ pub fn begins_no_other()
         → IsTrue (sound_member n) → FitsMember m v → FitsMember n w
         → length (member_octets m v) < 2 ^ 64 → length (member_octets n w) < 2 ^ 64
         → member_octets m v ++ x ≡ member_octets n w ++ y → member_octets m v ≡ member_octets n w }
+{}
+
+/// What is of a form with definite lengths alone is so with either, and says the same value.
+pub fn reads_definite_lengths()
+    ensures { (f : Form) (c : List ℕ) (v : Value) → InForm Definite f c v → InForm Either f c v }
+{}
+
+/// Contents that may be elements say the same when they are spelled anew, with definite lengths.
+pub fn says_the_same_anew()
+    ensures { (depth : ℕ) (f : Form) (c : List ℕ) (v : Value) → IsTrue (is_looked_into f)
+        → is_constructed f ≡ true → ((i : ℕ) → slice_index c i < 256) → length c < 2 ^ 64
+        → length (respelled depth c) < 2 ^ 64
+        → InForm Either f c v ↔ InForm Either f (respelled depth c) v }
 {}

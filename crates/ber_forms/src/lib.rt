@@ -20,8 +20,8 @@ pub use contents::{
 };
 pub use cursor::{Cursor, elements, has_tag};
 pub use laws::{
-    begins_no_other, reads_the_form, says_one_value, spells_one_value, spells_the_value,
-    tells_malformed, tells_too_deep,
+    begins_no_other, reads_definite_lengths, reads_the_form, says_one_value, says_the_same_anew,
+    spells_one_value, spells_the_value, tells_malformed, tells_too_deep,
 };
 pub use put::{
     enclose, put_bit_string, put_boolean, put_defaulted_boolean, put_defaulted_integer,

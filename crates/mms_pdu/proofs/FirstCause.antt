@@ -4,7 +4,8 @@ use Rattle.std.specs.Prelude.{[], ◌↔◌}
 use Rattle.ber_core.specs.declared.element.Lengths.{Lengths}
 use Rattle.ber_core.specs.Part.{Part}
 use Rattle.ber_core.specs.Element.{IsElement}
-use Rattle.ber_core.proofs.Elements.{IsBytes, one_element}
+use Rattle.ber_core.proofs.Definites.{IsBytes}
+use Rattle.ber_core.proofs.Elements.{one_element}
 use Rattle.ber_forms.specs.Fault.{Fault}
 use Rattle.ber_forms.specs.Fault as fault
 use Rattle.ber_forms.specs.Value.{Value, nothing, text, chosen}

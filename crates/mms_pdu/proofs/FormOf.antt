@@ -4,7 +4,7 @@ use Rattle.std.specs.Prelude.{is_some}
 use Rattle.ber_core.specs.declared.element.Tag.{Tag}
 use Rattle.ber_core.specs.declared.element.Lengths.{Lengths}
 use Rattle.ber_core.specs.Part.{Part}
-use Rattle.ber_core.proofs.Elements.{IsBytes}
+use Rattle.ber_core.proofs.Definites.{IsBytes}
 use Rattle.ber_forms.specs.Fault.{Fault}
 use Rattle.ber_forms.specs.Fault as fault
 use Rattle.ber_forms.specs.Value.{Value, nothing, number, chosen, parts, given, done, slot}

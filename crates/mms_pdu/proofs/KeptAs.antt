@@ -6,7 +6,7 @@ use Rattle.ber_core.specs.declared.element.Tag.{Tag}
 use Rattle.ber_core.specs.declared.element.Lengths.{Lengths}
 use Rattle.ber_core.specs.Part.{Part}
 use Rattle.ber_core.specs.Element.{IsElement}
-use Rattle.ber_core.proofs.Elements.{IsBytes}
+use Rattle.ber_core.proofs.Definites.{IsBytes}
 use Rattle.ber_forms.specs.Fault.{Fault}
 use Rattle.ber_forms.specs.Value.{Value, nothing, text, chosen}
 use Rattle.ber_forms.specs.Form.{Form, Alternatives, no_other, or, choice}
