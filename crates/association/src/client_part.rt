@@ -47,7 +47,6 @@ fn make_room(outbox: &mut Vec<What>, outputs: usize) -> Result<(), Memory>
 /// and the number of the next one, what is to be sent to the client in order, and the constants;
 /// and beside it the numbers of outputs, of waiting requests and of the server's requests for which
 /// there is room, as `reserve` and `reserve_asked` made it. All but these two take no memory.
-#[derive(Drop)]
 pub struct ClientPart {
     client: u32,
     association: Association,
@@ -389,5 +388,22 @@ impl ClientPart {
         let empty = Vec::new(*self.outbox.allocator());
         self.output_room = 0;
         mem::replace(&mut self.outbox, empty)
+    }
+}
+
+impl Drop for ClientPart {
+    fn drop(self) {
+        let ClientPart {
+            client: _,
+            association: _association,
+            waiting: _waiting,
+            asked: _asked,
+            given: _,
+            outbox: _outbox,
+            constants: _constants,
+            output_room: _,
+            waiting_room: _,
+            asked_room: _,
+        } = self;
     }
 }

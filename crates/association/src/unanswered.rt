@@ -5,7 +5,6 @@ use mms_types::{Asked, Identifier};
 
 /// A request of the server that the client has not answered (ISO 9506-1, environment and general
 /// management).
-#[derive(Drop)]
 pub struct Unanswered {
     /// The number of the request: the invokeID that the server gave it.
     pub invoke: u32,
@@ -45,4 +44,14 @@ pub(crate) fn remove_asked(rows: &mut Vec<Unanswered>, invoke: u32) -> bool
     }
     rows.retain(|row| row.invoke != invoke);
     true
+}
+
+impl Drop for Unanswered {
+    fn drop(self) {
+        let Unanswered {
+            invoke: _,
+            kind: _kind,
+            domain: _domain,
+        } = self;
+    }
 }

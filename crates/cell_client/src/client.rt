@@ -28,7 +28,6 @@ use std::alloc::Global;
 use std::marker::Model;
 
 /// The part of a client: its association, and what is to be sent to it. Contracts see it as they see a `ClientPart`.
-#[derive(Drop)]
 pub struct Client {
     part: ClientPart,
     /// What a PDU is spelled into before it goes to the outbox.
@@ -503,5 +502,14 @@ impl Client {
     {
         self.part.release();
         self.part.drain()
+    }
+}
+
+impl Drop for Client {
+    fn drop(self) {
+        let Client {
+            part: _part,
+            out: _out,
+        } = self;
     }
 }

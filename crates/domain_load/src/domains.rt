@@ -16,7 +16,6 @@ use std::marker::Model;
 
 /// The domains of a device (ISO 9506-1, domain management). Contracts see the list of them under their names, in the
 /// order in which their loads began.
-#[derive(Drop)]
 pub struct Domains {
     pub(crate) rows: IndexMap<Identifier, Domain>,
 }
@@ -232,4 +231,10 @@ fn copied_rows(
         put_row(&mut copies, key, domain)?;
     }
     Ok(copies)
+}
+
+impl Drop for Domains {
+    fn drop(self) {
+        let Domains { rows: _rows } = self;
+    }
 }

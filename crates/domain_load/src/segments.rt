@@ -9,7 +9,6 @@ use std::marker::Model;
 /// The segments of a domain (ISO 9506-1, domain content), with at most 1,048,576 octets in all. Contracts see the list
 /// of them in the order in which they came, each as its octets; an empty one is there as well. No service tells where
 /// one ends, so their octets are kept joined.
-#[derive(Drop)]
 pub struct Segments {
     joined: Store,
     /// How many octets each segment has.
@@ -95,5 +94,14 @@ impl Segments {
             joined: self.joined.copy(alloc)?,
             lengths: Vec::from_slice(alloc, &self.lengths)?,
         })
+    }
+}
+
+impl Drop for Segments {
+    fn drop(self) {
+        let Segments {
+            joined: _joined,
+            lengths: _lengths,
+        } = self;
     }
 }

@@ -11,7 +11,6 @@ use std::marker::Model;
 const BLOCK: usize = 4096;
 
 /// Octets in blocks, of which all but the last are full. Contracts see the list of all octets.
-#[derive(Drop)]
 pub(crate) struct Store {
     blocks: Vec<Vec<u8>>,
     len: usize,
@@ -185,5 +184,14 @@ impl Store {
             blocks: copied_blocks(alloc, &self.blocks)?,
             len: self.len,
         })
+    }
+}
+
+impl Drop for Store {
+    fn drop(self) {
+        let Store {
+            blocks: _blocks,
+            len: _,
+        } = self;
     }
 }

@@ -8,7 +8,6 @@ use mms_types::{Identifier, Memory};
 use std::alloc::Global;
 
 /// An upload of a domain by a client (ISO 9506-1, upload state machine).
-#[derive(Drop)]
 pub struct Upload {
     /// Its number, by which the client names it (ulsmID).
     pub number: i32,
@@ -97,4 +96,16 @@ pub(crate) fn copied(alloc: Global, rows: &[Upload]) -> Result<Vec<Upload>, Memo
         copies.push(upload.copy(alloc)?)?;
     }
     Ok(copies)
+}
+
+impl Drop for Upload {
+    fn drop(self) {
+        let Upload {
+            number: _,
+            client: _,
+            domain: _domain,
+            sent: _,
+            ended: _,
+        } = self;
+    }
 }

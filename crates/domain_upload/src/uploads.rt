@@ -9,7 +9,6 @@ use std::marker::Model;
 
 /// The uploads of a device (ISO 9506-1, domain management). Contracts see the list of those that are open, in the order
 /// in which they were made, and how many numbers were given.
-#[derive(Drop)]
 pub struct Uploads {
     pub(crate) rows: Vec<Upload>,
     pub(crate) given: u32,
@@ -114,5 +113,14 @@ impl Uploads {
             rows: copied(alloc, &self.rows)?,
             given: self.given,
         })
+    }
+}
+
+impl Drop for Uploads {
+    fn drop(self) {
+        let Uploads {
+            rows: _rows,
+            given: _,
+        } = self;
     }
 }

@@ -19,7 +19,6 @@ use std::marker::Model;
 
 /// The event conditions of a device (ISO 9506-1, event management). Contracts see the list of them under their names,
 /// in order of definition.
-#[derive(Drop)]
 pub struct Conditions {
     pub(crate) rows: Named<Kept>,
 }
@@ -135,5 +134,11 @@ impl Conditions {
         Ok(Conditions {
             rows: self.rows.copy(alloc)?,
         })
+    }
+}
+
+impl Drop for Conditions {
+    fn drop(self) {
+        let Conditions { rows: _rows } = self;
     }
 }

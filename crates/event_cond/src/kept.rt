@@ -5,7 +5,6 @@ use std::alloc::Global;
 use std::marker::Model;
 
 /// A condition as its table keeps it. What holds of each at any time is a promise of this type.
-#[derive(Drop)]
 pub struct Kept {
     pub(crate) condition: Condition,
 }
@@ -26,5 +25,13 @@ impl Copied for Kept {
         Ok(Kept {
             condition: self.condition,
         })
+    }
+}
+
+impl Drop for Kept {
+    fn drop(self) {
+        let Kept {
+            condition: _condition,
+        } = self;
     }
 }

@@ -4,7 +4,6 @@ use mms_types::{Key, Memory, Transitions};
 use std::alloc::Global;
 
 /// An event enrollment (ISO 9506-1, event enrollment).
-#[derive(Drop)]
 pub struct Enrolment {
     /// The client that defined it, and is told.
     pub client: u32,
@@ -27,5 +26,16 @@ impl Enrolment {
             transitions: self.transitions,
             rule: self.rule,
         })
+    }
+}
+
+impl Drop for Enrolment {
+    fn drop(self) {
+        let Enrolment {
+            client: _,
+            condition: _condition,
+            transitions: _transitions,
+            rule: _,
+        } = self;
     }
 }

@@ -21,7 +21,6 @@ use std::marker::Model;
 
 /// The event enrollments of a device (ISO 9506-1, event management). Contracts see the list of them under their names,
 /// in the order in which they were defined.
-#[derive(Drop)]
 pub struct Enrolments {
     pub(crate) rows: IndexMap<Key, Enrolment>,
     /// Those on each condition, in the same order.
@@ -236,4 +235,13 @@ fn copied(alloc: Global, rows: &IndexMap<Key, Enrolment>) -> Result<Enrolments, 
         copies.put(alloc, key, row)?;
     }
     Ok(copies)
+}
+
+impl Drop for Enrolments {
+    fn drop(self) {
+        let Enrolments {
+            rows: _rows,
+            groups: _groups,
+        } = self;
+    }
 }

@@ -12,7 +12,6 @@ use std::alloc::Global;
 use std::marker::Model;
 
 /// What is kept of an enrollment beside the others on its condition.
-#[derive(Drop)]
 pub(crate) struct Member {
     /// Its name.
     pub(crate) enrolment: Key,
@@ -34,7 +33,6 @@ impl Member {
 }
 
 /// The enrollments on one condition, in the order in which they were defined. Contracts see the list of them.
-#[derive(Drop)]
 pub(crate) struct Group {
     members: Vec<Member>,
 }
@@ -134,4 +132,20 @@ pub(crate) fn leave(groups: &mut IndexMap<Key, Group>, by: &Going<'_>)
                 × (result ≡ not (length group.new == 0)) }
         { group.leave(by, condition) },
     );
+}
+
+impl Drop for Group {
+    fn drop(self) {
+        let Group { members: _members } = self;
+    }
+}
+
+impl Drop for Member {
+    fn drop(self) {
+        let Member {
+            enrolment: _enrolment,
+            client: _,
+            transitions: _transitions,
+        } = self;
+    }
 }

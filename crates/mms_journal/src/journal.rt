@@ -11,7 +11,6 @@ use std::alloc::Global;
 use std::marker::Model;
 
 /// An entry of a journal.
-#[derive(Drop)]
 pub(crate) struct Written {
     /// Its number.
     pub(crate) number: u64,
@@ -23,7 +22,6 @@ pub(crate) struct Written {
 
 /// A journal (ISO 9506-1, journal object). Contracts see its entries in order of writing, each with its number and the
 /// client that wrote it, and how many were written.
-#[derive(Drop)]
 pub struct Journal {
     pub(crate) entries: Vec<Written>,
     pub(crate) written: u64,
@@ -114,5 +112,25 @@ impl Copied for Journal {
             written: self.written,
             octets: self.octets,
         })
+    }
+}
+
+impl Drop for Journal {
+    fn drop(self) {
+        let Journal {
+            entries: _entries,
+            written: _,
+            octets: _,
+        } = self;
+    }
+}
+
+impl Drop for Written {
+    fn drop(self) {
+        let Written {
+            number: _,
+            client: _,
+            entry: _entry,
+        } = self;
     }
 }

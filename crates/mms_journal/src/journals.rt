@@ -18,7 +18,6 @@ use std::marker::Model;
 
 /// The journals of a device (ISO 9506-1, journal management). Contracts see the list of them under their names, in the
 /// order in which they were made.
-#[derive(Drop)]
 pub struct Journals {
     pub(crate) rows: Named<Journal>,
 }
@@ -122,5 +121,11 @@ impl Journals {
         Ok(Journals {
             rows: self.rows.copy(alloc)?,
         })
+    }
+}
+
+impl Drop for Journals {
+    fn drop(self) {
+        let Journals { rows: _rows } = self;
     }
 }

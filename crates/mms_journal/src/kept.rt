@@ -16,7 +16,6 @@ use std::alloc::Global;
 use std::marker::Model;
 
 /// An entry, kept as its contents are spelled. Contracts see the entry.
-#[derive(Drop)]
 pub(crate) struct Kept {
     octets: Octets,
     /// Its moment, in milliseconds.
@@ -161,5 +160,15 @@ impl Copied for Kept {
             moment: self.moment,
             variables: self.variables,
         })
+    }
+}
+
+impl Drop for Kept {
+    fn drop(self) {
+        let Kept {
+            octets: _octets,
+            moment: _,
+            variables: _,
+        } = self;
     }
 }

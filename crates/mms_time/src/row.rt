@@ -5,7 +5,6 @@ use std::alloc::Global;
 use token_sem::TokenSem;
 
 /// A semaphore, by its kind (ISO 9506-1, semaphore, class).
-#[derive(Drop)]
 pub enum Semaphore {
     /// One whose tokens are equal.
     Token(TokenSem),
@@ -14,7 +13,6 @@ pub enum Semaphore {
 }
 
 /// A semaphore of a device.
-#[derive(Drop)]
 pub struct SemaphoreRow {
     /// Whether it was configured: then it can't be deleted.
     pub configured: bool,
@@ -32,5 +30,23 @@ impl Copied for SemaphoreRow {
             configured: self.configured,
             semaphore,
         })
+    }
+}
+
+impl Drop for Semaphore {
+    fn drop(self) {
+        match self {
+            Semaphore::Token(_x) => {}
+            Semaphore::Pool(_x) => {}
+        }
+    }
+}
+
+impl Drop for SemaphoreRow {
+    fn drop(self) {
+        let SemaphoreRow {
+            configured: _,
+            semaphore: _semaphore,
+        } = self;
     }
 }

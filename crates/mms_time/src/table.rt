@@ -22,7 +22,6 @@ use token_sem::Deadline;
 /// The semaphores of a device under their names. Contracts see the list of the pairs of a name and its semaphore, in
 /// the order in which they were made. Beside them a moment is kept that no deadline of any of them comes before, so that
 /// they needn't be gone through while it lies ahead.
-#[derive(Drop)]
 pub struct Semaphores {
     pub(crate) rows: Named<SemaphoreRow>,
     /// No deadline comes before it.
@@ -246,5 +245,15 @@ impl Semaphores {
                 at.0 <= until.0
             }
         }
+    }
+}
+
+impl Drop for Semaphores {
+    fn drop(self) {
+        let Semaphores {
+            rows: _rows,
+            soonest: _,
+            known: _,
+        } = self;
     }
 }

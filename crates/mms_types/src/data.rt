@@ -43,7 +43,7 @@ pub enum DataKind {
 }
 
 /// A bit string.
-#[derive(PartialEq, Eq, Drop)]
+#[derive(PartialEq, Eq)]
 pub struct BitString {
     /// How many bits of the last octet are unused.
     pub unused: u8,
@@ -72,4 +72,13 @@ impl Model for Data {
     ghost use Rattle.mms_types.specs.DataFallsLaws.{deep_le-depth};
 
     ghost size_decreases = { λ x h. deep_le-depth x.kind };
+}
+
+impl Drop for BitString {
+    fn drop(self) {
+        let BitString {
+            unused: _,
+            octets: _octets,
+        } = self;
+    }
 }

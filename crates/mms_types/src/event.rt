@@ -7,7 +7,7 @@ use std::collections::VecDeque;
 use std::marker::Model;
 
 /// What is sent to a client.
-#[derive(PartialEq, Eq, Drop)]
+#[derive(PartialEq, Eq)]
 pub enum What {
     /// The octets of one PDU.
     Octets(Octets),
@@ -24,7 +24,6 @@ pub struct Output {
 }
 
 /// What happens to the device.
-#[derive(Drop)]
 pub enum CellEvent {
     /// A client sent octets.
     Heard { client: u32, octets: Octets },
@@ -107,5 +106,29 @@ impl Events {
         ensures { result.items ≡ self }
     {
         self.list.into_vec()
+    }
+}
+
+impl Drop for What {
+    fn drop(self) {
+        match self {
+            What::Octets(_x) => {}
+            What::Abort => {}
+        }
+    }
+}
+
+impl Drop for CellEvent {
+    fn drop(self) {
+        match self {
+            CellEvent::Heard {
+                client: _,
+                octets: _octets,
+            } => {}
+            CellEvent::Lost { client: _ } => {}
+            CellEvent::Tick { ms: _ } => {}
+            CellEvent::Ends { name: _name } => {}
+            CellEvent::Drain { client: _ } => {}
+        }
     }
 }

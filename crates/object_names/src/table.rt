@@ -14,7 +14,6 @@ use std::marker::Model;
 
 /// Values under names, each name once. Contracts see the list of the pairs of a name and its value, in
 /// the order in which they were put in.
-#[derive(Drop)]
 pub struct Named<T: Drop> {
     pub(crate) rows: IndexMap<Key, T>,
     /// The places of the rows in order of their names.
@@ -251,5 +250,15 @@ impl<T: Drop> Named<T> {
         ensures found { IsSome result ↔ (place < length self.now) }
     {
         self.rows.get_index(place)
+    }
+}
+
+impl<T: Drop> Drop for Named<T> {
+    fn drop(self) {
+        let Named {
+            rows: _rows,
+            places: _places,
+            ranks: _ranks,
+        } = self;
     }
 }

@@ -23,7 +23,6 @@ use token_sem::{Ask, Deadline, Entries, Expired, Grant, NotOwner, SemEntry, Take
 /// names, counted from 0 in order of octets. Contracts see the names, how many entries were made, and the entries in
 /// order of number. Each token is owned by one entry at most, or one is hung with it; where nobody has a token, no
 /// entry waits that wants it or any.
-#[derive(Drop)]
 pub struct PoolSem {
     tokens: Identifiers,
     made: u64,
@@ -441,5 +440,16 @@ impl PoolSem {
             entries,
             marks: self.marks,
         })
+    }
+}
+
+impl Drop for PoolSem {
+    fn drop(self) {
+        let PoolSem {
+            tokens: _tokens,
+            made: _,
+            entries: _entries,
+            marks: _marks,
+        } = self;
     }
 }

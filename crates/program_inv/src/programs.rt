@@ -16,7 +16,6 @@ use std::marker::Model;
 
 /// The program invocations of a device (ISO 9506-1, program invocation management). Contracts see the list of them
 /// under their names, in the order in which they were made.
-#[derive(Drop)]
 pub struct Programs {
     pub(crate) rows: IndexMap<Identifier, Invocation>,
 }
@@ -173,4 +172,10 @@ fn copied_rows(
         put_row(&mut copies, key, invocation)?;
     }
     Ok(copies)
+}
+
+impl Drop for Programs {
+    fn drop(self) {
+        let Programs { rows: _rows } = self;
+    }
 }

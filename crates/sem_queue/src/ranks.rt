@@ -19,7 +19,6 @@ use std::sync::ledger::Ledger;
 /// Contracts see the rows in order of number, the number of tokens, and for how many rows more there is room. List t
 /// has the rows that wait for token t, and the list after those of the tokens the rows that wait for any; each is in
 /// order of rank.
-#[derive(Drop)]
 pub struct Ranks {
     tokens: u32,
     spare: usize,
@@ -393,5 +392,19 @@ impl Ranks {
         let own = first_above(&self.slots, by_rank, begins, tokens, token, &row);
         let any = first_above(&self.slots, by_rank, begins, tokens, tokens, &row);
         first_of(own, any)
+    }
+}
+
+impl Drop for Ranks {
+    fn drop(self) {
+        let Ranks {
+            tokens: _,
+            spare: _,
+            slots: _slots,
+            by_number: _by_number,
+            by_rank: _by_rank,
+            by_deadline: _by_deadline,
+            begins: _begins,
+        } = self;
     }
 }

@@ -18,7 +18,6 @@ use std::marker::Model;
 
 /// The domains of a device, and the uploads of them that are open. The domain of each open upload is there and isn't
 /// LOADING, and no more octets of it were sent than it has.
-#[derive(Drop)]
 pub struct DomainTables {
     domains: Domains,
     uploads: Uploads,
@@ -204,5 +203,14 @@ impl DomainTables {
         ensures { self.new ≡ record self.old { domains = without name.now self.old.domains } }
     {
         self.domains.delete(name);
+    }
+}
+
+impl Drop for DomainTables {
+    fn drop(self) {
+        let DomainTables {
+            domains: _domains,
+            uploads: _uploads,
+        } = self;
     }
 }

@@ -9,7 +9,6 @@ use mms_types::Memory;
 use std::alloc::Global;
 
 /// The event conditions of a device, and the enrollments on them.
-#[derive(Drop)]
 pub struct EventTables {
     /// The conditions.
     pub conditions: Conditions,
@@ -45,5 +44,14 @@ impl EventTables {
             conditions: self.conditions.copy(alloc)?,
             enrolments: self.enrolments.copy(alloc)?,
         })
+    }
+}
+
+impl Drop for EventTables {
+    fn drop(self) {
+        let EventTables {
+            conditions: _conditions,
+            enrolments: _enrolments,
+        } = self;
     }
 }

@@ -19,7 +19,6 @@ use std::marker::Model;
 /// The entries of a semaphore whose tokens are equal, or of a pool, whose tokens have names (ISO 9506-1, semaphore
 /// entry). Contracts see the entries in order of number, and how many tokens have names. Numbers rise, and each token
 /// that an entry has or wants is there.
-#[derive(Drop)]
 pub struct Entries {
     named: Option<u32>,
     list: Vec<SemEntry>,
@@ -439,5 +438,15 @@ impl Entries {
             list,
             ranks,
         })
+    }
+}
+
+impl Drop for Entries {
+    fn drop(self) {
+        let Entries {
+            named: _,
+            list: _list,
+            ranks: _ranks,
+        } = self;
     }
 }

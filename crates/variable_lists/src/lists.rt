@@ -19,7 +19,6 @@ const MOST_LISTS: usize = 256;
 
 /// The lists of variables of a device. Contracts see the list of them under their names, in the order in which they
 /// were defined.
-#[derive(Drop)]
 pub struct Lists {
     rows: Named<VariableList>,
 }
@@ -199,5 +198,11 @@ impl Lists {
         Ok(Lists {
             rows: self.rows.copy(alloc)?,
         })
+    }
+}
+
+impl Drop for Lists {
+    fn drop(self) {
+        let Lists { rows: _rows } = self;
     }
 }

@@ -9,7 +9,6 @@ use variable_lists::Lists;
 use variables::Vars;
 
 /// The variables of a device and their lists.
-#[derive(Drop)]
 pub struct VariableTables {
     /// Cells and named variables.
     pub vars: Vars,
@@ -65,5 +64,14 @@ impl VariableTables {
             vars: self.vars.copy(alloc)?,
             lists: self.lists.copy(alloc)?,
         })
+    }
+}
+
+impl Drop for VariableTables {
+    fn drop(self) {
+        let VariableTables {
+            vars: _vars,
+            lists: _lists,
+        } = self;
     }
 }

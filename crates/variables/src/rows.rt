@@ -1,7 +1,6 @@
 use mms_types::{Data, Identifier, Listed, TypeSpec};
 
 /// A cell: a variable that has an address (ISO 9506-1, unnamed variable).
-#[derive(Drop)]
 pub struct StoredCell {
     /// Its type, which stays.
     pub of: TypeSpec,
@@ -31,3 +30,13 @@ pub struct NewValue {
 
 /// Values that cells get, in order. Contracts see the list of them.
 pub type NewValues = Listed<NewValue>;
+
+impl Drop for StoredCell {
+    fn drop(self) {
+        let StoredCell {
+            of: _of,
+            value: _value,
+            guard: _guard,
+        } = self;
+    }
+}

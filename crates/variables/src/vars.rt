@@ -10,7 +10,6 @@ use std::marker::Model;
 
 /// The variables of a device. Contracts see two lists: the cells with their numbers, and the named variables with
 /// their names, each in the order in which they were made. Cells are found by number and names by hashing.
-#[derive(Drop)]
 pub struct Vars {
     pub(crate) cells: IndexMap<u16, StoredCell>,
     pub(crate) variables: Named<Variable>,
@@ -109,5 +108,15 @@ impl Vars {
         variables
             .iter()
             .all(|spec| self.found(client, spec).is_some())
+    }
+}
+
+impl Drop for Vars {
+    fn drop(self) {
+        let Vars {
+            cells: _cells,
+            variables: _variables,
+            guarded: _,
+        } = self;
     }
 }

@@ -5,7 +5,7 @@ use Rattle.mms_time.specs.Semaphores.{Rows, changed_row}
 use Rattle.mms_time.proofs.EachLost.{lost_more}
 use Rattle.mms_time.proofs.Owned.{left_put, left_still, left_there, owned}
 use Rattle.mms_time.proofs.losing.lose_each.Goals as goal
-use Rattle.mms_time.proofs.losing.lose_each.Goals.{then-owns+in-Some-next+in-Token-1, then-owns+in-Some-next+in-Pool-1, else-owns}
+use Rattle.mms_time.proofs.losing.lose_each.Goals.{then-owns+in-Some-next, else-owns}
 
 pub unreachable-requires-in_default-next : goal.unreachable-requires-in_default-next
 unreachable-requires-in_default-next c =
@@ -31,18 +31,7 @@ loop-place-preserved c =
     let put = left_put client now all rows place row left is at stays in
     let lost = lost_more (changed_row (without_client client now)) all rows _ place row in
     elim c.if-owns.branch [
-      | then-owns+in-Some-next+in-Token-1 w ↦
-          let one = put w.in-Some-next.new w.next.new.self.rest.items (sym c.owns.ensures ∙ w.if-owns.true) w.in-Some-next.ensures.items in
-          let fewer = w.in-Some-next.ensures.len in
-          let next = ap length w.in-Some-next.ensures.items in
-          let count : w.next.new.self.rest.len ≡ length w.next.new.self.rest.items = omega (arith, fewer, next, many) in
-          record {
-            rows = lost w.in-Some-next.new is at one.0 w.semaphores-is;
-            left = ap (λ v. v.rest.items) w.left-is ∙ one.1;
-            many = ap (λ v. v.rest.len) w.left-is ∙ count ∙ sym (ap (λ v. length v.rest.items) w.left-is);
-            end = c.loop-place.invariant.end;
-          }
-      | then-owns+in-Some-next+in-Pool-1 w ↦
+      | then-owns+in-Some-next w ↦
           let one = put w.in-Some-next.new w.next.new.self.rest.items (sym c.owns.ensures ∙ w.if-owns.true) w.in-Some-next.ensures.items in
           let fewer = w.in-Some-next.ensures.len in
           let next = ap length w.in-Some-next.ensures.items in
