@@ -18,21 +18,21 @@ split_seat-own-requires g c =
     )
 
 pub of-requires-clause-seat : goal.of-requires-clause-seat
-of-requires-clause-seat g c κs within =
+of-requires-clause-seat g c =
     let key = c.args.table.now.shared.key in
     let lt : c.loop-by.by < key.callers = omega (arith, c.loop-by-test.true, c.requires.told.0) in
     let first = first_starts (setting_of key) c.loop-by.seat.me _ key.quota c.loop-by.by key.callers c.loop-by.invariant.seat lt c.split_seat-own.ensures.4 in
     rw c.requires.told.1 (starts_so (setting_of key) _ _ first)
 
 pub of-requires-clause-told : goal.of-requires-clause-told
-of-requires-clause-told g c κs within =
+of-requires-clause-told g c =
     let key = c.args.table.now.shared.key in
     let lt : c.loop-by.by < key.callers = omega (arith, c.loop-by-test.true, c.requires.told.0) in
     let first = first_starts (setting_of key) c.loop-by.seat.me _ key.quota c.loop-by.by key.callers c.loop-by.invariant.seat lt c.split_seat-own.ensures.4 in
     rw (settled (setting_of key) _ _ first) (c.requires.told.1, c.requires.told.2)
 
 pub of-requires-clause-few : goal.of-requires-clause-few
-of-requires-clause-few g c κs within =
+of-requires-clause-few g c =
     let key = c.args.table.now.shared.key in
     let lt : c.loop-by.by < key.callers = omega (arith, c.loop-by-test.true, c.requires.told.0) in
     let first = first_starts (setting_of key) c.loop-by.seat.me _ key.quota c.loop-by.by key.callers c.loop-by.invariant.seat lt c.split_seat-own.ensures.4 in

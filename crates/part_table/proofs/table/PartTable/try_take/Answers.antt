@@ -5,7 +5,7 @@ use Rattle.part_table.proofs.Passes.{lost_pass, took_pass, room_for}
 use Rattle.part_table.proofs.table.PartTable.try_take.Goals as goal
 
 pub claim-requires-clause-by : goal.claim-requires-clause-by
-claim-requires-clause-by g c κs within =
+claim-requires-clause-by g c =
     let t = c.pass.invariant.true_of c.pass.inside.hand in
     subst (λ n. n < c.pass.inside.seat.me.0.setting.callers) (ap number_of c.pass.invariant.account) t.number
 
