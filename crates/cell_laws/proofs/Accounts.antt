@@ -22,10 +22,10 @@ use Rattle.cell_client.specs.Effects.{Effect, Sends, Opens, Drains, tell}
 use Rattle.cell_ticks.specs.Ticks.{begun}
 use Rattle.cell_services.specs.Serving.{all_told, also_told, meanwhile, own_told, resolved, saying, waiting_of}
 use Rattle.cell_services.specs.Tables.{Tables, moment_after}
-use Rattle.mms_step.specs.Partition.{cell}
-use Rattle.mms_step.specs.State.{State, IsSound, start}
-use Rattle.mms_step.specs.Step.{step, replay}
-use Rattle.mms_step.proofs.Sound.{start_sound, step_sound}
+use Rattle.step_parts.specs.Partition.{cell}
+use Rattle.step_parts.specs.State.{State, IsSound, start}
+use Rattle.step_parts.specs.Step.{step, replay}
+use Rattle.step_sound.proofs.Sound.{start_sound, step_sound}
 use Rattle.cell_laws.specs.Linked.{asker}
 use Rattle.cell_laws.specs.Tally.{Account, HaveOneAnswerEach, AreSpelled, account, account_after, is_opening, opens, sent_to, taken_by, taken_from, told_in}
 use Rattle.cell_laws.proofs.Answering.{cancels-fair, ends-fair, exhausts-fair, loses-fair, replies-fair, takes-fair}

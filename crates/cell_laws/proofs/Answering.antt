@@ -45,9 +45,9 @@ use Rattle.cell_services.specs.Services.{cause, effect, grants_told, relinquish_
 use Rattle.cell_client.specs.Requests.{answer_told, fits, is_done, refuses, request_told, size_of}
 use Rattle.cell_services.specs.Serving.{also_lost, also_told, own_told}
 use Rattle.cell_services.specs.Tables.{Tables, moment_of}
-use Rattle.mms_step.proofs.Answering.{settled}
-use Rattle.mms_step.specs.Partition.{cell}
-use Rattle.mms_step.specs.State.{State, IsSound}
+use Rattle.step_sound.proofs.Answering.{settled}
+use Rattle.step_parts.specs.Partition.{cell}
+use Rattle.step_parts.specs.State.{State, IsSound}
 use Rattle.cell_laws.specs.Linked.{asker}
 use Rattle.cell_laws.specs.Tally.{AreSpelled, is_opening}
 use Rattle.cell_laws.proofs.Bound.{Bound, nat-same}

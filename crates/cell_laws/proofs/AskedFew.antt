@@ -18,10 +18,10 @@ use Rattle.domain_load.specs.Loading.{asked_next}
 use Rattle.parted_state.specs.Served.{delivered, row_at}
 use Rattle.cell_client.specs.Effects.{Asks, Effect, Settles, felt_all, tell}
 use Rattle.serve_domains.specs.Domains.{asks_next, calling_of, reply_of, reply_told}
-use Rattle.mms_step.proofs.Sound.{start_sound}
-use Rattle.mms_step.specs.Partition.{cell, no_client}
-use Rattle.mms_step.specs.State.{device_of, start}
-use Rattle.mms_step.specs.Step.{replay}
+use Rattle.step_sound.proofs.Sound.{start_sound}
+use Rattle.step_parts.specs.Partition.{cell, no_client}
+use Rattle.step_parts.specs.State.{device_of, start}
+use Rattle.step_parts.specs.Step.{replay}
 use Rattle.cell_laws.specs.Loads.{LoadStep}
 use Rattle.cell_laws.proofs.LoadMeant.{IsSpared}
 use Rattle.cell_laws.proofs.LoadRows.{AllRows, plain_rows, told_rows}

@@ -48,10 +48,10 @@ use Rattle.cell_client.specs.Association.{Verdict, Tells, Takes, Replies, Exhaus
 use Rattle.cell_services.specs.Services.{effect, effect_of, relinquish_outcome, reply_in, take_outcome}
 use Rattle.cell_services.specs.Serving.{is_served, is_served_in, resolved, tables_cancelled, tables_heard, tables_lost, waiting_of}
 use Rattle.cell_services.specs.Tables.{Tables, moment_after, moment_of}
-use Rattle.mms_step.specs.Partition.{cell}
-use Rattle.mms_step.specs.State.{State, IsSound as IsSoundState, start}
-use Rattle.mms_step.specs.Step.{replay, step}
-use Rattle.mms_step.proofs.Sound.{start_sound, step_sound}
+use Rattle.step_parts.specs.Partition.{cell}
+use Rattle.step_parts.specs.State.{State, IsSound as IsSoundState, start}
+use Rattle.step_parts.specs.Step.{replay, step}
+use Rattle.step_sound.proofs.Sound.{start_sound, step_sound}
 use Rattle.cell_laws.proofs.Bound.{key-same}
 use Rattle.cell_laws.proofs.Claims.{Single, single-expired, single-filter, single-given, single-lost, single-taken}
 use Rattle.cell_laws.proofs.Happened.{rows-then, sem_told}

@@ -26,8 +26,8 @@ use Rattle.association.specs.Client.{ClientRow}
 use Rattle.association.specs.Waiting.{is_waiting}
 use Rattle.parted_state.specs.Served.{row_at}
 use Rattle.cell_client.specs.Association.{Verdict, admitted, cancelled, idle_verdict, open_verdict, requested, verdict, verdict_by}
-use Rattle.mms_step.specs.Partition.{cell}
-use Rattle.mms_step.specs.State.{State}
+use Rattle.step_parts.specs.Partition.{cell}
+use Rattle.step_parts.specs.State.{State}
 use Rattle.cell_laws.specs.Tally.{Account, AreSpelled, HaveAnswers, account_after, opens, taken_by, taken_from, told_in}
 use Rattle.cell_laws.proofs.Counting.{many}
 use Rattle.cell_laws.proofs.Verdicts.{by-conclusion, by-error, by-rejected, by-response}

@@ -58,13 +58,13 @@ use Rattle.cell_services.specs.Requests.{told_in}
 use Rattle.cell_services.specs.Services.{area_of, cause, effect, effect_of, grants_told, relinquish_outcome, reply_in, take_outcome}
 use Rattle.cell_services.specs.Serving.{all_told, also_lost, also_told, is_served_in, meanwhile, own_told, resolved, saying, tables_cancelled, tables_heard, tables_lost, waiting_of}
 use Rattle.cell_services.specs.Tables.{Tables, moment_after, moment_of, own_events}
-use Rattle.mms_step.specs.Partition.{cell}
-use Rattle.mms_step.specs.State.{IsSound, State, start}
-use Rattle.mms_step.specs.Step.{replay, step}
-use Rattle.mms_step.proofs.ConditionsKept.{all_ahead}
-use Rattle.mms_step.proofs.EventsKept.{well_before}
-use Rattle.mms_step.proofs.Rows.{delivered_both}
-use Rattle.mms_step.proofs.Sound.{replay_sound, start_sound, step_sound}
+use Rattle.step_parts.specs.Partition.{cell}
+use Rattle.step_parts.specs.State.{IsSound, State, start}
+use Rattle.step_parts.specs.Step.{replay, step}
+use Rattle.step_sound.proofs.ConditionsKept.{all_ahead}
+use Rattle.step_sound.proofs.EventsKept.{well_before}
+use Rattle.step_parts.proofs.Rows.{delivered_both}
+use Rattle.step_sound.proofs.Sound.{replay_sound, start_sound, step_sound}
 use Rattle.cell_laws.specs.Enrolled.{AreToCome, HaveTheirClients, HaveTheirConditions}
 use Rattle.cell_laws.proofs.Happened.{at_conditions, at_semaphores, conditions-told, from_rows, keeps-ticked, sem_told, then-told, told-more}
 use Rattle.cell_laws.proofs.Hears.{admitted-open}

@@ -34,7 +34,7 @@ use Rattle.cell_client.specs.Effects.{Effect, Sends, Opens, Answers, Settles, te
 use Rattle.cell_services.specs.Services.{grant_told, grants_told}
 use Rattle.cell_services.specs.Serving.{resolved}
 use Rattle.cell_services.specs.Tables.{Tables}
-use Rattle.mms_step.specs.Partition.{cell}
+use Rattle.step_parts.specs.Partition.{cell}
 use Rattle.cell_laws.proofs.Bound.{nat-same, nat-test, of-both, both-true}
 use Rattle.cell_laws.proofs.Fair.{IsQuiet, Outcome, Unopening, join, none_taken, piece-abort, piece-answered, piece-quiet, piece-settles}
 use Rattle.cell_laws.proofs.Hears.{reached-answered, reached-still, waits_in}

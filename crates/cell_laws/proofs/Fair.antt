@@ -17,8 +17,8 @@ use Rattle.parted_state.specs.Served.{row_at, reached, delivered}
 use Rattle.cell_client.specs.Association.{sends}
 use Rattle.cell_client.specs.Effects.{Effect, Sends, Opens, Closes, Waits, Answers, Asks, Settles, Drains, felt, server_request}
 use Rattle.cell_services.specs.Serving.{waiting_of}
-use Rattle.mms_step.specs.Partition.{cell, no_client}
-use Rattle.mms_step.proofs.Sound.{delivered_both}
+use Rattle.step_parts.specs.Partition.{cell, no_client}
+use Rattle.step_sound.proofs.Sound.{delivered_both}
 use Rattle.cell_laws.specs.Tally.{AreSpelled, is_opening, sent_by, sent_to}
 use Rattle.cell_laws.proofs.Bound.{nat-same}
 use Rattle.cell_laws.proofs.Counting.{many}

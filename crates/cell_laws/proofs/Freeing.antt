@@ -30,9 +30,9 @@ use Rattle.mms_time.specs.declared.row.SemaphoreRow.{SemaphoreRow}
 use Rattle.mms_types.specs.declared.semaphore.TakeControlAnswer.{TakeControlAnswer}
 use Rattle.sem_ticks.specs.Granted.{granted}
 use Rattle.sem_ticks.specs.declared.granted.Granted.{Granted}
-use Rattle.mms_step.specs.Answered.{grant_answer}
-use Rattle.mms_step.specs.State.{State}
-use Rattle.mms_step.specs.Step.{outbox_of}
+use Rattle.step_sound.specs.Answered.{grant_answer}
+use Rattle.step_parts.specs.State.{State}
+use Rattle.step_parts.specs.Step.{outbox_of}
 use Rattle.cell_laws.specs.Freed.{IsPassedOn, IsUnheld, entries_at, entries_found, free_at, free_found, free_in, grant_of, held_in, owner_from, wanting_at, wants}
 use Rattle.cell_laws.specs.Linked.{waiting_at}
 use Rattle.cell_laws.proofs.Bound.{key-test, nat-same}

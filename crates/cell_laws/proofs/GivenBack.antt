@@ -39,13 +39,13 @@ use Rattle.cell_services.specs.Services.{cause, effect, grants_told, relinquish_
 use Rattle.cell_client.specs.Requests.{is_done, size_of}
 use Rattle.cell_services.specs.Serving.{also_told, is_served, own_told, resolved, tables_heard}
 use Rattle.cell_services.specs.Tables.{Tables, moment_of}
-use Rattle.mms_step.specs.Answered.{IsAnswered}
-use Rattle.mms_step.specs.Partition.{cell}
-use Rattle.mms_step.specs.State.{State, IsSound as IsSoundState}
-use Rattle.mms_step.specs.Step.{replay, step}
-use Rattle.mms_step.proofs.Outboxes.{given_back}
-use Rattle.mms_step.proofs.PartsAfter.{step_sized}
-use Rattle.mms_step.proofs.Sound.{replay_sound}
+use Rattle.step_sound.specs.Answered.{IsAnswered}
+use Rattle.step_parts.specs.Partition.{cell}
+use Rattle.step_parts.specs.State.{State, IsSound as IsSoundState}
+use Rattle.step_parts.specs.Step.{replay, step}
+use Rattle.step_sound.proofs.Outboxes.{given_back}
+use Rattle.step_parts.proofs.PartsAfter.{step_sized}
+use Rattle.step_sound.proofs.Sound.{replay_sound}
 use Rattle.cell_laws.specs.Freed.{GivesBack, IsPassedOn, grant_of, held_in, named_found, named_in, token_named}
 use Rattle.cell_laws.specs.Linked.{asker}
 use Rattle.cell_laws.proofs.Bound.{Bound, of-both}

@@ -37,10 +37,10 @@ use Rattle.cell_client.specs.Association.{Takes, verdict}
 use Rattle.cell_services.specs.Services.{relinquish_outcome, take_outcome}
 use Rattle.cell_services.specs.Serving.{is_served, resolved}
 use Rattle.cell_services.specs.Tables.{Tables, moment_after, moment_of}
-use Rattle.mms_step.specs.Partition.{cell}
-use Rattle.mms_step.specs.State.{State, IsSound as IsSoundState}
-use Rattle.mms_step.specs.Step.{replay, step}
-use Rattle.mms_step.proofs.Sound.{replay_sound}
+use Rattle.step_parts.specs.Partition.{cell}
+use Rattle.step_parts.specs.State.{State, IsSound as IsSoundState}
+use Rattle.step_parts.specs.Step.{replay, step}
+use Rattle.step_sound.proofs.Sound.{replay_sound}
 use Rattle.cell_laws.specs.Freed.{GivesBack, TimesOut, token_held, token_named}
 use Rattle.cell_laws.specs.Linked.{asker}
 use Rattle.cell_laws.specs.Lost.{GoesWith, IsLeft, IsLost, IsLostFor, IsTimedOut, given_back, gone, hung, left, preempted, preempted_at, preempted_found, preempted_in, timed_out}

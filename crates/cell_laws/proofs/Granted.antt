@@ -24,10 +24,10 @@ use Rattle.cell_ticks.specs.declared.happening.Happening.{Happening as DeviceHap
 use Rattle.cell_ticks.specs.declared.happening.Happening.TheVariants as device
 use Rattle.serve_events.specs.Told.{notices_told}
 use Rattle.cell_services.specs.Serving.{all_told, dated_told, happened_told, happening_told, waiting_of}
-use Rattle.mms_step.specs.Answered.{IsAnswered}
-use Rattle.mms_step.specs.Partition.{cell, no_client}
-use Rattle.mms_step.specs.State.{State}
-use Rattle.mms_step.proofs.Sound.{delivered_both}
+use Rattle.step_sound.specs.Answered.{IsAnswered}
+use Rattle.step_parts.specs.Partition.{cell, no_client}
+use Rattle.step_parts.specs.State.{State}
+use Rattle.step_sound.proofs.Sound.{delivered_both}
 use Rattle.cell_laws.specs.Freed.{grant_of, wants}
 use Rattle.cell_laws.specs.Linked.{asker, asker_of}
 use Rattle.cell_laws.proofs.Accounts.{waits-is}

@@ -23,8 +23,8 @@ use Rattle.cell_ticks.proofs.Ticked.{both_parts}
 use Rattle.cell_client.specs.Effects.{Effect}
 use Rattle.cell_services.specs.Serving.{all_told, dated_told, happening_told, meanwhile, saying}
 use Rattle.cell_services.specs.Tables.{moment_after}
-use Rattle.mms_step.specs.Partition.{cell}
-use Rattle.mms_step.specs.State.{State, IsSound}
+use Rattle.step_parts.specs.Partition.{cell}
+use Rattle.step_parts.specs.State.{State, IsSound}
 use Rattle.cell_laws.proofs.Freeing.{contains-stands, stands-contains}
 use Rattle.cell_laws.proofs.Notices.{AreNotices, notices-both, told-notices}
 use Rattle.cell_laws.proofs.Queues.{map-stands, stands-map}

@@ -18,7 +18,7 @@ use Rattle.cell_client.specs.Effects.{Effect, Sends, Opens, Closes, Waits, Answe
 use Rattle.cell_services.specs.Services.{grant_told, grants_told}
 use Rattle.cell_services.specs.Serving.{waiting_of}
 use Rattle.serve_domains.specs.Domains.{asks_next}
-use Rattle.mms_step.specs.Partition.{cell, no_client}
+use Rattle.step_parts.specs.Partition.{cell, no_client}
 use Rattle.cell_laws.proofs.Bound.{nat-same, nat-test}
 use Rattle.cell_laws.proofs.Queues.{is_answered}
 

@@ -43,13 +43,13 @@ use Rattle.cell_client.specs.Association.{Verdict, Concludes, Aborts, Exhausts, 
 use Rattle.cell_client.specs.Effects.{Effect, tell}
 use Rattle.cell_services.specs.Services.{grants_told}
 use Rattle.cell_services.specs.Serving.{also_lost, also_told, own_told, resolved, tables_heard, tables_lost}
-use Rattle.mms_step.specs.Answered.{EndsIt, IsAnswered}
-use Rattle.mms_step.specs.Partition.{cell}
-use Rattle.mms_step.specs.State.{State, IsSound as IsSoundState}
-use Rattle.mms_step.specs.Step.{replay, step}
-use Rattle.mms_step.proofs.Outboxes.{left_to, lost_to}
-use Rattle.mms_step.proofs.PartsAfter.{step_sized}
-use Rattle.mms_step.proofs.Sound.{replay_sound}
+use Rattle.step_sound.specs.Answered.{EndsIt, IsAnswered}
+use Rattle.step_parts.specs.Partition.{cell}
+use Rattle.step_parts.specs.State.{State, IsSound as IsSoundState}
+use Rattle.step_parts.specs.Step.{replay, step}
+use Rattle.step_sound.proofs.Outboxes.{left_to, lost_to}
+use Rattle.step_parts.proofs.PartsAfter.{step_sized}
+use Rattle.step_sound.proofs.Sound.{replay_sound}
 use Rattle.cell_laws.specs.Freed.{IsPassedOn, Leaves, OwnsUnkept, TimesOut, are_named, entries_at, entries_found, grant_of, named_tokens, named_tokens_found}
 use Rattle.cell_laws.specs.Linked.{asker}
 use Rattle.cell_laws.proofs.Bound.{Bound, both-true, cond-some, key-same}

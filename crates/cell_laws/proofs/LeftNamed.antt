@@ -29,9 +29,9 @@ use Rattle.sem_ticks.specs.Granted.{granted}
 use Rattle.sem_ticks.specs.Sound.{AreSound}
 use Rattle.sem_ticks.specs.Ticks.{Ticking}
 use Rattle.sem_ticks.proofs.Kept.{row_found}
-use Rattle.mms_step.specs.State.{State}
-use Rattle.mms_step.specs.Step.{replay, step}
-use Rattle.mms_step.proofs.Sound.{replay_sound}
+use Rattle.step_parts.specs.State.{State}
+use Rattle.step_parts.specs.Step.{replay, step}
+use Rattle.step_sound.proofs.Sound.{replay_sound}
 use Rattle.cell_laws.specs.Freed.{IsPassedOn, Leaves, OwnsNamed, TimesOut, entries_found, grant_of, lost_so_far, named_tokens, named_tokens_found, owners_at, with_lost}
 use Rattle.cell_laws.proofs.Freeing.{Found, IsTold, found-changed, freed, gone, granted-same, next_of, passes-on, row-changed}
 use Rattle.cell_laws.proofs.Left.{Tells, abort-tells, gone-sound, leaves, lost-at, stands-right, told-stands}

@@ -68,10 +68,10 @@ use Rattle.cell_services.specs.Tables.{Tables, moment_after, moment_of, own_doma
 use Rattle.serve_domains.specs.Domains.{asks_next, replied_to, reply_of}
 use Rattle.serve_domains.specs.Tables.{DomainTables}
 use Rattle.domain_load.specs.Loading.{asked_next}
-use Rattle.mms_step.specs.Partition.{cell, no_client}
-use Rattle.mms_step.specs.State.{State, IsSound}
-use Rattle.mms_step.specs.Step.{step}
-use Rattle.mms_step.proofs.Sound.{delivered_both}
+use Rattle.step_parts.specs.Partition.{cell, no_client}
+use Rattle.step_parts.specs.State.{State, IsSound}
+use Rattle.step_parts.specs.Step.{step}
+use Rattle.step_sound.proofs.Sound.{delivered_both}
 use Rattle.cell_laws.specs.Linked.{asker}
 use Rattle.cell_laws.proofs.Bound.{Bound, bound-same, nat-same, of-both}
 use Rattle.cell_laws.proofs.Bounds.{bound-answered, bound-cancelled, bound-defined, bound-deleted, bound-given, bound-waits, told_of}

@@ -12,9 +12,9 @@ use Rattle.parted_state.specs.Served.{change, delivered, reached}
 use Rattle.sem_ticks.specs.declared.granted.Granted.{Granted}
 use Rattle.cell_client.specs.Effects.{Effect, Sends, Opens, Closes, Waits, Answers, Drains, Asks, Settles, felt, felt_all, tell}
 use Rattle.cell_services.specs.Services.{grant_told, grants_told}
-use Rattle.mms_step.proofs.LoadsKept.{AreQuiet}
-use Rattle.mms_step.proofs.PartsAfter.{told_one}
-use Rattle.mms_step.specs.Partition.{cell}
+use Rattle.step_sound.proofs.LoadsKept.{AreQuiet}
+use Rattle.step_parts.proofs.PartsAfter.{told_one}
+use Rattle.step_parts.specs.Partition.{cell}
 use Rattle.cell_laws.proofs.Notices.{AreNotices}
 
 -- so is the row of each client

@@ -25,7 +25,7 @@ use Rattle.domain_load.proofs.Outcomes.{begins, gone, is_changed, lost_others}
 use Rattle.cell_client.specs.Association.{Arrives, Came, Ends, Fails}
 use Rattle.serve_domains.specs.Domains.{reply_of}
 use Rattle.serve_domains.specs.Loads.{asks_load, is_of_load_kind}
-use Rattle.mms_step.proofs.DomainNames.{HaveNames}
+use Rattle.step_sound.proofs.DomainNames.{HaveNames}
 use Rattle.cell_laws.specs.Loads.{Answers, Begins, IsLoading, Load, LoadStep, WasLoaded, answers_of, but_last, last_load, load_after, with_answer}
 use Rattle.cell_laws.proofs.Bound.{nat-same, nat-test}
 use Rattle.cell_laws.proofs.LoadMeant.{Suits}

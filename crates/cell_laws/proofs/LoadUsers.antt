@@ -13,7 +13,7 @@ use Rattle.domain_load.specs.Domains.{Rows, is_there, name_eq, named}
 use Rattle.domain_load.specs.Loading.{changed}
 use Rattle.domain_load.specs.declared.domain.Domain.{Domain}
 use Rattle.domain_load.proofs.Outcomes.{found_changed}
-use Rattle.mms_step.proofs.DomainNames.{HaveNames}
+use Rattle.step_sound.proofs.DomainNames.{HaveNames}
 use Rattle.cell_laws.specs.Loads.{Load, LoadStep, last_load}
 use Rattle.cell_laws.proofs.LoadTold.{EachAsked, IsAsked, IsBrought, IsTold, names_same}
 

@@ -59,11 +59,11 @@ use Rattle.cell_services.specs.Requests.{among, told_in}
 use Rattle.cell_services.specs.Services.{area_of, cause, effect, grants_told, relinquish_outcome, reply_in, take_outcome}
 use Rattle.cell_services.specs.Serving.{aborted_at, all_told, also_lost, also_served, also_told, dated_told, domains_without, happened_told, happening_told, is_served_in, loss_also, lost_in, meanwhile, own_told, resolved, served_told, tables_cancelled, tables_heard, tables_lost, tables_served, waiting_of, without_client}
 use Rattle.cell_services.specs.Tables.{Tables, moment_of, own_domains}
-use Rattle.mms_step.proofs.Rows.{delivered_both, nobody_told}
-use Rattle.mms_step.proofs.Sound.{step_sound}
-use Rattle.mms_step.specs.Partition.{cell, no_client}
-use Rattle.mms_step.specs.State.{IsSound, IsSoundRow, State}
-use Rattle.mms_step.specs.Step.{step}
+use Rattle.step_parts.proofs.Rows.{delivered_both, nobody_told}
+use Rattle.step_sound.proofs.Sound.{step_sound}
+use Rattle.step_parts.specs.Partition.{cell, no_client}
+use Rattle.step_parts.specs.State.{IsSound, IsSoundRow, State}
+use Rattle.step_parts.specs.Step.{step}
 use Rattle.cell_laws.specs.Loads.{Answers, Begins, LoadStep, load_begun, load_heard, load_step, load_steps}
 use Rattle.cell_laws.proofs.LoadMeant.{IsBoth, IsReply, resolved_both}
 use Rattle.cell_laws.proofs.LoadUsers.{IsOfUsers}

@@ -33,12 +33,12 @@ use Rattle.serve_domains.specs.Tables as domains
 use Rattle.cell_services.specs.Requests.{among}
 use Rattle.cell_services.specs.Serving.{domains_without, is_served, lost_in, meanwhile, resolved, tables_heard, tables_lost}
 use Rattle.cell_services.specs.Tables.{Tables, own_domains}
-use Rattle.mms_step.proofs.DomainNames.{HaveNames, lost_names}
-use Rattle.mms_step.proofs.Sound.{replay_sound}
-use Rattle.mms_step.specs.Answered.{EndsIt}
-use Rattle.mms_step.specs.Partition.{cell}
-use Rattle.mms_step.specs.State.{IsSound, State}
-use Rattle.mms_step.specs.Step.{replay, step}
+use Rattle.step_sound.proofs.DomainNames.{HaveNames, lost_names}
+use Rattle.step_sound.proofs.Sound.{replay_sound}
+use Rattle.step_sound.specs.Answered.{EndsIt}
+use Rattle.step_parts.specs.Partition.{cell}
+use Rattle.step_parts.specs.State.{IsSound, State}
+use Rattle.step_parts.specs.Step.{replay, step}
 use Rattle.cell_laws.specs.Freed.{Leaves}
 use Rattle.cell_laws.specs.Loads.{Answers, breaks_off, load_begun, load_heard, load_step}
 use Rattle.cell_laws.proofs.Linking.{Meant, numbered-client, resolved-meant, verdict-meant}

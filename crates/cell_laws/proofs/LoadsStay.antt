@@ -46,12 +46,12 @@ use Rattle.cell_services.specs.Requests.{among, told_in}
 use Rattle.cell_services.specs.Services.{cause, effect, relinquish_outcome, take_outcome}
 use Rattle.cell_services.specs.Serving.{domains_without, is_served, lost_in, meanwhile, resolved, tables_cancelled, tables_heard, tables_lost, waiting_of}
 use Rattle.cell_services.specs.Tables.{Tables, own_domains}
-use Rattle.mms_step.proofs.DomainNames.{HaveNames, lost_names}
-use Rattle.mms_step.proofs.Sound.{replay_sound}
-use Rattle.mms_step.specs.Answered.{EndsIt}
-use Rattle.mms_step.specs.Partition.{cell, no_client}
-use Rattle.mms_step.specs.State.{IsSound, State}
-use Rattle.mms_step.specs.Step.{replay, step}
+use Rattle.step_sound.proofs.DomainNames.{HaveNames, lost_names}
+use Rattle.step_sound.proofs.Sound.{replay_sound}
+use Rattle.step_sound.specs.Answered.{EndsIt}
+use Rattle.step_parts.specs.Partition.{cell, no_client}
+use Rattle.step_parts.specs.State.{IsSound, State}
+use Rattle.step_parts.specs.Step.{replay, step}
 use Rattle.cell_laws.specs.Loads.{Answers, EndsLoad, breaks_off, load_heard}
 use Rattle.cell_laws.proofs.Bound.{nat-same, nat-test}
 use Rattle.cell_laws.proofs.LoadMeant.{IsBoth, IsReply, of_load, resolved_both}

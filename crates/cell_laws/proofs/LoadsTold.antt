@@ -28,13 +28,13 @@ use Rattle.serve_domains.proofs.LoadLaws.{asked_row, count_settled, deleted}
 use Rattle.serve_domains.specs.Domains.{asks_next, reply_of, reply_told}
 use Rattle.serve_domains.specs.Loads.{AreLoads, asks_load, is_of_load_kind}
 use Rattle.serve_domains.specs.Tables.{DomainTables, no_domains}
-use Rattle.mms_step.proofs.DomainNames.{HaveNames, deleted_names}
-use Rattle.mms_step.proofs.Loading.{first_names}
-use Rattle.mms_step.proofs.LoadsKept.{AreAllLoads, AreSane, begun_sane, closed_sane, nobody_sane, quiet_sane, replied_sane, told_loads}
-use Rattle.mms_step.proofs.Sound.{start_sound}
-use Rattle.mms_step.specs.Partition.{cell}
-use Rattle.mms_step.specs.State.{start}
-use Rattle.mms_step.specs.Step.{replay}
+use Rattle.step_sound.proofs.DomainNames.{HaveNames, deleted_names}
+use Rattle.step_sound.proofs.Loading.{first_names}
+use Rattle.step_sound.proofs.LoadsKept.{AreAllLoads, AreSane, begun_sane, closed_sane, nobody_sane, quiet_sane, replied_sane, told_loads}
+use Rattle.step_sound.proofs.Sound.{start_sound}
+use Rattle.step_parts.specs.Partition.{cell}
+use Rattle.step_parts.specs.State.{start}
+use Rattle.step_parts.specs.Step.{replay}
 use Rattle.cell_laws.specs.Loads.{Answers, Begins, IsLoading, Load, LoadStep, WasLoaded, last_load, load_steps}
 use Rattle.cell_laws.proofs.AskedFew.{as_told, first_asked}
 use Rattle.cell_laws.proofs.LoadMeant.{IsBoth, IsReply, IsSpared, of_load}

@@ -46,12 +46,12 @@ use Rattle.cell_services.specs.Services.{cause, effect, effect_of, relinquish_ou
 use Rattle.cell_client.specs.Requests.{is_done, size_of}
 use Rattle.cell_services.specs.Serving.{is_served, is_served_in, resolved, tables_cancelled, tables_heard, tables_lost, waiting_of}
 use Rattle.cell_services.specs.Tables.{Tables, moment_after, moment_of}
-use Rattle.mms_step.specs.Partition.{cell}
-use Rattle.mms_step.specs.State.{State, IsSound as IsSoundState}
-use Rattle.mms_step.specs.Step.{replay, step}
-use Rattle.mms_step.specs.Answered.{EndsIt}
-use Rattle.mms_step.proofs.Guarded.{taken_before}
-use Rattle.mms_step.proofs.Sound.{replay_sound}
+use Rattle.step_parts.specs.Partition.{cell}
+use Rattle.step_parts.specs.State.{State, IsSound as IsSoundState}
+use Rattle.step_parts.specs.Step.{replay, step}
+use Rattle.step_sound.specs.Answered.{EndsIt}
+use Rattle.step_sound.proofs.Guarded.{taken_before}
+use Rattle.step_sound.proofs.Sound.{replay_sound}
 use Rattle.cell_laws.specs.Freed.{GivesBack, TimesOut, after_met, token_held}
 use Rattle.cell_laws.specs.Lost.{HasStill, IsLost, IsLostFor, given_back, gone, hung, left, preempted, preempted_found, preempted_in, timed_out}
 use Rattle.cell_laws.proofs.Bound.{nat-same, of-both}

@@ -42,10 +42,10 @@ use Rattle.cell_services.specs.Services.{effect, effect_of, relinquish_outcome, 
 use Rattle.cell_ticks.specs.Ticks.{begun}
 use Rattle.cell_services.specs.Serving.{is_served, is_served_in, resolved, saying, tables_cancelled, tables_heard, tables_lost, waiting_of}
 use Rattle.cell_services.specs.Tables.{Tables, moment_after, moment_of}
-use Rattle.mms_step.specs.Partition.{cell}
-use Rattle.mms_step.specs.State.{State, start}
-use Rattle.mms_step.specs.Step.{replay, step}
-use Rattle.mms_step.proofs.PartsAfter.{now_lost, step_still}
+use Rattle.step_parts.specs.Partition.{cell}
+use Rattle.step_parts.specs.State.{State, start}
+use Rattle.step_parts.specs.Step.{replay, step}
+use Rattle.step_parts.proofs.PartsAfter.{now_lost, step_still}
 use Rattle.cell_laws.proofs.Asked32.{AsksFew, FewAsked, HeardFew, RequestFew, heard-few}
 use Rattle.cell_laws.proofs.Near.{IsBy, RowsNear, all_near, entry_near, near_cancelled, near_defined, near_deleted, near_lost, near_relinquished, near_taken, near_ticked, rows-later}
 use Rattle.cell_laws.proofs.Verdicts.{by-conclusion, by-error, by-rejected, by-response, by-tables}

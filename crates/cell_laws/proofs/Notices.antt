@@ -19,7 +19,7 @@ use Rattle.serve_events.specs.Told.{notification, notices_told, turn_told, turns
 use Rattle.cell_services.specs.Requests.{told_in}
 use Rattle.cell_services.specs.Services.{effect}
 use Rattle.cell_services.specs.Tables.{Tables, own_events}
-use Rattle.mms_step.specs.Partition.{cell}
+use Rattle.step_parts.specs.Partition.{cell}
 use Rattle.cell_laws.specs.Tally.{is_opening}
 use Rattle.cell_laws.proofs.Fair.{IsQuiet, Outcome, Unopening, join, none_taken, piece-quiet}
 use Rattle.cell_laws.proofs.Hears.{AllStill, IsStill}

@@ -21,8 +21,8 @@ use Rattle.cell_ticks.specs.Ticks.{aborted, enrolments_without}
 use Rattle.cell_client.specs.Effects.{Effect, Sends, Opens, Closes, Waits, Answers, Asks, Settles, Drains, felt, tell}
 use Rattle.cell_services.specs.Services.{grants_told}
 use Rattle.cell_services.specs.Serving.{happening_told}
-use Rattle.mms_step.specs.Partition.{cell, no_client}
-use Rattle.mms_step.proofs.Rows.{delivered_both}
+use Rattle.step_parts.specs.Partition.{cell, no_client}
+use Rattle.step_parts.proofs.Rows.{delivered_both}
 use Rattle.cell_laws.proofs.Bound.{nat-same}
 use Rattle.cell_laws.proofs.Happened.{sem_told}
 use Rattle.cell_laws.proofs.Hears.{AreStill, IsStill, row-other}

@@ -36,7 +36,7 @@ use Rattle.cell_client.specs.Association.{confirmed_error, timeout_error}
 use Rattle.cell_client.specs.Effects.{Effect, Sends, Closes}
 use Rattle.cell_services.specs.Services.{grants_told}
 use Rattle.cell_services.specs.Serving.{all_told, dated_told, happened_told, happening_told}
-use Rattle.mms_step.specs.Partition.{cell}
+use Rattle.step_parts.specs.Partition.{cell}
 use Rattle.cell_laws.specs.Linked.{asker, asker_of}
 use Rattle.cell_laws.proofs.Answering.{retake}
 use Rattle.cell_laws.proofs.Bound.{Bound}

@@ -18,10 +18,10 @@ use Rattle.cell_config.specs.Said.{IsConfig}
 use Rattle.mms_time.specs.Opening.{configured, pool_row}
 use Rattle.parted_state.specs.Served.{row_at}
 use Rattle.cell_services.specs.Serving.{waiting_of}
-use Rattle.mms_step.specs.Partition.{cell, no_client}
-use Rattle.mms_step.specs.State.{State, IsSound, device_of, start}
-use Rattle.mms_step.specs.Step.{step, replay}
-use Rattle.mms_step.proofs.Sound.{replay_sound, start_sound, step_sound}
+use Rattle.step_parts.specs.Partition.{cell, no_client}
+use Rattle.step_parts.specs.State.{State, IsSound, device_of, start}
+use Rattle.step_parts.specs.Step.{step, replay}
+use Rattle.step_sound.proofs.Sound.{replay_sound, start_sound, step_sound}
 use Rattle.cell_laws.specs.Linked.{AreLinked, asker, waiting_at}
 use Rattle.cell_laws.proofs.Bound.{nat-same, nat-test, request_of}
 use Rattle.cell_laws.proofs.Linking.{Linked, linked_step}

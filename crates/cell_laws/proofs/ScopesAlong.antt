@@ -16,10 +16,10 @@ use Rattle.cell_client.specs.Association.{Came, verdict}
 use Rattle.serve_domains.proofs.Answered.{IsOfLoad, IsSaid, verdict_said}
 use Rattle.serve_domains.specs.Loads.{AreLoads}
 use Rattle.cell_services.specs.Serving.{resolved}
-use Rattle.mms_step.specs.Partition.{cell, no_client}
-use Rattle.mms_step.specs.State.{State, IsSound, start}
-use Rattle.mms_step.specs.Step.{step, replay}
-use Rattle.mms_step.proofs.Sound.{start_sound, step_sound}
+use Rattle.step_parts.specs.Partition.{cell, no_client}
+use Rattle.step_parts.specs.State.{State, IsSound, start}
+use Rattle.step_parts.specs.Step.{step, replay}
+use Rattle.step_sound.proofs.Sound.{start_sound, step_sound}
 use Rattle.cell_laws.specs.Scopes.{HaveLiveScopes}
 use Rattle.cell_laws.proofs.EachName.{Each, each_all}
 use Rattle.cell_laws.proofs.ScopesKept.{AreLive, HasLive, NamesAre, heard_live, lost_live, passed_live}

@@ -51,10 +51,10 @@ use Rattle.cell_services.specs.Tables.{Tables, moment_of}
 use Rattle.domain_load.specs.Loading.{asked_next}
 use Rattle.serve_domains.specs.Domains.{asks_next, replied_to, reply_of}
 use Rattle.serve_domains.specs.Tables.{DomainTables}
-use Rattle.mms_step.specs.Partition.{cell}
-use Rattle.mms_step.specs.State.{State, start}
-use Rattle.mms_step.specs.Step.{outbox_in, outbox_of, replay, step}
-use Rattle.mms_step.proofs.PartsAfter.{step_sized}
+use Rattle.step_parts.specs.Partition.{cell}
+use Rattle.step_parts.specs.State.{State, start}
+use Rattle.step_parts.specs.Step.{outbox_in, outbox_of, replay, step}
+use Rattle.step_parts.proofs.PartsAfter.{step_sized}
 use Rattle.cell_laws.specs.Tally.{Account, account, account_after, drained, drains, opens, sent_by, sent_to, told_in}
 use Rattle.cell_laws.proofs.Bound.{nat-same, nat-test}
 use Rattle.cell_laws.proofs.Verdicts.{by-conclusion, by-error, by-rejected, by-response, by-tables}

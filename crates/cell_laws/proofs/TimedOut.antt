@@ -37,12 +37,12 @@ use Rattle.cell_ticks.specs.Ticks.{dated}
 use Rattle.cell_ticks.specs.declared.happening.Happening.TheVariants as device
 use Rattle.cell_services.specs.Serving.{meanwhile}
 use Rattle.cell_services.specs.Tables.{moment_after}
-use Rattle.mms_step.specs.Partition.{cell}
-use Rattle.mms_step.specs.State.{State, IsSound as IsSoundState}
-use Rattle.mms_step.specs.Step.{replay, step}
-use Rattle.mms_step.proofs.Outboxes.{ticked_to}
-use Rattle.mms_step.proofs.PartsAfter.{step_sized}
-use Rattle.mms_step.proofs.Sound.{replay_sound}
+use Rattle.step_parts.specs.Partition.{cell}
+use Rattle.step_parts.specs.State.{State, IsSound as IsSoundState}
+use Rattle.step_parts.specs.Step.{replay, step}
+use Rattle.step_sound.proofs.Outboxes.{ticked_to}
+use Rattle.step_parts.proofs.PartsAfter.{step_sized}
+use Rattle.step_sound.proofs.Sound.{replay_sound}
 use Rattle.cell_laws.specs.Freed.{IsPassedOn, TimesOut, after_met, grant_of, held_found, held_in, token_held}
 use Rattle.cell_laws.specs.Linked.{asker}
 use Rattle.cell_laws.proofs.Bound.{Bound}

@@ -14,8 +14,8 @@ use Rattle.event_cond.specs.declared.condition.Condition.{Condition}
 use Rattle.event_cond.specs.declared.condition.ConditionClass.TheVariants.{Monitored, NetworkTriggered}
 use Rattle.event_enrol.specs.declared.enrolment.Enrolment.{Enrolment}
 use Rattle.parted_state.specs.Served.{row_at}
-use Rattle.mms_step.specs.Partition.{cell, no_device}
-use Rattle.mms_step.specs.State.{State}
+use Rattle.step_parts.specs.Partition.{cell, no_device}
+use Rattle.step_parts.specs.State.{State}
 use Rattle.cell_laws.specs.Enrolled.{AreToCome, HaveTheirClients, HaveTheirConditions}
 
 -- the conditions C and D, and the enrollment E of client 1 on C

@@ -8,7 +8,7 @@ use Rattle.program_inv.specs.Programs.{Rows}
 use Rattle.program_inv.specs.declared.invocation.Invocation.{Invocation}
 use Rattle.serve_programs.specs.Users.{users_of}
 use Rattle.serve_events.specs.Tables.{no_events}
-use Rattle.mms_step.specs.State.{State}
+use Rattle.step_parts.specs.State.{State}
 use Rattle.cell_laws.specs.Programs.{AreForOne, HaveTheirDomains}
 
 -- the domains D1, D2, .., and the invocations A and P

@@ -12,7 +12,7 @@ use Rattle.event_enrol.specs.declared.enrolment.Enrolment.{Enrolment}
 use Rattle.mms_time.specs.Services.{new_semaphore}
 use Rattle.mms_time.specs.declared.row.SemaphoreRow.{SemaphoreRow}
 use Rattle.serve_events.specs.Tables.{no_events}
-use Rattle.mms_step.specs.State.{State}
+use Rattle.step_parts.specs.State.{State}
 use Rattle.mms_journal.specs.Services.{created}
 use Rattle.cell_laws.specs.Scopes.{AreScopesLive, HaveLiveScopes, IsScopeLive}
 use Rattle.cell_laws.proofs.EachName.{each_all}

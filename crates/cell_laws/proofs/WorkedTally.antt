@@ -10,7 +10,7 @@ use Rattle.mms_pdu.proofs.AnswerTold.{octets_answer}
 use Rattle.association.specs.Client.{ClientRow, new_row}
 use Rattle.cell_client.specs.Association.{Exhausts, Replies, Fails}
 use Rattle.cell_client.specs.Effects.{Effect, Settles, Asks, Closes, asking_octets, server_request}
-use Rattle.mms_step.specs.Partition.{no_device}
+use Rattle.step_parts.specs.Partition.{no_device}
 use Rattle.cell_laws.specs.Tally.{HaveAnswers, opens, sent_to, taken_by}
 
 -- the domain D

@@ -5,8 +5,8 @@ use Rattle.association.specs.declared.negotiation.Negotiated.{Negotiated}
 use Rattle.event_cond.specs.Conditions.{named}
 use Rattle.event_cond.specs.Evaluations.{evaluations}
 use Rattle.parted_state.specs.Served.{row_at}
-use Rattle.mms_step.specs.Partition.{cell}
-use Rattle.mms_step.specs.State.{State}
+use Rattle.step_parts.specs.Partition.{cell}
+use Rattle.step_parts.specs.State.{State}
 
 -- the condition of each enrollment is there
 abbrev pub HaveTheirConditions : State → Type 0

@@ -31,10 +31,10 @@ use Rattle.parted_state.specs.Served.{row_at}
 use Rattle.cell_client.specs.Association.{Takes, verdict}
 use Rattle.cell_services.specs.Serving.{is_served, resolved}
 use Rattle.cell_services.specs.Tables.{moment_after}
-use Rattle.mms_step.specs.Answered.{EndsIt, grant_answer}
-use Rattle.mms_step.specs.Partition.{cell}
-use Rattle.mms_step.specs.State.{State}
-use Rattle.mms_step.specs.Step.{outbox_of, step}
+use Rattle.step_sound.specs.Answered.{EndsIt, grant_answer}
+use Rattle.step_parts.specs.Partition.{cell}
+use Rattle.step_parts.specs.State.{State}
+use Rattle.step_parts.specs.Step.{outbox_of, step}
 use Rattle.cell_laws.specs.Linked.{waiting_at}
 
 -- ---- the semaphore of a name

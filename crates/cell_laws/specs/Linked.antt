@@ -9,8 +9,8 @@ use Rattle.token_sem.specs.Semaphore.{is_queued}
 use Rattle.token_sem.specs.declared.entry.SemEntry.{SemEntry}
 use Rattle.mms_time.specs.Semaphores.{Rows, entry_in}
 use Rattle.parted_state.specs.Served.{row_at}
-use Rattle.mms_step.specs.Partition.{cell}
-use Rattle.mms_step.specs.State.{State}
+use Rattle.step_parts.specs.Partition.{cell}
+use Rattle.step_parts.specs.State.{State}
 
 -- the client and the invokeID of the request of an entry that is queued
 abbrev pub asker_of : Option SemEntry → Option (ℕ × ℕ)

@@ -20,9 +20,9 @@ use Rattle.cell_client.specs.Association.{Verdict, Takes, Replies, verdict}
 use Rattle.serve_domains.specs.Domains.{reply_of}
 use Rattle.cell_services.specs.Serving.{is_served, lost_in, meanwhile, resolved}
 use Rattle.cell_services.specs.Tables.{Tables}
-use Rattle.mms_step.specs.Partition.{cell}
-use Rattle.mms_step.specs.State.{State, start}
-use Rattle.mms_step.specs.Step.{step}
+use Rattle.step_parts.specs.Partition.{cell}
+use Rattle.step_parts.specs.State.{State, start}
+use Rattle.step_parts.specs.Step.{step}
 use Rattle.cell_laws.specs.Freed.{Leaves}
 
 -- ---- what events tell of loads

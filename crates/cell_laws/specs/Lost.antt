@@ -23,9 +23,9 @@ use Rattle.sem_ticks.specs.Ticks.{Ticking}
 use Rattle.parted_state.specs.Served.{row_at}
 use Rattle.cell_client.specs.Association.{Takes, verdict}
 use Rattle.cell_services.specs.Serving.{is_served}
-use Rattle.mms_step.specs.Partition.{cell}
-use Rattle.mms_step.specs.State.{State}
-use Rattle.mms_step.specs.Step.{step}
+use Rattle.step_parts.specs.Partition.{cell}
+use Rattle.step_parts.specs.State.{State}
+use Rattle.step_parts.specs.Step.{step}
 use Rattle.cell_laws.specs.Freed.{GivesBack, Leaves, TimesOut, token_held, token_named}
 
 -- the entry, when it is hung

@@ -7,7 +7,7 @@ use Rattle.domain_load.specs.Domains.{is_there, named}
 use Rattle.domain_load.specs.Standing.{is_live}
 use Rattle.domain_load.specs.declared.domain.Domain.{Domain}
 use Rattle.serve_programs.specs.Users.{is_of}
-use Rattle.mms_step.specs.State.{State}
+use Rattle.step_parts.specs.State.{State}
 
 -- the names that a domain has are those of the invocations that name it, in order of octets
 abbrev pub KnowTheirPrograms : State → Type 0

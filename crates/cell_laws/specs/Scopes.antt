@@ -6,7 +6,7 @@ use Rattle.mms_types.specs.declared.key.Scope.{Scope}
 use Rattle.mms_types.specs.declared.key.Scope.TheVariants.{Vmd, Domain, Association}
 use Rattle.domain_load.specs.Domains.{Rows, is_there}
 use Rattle.domain_load.specs.Standing.{is_live}
-use Rattle.mms_step.specs.State.{State}
+use Rattle.step_parts.specs.State.{State}
 
 -- where the scope is a domain, that domain is READY or IN-USE
 abbrev pub IsScopeLive : Rows → Scope → Type 0

@@ -16,9 +16,9 @@ use Rattle.parted_state.specs.Served.{done_of, reached, row_at}
 use Rattle.cell_client.specs.Association.{Verdict, Tells, Takes, Replies, Exhausts, Concludes, Cancels, Aborts, verdict}
 use Rattle.cell_client.specs.Effects.{Effect, Sends, Opens, Closes, Waits, Answers, Asks, Settles, Drains, asking_octets}
 use Rattle.cell_services.specs.Serving.{services}
-use Rattle.mms_step.specs.Partition.{cell}
-use Rattle.mms_step.specs.State.{State, start}
-use Rattle.mms_step.specs.Step.{outbox_of, step}
+use Rattle.step_parts.specs.Partition.{cell}
+use Rattle.step_parts.specs.State.{State, start}
+use Rattle.step_parts.specs.Step.{outbox_of, step}
 
 -- the outputs are these PDUs, each spelled; an abort is none
 abbrev pub AreSpelled : List What → List Pdu → Type 0

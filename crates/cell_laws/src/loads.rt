@@ -10,9 +10,9 @@ ghost use Rattle.domain_load.specs.Loading.{domain_of};
 ghost use Rattle.domain_load.specs.Standing.{is_live};
 ghost use Rattle.domain_load.specs.declared.domain.Domain.{Domain};
 ghost use Rattle.serve_domains.specs.Domains.{calling_of};
-ghost use Rattle.mms_step.specs.Step.{replay, step};
+ghost use Rattle.step_parts.specs.Step.{replay, step};
 ghost use Rattle.parted_state.specs.Served.{row_at};
-ghost use Rattle.mms_step.specs.Partition.{cell};
+ghost use Rattle.step_parts.specs.Partition.{cell};
 ghost use Rattle.cell_laws.specs.Freed.{Leaves};
 ghost use Rattle.cell_laws.specs.Loads.{Answers, EndsLoad, IsLoading, WasLoaded, breaks_off, domain_at, last_load_in, load_step, loads, lost_meanwhile};
 

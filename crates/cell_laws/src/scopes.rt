@@ -4,7 +4,7 @@ ghost use Rattle.std.specs.Prelude.{List};
 ghost use Rattle.mms_types.specs.declared.event.CellEvent.{CellEvent};
 ghost use Rattle.cell_config.specs.declared.config.Config.{Config};
 ghost use Rattle.cell_config.specs.Said.{IsConfig};
-ghost use Rattle.mms_step.specs.Step.{replay};
+ghost use Rattle.step_parts.specs.Step.{replay};
 ghost use Rattle.cell_laws.specs.Scopes.{HaveLiveScopes};
 
 /// Each scope is live, after any history: where the scope of a named variable, of a variable list,

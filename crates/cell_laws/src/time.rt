@@ -5,7 +5,7 @@ ghost use Rattle.mms_types.specs.declared.event.CellEvent.{CellEvent};
 ghost use Rattle.mms_types.specs.declared.event.CellEvent.TheVariants.{Tick};
 ghost use Rattle.cell_config.specs.declared.config.Config.{Config};
 ghost use Rattle.cell_config.specs.Said.{IsConfig};
-ghost use Rattle.mms_step.specs.Step.{replay, step};
+ghost use Rattle.step_parts.specs.Step.{replay, step};
 
 /// Two ticks with nothing between are one, after any history: the state is the same, what is to be sent to each client
 /// included, so evaluations, time-outs and notifications don't depend on how time is cut.

@@ -10,14 +10,14 @@ use Rattle.cell_config.specs.declared.config.Config.{Config}
 use Rattle.association.specs.declared.negotiation.Association.{Association}
 use Rattle.association.specs.declared.negotiation.Association.TheVariants.{Idle, Open}
 use Rattle.parted_state.specs.Served as parted
-use Rattle.mms_step.specs.Partition.{cell}
+use Rattle.step_parts.specs.Partition.{cell}
 use Rattle.cell_services.specs.Serving.{services, tables_lost}
-use Rattle.mms_step.specs.State.{State, start}
+use Rattle.step_parts.specs.State.{State, start}
 use Rattle.cell_services.specs.Tables.{last_moment}
 use Rattle.cell_services.specs.Tables.{Tables}
-use Rattle.mms_step.specs.Step.{step, replay, said, outbox_of, MayCome, IsInTime}
-use Rattle.mms_step.proofs.PartsAfter.{length-start, step_still}
-use Rattle.mms_step.proofs.PartsAfter.{step_sized as as_many_clients}
+use Rattle.step_parts.specs.Step.{step, replay, said, outbox_of, MayCome, IsInTime}
+use Rattle.step_parts.proofs.PartsAfter.{length-start, step_still}
+use Rattle.step_parts.proofs.PartsAfter.{step_sized as as_many_clients}
 use Rattle.mms_device.specs.Served.{Served, served, device_after}
 use Rattle.cell_record.specs.EventLine.{IsRecorded}
 use Rattle.cell_record.specs.Words.{between}

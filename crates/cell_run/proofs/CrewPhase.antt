@@ -8,7 +8,7 @@ use Rattle.part_table.specs.History.{StartsWith}
 use Rattle.part_table.specs.Known.{HoldsNothing, IsTrueOf}
 use Rattle.part_table.specs.Gathered.{AreAll, HaveGathered}
 use Rattle.part_table.proofs.Histories.{starts_length}
-use Rattle.mms_step.specs.Step.{said}
+use Rattle.step_parts.specs.Step.{said}
 use Rattle.mms_device.specs.Making.{MayMake}
 use Rattle.mms_device.specs.Shared.{Caller, History, all_events}
 use Rattle.mms_device.specs.Turns.{CanServe}

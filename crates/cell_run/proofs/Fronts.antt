@@ -7,7 +7,7 @@ use Rattle.cell_io.specs.Held.{IsLaterPart}
 use Rattle.cell_io.specs.Prefix.{AppendsPrefix}
 use Rattle.mms_types.specs.Actors.{clients_to}
 use Rattle.mms_types.specs.declared.event.CellEvent.{CellEvent}
-use Rattle.mms_step.specs.Step.{said}
+use Rattle.step_parts.specs.Step.{said}
 use Rattle.cell_record.specs.declared.refusal.RecordError.{RecordError}
 use Rattle.cell_record.specs.declared.refusal.RecordError.TheVariants.{Bad, BadConfig, TooMuch, ReadFault, Memory}
 use Rattle.cell_config.specs.declared.config.Config.{Config}

@@ -13,7 +13,7 @@ use Rattle.part_table.specs.Known.{HoldsNothing, IsTrueOf}
 use Rattle.part_table.specs.Gathered.{AreAll, HaveGathered, own_places}
 use Rattle.part_table.proofs.Histories.{starts_trans, starts_whole, starts_length}
 use Rattle.part_table.proofs.Own.{own_events}
-use Rattle.mms_step.specs.Step.{said}
+use Rattle.step_parts.specs.Step.{said}
 use Rattle.mms_device.specs.Making.{MayMake}
 use Rattle.mms_device.specs.Shared.{Shared, Caller, History, IsOf, all_events, ticks_in}
 use Rattle.mms_device.specs.Turns.{AreOf, CanServe, events}

@@ -8,7 +8,7 @@ use Rattle.mms_types.specs.declared.event.What.{What}
 use Rattle.mms_types.specs.declared.event.CellEvent.{CellEvent}
 use Rattle.mms_types.specs.declared.event.CellEvent.TheVariants.{Drain}
 use Rattle.cell_config.specs.declared.config.Config.{Config}
-use Rattle.mms_step.specs.Step.{said}
+use Rattle.step_parts.specs.Step.{said}
 use Rattle.cell_record.specs.EventLine.{IsRecorded}
 use Rattle.cell_record.specs.Grammar.{all_ms, phase_ms}
 use Rattle.cell_record.specs.History.{Interleaves, drains, history}

@@ -7,7 +7,7 @@ use Rattle.mms_types.specs.declared.event.CellEvent.TheVariants.{Drain}
 use Rattle.std.specs.List.{All}
 use Rattle.cell_config.specs.declared.config.Config.{Config}
 use Rattle.cell_record.specs.EventLine.{IsRecorded}
-use Rattle.mms_step.specs.Step.{outbox_of}
+use Rattle.step_parts.specs.Step.{outbox_of}
 use Rattle.mms_device.specs.Served.{Served, served}
 
 -- events, one after the other

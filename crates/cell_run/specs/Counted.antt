@@ -6,7 +6,7 @@ use Rattle.std.specs.declared.option.Option.{Option}
 use Rattle.cell_io.specs.Prefix.{AppendsPrefix}
 use Rattle.mms_types.specs.declared.event.CellEvent.{CellEvent}
 use Rattle.cell_config.specs.declared.config.Config.{Config}
-use Rattle.mms_step.specs.Step.{said}
+use Rattle.step_parts.specs.Step.{said}
 use Rattle.cell_record.specs.History.{Interleaves, history}
 use Rattle.cell_record.specs.declared.told.Told.{Told}
 use Rattle.cell_stress.specs.Counts.{events_in, replies_in, requests_in}

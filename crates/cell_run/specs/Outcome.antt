@@ -9,7 +9,7 @@ use Rattle.cell_record.specs.History.{Interleaves}
 use Rattle.cell_words.specs.declared.words.Command.{Command}
 use Rattle.cell_run.specs.Bodies.{Serves}
 use Rattle.mms_types.specs.declared.event.CellEvent.{CellEvent}
-use Rattle.mms_step.specs.Step.{said}
+use Rattle.step_parts.specs.Step.{said}
 use Rattle.cell_record.specs.declared.refusal.BadWord.{BadWord}
 use Rattle.cell_record.specs.declared.refusal.BadWord.TheVariants as bad
 use Rattle.cell_record.specs.declared.refusal.RecordError.{RecordError}

@@ -10,7 +10,7 @@ use Rattle.cell_io.specs.Prefix.{AppendsPrefix}
 use Rattle.mms_types.specs.Actors.{clients_to}
 use Rattle.mms_types.specs.declared.event.CellEvent.{CellEvent}
 use Rattle.cell_config.specs.declared.config.Config.{Config}
-use Rattle.mms_step.specs.Step.{said}
+use Rattle.step_parts.specs.Step.{said}
 use Rattle.mms_device.specs.Served.{Served, device_after}
 use Rattle.cell_record.specs.EventLine.{IsRecorded}
 use Rattle.cell_record.specs.Recording.{Place, Reading}

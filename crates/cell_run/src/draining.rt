@@ -4,7 +4,7 @@ ghost use Rattle.std.specs.Prelude.{◌≡◌, ◌≤◌, ◌<◌, ◌+◌, ℕ,
 ghost use Rattle.mms_types.specs.declared.event.CellEvent.TheVariants.{Drain};
 ghost use Rattle.part_table.specs.History.{StartsWith};
 ghost use Rattle.part_table.specs.Known.{HoldsNothing};
-ghost use Rattle.mms_step.specs.Step.{said};
+ghost use Rattle.step_parts.specs.Step.{said};
 ghost use Rattle.mms_device.specs.Shared.{Caller, History, IsServed, all_events};
 ghost use Rattle.cell_run.specs.Drained.{HasDrained, HaveDrained, IsIdle};
 

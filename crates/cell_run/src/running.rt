@@ -4,7 +4,7 @@ ghost use Rattle.std.specs.Prelude.{◌≡◌, ◌≤◌, ◌<◌, ◌∷◌, �
 ghost use Rattle.part_table.specs.History.{StartsWith};
 ghost use Rattle.part_table.specs.Known.{IsTrueOf};
 ghost use Rattle.mms_device.specs.Making.{MayMake};
-ghost use Rattle.mms_step.specs.Step.{said};
+ghost use Rattle.step_parts.specs.Step.{said};
 ghost use Rattle.mms_device.specs.Shared.{Caller, History};
 ghost use Rattle.cell_run.specs.Drained.{DrainAll, IsIdle};
 ghost use Rattle.cell_run.specs.Jobs.{AreBelow};

@@ -1,5 +1,5 @@
 -- A request that is served on the table of its area and the row of its client is what it does among all tables.
-use Rattle.std.specs.Prelude.{◌≡◌, ℕ, Bool, true, false, ◌||◌, Option, None, Some, is_some, List, ◌++◌, ◌∷◌, [], Result, Ok, Err, IfNone, IfOk, IfSome, OnOk, OnSome, if◌then◌else◌, refl}
+use Rattle.std.specs.Prelude.{◌≡◌, ℕ, Bool, true, false, ◌||◌, Option, None, Some, is_some, List, ◌++◌, ◌∷◌, [], Err, if◌then◌else◌, refl}
 use Rattle.std.proofs.Common.{ap, ap₂, sym, ◌∙◌, subst}
 use Rattle.std.specs.List.{list_any}
 use Rattle.mms_types.specs.Areas.{domain_request, event_request, invocation_request, journal_request, program_request, semaphore_request, variable_request}
@@ -39,18 +39,16 @@ use Rattle.cell_client.specs.Effects.{Effect, felt_all, settled, tell}
 use Rattle.cell_client.specs.Facts.{Facts, Question, Truth, no_facts}
 use Rattle.cell_client.specs.Telling.{effects_told}
 use Rattle.cell_client.specs.declared.told.ClientTold.{ClientTold}
-use Rattle.mms_types.specs.declared.memory.Memory.{Memory}
 use Rattle.mms_types.specs.declared.service_error.ServiceError.{ServiceError}
 use Rattle.serve_domains.specs.Domains as domain
 use Rattle.serve_domains.specs.Tables.{DomainTables}
 use Rattle.program_inv.specs.Programs.{Rows as Programs}
 use Rattle.serve_programs.specs.Programs as program
 use Rattle.serve_events.specs.Events as event
-use Rattle.serve_events.specs.Turns.{turned_after}
 use Rattle.serve_events.specs.declared.tables.EventTables.{EventTables}
 use Rattle.mms_journal.specs.Journals.{Rows as Journals}
 use Rattle.serve_journals.specs.Journals as journal
-use Rattle.serve_semaphores.specs.Tokens.{rows_cancelled, told_after, waiting_of}
+use Rattle.serve_semaphores.specs.Tokens.{rows_cancelled, waiting_of}
 use Rattle.serve_variables.specs.Variables as variable
 use Rattle.serve_variables.specs.Variables.{accesses_domain, guards_asked, lists_domain, specifies_domain}
 use Rattle.serve_semaphores.specs.Semaphores as semaphore
@@ -192,10 +190,10 @@ module _ (x : SemaphoreRequest) (row : ClientRow) (invoke : ℕ) (moment : Momen
   its_now : (t : Tables) → t.now ≡ moment.0 → (its t).now ≡ moment
   its_now t at = semaphores_now x t row ∙ sym (moment_given t moment (sym at))
 
-  served_among : (t : Tables) (now : Rows) (new : RoomyRow)
+  pub semaphores_served : (t : Tables) (now : Rows) (new : RoomyRow)
       → ((facts : Facts) → facts.now ≡ moment → facts.live ≡ live → IsServedIn (semaphore.request_in x) facts invoke row was now new)
       → t.semaphores ≡ was → t.now ≡ moment.0 → Lives t → IsDoneIn own_semaphores t row now new (Takes invoke (semaphore_request x))
-  served_among t now new served stood at lives =
+  semaphores_served t now new served stood at lives =
       let is : IsServedIn (semaphore.request_in x) (its t) invoke row t.semaphores now new =
       subst (λ (rows : Rows). IsServedIn (semaphore.request_in x) (its t) invoke row rows now new) (sym stood) (served (its t) (its_now t at) (semaphores_live x t row ∙ sym lives)) in
       record {
@@ -205,42 +203,13 @@ module _ (x : SemaphoreRequest) (row : ClientRow) (invoke : ℕ) (moment : Momen
             ∙ in_place own_semaphores (λ u. refl) (semaphore.request_in x) t row invoke now new is;
       }
 
-  pub semaphores_served : {X : Type 0} (now : Rows) (new : RoomyRow) (result : Result (Option X) Memory)
-      → IfOk result (λ left. IfNone left ((facts : Facts) → facts.now ≡ moment → facts.live ≡ live → IsServedIn (semaphore.request_in x) facts invoke row was now new))
-      → IfOk result (λ left. IfNone left ((t : Tables) → t.semaphores ≡ was → t.now ≡ moment.0 → Lives t → IsDoneIn own_semaphores t row now new (Takes invoke (semaphore_request x))))
-  semaphores_served now new (Ok None) served = λ t stood at lives. served_among t now new served stood at lives
-  semaphores_served now new (Ok (Some told)) served = tt
-  semaphores_served now new (Err memory) served = tt
-
-  told_among : (t : Tables) (now : Rows) (told : List (ℕ × ClientTold))
+  pub semaphores_told : (t : Tables) (now : Rows) (told : List (ℕ × ClientTold))
       → ((facts : Facts) → facts.now ≡ moment → IsToldIn (semaphore.request_in x) facts invoke row was now (effects_told told))
       → t.semaphores ≡ was → t.now ≡ moment.0 → hears t row row.client (Takes invoke (semaphore_request x)) ≡ all_done (own_semaphores.put now t) told
-  told_among t now told left stood at =
+  semaphores_told t now told left stood at =
       heard_as t row invoke (semaphore_request x) (OfSemaphores (semaphore.request_in x)) (in_semaphores x) refl
       ∙ placed own_semaphores (λ u. refl) (semaphore.request_in x) t row invoke now (effects_told told)
       (subst (λ (rows : Rows). IsToldIn (semaphore.request_in x) (its t) invoke row rows now (effects_told told)) (sym stood) (left (its t) (its_now t at)))
-
-  pub semaphores_told : {X : Type 0} (result : Result (Option X) Memory) (items : X → List (ℕ × ClientTold))
-      → IfOk result (λ left. IfSome left (λ told. (facts : Facts) → facts.now ≡ moment
-      → IsToldIn (semaphore.request_in x) facts invoke row was (told_after row.client moment x was) (effects_told (items told))))
-      → IfOk result (λ left. IfSome left (λ told. (t : Tables) → t.semaphores ≡ was → t.now ≡ moment.0 → Lives t
-      → hears t row row.client (Takes invoke (semaphore_request x)) ≡ all_done (own_semaphores.put (told_after row.client moment x was) t) (items told)))
-  semaphores_told (Ok (Some told)) items left = λ t stood at lives. told_among t (told_after row.client moment x was) (items told) left stood at
-  semaphores_told (Ok None) items left = tt
-  semaphores_told (Err memory) items left = tt
-
--- both parts stay
-pub both_left : {X : Type 0} (A B : Type 0) (result : Result (Option X) Memory) → IfOk result (λ left. OnSome left A) → IfOk result (λ left. OnSome left B)
-    → IfOk result (λ left. OnSome left (A × B))
-both_left A B (Ok (Some x)) a b = (a, b)
-both_left A B (Ok None) a b = tt
-both_left A B (Err memory) a b = tt
-
--- ---- a request that waits is cancelled
-
-pub on_ok_both : {A E P Q R : Type 0} (result : Result A E) → (P → Q → R) → OnOk result P → OnOk result Q → OnOk result R
-on_ok_both (Ok x) next p q = next p q
-on_ok_both (Err e) next p q = tt
 
 pub cancel_done : (t : Tables) (row : ClientRow) (invoke : ℕ) (was now : Rows) (new : RoomyRow) → new ≡ settled (felt_all (cancel_told invoke) row)
     → now ≡ rows_cancelled (waiting_of invoke row.waiting) was → t.semaphores ≡ was → IsDoneIn own_semaphores t row now new (Cancels invoke)
@@ -376,12 +345,12 @@ module _ (x : EventRequest) (row : ClientRow) (invoke : ℕ) (moment : Moment) (
   at_moment t at = events_now x t row ∙ sym (moment_given t moment (sym at))
 
   module _ (live : Bool) (cell : CellFact) where
-    events_among : (t : Tables) (now : EventTables) (new : RoomyRow)
+    pub events_served : (t : Tables) (now : EventTables) (new : RoomyRow)
         → ((facts : Facts) → facts.now ≡ moment → facts.live ≡ live → facts.cell row.client ≡ cell → facts.truth ≡ says
         → IsServedIn (event.request_in x) facts invoke row was now new)
         → t.events ≡ was → t.now ≡ moment.0 → (facts_for t).live ≡ live → (facts_for t).cell row.client ≡ cell → (facts_for t).truth ≡ says
         → IsDoneIn own_events t row now new (Takes invoke (event_request x))
-    events_among t now new served stood at lives found is_so =
+    events_served t now new served stood at lives found is_so =
         let is : IsServedIn (event.request_in x) (facts_for t) invoke row t.events now new =
         subst (λ (u : EventTables). IsServedIn (event.request_in x) (facts_for t) invoke row u now new) (sym stood) (served (facts_for t) (at_moment t at) lives found is_so) in
         record {
@@ -391,32 +360,14 @@ module _ (x : EventRequest) (row : ClientRow) (invoke : ℕ) (moment : Moment) (
               ∙ in_place own_events (λ u. refl) (event.request_in x) t row invoke now new is;
         }
 
-    pub events_served : {X : Type 0} (now : EventTables) (new : RoomyRow) (result : Result (Option X) Memory)
-        → IfOk result (λ left. IfNone left ((facts : Facts) → facts.now ≡ moment → facts.live ≡ live → facts.cell row.client ≡ cell → facts.truth ≡ says
-        → IsServedIn (event.request_in x) facts invoke row was now new))
-        → IfOk result (λ left. IfNone left ((t : Tables) → t.events ≡ was → t.now ≡ moment.0 → (facts_for t).live ≡ live → (facts_for t).cell row.client ≡ cell → (facts_for t).truth ≡ says
-        → IsDoneIn own_events t row now new (Takes invoke (event_request x))))
-    events_served now new (Ok None) served = λ t stood at lives found is_so. events_among t now new served stood at lives found is_so
-    events_served now new (Ok (Some left)) served = tt
-    events_served now new (Err memory) served = tt
-
-  turned_among : (t : Tables) (now : EventTables) (told : List (ℕ × ClientTold))
+  pub events_told : (t : Tables) (now : EventTables) (told : List (ℕ × ClientTold))
       → ((facts : Facts) → facts.now ≡ moment → facts.truth ≡ says → IsToldIn (event.request_in x) facts invoke row was now (effects_told told))
       → t.events ≡ was → t.now ≡ moment.0 → (facts_for t).truth ≡ says
       → hears t row row.client (Takes invoke (event_request x)) ≡ all_done (own_events.put now t) told
-  turned_among t now told left stood at is_so =
+  events_told t now told left stood at is_so =
       heard_as t row invoke (event_request x) (OfEvents (event.request_in x)) (in_events x) refl
       ∙ placed own_events (λ u. refl) (event.request_in x) t row invoke now (effects_told told)
       (subst (λ (u : EventTables). IsToldIn (event.request_in x) (facts_for t) invoke row u now (effects_told told)) (sym stood) (left (facts_for t) (at_moment t at) is_so))
-
-  pub events_told : {X : Type 0} (result : Result (Option X) Memory) (items : X → List (ℕ × ClientTold))
-      → IfOk result (λ left. IfSome left (λ l. (facts : Facts) → facts.now ≡ moment → facts.truth ≡ says
-      → IsToldIn (event.request_in x) facts invoke row was (turned_after row.client moment says x was) (effects_told (items l))))
-      → IfOk result (λ left. IfSome left (λ l. (t : Tables) → t.events ≡ was → t.now ≡ moment.0 → (facts_for t).truth ≡ says
-      → hears t row row.client (Takes invoke (event_request x)) ≡ all_done (own_events.put (turned_after row.client moment says x was) t) (items l)))
-  events_told (Ok (Some l)) items left = λ t stood at is_so. turned_among t (turned_after row.client moment says x was) (items l) left stood at is_so
-  events_told (Ok None) items left = tt
-  events_told (Err memory) items left = tt
 
 -- ---- names are listed
 

@@ -125,13 +125,10 @@ heard_alone row new (Takes invoke asked) plain is =
     (is ∙ ap (λ (o : Option Answer). settled (felt_all (request_told (size_of row.association) invoke None o) row)) found.1)
 heard_alone row new v plain is = absurd (cc plain)
 
-pub heard_plainly : (result : Result (Option Act) Memory) (row : ClientRow) (new : RoomyRow) (v : Verdict)
-    → IfOk result (λ left. IfNone left (new ≡ settled (felt_all (told_alone row v) row)))
-    → IfOk result (λ left. is_none left ≡ uses_no_table row v)
-    → IfOk result (λ left. IfNone left (IsPlainlyHeard row new v))
-heard_plainly (Err memory) row new v told exact = tt
-heard_plainly (Ok (Some a)) row new v told exact = tt
-heard_plainly (Ok None) row new v told exact = heard_alone row new v (sym exact) told
+pub heard_plainly : (left : Option Act) (row : ClientRow) (new : RoomyRow) (v : Verdict) → uses_no_table row v ≡ true
+    → IfNone left (new ≡ settled (felt_all (told_alone row v) row)) → is_none left ≡ uses_no_table row v → IsPlainlyHeard row new v
+heard_plainly None row new v plain told exact = heard_alone row new v plain told
+heard_plainly (Some a) row new v plain told exact = absurd (cc (exact ∙ plain))
 
 pub left_of : (row : ClientRow) (v : Verdict) (a : Act) → act_verdict a ≡ Some v → IsActOf row v a
 left_of row v (act.Request invoke asked) is = request_left row invoke asked v (cc is)

@@ -9,7 +9,6 @@ use std::marker::Model;
 
 /// The moment of the device, no later than the last millisecond of day 65,535 (ISO 9506-2, TimeOfDay). Contracts see
 /// its milliseconds.
-#[derive(Drop)]
 pub struct Clock {
     moment: Moment,
 }
@@ -48,5 +47,11 @@ impl Clock {
         ensures { self.new ≡ self.old + ms }
     {
         self.moment = Moment(self.moment.0 + u64::from(ms));
+    }
+}
+
+impl Drop for Clock {
+    fn drop(self) {
+        let Clock { moment: _ } = self;
     }
 }

@@ -23,7 +23,6 @@ use std::marker::Model;
 use variable_services::VariableTables;
 
 /// The tables of the device: all that it has but its clients (ISO 9506-1, the virtual manufacturing device).
-#[derive(Drop)]
 pub struct Tables {
     /// The moment.
     pub clock: Clock,
@@ -239,5 +238,19 @@ impl Drop for Change {
             } => {}
             Change::Loses(_client) => {}
         }
+    }
+}
+
+impl Drop for Tables {
+    fn drop(self) {
+        let Tables {
+            clock: _clock,
+            variables: _variables,
+            domains: _domains,
+            programs: _programs,
+            events: _events,
+            journals: _journals,
+            semaphores: _semaphores,
+        } = self;
     }
 }

@@ -2,7 +2,7 @@
 use Rattle.std.proofs.Common.{◌≡◌, ℕ, zero, suc, ◌+◌, ◌<◌, ◌^◌, List, [], ◌∷◌, ◌++◌, length, map, refl, sym, ◌∙◌, ap, subst, arith, rules, length-append}
 use Rattle.std.specs.List.{range_with_len}
 use Rattle.part_table.specs.Known.{Opened, newcomer}
-use Rattle.mms_step.specs.declared.part.Part.{Part}
+use Rattle.step_parts.specs.declared.part.Part.{Part}
 use Rattle.mms_device.specs.Callers.{AreInOrder}
 use Rattle.mms_device.specs.Shared.{Caller}
 use Rattle.mms_device.proofs.Gathering.{newcomers}

@@ -5,18 +5,18 @@ use Rattle.mms_types.specs.declared.event.CellEvent.{CellEvent}
 use Rattle.std.specs.declared.boxed.Box.{Box}
 use Rattle.std.specs.Box.{box_value}
 use Rattle.part_table.specs.Held.{held_at, places_held, unboxed, IsHandOf}
-use Rattle.mms_step.specs.declared.part.Part.{Part}
+use Rattle.step_parts.specs.declared.part.Part.{Part}
 use Rattle.mms_types.specs.Actors.{IsAmong}
-use Rattle.mms_step.specs.State.{State, IsSound}
-use Rattle.mms_step.specs.Step.{step, MayCome, outbox_in, outbox_of}
-use Rattle.mms_step.specs.Partition.{parts_of, state_in, client_part, client_place, clients_among, outbox_held, IsClient}
-use Rattle.mms_step.specs.Needs.{need, is_held}
-use Rattle.mms_step.specs.After.{after}
-use Rattle.mms_step.proofs.PartsAfter.{length-parts}
-use Rattle.mms_step.proofs.Sound.{step_sound}
-use Rattle.mms_step.proofs.Holding.{all_of_them, still_all, shows_itself, clients_counted, client_at, held_part, held_client, step_of_hand}
-use Rattle.mms_step.proofs.Enough.{places_then}
-use Rattle.mms_step.proofs.AllParts.{nothing_needed, is_held_there}
+use Rattle.step_parts.specs.State.{State, IsSound}
+use Rattle.step_parts.specs.Step.{step, MayCome, outbox_in, outbox_of}
+use Rattle.step_parts.specs.Partition.{parts_of, state_in, client_part, client_place, clients_among, outbox_held, IsClient}
+use Rattle.step_parts.specs.Needs.{need, is_held}
+use Rattle.step_parts.specs.After.{after}
+use Rattle.step_parts.proofs.PartsAfter.{length-parts}
+use Rattle.step_sound.proofs.Sound.{step_sound}
+use Rattle.step_parts.proofs.Holding.{all_of_them, still_all, shows_itself, clients_counted, client_at, held_part, held_client, step_of_hand}
+use Rattle.step_parts.specs.AfterLaws.{after_holds_the_same}
+use Rattle.step_sound.proofs.AllParts.{nothing_needed, is_held_there}
 
 -- boxes in places are parts that are held
 pub unboxed_all : {P A : Type 0} (boxes : List (Box P A)) → unboxed (map Some boxes) ≡ map Some (map box_value boxes)
@@ -85,4 +85,4 @@ pub drains : (count : ℕ) (hand new : List (Option Part)) (event : CellEvent) �
 drains count hand new event all sound may is =
     serves count hand new event all sound may
     (λ s of. step_of_hand s hand new event of (none_needed hand event all may.among) is)
-    (places_then hand new event is)
+    (ap (λ (h : List (Option Part)). places_held h) is ∙ after_holds_the_same event hand)

@@ -8,11 +8,11 @@ use Rattle.cell_config.specs.Said.{IsConfig}
 use Rattle.part_table.specs.Held.{held_at, IsHandOf}
 use Rattle.part_table.specs.History.{events_of, places_of, IsMade}
 use Rattle.part_table.specs.Known.{IsTrueOf}
-use Rattle.mms_step.specs.declared.part.Part.{Part}
-use Rattle.mms_step.specs.State.{State, IsSound}
-use Rattle.mms_step.specs.Step.{IsInTime}
-use Rattle.mms_step.specs.Partition.{parts_of, clients_among, clock_in}
-use Rattle.mms_step.specs.Needs.{need}
+use Rattle.step_parts.specs.declared.part.Part.{Part}
+use Rattle.step_parts.specs.State.{State, IsSound}
+use Rattle.step_parts.specs.Step.{IsInTime}
+use Rattle.step_parts.specs.Partition.{parts_of, clients_among, clock_in}
+use Rattle.step_parts.specs.Needs.{need}
 use Rattle.mms_device.specs.Making.{MayMake}
 use Rattle.mms_device.specs.Shared.{Caller, IsOf, IsTimely, all_events, led_to}
 use Rattle.mms_device.specs.Taken.{IsTaking}

@@ -9,12 +9,12 @@ use Rattle.cell_config.specs.Said.{IsConfig}
 use Rattle.part_table.specs.Held.{held_at, IsHandOf}
 use Rattle.part_table.specs.History.{StartsWith, replayed}
 use Rattle.part_table.specs.Known.{nothing, HoldsNothing, IsTrueOf}
-use Rattle.mms_step.specs.declared.part.Part.{Part}
-use Rattle.mms_step.specs.State.{State}
-use Rattle.mms_step.specs.Step.{said}
-use Rattle.mms_step.specs.Partition.{parts_of, client_place, outbox_held, IsClient}
-use Rattle.mms_step.specs.Needs.{footprint, need, is_held}
-use Rattle.mms_step.specs.After.{after, parts_after}
+use Rattle.step_parts.specs.declared.part.Part.{Part}
+use Rattle.step_parts.specs.State.{State}
+use Rattle.step_parts.specs.Step.{said}
+use Rattle.step_parts.specs.Partition.{parts_of, client_place, outbox_held, IsClient}
+use Rattle.step_parts.specs.Needs.{footprint, need, is_held}
+use Rattle.step_parts.specs.After.{after, parts_after}
 use Rattle.mms_device.specs.Making.{MayMake}
 use Rattle.mms_device.specs.Shared.{Caller, History, IsServed, IsBusy, IsOf, all_events, led_to}
 use Rattle.mms_device.specs.Taken.{AreHeld, HasLost, IsTaking}

@@ -7,7 +7,7 @@ use Rattle.part_table.specs.Gathered.{AreAll, HaveGathered}
 use Rattle.part_table.specs.Held.{held_at}
 use Rattle.part_table.specs.Known.{Opened, HoldsNothing, newcomer}
 use Rattle.part_table.proofs.Hands.{nothing_held}
-use Rattle.mms_step.specs.declared.part.Part.{Part}
+use Rattle.step_parts.specs.declared.part.Part.{Part}
 use Rattle.mms_device.specs.Callers.{AreInOrder}
 use Rattle.mms_device.specs.Making.{MayMake}
 use Rattle.mms_device.specs.Shared.{Caller, History}

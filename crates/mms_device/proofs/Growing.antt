@@ -6,15 +6,15 @@ use Rattle.std.proofs.lemmas.List.Elements.{All-filter, All-contains_itself, All
 use Rattle.part_table.specs.Held.{held_at, IsHandOf}
 use Rattle.part_table.specs.HeldLaws.{held_set_else, held_of_list, hand_of}
 use Rattle.parted_state.specs.CutLaws as laws
-use Rattle.mms_step.specs.declared.part.Part.{Part}
+use Rattle.step_parts.specs.declared.part.Part.{Part}
 use Rattle.mms_types.specs.declared.event.CellEvent.{CellEvent}
 use Rattle.mms_types.specs.declared.event.CellEvent.TheVariants.{Heard, Lost, Tick, Ends, Drain}
 use Rattle.cell_client.specs.Association.{verdict}
 use Rattle.cell_client.specs.declared.verdict.Found.{Found}
-use Rattle.mms_step.specs.declared.part.Part.TheVariants.{Client}
-use Rattle.mms_step.specs.Needs.{is_held}
-use Rattle.mms_step.specs.Partition.{client_in, client_place, row_in, IsClient}
-use Rattle.mms_step.specs.Tasks.{IsFoundOf}
+use Rattle.step_parts.specs.declared.part.Part.TheVariants.{Client}
+use Rattle.step_parts.specs.Needs.{is_held}
+use Rattle.step_parts.specs.Partition.{client_in, client_place, row_in, IsClient}
+use Rattle.step_parts.specs.Found.{IsFoundOf}
 use Rattle.mms_device.specs.Shared.{Caller}
 use Rattle.mms_device.specs.Taken.{HasGrown, HasTaken, free_count}
 use Rattle.mms_device.proofs.Steps.{the_held}

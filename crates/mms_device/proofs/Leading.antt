@@ -10,12 +10,12 @@ use Rattle.part_table.specs.Held.{held_at, IsHandOf}
 use Rattle.part_table.specs.History.{StartsWith, replayed, events_of, places_of, IsMade}
 use Rattle.part_table.proofs.Own.{own_events}
 use Rattle.part_table.proofs.Histories.{places_more}
-use Rattle.mms_step.specs.declared.part.Part.{Part}
-use Rattle.mms_step.specs.State.{State, start}
-use Rattle.mms_step.specs.Step.{step, IsInTime}
-use Rattle.mms_step.specs.Partition.{parts_of, clock_in}
-use Rattle.mms_step.specs.Needs.{need}
-use Rattle.mms_step.specs.After.{parts_after}
+use Rattle.step_parts.specs.declared.part.Part.{Part}
+use Rattle.step_parts.specs.State.{State, start}
+use Rattle.step_parts.specs.Step.{step, IsInTime}
+use Rattle.step_parts.specs.Partition.{parts_of, clock_in}
+use Rattle.step_parts.specs.Needs.{need}
+use Rattle.step_parts.specs.After.{parts_after}
 use Rattle.mms_device.specs.Making.{MayMake}
 use Rattle.part_table.specs.Known.{IsTrueOf}
 use Rattle.mms_device.specs.Shared.{Shared, Caller, History, IsTimely, MayMakeNow, all_events, led_to, goes_by, ticks_in}

@@ -13,13 +13,13 @@ use Rattle.part_table.proofs.Hands.{nothing_held, nothing_long}
 use Rattle.part_table.proofs.Histories.{starts_trans}
 use Rattle.parted_state.specs.Sets.{IsSetOf}
 use Rattle.parted_state.specs.CutLaws as laws
-use Rattle.mms_step.specs.declared.part.Part.{Part}
+use Rattle.step_parts.specs.declared.part.Part.{Part}
 use Rattle.cell_client.specs.declared.verdict.Found.{Found}
-use Rattle.mms_step.specs.State.{State, start, IsSound}
-use Rattle.mms_step.specs.Partition.{parts_of, clients_among, clock_in}
-use Rattle.mms_step.specs.Step.{IsInTime}
-use Rattle.mms_step.specs.Needs.{footprint, shown, need, wanted, is_held}
-use Rattle.mms_step.specs.After.{parts_after}
+use Rattle.step_parts.specs.State.{State, start, IsSound}
+use Rattle.step_parts.specs.Partition.{parts_of, clients_among, clock_in}
+use Rattle.step_parts.specs.Step.{IsInTime}
+use Rattle.step_parts.specs.Needs.{footprint, shown, need, wanted, is_held}
+use Rattle.step_parts.specs.After.{parts_after}
 use Rattle.mms_device.specs.declared.answers.Refused.{Refused}
 use Rattle.mms_device.specs.declared.answers.Refused.TheVariants as refused
 use Rattle.mms_device.specs.Making.{MayMake}

@@ -1,2 +1,2 @@
 -- The parts of the device may go from thread to thread.
-pub use Rattle.mms_step.proofs.Sent.{part_send}
+pub use Rattle.step_parts.proofs.Sent.{part_send}

@@ -16,21 +16,21 @@ use Rattle.part_table.specs.HeldLaws.{held_of_list, held_within}
 use Rattle.parted_state.specs.CutLaws as laws
 use Rattle.parted_state.specs.DeviceLaws as device
 use Rattle.parted_state.specs.Served as parted
-use Rattle.mms_step.specs.declared.part.Part.{Part}
-use Rattle.mms_step.specs.declared.part.Part.TheVariants.{Clock}
-use Rattle.mms_step.specs.State.{State, start, IsSound}
-use Rattle.mms_step.specs.Step.{step, replay, outbox_in, outbox_of}
-use Rattle.mms_step.specs.Partition.{cell, parts_of, state_in, client_part, client_place, clients_among, clock_in, clock_place, outbox_held, IsClient}
-use Rattle.mms_step.specs.Needs.{footprint, need, shown, wanted, wants, is_held}
-use Rattle.mms_step.specs.After.{parts_after}
-use Rattle.mms_step.specs.AfterLaws.{is_device, each_framed}
+use Rattle.step_parts.specs.declared.part.Part.{Part}
+use Rattle.step_parts.specs.declared.part.Part.TheVariants.{Clock}
+use Rattle.step_parts.specs.State.{State, start, IsSound}
+use Rattle.step_parts.specs.Step.{step, replay, outbox_in, outbox_of}
+use Rattle.step_parts.specs.Partition.{cell, parts_of, state_in, client_part, client_place, clients_among, clock_in, clock_place, outbox_held, IsClient}
+use Rattle.step_parts.specs.Needs.{footprint, need, shown, wanted, wants, is_held}
+use Rattle.step_parts.specs.After.{parts_after}
+use Rattle.step_parts.specs.AfterLaws.{is_device, each_framed}
 use Rattle.cell_services.specs.Serving.{services, tables_lost}
 use Rattle.cell_services.specs.Tables.{Tables}
-use Rattle.mms_step.proofs.AllParts.{nothing_needed}
-use Rattle.mms_step.proofs.Holding as holding
-use Rattle.mms_step.proofs.Needed as needed
-use Rattle.mms_step.proofs.PartsAfter as after
-use Rattle.mms_step.proofs.Sound as sound
+use Rattle.step_sound.proofs.AllParts.{nothing_needed}
+use Rattle.step_parts.proofs.Holding as holding
+use Rattle.step_parts.proofs.Needed as needed
+use Rattle.step_parts.proofs.PartsAfter as after
+use Rattle.step_sound.proofs.Sound as sound
 use Rattle.mms_device.specs.Shared.{goes_by}
 
 pub the_held : (hand : List (Option Part)) (i : ℕ) → is_held hand i ≡ true → (x : Part) × (held_at hand i ≡ Some x)

@@ -5,7 +5,7 @@ use Rattle.mms_types.specs.declared.event.CellEvent.{CellEvent}
 use Rattle.cell_config.specs.declared.config.Config.{Config}
 use Rattle.part_table.specs.History.{StartsWith, events_of}
 use Rattle.part_table.proofs.Histories.{starts_refl, starts_trans}
-use Rattle.mms_step.specs.Step.{IsInTime}
+use Rattle.step_parts.specs.Step.{IsInTime}
 use Rattle.mms_device.specs.Making.{MayMake}
 use Rattle.mms_device.specs.Shared.{Shared, Caller, History, IsServed, IsAsBefore, IsBusy, IsTimely, HasTried, MayMakeNow, ticks_in}
 

@@ -3,10 +3,10 @@ use Rattle.std.specs.Prelude.{◌≡◌, ◌⊎◌, ℕ, true, Option, None, Lis
 use Rattle.std.proofs.Common.{sym, ◌∙◌, inl, inr, subst}
 use Rattle.mms_types.specs.declared.event.CellEvent.{CellEvent}
 use Rattle.part_table.specs.Held.{held_at, IsHandOf}
-use Rattle.mms_step.specs.declared.part.Part.{Part}
-use Rattle.mms_step.specs.State.{State}
-use Rattle.mms_step.specs.Partition.{parts_of, clients_among}
-use Rattle.mms_step.specs.Needs.{footprint, shown, is_held}
+use Rattle.step_parts.specs.declared.part.Part.{Part}
+use Rattle.step_parts.specs.State.{State}
+use Rattle.step_parts.specs.Partition.{parts_of, clients_among}
+use Rattle.step_parts.specs.Needs.{footprint, shown, is_held}
 use Rattle.mms_device.specs.Taken.{HasGrown, Wants, HoldsWanted}
 use Rattle.mms_device.proofs.Growing.{not_free, sub_hand}
 use Rattle.mms_device.proofs.Steps.{clients_counted, words_wanted, shown_wanted}

@@ -1,7 +1,7 @@
 -- The passes of a device's callers.
 use Rattle.std.specs.Prelude.{◌≡◌, ℕ, ◌+◌, List, [], ◌∷◌}
 use Rattle.part_table.specs.Known.{Opened, HoldsNothing}
-use Rattle.mms_step.specs.declared.part.Part.{Part}
+use Rattle.step_parts.specs.declared.part.Part.{Part}
 use Rattle.mms_device.specs.Shared.{Caller}
 
 -- these are passes of a table, none holding a part, in the order of their numbers from one on

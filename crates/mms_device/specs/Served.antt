@@ -2,8 +2,8 @@
 use Rattle.std.specs.Prelude.{ℕ, ◌+◌, List, length}
 use Rattle.mms_types.specs.declared.event.CellEvent.{CellEvent}
 use Rattle.cell_config.specs.declared.config.Config.{Config}
-use Rattle.mms_step.specs.State.{State}
-use Rattle.mms_step.specs.Step.{step, replay}
+use Rattle.step_parts.specs.State.{State}
+use Rattle.step_parts.specs.Step.{step, replay}
 
 -- the state, and how many events were served
 pub record Served : Type 0 where

@@ -6,11 +6,11 @@ use Rattle.mms_types.specs.declared.event.CellEvent.TheVariants.{Tick}
 use Rattle.cell_config.specs.declared.config.Config.{Config}
 use Rattle.part_table.specs.History.{StartsWith, events_of}
 use Rattle.part_table.specs.Known.{Known, Opened}
-use Rattle.mms_step.specs.declared.part.Part.{Part}
-use Rattle.mms_step.specs.State.{State, start}
-use Rattle.mms_step.specs.Step.{replay, IsInTime}
-use Rattle.mms_step.specs.Partition.{parts_of}
-use Rattle.mms_step.specs.Needs.{wanted}
+use Rattle.step_parts.specs.declared.part.Part.{Part}
+use Rattle.step_parts.specs.State.{State, start}
+use Rattle.step_parts.specs.Step.{replay, IsInTime}
+use Rattle.step_parts.specs.Partition.{parts_of}
+use Rattle.step_parts.specs.Needs.{wanted}
 use Rattle.mms_device.specs.Making.{MayMake}
 
 -- the device: the table of its parts, and its configuration

@@ -3,14 +3,14 @@ use Rattle.std.specs.Prelude.{◌≡◌, ℕ, Option, List, [], length}
 use Rattle.mms_types.specs.Actors.{IsAmong}
 use Rattle.mms_types.specs.declared.event.CellEvent.{CellEvent}
 use Rattle.part_table.specs.Held.{held_at, IsHandOf}
-use Rattle.mms_step.specs.declared.part.Part.{Part}
-use Rattle.mms_step.specs.After.{after}
-use Rattle.mms_step.specs.Needs.{need}
-use Rattle.mms_step.specs.Partition.{parts_of, clients_among, clock_in}
+use Rattle.step_parts.specs.declared.part.Part.{Part}
+use Rattle.step_parts.specs.After.{after}
+use Rattle.step_parts.specs.Needs.{need}
+use Rattle.step_parts.specs.Partition.{parts_of, clients_among, clock_in}
 use Rattle.cell_client.specs.declared.verdict.Found.{Found}
-use Rattle.mms_step.specs.Tasks.{IsFoundOf}
-use Rattle.mms_step.specs.State.{State, IsSound}
-use Rattle.mms_step.specs.Step.{IsInTime}
+use Rattle.step_parts.specs.Found.{IsFoundOf}
+use Rattle.step_parts.specs.State.{State, IsSound}
+use Rattle.step_parts.specs.Step.{IsInTime}
 
 -- they are parts of a state that may come, nothing else is needed, what is found is what its octets come to, and the
 -- event is one of a client that is there, in time

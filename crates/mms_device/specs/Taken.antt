@@ -3,11 +3,11 @@ use Rattle.std.specs.Prelude.{◌≡◌, ◌≢◌, ◌⊎◌, ◌+◌, ℕ, tru
 use Rattle.mms_types.specs.declared.event.CellEvent.{CellEvent}
 use Rattle.part_table.specs.Held.{held_at, IsHandOf}
 use Rattle.part_table.specs.History.{StartsWith}
-use Rattle.mms_step.specs.declared.part.Part.{Part}
-use Rattle.mms_step.specs.State.{State}
-use Rattle.mms_step.specs.Partition.{parts_of}
-use Rattle.mms_step.specs.Needs.{is_held, need, wanted}
-use Rattle.mms_step.specs.Tasks.{IsFoundOf}
+use Rattle.step_parts.specs.declared.part.Part.{Part}
+use Rattle.step_parts.specs.State.{State}
+use Rattle.step_parts.specs.Partition.{parts_of}
+use Rattle.step_parts.specs.Needs.{is_held, need, wanted}
+use Rattle.step_parts.specs.Found.{IsFoundOf}
 use Rattle.cell_client.specs.declared.verdict.Found.{Found}
 use Rattle.mms_device.specs.declared.answers.Refused.{Refused}
 use Rattle.mms_device.specs.declared.answers.Refused.TheVariants as refused

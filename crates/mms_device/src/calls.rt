@@ -10,10 +10,10 @@ ghost use Rattle.mms_types.specs.declared.event.CellEvent.TheVariants.{Drain};
 ghost use Rattle.part_table.specs.Held.{held_at, IsHandOf};
 ghost use Rattle.part_table.specs.History.{StartsWith, replayed};
 ghost use Rattle.part_table.specs.Known.{IsTrueOf, newcomer, with_claim_lost, with_commit, with_part};
-ghost use Rattle.mms_step.specs.After.{after, parts_after};
-ghost use Rattle.mms_step.specs.Needs.{is_held, need};
-ghost use Rattle.mms_step.specs.Partition.{client_place, outbox_held, parts_of, IsClient};
-ghost use Rattle.mms_step.specs.State.{State};
+ghost use Rattle.step_parts.specs.After.{after, parts_after};
+ghost use Rattle.step_parts.specs.Needs.{is_held, need};
+ghost use Rattle.step_parts.specs.Partition.{client_place, outbox_held, parts_of, IsClient};
+ghost use Rattle.step_parts.specs.State.{State};
 ghost use Rattle.mms_device.specs.Making.{MayMake};
 ghost use Rattle.mms_device.specs.Shared.{History};
 
@@ -111,7 +111,7 @@ pub(crate) fn by(pass: &Pass<Cell>) -> u32
 /// What is done on parts that are held.
 pub(crate) trait OnHeld {
     ghost use Rattle.std.specs.Prelude.{List, Option};
-    ghost use Rattle.mms_step.specs.declared.part.Part.{Part};
+    ghost use Rattle.step_parts.specs.declared.part.Part.{Part};
 
     /// It may be done on these.
     ghost may: { Self → List (Option Part) → Type 0 };

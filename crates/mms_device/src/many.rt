@@ -10,7 +10,7 @@ ghost use Rattle.part_table.specs.Gathered.{AreAll, HaveGathered};
 ghost use Rattle.part_table.specs.Held.{IsHandOf};
 ghost use Rattle.part_table.specs.History.{StartsWith};
 ghost use Rattle.part_table.specs.Known.{IsTrueOf, newcomer};
-ghost use Rattle.mms_step.specs.Partition.{parts_of};
+ghost use Rattle.step_parts.specs.Partition.{parts_of};
 ghost use Rattle.mms_device.specs.Making.{MayMake};
 ghost use Rattle.mms_device.specs.Shared.{IsOf, led_to};
 

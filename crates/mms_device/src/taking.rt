@@ -1,7 +1,7 @@
 //! Taking parts, as a caller of the device.
 
 ghost use Rattle.std.specs.Prelude.{◌≡◌, ◌≢◌, ◌<◌, ◌++◌, ◌∷◌, [], ℕ, true, IfOk, IfErr, length, Contains};
-ghost use Rattle.mms_step.specs.Needs.{is_held};
+ghost use Rattle.step_parts.specs.Needs.{is_held};
 ghost use Rattle.mms_device.specs.Taken.{AreHeld, HasTaken};
 
 use crate::answers::Busy;

@@ -4,9 +4,9 @@ ghost use Rattle.std.specs.Prelude.{◌≡◌, ◌+◌, ◌-◌, ◌<◌, ◌≤
 ghost use Rattle.mms_types.specs.Moments.{IsDated};
 ghost use Rattle.mms_types.specs.declared.event.CellEvent.TheVariants.{Drain};
 ghost use Rattle.cell_config.specs.Said.{IsConfig};
-ghost use Rattle.mms_step.specs.State.{start, IsSound};
-ghost use Rattle.mms_step.specs.Step.{MayCome, outbox_of};
-ghost use Rattle.mms_step.specs.Partition.{parts_of, state_in};
+ghost use Rattle.step_parts.specs.State.{start, IsSound};
+ghost use Rattle.step_parts.specs.Step.{MayCome, outbox_of};
+ghost use Rattle.step_parts.specs.Partition.{parts_of, state_in};
 ghost use Rattle.mms_device.specs.Served.{served};
 
 use cell_config::Config;
@@ -34,8 +34,8 @@ pub struct Whole {
 
 impl Model for Whole {
     ghost use Rattle.std.specs.Prelude.{◌≡◌, map, Some};
-    ghost use Rattle.mms_step.specs.State.{IsSound};
-    ghost use Rattle.mms_step.specs.Partition.{parts_of, state_in};
+    ghost use Rattle.step_parts.specs.State.{IsSound};
+    ghost use Rattle.step_parts.specs.Partition.{parts_of, state_in};
     ghost use Rattle.mms_device.specs.Served.{Served};
 
     ghost Value = { Served };

@@ -1,6 +1,10 @@
 //! The device as parts, and one event on the parts that are held (ISO 9506-1, the virtual manufacturing device): which
 //! parts an event needs, and what it makes of them.
 //!
+//! This is what callers use. It stands in four crates: the state, its parts, what they show and the step (`step_parts`);
+//! on these, beside each other, what an event needs (`step_needs`), what it makes of held parts (`step_apply`), and laws
+//! (`step_sound`).
+//!
 //! An event is its step on whatever parts are held, where these are all that it needs (`apply`, `apply_by`). What it
 //! needs is shown by its words and the held parts alone (`footprint`, `need`, `need_by`). Parts that aren't held stay
 //! as they are, and without memory nothing is changed. Octets are read once for both (`read_event`), and what they come
@@ -14,31 +18,12 @@
 //! more is answered in that event, unless its association ends. Two ticks are one.
 #![tactic(auto)]
 
-mod applying;
-mod areas;
-mod asks;
-mod cell;
-mod domains;
-mod events;
-mod journals;
-pub mod laws;
-mod lifted;
-mod needs;
-mod opening;
-mod part;
-mod passing;
-mod programs;
-mod serving;
-mod tables;
-mod telling;
-
-pub use applying::{apply, apply_by, drain};
-pub use cell::Cell;
 pub use cell_client::{Client, Found, Reading, read_event};
 pub use cell_services::Clock;
-pub use laws::{a_step_is_of_the_held_parts, all_parts_are_enough, each_state_is_sound};
-pub use needs::{footprint, need, need_by, verdict};
-pub use opening::start_parts;
-pub use part::Part;
 pub use parted_state::{Numbers, Parts};
-pub use tables::clients_of;
+pub use step_apply::{apply, apply_by, drain, start_parts};
+pub use step_needs::{footprint, need, need_by, verdict};
+pub use step_parts::{Cell, Part, clients_of};
+pub use step_sound::{
+    a_step_is_of_the_held_parts, all_parts_are_enough, each_state_is_sound, laws,
+};

@@ -5,3 +5,4 @@ pub mod Putting
 mod Worked
 pub mod LiftedLaws
 pub mod SetLaws
+pub mod Laid

@@ -41,14 +41,14 @@ change_holds_the_same f (h ∷ hand) (suc i) = ap (λ (l : List Bool). is_some h
 module _ {S T R F P : Type 0} (d : Device S T R F P) (is : IsDevice d) (n : ℕ) where
   -- ---- places of tables and of clients
 
-  apart : (k i : ℕ) → i < n → table_place d n k ≢ client_place d (suc i)
+  pub apart : (k i : ℕ) → i < n → table_place d n k ≢ client_place d (suc i)
   apart k i few same = by_test (nat_lt k (front d)) refl same
     where
       by_test : (b : Bool) → nat_lt k (front d) ≡ b → (if b then k else k + n) ≡ client_place d (suc i) → ⊥
       by_test true e s = let below : k < front d = grind (arith, nat_tests) in omega (arith, below, s)
       by_test false e s = let past : front d ≤ k = grind (arith, nat_tests) in omega (arith, past, few, s)
 
-  other_table : (k l : ℕ) → k ≢ l → table_place d n k ≢ table_place d n l
+  pub other_table : (k l : ℕ) → k ≢ l → table_place d n k ≢ table_place d n l
   other_table k l other same = by_test (nat_lt k (front d)) (nat_lt l (front d)) refl refl same
     where
       by_test : (b c : Bool) → nat_lt k (front d) ≡ b → nat_lt l (front d) ≡ c → (if b then k else k + n) ≡ (if c then l else l + n) → ⊥

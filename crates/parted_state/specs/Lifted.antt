@@ -13,7 +13,12 @@ module _ {S T R F P : Type 0} (d : Device S T R F P) where
   row_shown zero hand = d.nobody
   row_shown (suc i) hand = d.row_in (held_at hand (client_place d (suc i)))
 
-  -- with n clients, each of these parts, of the tables from k on, stands in its place, where one is held there
+  -- with n clients, each of these parts, of the tables from k on, is laid over the one that is held in its place
+  abbrev pub laid_from : (P → P → P) → ℕ → ℕ → List P → List (Option P) → List (Option P)
+  laid_from over n k [] hand = hand
+  laid_from over n k (part ∷ parts) hand = laid_from over n (suc k) parts (change (option_map (over part)) hand (table_place d n k))
+
+  -- or each stands in its place, where one is held there
   abbrev pub put_from : ℕ → ℕ → List P → List (Option P) → List (Option P)
   put_from n k [] hand = hand
   put_from n k (part ∷ parts) hand = put_from n (suc k) parts (change (option_map (λ held. part)) hand (table_place d n k))

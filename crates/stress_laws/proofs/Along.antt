@@ -6,9 +6,9 @@ use Rattle.mms_types.specs.Actors.{actor_of, clients_to}
 use Rattle.mms_types.specs.declared.event.CellEvent.{CellEvent}
 use Rattle.mms_types.specs.declared.event.CellEvent.TheVariants.{Heard, Lost, Tick, Ends, Drain}
 use Rattle.cell_record.specs.History.{events_of}
-use Rattle.mms_step.specs.State.{State}
-use Rattle.mms_step.specs.Step.{step}
-use Rattle.mms_step.proofs.PartsAfter.{step_sized}
+use Rattle.step_parts.specs.State.{State}
+use Rattle.step_parts.specs.Step.{step}
+use Rattle.step_parts.proofs.PartsAfter.{step_sized}
 use Rattle.cell_laws.proofs.Bound.{nat-same, nat-test}
 use Rattle.stress_laws.proofs.Balance.{of_client, waits_of}
 use Rattle.stress_laws.proofs.Goes.{Goes, asks_for, goes_drain, goes_proposal, goes_request, goes_tick, has_open, trial_step}

@@ -20,8 +20,8 @@ use Rattle.cell_client.specs.Effects.{Effect, Sends, Opens, Closes, Waits, Answe
 use Rattle.cell_services.specs.Services.{grant_told}
 use Rattle.cell_services.specs.Serving.{waiting_of}
 use Rattle.cell_stress.specs.Counts.{is_pdu}
-use Rattle.mms_step.specs.Partition.{cell, no_client}
-use Rattle.mms_step.proofs.Sound.{delivered_both}
+use Rattle.step_parts.specs.Partition.{cell, no_client}
+use Rattle.step_sound.proofs.Sound.{delivered_both}
 use Rattle.cell_laws.specs.Tally.{sent_by, sent_to}
 use Rattle.cell_laws.proofs.Bound.{nat-same}
 use Rattle.cell_laws.proofs.Hears.{IsAdmitted, IsStill, RowsDistinct, nobody-admitted, row-other, waits_in}

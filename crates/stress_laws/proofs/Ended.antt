@@ -17,9 +17,9 @@ use Rattle.mms_time.specs.declared.row.Semaphore.TheVariants.{Token, Pool}
 use Rattle.mms_time.specs.declared.row.SemaphoreRow.{SemaphoreRow}
 use Rattle.parted_state.specs.Served.{row_at}
 use Rattle.cell_services.specs.Serving.{waiting_of}
-use Rattle.mms_step.specs.Partition.{cell}
-use Rattle.mms_step.specs.State.{State}
-use Rattle.mms_step.specs.Step.{step}
+use Rattle.step_parts.specs.Partition.{cell}
+use Rattle.step_parts.specs.State.{State}
+use Rattle.step_parts.specs.Step.{step}
 use Rattle.cell_laws.specs.Linked.{asker, asker_of}
 use Rattle.cell_laws.proofs.Bound.{nat-test}
 use Rattle.stress_laws.proofs.Along.{waits_at}

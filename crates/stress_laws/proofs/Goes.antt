@@ -18,11 +18,11 @@ use Rattle.cell_ticks.specs.Ticks.{begun}
 use Rattle.cell_services.specs.Serving.{hears, meanwhile, saying}
 use Rattle.cell_services.specs.Tables.{Tables, moment_after}
 use Rattle.cell_stress.specs.Requests.{proposal}
-use Rattle.mms_step.specs.Partition.{cell, no_client}
-use Rattle.mms_step.specs.State.{State}
-use Rattle.mms_step.specs.Step.{step}
-use Rattle.mms_step.proofs.PartsAfter.{step_still}
-use Rattle.mms_step.proofs.Sound.{step_sound}
+use Rattle.step_parts.specs.Partition.{cell, no_client}
+use Rattle.step_parts.specs.State.{State}
+use Rattle.step_parts.specs.Step.{step}
+use Rattle.step_parts.proofs.PartsAfter.{step_still}
+use Rattle.step_sound.proofs.Sound.{step_sound}
 use Rattle.cell_laws.specs.Tally.{told_in}
 use Rattle.cell_laws.proofs.Bound.{nat-same}
 use Rattle.cell_laws.proofs.Hears.{row-other}

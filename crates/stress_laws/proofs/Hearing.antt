@@ -39,8 +39,8 @@ use Rattle.cell_services.specs.Services.{cause, effect, grants_told, relinquish_
 use Rattle.cell_client.specs.Requests.{answer_told, fits, is_done, refuses, request_told, size_of}
 use Rattle.cell_services.specs.Serving.{also_told, own_told, resolved}
 use Rattle.cell_services.specs.Tables.{Tables}
-use Rattle.mms_step.specs.Partition.{cell}
-use Rattle.mms_step.specs.State.{State, IsSound}
+use Rattle.step_parts.specs.Partition.{cell}
+use Rattle.step_parts.specs.State.{State, IsSound}
 use Rattle.cell_laws.specs.Linked.{asker}
 use Rattle.cell_laws.proofs.Bound.{Bound}
 use Rattle.cell_laws.proofs.Bounds.{given-back, told_of}

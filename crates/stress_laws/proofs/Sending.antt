@@ -12,9 +12,9 @@ use Rattle.cell_record.specs.History.{drains as drains_of, history}
 use Rattle.cell_record.specs.Report.{taken}
 use Rattle.cell_stress.specs.Counts.{is_pdu, pdus_in, replies_from}
 use Rattle.association.specs.Client.{new_row}
-use Rattle.mms_step.specs.State.{State, device_of, first_rows, start}
-use Rattle.mms_step.specs.Step.{outbox_in, outbox_of, replay, said, step}
-use Rattle.mms_step.proofs.PartsAfter.{length-start, step_sized}
+use Rattle.step_parts.specs.State.{State, device_of, first_rows, start}
+use Rattle.step_parts.specs.Step.{outbox_in, outbox_of, replay, said, step}
+use Rattle.step_parts.proofs.PartsAfter.{length-start, step_sized}
 use Rattle.cell_laws.specs.Tally.{drains, sent_to, told_in}
 use Rattle.cell_laws.proofs.Bound.{nat-same, nat-test}
 use Rattle.cell_laws.proofs.Sent.{is_emptied, is_sent}

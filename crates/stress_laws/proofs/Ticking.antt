@@ -28,7 +28,7 @@ use Rattle.cell_ticks.specs.Ticks.{Ticking, aborted, evaluated, ticked_on, with_
 use Rattle.cell_client.specs.Association.{confirmed_error, timeout_error}
 use Rattle.cell_client.specs.Effects.{Effect}
 use Rattle.cell_services.specs.Serving.{all_told}
-use Rattle.mms_step.specs.Partition.{cell}
+use Rattle.step_parts.specs.Partition.{cell}
 use Rattle.cell_laws.specs.Linked.{asker, asker_of}
 use Rattle.cell_laws.proofs.Bound.{Bound}
 use Rattle.cell_laws.proofs.Entries.{asker_at, leaving}

@@ -31,8 +31,8 @@ use Rattle.cell_services.specs.Services.{effect, relinquish_outcome, take_outcom
 use Rattle.cell_services.specs.Serving.{is_served, resolved, tables_heard}
 use Rattle.cell_services.specs.Tables.{Tables, moment_of}
 use Rattle.cell_stress.specs.Requests.{proposal}
-use Rattle.mms_step.specs.Partition.{cell}
-use Rattle.mms_step.specs.State.{State, IsSound}
+use Rattle.step_parts.specs.Partition.{cell}
+use Rattle.step_parts.specs.State.{State, IsSound}
 use Rattle.cell_laws.proofs.Linking.{Linked}
 use Rattle.stress_laws.proofs.Hearing.{IsOfTrial}
 use Rattle.stress_laws.proofs.Soon.{AsksSoon, RowsSoon, soon_defined, soon_relinquished, soon_taken}

@@ -18,11 +18,11 @@ use Rattle.cell_stress.specs.Requests.{define, proposal}
 use Rattle.cell_stress.specs.Stress.{asking, askings, opening, random_of, round_of, rounds_from, sent, stress_config, stress_phases}
 use Rattle.cell_stress.proofs.Interleaved.{history_counts}
 use Rattle.cell_stress.proofs.Sums.{configured}
-use Rattle.mms_step.specs.Partition.{cell, no_client}
-use Rattle.mms_step.specs.State.{State, device_of, start}
-use Rattle.mms_step.specs.Step.{said, step}
-use Rattle.mms_step.proofs.PartsAfter.{length-start, step_sized}
-use Rattle.mms_step.proofs.Sound.{start_sound}
+use Rattle.step_parts.specs.Partition.{cell, no_client}
+use Rattle.step_parts.specs.State.{State, device_of, start}
+use Rattle.step_parts.specs.Step.{said, step}
+use Rattle.step_parts.proofs.PartsAfter.{length-start, step_sized}
+use Rattle.step_sound.proofs.Sound.{start_sound}
 use Rattle.cell_laws.proofs.Replayed.{linked-start, none-at-first}
 use Rattle.stress_laws.proofs.Along.{AllMayDo, MayDo, IsOf, fares, goes_next, is_heard, rest_may, waits_at}
 use Rattle.stress_laws.proofs.Balance.{even-drains}

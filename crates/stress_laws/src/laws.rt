@@ -3,7 +3,7 @@
 ghost use Rattle.std.specs.Prelude.{◌≡◌, ◌≤◌, ◌+◌, ◌*◌, ℕ, List};
 ghost use Rattle.mms_types.specs.declared.event.CellEvent.{CellEvent};
 ghost use Rattle.cell_record.specs.History.{Interleaves};
-ghost use Rattle.mms_step.specs.Step.{said};
+ghost use Rattle.step_parts.specs.Step.{said};
 ghost use Rattle.cell_stress.specs.Counts.{replies_in};
 ghost use Rattle.cell_stress.specs.Stress.{stress_config, stress_phases};
 

@@ -1,5 +1,5 @@
-use Rattle.mms_step.proofs.Sound.{replay_sound}
-use Rattle.mms_step.specs.Step.{replay}
+use Rattle.step_sound.proofs.Sound.{replay_sound}
+use Rattle.step_parts.specs.Step.{replay}
 use Rattle.cell_laws.proofs.UsersLive.{all_live}
 use Rattle.cell_laws.proofs.programs.each_domain_knows_its_programs.Goals as goal
 

@@ -1,7 +1,7 @@
-use Rattle.mms_step.specs.State.{IsSound}
-use Rattle.mms_step.specs.Step.{replay}
-use Rattle.mms_step.proofs.Sound.{replay_sound}
-use Rattle.mms_step.proofs.TwoTicks.{two_ticks}
+use Rattle.step_parts.specs.State.{IsSound}
+use Rattle.step_parts.specs.Step.{replay}
+use Rattle.step_sound.proofs.Sound.{replay_sound}
+use Rattle.step_sound.proofs.TwoTicks.{two_ticks}
 use Rattle.cell_laws.proofs.time.time_may_be_cut_anywhere.Goals as goal
 
 pub returns : goal.returns

@@ -1,6 +1,6 @@
 use Rattle.std.proofs.Common.{◌≡◌, ◌<◌, length, get_or, ap, sym, refl, subst, ◌∙◌, arith}
 use Rattle.part_table.proofs.Histories.{starts_refl}
-use Rattle.mms_step.specs.Step.{said}
+use Rattle.step_parts.specs.Step.{said}
 use Rattle.mms_device.specs.Shared.{Caller}
 use Rattle.cell_run.specs.Drained.{HaveDrained}
 use Rattle.cell_run.proofs.EachDrained.{client_fit, drained_none, drained_one, slice_of}

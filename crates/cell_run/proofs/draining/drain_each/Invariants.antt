@@ -1,5 +1,5 @@
 use Rattle.part_table.specs.History.{StartsWith}
-use Rattle.mms_step.specs.Step.{said}
+use Rattle.step_parts.specs.Step.{said}
 use Rattle.mms_device.specs.Shared.{History}
 use Rattle.cell_run.specs.Drained.{HaveDrained}
 use Rattle.cell_run.proofs.draining.drain_each.Given as goal

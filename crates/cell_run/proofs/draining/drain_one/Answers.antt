@@ -1,4 +1,4 @@
-use Rattle.mms_step.specs.Step.{said}
+use Rattle.step_parts.specs.Step.{said}
 use Rattle.cell_run.proofs.EachDrained.{one_drained}
 use Rattle.cell_run.proofs.draining.drain_one.Goals as goal
 

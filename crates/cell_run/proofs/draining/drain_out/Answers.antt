@@ -1,4 +1,4 @@
-use Rattle.mms_step.specs.Step.{said}
+use Rattle.step_parts.specs.Step.{said}
 use Rattle.cell_run.proofs.EachDrained.{drained_at_last}
 use Rattle.cell_run.proofs.draining.drain_out.Goals as goal
 

@@ -1,6 +1,6 @@
 use Rattle.std.proofs.Common.{ap, get_or, refl, subst, suc}
 use Rattle.part_table.specs.History.{StartsWith}
-use Rattle.mms_step.specs.Step.{said}
+use Rattle.step_parts.specs.Step.{said}
 use Rattle.cell_run.proofs.EachDrained.{all_drained, cell_is, cell_there, client_there, each_fit, if_ok}
 use Rattle.cell_run.proofs.running.drain_all.Goals as goal
 

@@ -1,11 +1,9 @@
-use denote.Param.Send.{param_send, arg_send}
 use Rattle.std.proofs.Common.{arith}
 use Rattle.std.proofs.lemmas.Option.{slice_get_within}
 use Rattle.part_table.specs.Known.{IsTrueOf}
 use Rattle.mms_device.specs.Making.{MayMake}
 use Rattle.mms_device.specs.Shared.{Caller}
 use Rattle.cell_run.proofs.Worked.{each_more}
-use Rattle.mms_device.proofs.Sent.{part_send}
 use Rattle.cell_run.proofs.running.know_all.Goals as goal
 
 pub loop-pass-preserved : goal.loop-pass-preserved
@@ -15,6 +13,3 @@ loop-pass-preserved c =
 
 pub returns : goal.returns
 returns c i p at = c.loop-pass.invariant i p (let lt = slice_get_within c.args.passes.now i p at in omega (arith, c.loop-pass-test.false, lt)) at
-
-pub a_pass_knows_its_own_places-requires-send-O-Part : goal.a_pass_knows_its_own_places-requires-send-O-Part
-a_pass_knows_its_own_places-requires-send-O-Part _ _ = param_send 1 _ (arg_send _ denote.Exit.yes _ part_send)

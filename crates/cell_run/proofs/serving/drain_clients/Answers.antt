@@ -1,7 +1,7 @@
 use Rattle.std.proofs.Common.{◌+◌, ◌++◌, ◌∷◌, [], List, length, ap, ap₂, sym, ◌∙◌, arith}
 use Rattle.mms_types.specs.declared.event.What.{What}
 use Rattle.mms_types.specs.declared.event.CellEvent.TheVariants.{Drain}
-use Rattle.mms_step.specs.Step.{outbox_of}
+use Rattle.step_parts.specs.Step.{outbox_of}
 use Rattle.mms_device.specs.Served.{Served, served}
 use Rattle.cell_run.proofs.Alongside.{one_taken, one_drain, step_sized}
 use Rattle.cell_run.proofs.serving.drain_clients.Goals as goal

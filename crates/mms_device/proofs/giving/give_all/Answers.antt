@@ -1,10 +1,8 @@
-use denote.Param.Send.{param_send, arg_send}
 use Rattle.std.proofs.Common.{◌≡◌, ℕ, List, [], ◌∷◌, None, slice_get, sym, ◌∙◌, ap, subst, refl, length, ◌+◌, ◌<◌, arith}
 use Rattle.part_table.proofs.Callers.{all_given}
 use Rattle.part_table.proofs.Hands.{all_free, count_taken}
 use Rattle.part_table.specs.Passes.{held_count}
 use Rattle.mms_device.specs.Shared.{Caller}
-use Rattle.mms_device.proofs.Sent.{part_send}
 use Rattle.mms_device.proofs.Steps.{the_held}
 use Rattle.mms_device.proofs.giving.give_all.Goals as goal
 
@@ -27,12 +25,3 @@ returns c =
     all_given c.args.pass.now p (length c.args.pass.now.table.opening) kept.kept kept.hand
     (all_free p.taken (length c.args.pass.now.table.opening) (c.a_pass_has_a_place_for_each_part.ensures ∙ ap (λ (y : Caller). length y.table.opening) kept.kept) (λ i lt. c.in_default.ensures.none i))
     (none_first p.order c.in_default.ensures.last)
-
-pub last_taken-requires-send-O-Part : goal.last_taken-requires-send-O-Part
-last_taken-requires-send-O-Part _ _ = param_send 1 _ (arg_send _ denote.Exit.yes _ part_send)
-
-pub give-requires-send-O-Part : goal.give-requires-send-O-Part
-give-requires-send-O-Part _ _ = param_send 1 _ (arg_send _ denote.Exit.yes _ part_send)
-
-pub a_pass_has_a_place_for_each_part-requires-send-O-Part : goal.a_pass_has_a_place_for_each_part-requires-send-O-Part
-a_pass_has_a_place_for_each_part-requires-send-O-Part _ _ = param_send 1 _ (arg_send _ denote.Exit.yes _ part_send)

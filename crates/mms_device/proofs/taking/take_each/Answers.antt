@@ -1,5 +1,5 @@
 use Rattle.std.proofs.Common.{◌≡◌, ◌<◌, ◌++◌, ◌∷◌, ℕ, [], List, length, ap, arith, subst, sym, ◌∙◌, append_assoc}
-use Rattle.mms_step.specs.Needs.{is_held}
+use Rattle.step_parts.specs.Needs.{is_held}
 use Rattle.mms_device.specs.Taken.{HasTaken}
 use Rattle.mms_device.proofs.Growing.{taken_more, is_next, held_next}
 use Rattle.mms_device.proofs.taking.take_each.Goals as goal

@@ -1,6 +1,6 @@
 use Rattle.std.proofs.Common.{◌≡◌, ◌++◌, ℕ, true}
 use Rattle.std.specs.Prelude.{Contains}
-use Rattle.mms_step.specs.Needs.{is_held}
+use Rattle.step_parts.specs.Needs.{is_held}
 use Rattle.mms_device.specs.Taken.{HasTaken}
 use Rattle.mms_device.proofs.taking.take_each.Given as goal
 

@@ -1,20 +1,15 @@
-use denote.Param.Send.{param_send, arg_send}
 use Rattle.std.proofs.Common.{◌≡◌, ℕ, List, map, ap, ◌∙◌, subst}
 use Rattle.std.specs.Box.{box_value}
 use Rattle.mms_types.specs.declared.event.CellEvent.{CellEvent}
 use Rattle.part_table.specs.Closing.{IsLongest}
 use Rattle.part_table.specs.History.{replayed}
-use Rattle.mms_step.specs.declared.part.Part.{Part}
-use Rattle.mms_step.specs.Partition.{parts_of}
-use Rattle.mms_step.specs.After.{parts_after}
+use Rattle.step_parts.specs.declared.part.Part.{Part}
+use Rattle.step_parts.specs.Partition.{parts_of}
+use Rattle.step_parts.specs.After.{parts_after}
 use Rattle.mms_device.specs.Making.{MayMake}
 use Rattle.mms_device.specs.Shared.{Shared, led_to}
 use Rattle.mms_device.proofs.Leading.{leads}
-use Rattle.mms_device.proofs.Sent.{part_send}
 use Rattle.mms_device.proofs.many.Device.close.Goals as goal
-
-pub close-requires-send-O-Part : goal.close-requires-send-O-Part
-close-requires-send-O-Part _ _ = param_send 1 _ (arg_send _ denote.Exit.yes _ part_send)
 
 pub returns-in-Ok-clause-parts : goal.returns-in-Ok-clause-parts
 returns-in-Ok-clause-parts c =

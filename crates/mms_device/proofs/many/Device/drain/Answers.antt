@@ -1,11 +1,11 @@
 use Rattle.std.proofs.Common.{ℕ, List, refl, sym, ap, ◌∙◌, subst}
 use Rattle.mms_types.specs.declared.event.CellEvent.TheVariants.{Drain}
-use Rattle.mms_step.specs.After.{after, parts_after}
-use Rattle.mms_step.specs.Needs.{footprint, need}
+use Rattle.step_parts.specs.After.{after, parts_after}
+use Rattle.step_parts.specs.Needs.{footprint, need}
 use Rattle.part_table.specs.Held.{IsHandOf}
 use Rattle.part_table.specs.History.{replayed}
 use Rattle.mms_device.specs.Making.{MayMake}
-use Rattle.mms_step.specs.Step.{said}
+use Rattle.step_parts.specs.Step.{said}
 use Rattle.mms_device.specs.Shared.{Caller, IsOf, Shared, IsBusy, all_events}
 use Rattle.mms_device.specs.Taken.{AreHeld}
 use Rattle.mms_device.proofs.Draining.{may_drain, drain_small, drain_busy, drain_may, drain_client, drain_need, drain_step, drain_said, drain_served}

@@ -4,13 +4,13 @@ use Rattle.std.proofs.lemmas.Bool.{eqb-false}
 use Rattle.std.proofs.lemmas.List.{nil_from_length}
 use Rattle.part_table.specs.Held.{IsHandOf}
 use Rattle.parted_state.proofs.SetLaws.{empty_set}
-use Rattle.mms_step.specs.declared.part.Part.{Part}
-use Rattle.mms_step.specs.Needs.{need}
-use Rattle.mms_step.specs.Partition.{parts_of}
+use Rattle.step_parts.specs.declared.part.Part.{Part}
+use Rattle.step_parts.specs.Needs.{need}
+use Rattle.step_parts.specs.Partition.{parts_of}
 use Rattle.mms_device.specs.Making.{MayMake}
 use Rattle.mms_device.specs.Shared.{IsOf, IsTimely, Caller, Shared, led_to}
 use Rattle.mms_device.proofs.Outcomes.{can_more, can_seen, actor_among, sees, state_shown, among_shown, missing_shown, missing_within, fewer, more_taken, lost_more, time_shown}
-use Rattle.mms_step.specs.Tasks.{IsFoundOf}
+use Rattle.step_parts.specs.Found.{IsFoundOf}
 use Rattle.mms_device.proofs.Leading.{timely_seen}
 use Rattle.mms_device.proofs.many.Device.take_more.Goals as goal
 

@@ -1,7 +1,7 @@
 use Rattle.std.proofs.Common.{◌≡◌, ◌≢◌, ◌++◌, ◌∷◌, [], ℕ, List, sym, ap, ◌∙◌, subst}
 use Rattle.std.specs.Prelude.{Contains}
 use Rattle.std.proofs.lemmas.Result.{IfOk-weaker, IfErr-weaker}
-use Rattle.mms_step.specs.Needs.{footprint}
+use Rattle.step_parts.specs.Needs.{footprint}
 use Rattle.mms_device.specs.declared.answers.Busy.{Busy}
 use Rattle.mms_device.specs.Shared.{IsOf, Shared}
 use Rattle.mms_device.specs.Taken.{AreHeld, HasLost}

@@ -1,9 +1,9 @@
 use Rattle.std.proofs.Common.{List, Option, length, sym, ap, ◌∙◌, subst, refl}
 use Rattle.part_table.specs.Held.{IsHandOf}
-use Rattle.mms_step.specs.declared.part.Part.{Part}
-use Rattle.mms_step.specs.Needs.{need}
-use Rattle.mms_step.specs.Partition.{parts_of}
-use Rattle.mms_step.specs.Tasks.{IsFoundOf}
+use Rattle.step_parts.specs.declared.part.Part.{Part}
+use Rattle.step_parts.specs.Needs.{need}
+use Rattle.step_parts.specs.Partition.{parts_of}
+use Rattle.step_parts.specs.Found.{IsFoundOf}
 use Rattle.mms_device.specs.Refusals.{IsRefused}
 use Rattle.mms_device.specs.Shared.{IsOf, IsTimely, Caller, Shared, led_to}
 use Rattle.mms_device.specs.Stepping.{MayStep}

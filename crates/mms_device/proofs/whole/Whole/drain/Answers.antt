@@ -1,9 +1,9 @@
 use Rattle.std.proofs.Common.{ap, sym, subst, ◌+◌, ◌≤◌, ◌∙◌, length}
 use Rattle.mms_types.specs.declared.event.CellEvent.TheVariants.{Drain}
-use Rattle.mms_step.specs.State.{State}
-use Rattle.mms_step.specs.Step.{outbox_of}
+use Rattle.step_parts.specs.State.{State}
+use Rattle.step_parts.specs.Step.{outbox_of}
 use Rattle.mms_device.specs.Served.{Served, served}
-use Rattle.mms_step.specs.Partition.{state_in}
+use Rattle.step_parts.specs.Partition.{state_in}
 use Rattle.mms_device.proofs.AllHeld.{client_of_all, drains, is_of_its_state}
 use Rattle.mms_device.proofs.whole.Whole.drain.Goals as goal
 

@@ -1,6 +1,6 @@
 use Rattle.std.proofs.Common.{ap, sym, subst}
-use Rattle.mms_step.specs.State.{State, start, IsSound}
-use Rattle.mms_step.proofs.Sound.{start_sound}
+use Rattle.step_parts.specs.State.{State, start, IsSound}
+use Rattle.step_sound.proofs.Sound.{start_sound}
 use Rattle.mms_device.specs.Served.{Served}
 use Rattle.mms_device.proofs.AllHeld.{state_after, holds_all_after}
 use Rattle.mms_device.proofs.whole.Whole.new.Goals as goal

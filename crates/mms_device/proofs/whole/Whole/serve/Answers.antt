@@ -1,7 +1,7 @@
 use Rattle.std.proofs.Common.{ap, sym, subst, ◌+◌, ◌∙◌}
-use Rattle.mms_step.specs.State.{State}
-use Rattle.mms_step.specs.Step.{MayCome}
-use Rattle.mms_step.specs.Partition.{state_in}
+use Rattle.step_parts.specs.State.{State}
+use Rattle.step_parts.specs.Step.{MayCome}
+use Rattle.step_parts.specs.Partition.{state_in}
 use Rattle.mms_device.specs.Served.{Served, served}
 use Rattle.mms_device.proofs.AllHeld.{is_of_its_state, none_needed, serves}
 use Rattle.mms_device.proofs.whole.Whole.serve.Goals as goal

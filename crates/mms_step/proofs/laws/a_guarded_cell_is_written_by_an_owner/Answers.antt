@@ -1,5 +1,0 @@
-use Rattle.mms_step.proofs.Guarded.{guarded_step}
-use Rattle.mms_step.proofs.laws.a_guarded_cell_is_written_by_an_owner.Goals as goal
-
-pub returns : goal.returns
-returns c s event number was guard there is = guarded_step s event number was guard there is

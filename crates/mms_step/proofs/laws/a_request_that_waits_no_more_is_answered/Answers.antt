@@ -1,5 +1,0 @@
-use Rattle.mms_step.proofs.Waiters.{all_answered}
-use Rattle.mms_step.proofs.laws.a_request_that_waits_no_more_is_answered.Goals as goal
-
-pub returns : goal.returns
-returns c = all_answered

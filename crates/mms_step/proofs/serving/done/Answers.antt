@@ -1,9 +1,0 @@
-use Rattle.std.proofs.Common.{◌+◌, ap, ◌∙◌}
-use Rattle.mms_step.specs.Rooms.{room_to, without_rooms}
-use Rattle.mms_step.proofs.ServeLaws.{rooms_given_up}
-use Rattle.mms_step.proofs.serving.done.Goals as goal
-
-pub returns-in-Err-clause-kept : goal.returns-in-Err-clause-kept
-returns-in-Err-clause-kept c =
-    c.release_all.ensures ∙ ap (without_rooms (c.args.clients + 1)) c.in_ok-make_rooms.ensures.made
-    ∙ rooms_given_up c.args.clients (room_to c.as_slice.result.now) c.args.held.now c.requires.settled

@@ -1,9 +1,0 @@
-use Rattle.std.proofs.Common.{◌≡◌, ◌≤◌}
-use Rattle.mms_step.specs.Rooms.{room_to, with_rooms}
-use Rattle.mms_step.proofs.telling.make_rooms.Given as goal
-
-abbrev pub invariant-loop-client : goal.invariant-loop-client
-invariant-loop-client l = record {
-  some : 1 ≤ l.client;
-  made : l.held ≡ with_rooms l.client (room_to l.told) l.fn.held;
-}

@@ -1,0 +1,12 @@
+pub mod Changed
+pub mod Enough
+pub mod EventFacts
+pub mod ToldLaws
+pub mod ServeLaws
+pub mod Ready
+pub mod QuietTime
+pub mod LaidTables
+pub mod ServedIn
+pub mod TabledAll
+pub mod FinishedIn
+pub mod HeardIn

@@ -1,0 +1,4 @@
+pub mod Lifting
+pub mod Placing
+pub mod Rooms
+pub mod Tasks

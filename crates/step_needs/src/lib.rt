@@ -1,0 +1,7 @@
+//! Which parts an event needs, by its words and by the held parts alone; what octets come to, found once.
+#![tactic(auto)]
+
+mod asks;
+mod needs;
+
+pub use needs::{footprint, need, need_by, verdict};

@@ -1,0 +1,10 @@
+pub mod After
+pub mod AfterLaws
+pub mod Needs
+pub mod Partition
+pub mod State
+pub mod Step
+pub mod TimeLaws
+pub mod Found
+pub mod Slots
+pub mod Tabling

@@ -1,0 +1,171 @@
+-- The value of a guarded cell is changed by the writes of owners of its guard alone.
+use Rattle.std.specs.Prelude.{◌≡◌, ◌⊎◌, ℕ, nat_eq, Bool, true, false, List, [], ◌∷◌, Option, None, Some, if◌then◌else◌, refl}
+use Rattle.std.specs.Map.{lookup}
+use Rattle.std.proofs.Common.{ap, ◌∙◌, inl, inr}
+use Rattle.mms_types.specs.declared.event.CellEvent.{CellEvent}
+use Rattle.mms_types.specs.declared.event.CellEvent.TheVariants.{Heard, Lost, Tick, Ends, Drain}
+use Rattle.mms_types.specs.declared.pdu.Request.{Request}
+use Rattle.mms_types.specs.declared.pdu.Request.TheVariants as request
+use Rattle.mms_types.specs.declared.variable.Write.{Write}
+use Rattle.association.specs.Client.{ClientRow}
+use Rattle.association.specs.declared.negotiation.Association.{Association}
+use Rattle.association.specs.declared.negotiation.Association.TheVariants.{Idle, Open}
+use Rattle.association.specs.declared.waiting.Waiting.{Waiting}
+use Rattle.variables.specs.Access.{guard_in}
+use Rattle.variables.specs.Rows.{cell_at}
+use Rattle.variables.specs.declared.rows.StoredCell.{StoredCell}
+use Rattle.variable_services.specs.declared.tables.VariableTables.{VariableTables}
+use Rattle.variable_services.proofs.Guards.{unowned_stays}
+use Rattle.variable_services.specs.Services.{lost}
+use Rattle.mms_time.specs.Guards.{owns_guard}
+use Rattle.mms_time.specs.Services.{take_told}
+use Rattle.sem_ticks.specs.Granted.{relinquish_granted}
+use Rattle.sem_ticks.specs.declared.granted.Granted.{Granted}
+use Rattle.mms_time.specs.declared.taking.TakeDone.{TakeDone}
+use Rattle.mms_time.specs.declared.taking.TakeDone.TheVariants as taken
+use Rattle.parted_state.specs.Served.{row_at}
+use Rattle.cell_client.specs.Association.{Verdict, Tells, Takes, Concludes, Cancels, Aborts, verdict, Came, Replies, Exhausts, keeps_open}
+use Rattle.cell_services.specs.Services.{effect, relinquish_outcome, take_outcome, area_of, effect_of, lacks_number, reply_in}
+use Rattle.cell_services.specs.Serving.{is_served, lost_in, meanwhile, tables_cancelled, tables_heard, tables_lost, waiting_of, without_clients, is_served_in, keeps_upload, resolved}
+use Rattle.cell_services.specs.Tables.{Tables}
+use Rattle.step_sound.specs.Guarded.{IsWrittenByOwner}
+use Rattle.step_parts.specs.Partition.{cell}
+use Rattle.step_parts.specs.State.{State}
+use Rattle.step_parts.specs.Step.{step}
+
+abbrev pub cells_of : VariableTables → List (ℕ × StoredCell)
+cells_of v = v.vars.cells
+
+-- of the cells alone
+at_cells : (number : ℕ) (one other : VariableTables) → cells_of one ≡ cells_of other → cell_at number one.vars ≡ cell_at number other.vars
+at_cells number one other same = ap (λ (cells : List (ℕ × StoredCell)). lookup (nat_eq number) cells) same
+
+-- ---- what no write does
+
+pub lost_cells : (clients : List ℕ) (v : VariableTables) → cells_of (without_clients clients v) ≡ cells_of v
+lost_cells [] v = refl
+lost_cells (client ∷ clients) v = lost_cells clients (lost client v)
+
+module _ (t : Tables) (row : ClientRow) (invoke : ℕ) where
+  effect_cells : (asked : Request) → ((x : Write) → asked ≡ request.Write x → ⊥) → cells_of (effect t row invoke asked).tables.variables ≡ cells_of t.variables
+  effect_cells (request.Write x) never = absurd (never x refl)
+  effect_cells (request.TakeControl x) never = by_done (take_told row.client x t.semaphores)
+    where
+      by_done : (o : Option TakeDone) → cells_of (take_outcome t row.client invoke x o).tables.variables ≡ cells_of t.variables
+      by_done None = refl
+      by_done (Some (taken.Answered told)) = refl
+      by_done (Some (taken.Waits entry)) = refl
+  effect_cells (request.RelinquishControl x) never = by_grant (relinquish_granted row.client x t.semaphores)
+    where
+      by_grant : (o : Option (Option Granted)) → cells_of (relinquish_outcome t row.client x o).tables.variables ≡ cells_of t.variables
+      by_grant None = refl
+      by_grant (Some grant) = refl
+  effect_cells asked never = refl
+
+-- ---- what is heard
+
+-- a write is served of a client that owns a token of the guard
+record IsOwnersWrite (guard : List ℕ) (t : Tables) (row : ClientRow) (v : Verdict) : Type 0 where
+  invoke : ℕ
+  asked : Write
+  taken : v ≡ Takes invoke (request.Write asked)
+  served : is_served t row invoke (request.Write asked) ≡ true
+  owner : owns_guard row.client guard t.semaphores ≡ true
+
+module _ (t : Tables) (row : ClientRow) (number : ℕ) (was : StoredCell) (guard : List ℕ) (there : cell_at number t.variables.vars ≡ Some was) (is : was.guard ≡ Some guard) where
+  abbrev Stays : VariableTables → Type 0
+  Stays v = cell_at number v.vars ≡ Some was
+
+  as_cells : (v : VariableTables) → cells_of v ≡ cells_of t.variables → Stays v
+  as_cells v same = at_cells number v t.variables same ∙ there
+
+  written : (invoke : ℕ) (x : Write) → is_served t row invoke (request.Write x) ≡ true
+      → Stays (effect t row invoke (request.Write x)).tables.variables ⊎ IsOwnersWrite guard t row (Takes invoke (request.Write x))
+  written invoke x served = by_owner (owns_guard row.client guard t.semaphores) refl
+    where
+      by_owner : (b : Bool) → owns_guard row.client guard t.semaphores ≡ b
+          → Stays (effect t row invoke (request.Write x)).tables.variables ⊎ IsOwnersWrite guard t row (Takes invoke (request.Write x))
+      by_owner true e = inr (record { invoke = invoke; asked = x; taken = refl; served = served; owner = e })
+      by_owner false e =
+          inl (unowned_stays (λ name. owns_guard row.client name t.semaphores) row.client x t.variables number guard (ap guard_in there ∙ is) e ∙ there)
+
+  served_one : (invoke : ℕ) (asked : Request) → is_served t row invoke asked ≡ true
+      → Stays (effect t row invoke asked).tables.variables ⊎ IsOwnersWrite guard t row (Takes invoke asked)
+  served_one invoke (request.Write x) served = written invoke x served
+  served_one invoke asked served = inl (as_cells (effect t row invoke asked).tables.variables (effect_cells t row invoke asked (λ x same. cc same)))
+
+  taken_one : (invoke : ℕ) (asked : Request) → Stays (tables_heard t row (Takes invoke asked)).variables ⊎ IsOwnersWrite guard t row (Takes invoke asked)
+  taken_one invoke asked = by_served (is_served t row invoke asked) refl
+    where
+      by_served : (b : Bool) → is_served t row invoke asked ≡ b
+          → Stays (if b then (effect t row invoke asked).tables else t).variables ⊎ IsOwnersWrite guard t row (Takes invoke asked)
+      by_served true e = served_one invoke asked e
+      by_served false e = inl there
+
+  replied : (number : ℕ) (came : Came) → Stays (tables_heard t row (Replies number came)).variables
+  replied number came = by_served (is_served_in t row number (reply_in number came))
+    where
+      by_served : (b : Bool) → Stays (if b then (effect_of t row number (reply_in number came)).tables else t).variables
+      by_served true = there
+      by_served false = there
+
+  heard : (v : Verdict) → Stays (tables_heard t row v).variables ⊎ IsOwnersWrite guard t row v
+  heard (Takes invoke asked) = taken_one invoke asked
+  heard (Tells effects) = inl there
+  heard (Replies number came) = inl (replied number came)
+  heard (Exhausts invoke) = inl there
+  heard Concludes = inl there
+  heard (Cancels invoke) = by_waiting (waiting_of invoke row.waiting)
+    where
+      by_waiting : (o : Option Waiting) → Stays (tables_cancelled o t).variables ⊎ IsOwnersWrite guard t row (Cancels invoke)
+      by_waiting None = inl there
+      by_waiting (Some request) = inl there
+  heard Aborts = inl there
+
+  lost_one : (a : Association) (client : ℕ) → Stays (tables_lost a client t).variables
+  lost_one Idle client = there
+  lost_one (Open values) client = there
+
+-- a request that is taken was one before
+pub taken_before : (t : Tables) (row : ClientRow) (v : Verdict) (invoke : ℕ) (asked : Request) → resolved t row v ≡ Takes invoke asked → v ≡ Takes invoke asked
+taken_before t row (Takes i a) invoke asked is = by_test (lacks_number t row i (area_of a)) is
+  where
+    by_test : (b : Bool) → (if b then Exhausts i else Takes i a) ≡ Takes invoke asked → Takes i a ≡ Takes invoke asked
+    by_test true e = absurd (cc e)
+    by_test false e = e
+taken_before t row (Replies number came) invoke asked is = by_test (lacks_number t row number (reply_in number came)) is
+  where
+    by_test : (b : Bool) → (if b then Aborts else Replies number came) ≡ Takes invoke asked → Replies number came ≡ Takes invoke asked
+    by_test true e = absurd (cc e)
+    by_test false e = e
+taken_before t row Concludes invoke asked is = by_test (keeps_upload t row) is
+  where
+    by_test : (b : Bool) → (if b then Tells keeps_open else Concludes) ≡ Takes invoke asked → Concludes ≡ Takes invoke asked
+    by_test true e = absurd (cc e)
+    by_test false e = e
+taken_before t row v invoke asked is = is
+
+-- ---- each event
+
+pub guarded_step : (s : State) (event : CellEvent) (number : ℕ) (was : StoredCell) (guard : List ℕ) → cell_at number s.variables.vars ≡ Some was → was.guard ≡ Some guard
+    → (cell_at number (step s event).variables.vars ≡ Some was) ⊎ IsWrittenByOwner guard s event
+guarded_step s (Heard client octets) number was guard there is = by_heard (heard (cell.tables_of s) row number was guard there is now)
+  where
+    row : ClientRow
+    row = row_at cell client s.clients
+
+    now : Verdict
+    now = resolved (cell.tables_of s) row (verdict row octets)
+
+    by_heard : (cell_at number (tables_heard (cell.tables_of s) row now).variables.vars ≡ Some was) ⊎ IsOwnersWrite guard (cell.tables_of s) row now
+        → (cell_at number (step s (Heard client octets)).variables.vars ≡ Some was) ⊎ IsWrittenByOwner guard s (Heard client octets)
+    by_heard (inl stays) = inl stays
+    by_heard (inr w) =
+        inr (record { client = client; octets = octets; heard = refl; invoke = w.invoke; asked = w.asked; taken = taken_before (cell.tables_of s) row (verdict row octets) w.invoke (request.Write w.asked) w.taken; served = w.served; owner = w.owner })
+guarded_step s (Lost client) number was guard there is =
+    inl (lost_one (cell.tables_of s) (row_at cell client s.clients) number was guard there is (row_at cell client s.clients).association (row_at cell client s.clients).client)
+guarded_step s (Tick ms) number was guard there is =
+    inl (as_cells (cell.tables_of s) (row_at cell 0 s.clients) number was guard there is (step s (Tick ms)).variables
+    (lost_cells (lost_in (meanwhile ms (cell.tables_of s)).happened) s.variables))
+guarded_step s (Ends name) number was guard there is = inl there
+guarded_step s (Drain client) number was guard there is = inl there

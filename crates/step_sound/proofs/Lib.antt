@@ -1,0 +1,13 @@
+pub mod AllParts
+pub mod ConditionsKept
+pub mod DomainNames
+pub mod EventsKept
+pub mod Guarded
+pub mod Loading
+pub mod LoadsKept
+pub mod Outboxes
+pub mod Sound
+pub mod TokensKept
+pub mod TwoTicks
+pub mod Answering
+pub mod Waiters
