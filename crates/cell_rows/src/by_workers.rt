@@ -62,22 +62,39 @@ fn history_apart<R: Threads + Wait + Sync>(
 ) -> Result<Option<Difference>> {
     let report = String::from_utf8_lossy(alloc, &run.report)?;
     let wanted = String::from_utf8_lossy(alloc, &row.report)?;
-    let events = by_actors(alloc, &report)?;
-    let recorded_events = by_actors(alloc, &wanted)?;
-    let apart = line_apart(
-        alloc,
-        "the actors' events",
-        recorded_events.as_bytes(),
-        events.as_bytes(),
-    )?;
-    if apart.is_some() {
-        return Ok(apart);
+    match events_apart(alloc, &wanted, &report)? {
+        Some(apart) => Ok(Some(apart)),
+        None => report_apart(rt, alloc, row, &wanted, run),
     }
+}
+
+/// Where the events of an actor in a report aren't those of the one that is wanted.
+fn events_apart(alloc: Global, wanted: &str, report: &str) -> Result<Option<Difference>> {
+    let wanted = by_actors(alloc, wanted)?;
+    let events = by_actors(alloc, report)?;
+    let of = "the actors' events";
+    line_apart(alloc, of, wanted.as_bytes(), events.as_bytes())
+}
+
+/// The events of a run of a row, as a recording that begins as that of the row.
+fn history_of(alloc: Global, row: &Row, run: &Outcome) -> Result<String> {
     let recording = String::from_utf8_lossy(alloc, &row.recording)?;
-    let history = recorded(alloc, head_of(&recording), &report)?;
+    let report = String::from_utf8_lossy(alloc, &run.report)?;
+    Ok(recorded(alloc, head_of(&recording), &report)?)
+}
+
+/// Where the report of a run differs from the one that is written of its history, with why no more of the row was served.
+fn report_apart<R: Threads + Wait + Sync>(
+    rt: &R,
+    alloc: Global,
+    row: &Row,
+    wanted: &str,
+    run: &Outcome,
+) -> Result<Option<Difference>> {
+    let history = history_of(alloc, row, run)?;
     let replay = words_of(alloc, &["replay"])?;
     let limits = Limits::room(alloc, row.limits.room);
     let mut again = outcome_of(rt, alloc, &replay, history.as_bytes(), &limits)?;
-    again.report.extend_from_slice(refusal(&wanted).as_bytes())?;
+    again.report.extend_from_slice(refusal(wanted).as_bytes())?;
     line_apart(alloc, "the report", &again.report, &run.report)
 }

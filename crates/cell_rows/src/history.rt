@@ -20,11 +20,19 @@ impl<'a> Line<'a> {
         if line.starts_with("phase ") {
             return Line::Phase;
         }
-        match (line.as_bytes(), line.split_once(' ')) {
-            ([b'0'..=b'9', ..], Some((_place, event))) => Line::Event(event),
-            _ => Line::Other,
+        if !begins_with_digit(line) {
+            return Line::Other;
+        }
+        match line.split_once(' ') {
+            Some((_place, event)) => Line::Event(event),
+            None => Line::Other,
         }
     }
+}
+
+/// Whether a line begins with a number.
+fn begins_with_digit(line: &str) -> bool {
+    matches!(line.as_bytes().first(), Some(b'0'..=b'9'))
 }
 
 /// An event of a phase.

@@ -15,14 +15,14 @@ use anyhow::{Context, Result};
 use by_workers::{WORKERS, is_replayed, run_apart};
 use row::Row;
 use row_file::rows_of;
-use running::first_difference;
+use running::{Difference, first_difference};
 use shorthand::Shorthands;
-use std::alloc::Global;
+use std::alloc::{AllocError, Global};
 use std::fmt::Write;
-use std::fs;
 use std::process::ExitCode;
 use std::sync::Wait;
 use std::thread::Threads;
+use std::{fmt, fs};
 
 /// The names of the files of a folder that end so, in order.
 fn files_of(rt: &HostRuntime, folder: &str, ending: &str) -> Result<Vec<String>> {
@@ -48,27 +48,75 @@ fn put_rows(
     rows_of(rt.alloc(), file, &content, texts, rows).context(format_args!("in {file}"))
 }
 
-/// A recording that stands in a file of its own, to be replayed to its end, with its report in the file beside it.
-fn example(rt: &HostRuntime, name: &str) -> Result<Row> {
-    let file = format!(in rt.alloc(); "examples/{name}")?;
-    let beside = format!(in rt.alloc(); "{}.report", file.strip_suffix(".mms").unwrap_or(&file))?;
-    let recording = fs::read(rt, &file).context(format_args!("reading {file}"))?;
-    let report = fs::read(rt, &beside).context(format_args!("reading {beside}"))?;
-    Row::example(rt.alloc(), file, recording, report)
+/// What is in a file.
+fn content_of(rt: &HostRuntime, file: &str) -> Result<Vec<u8>> {
+    Ok(fs::read(rt, file).context(format_args!("reading {file}"))?)
 }
 
-/// All rows: those of the files `*.rows`, and the examples.
-fn all_rows(rt: &HostRuntime) -> Result<Vec<Row>> {
+/// Takes a recording that stands in a file of its own, to be replayed to its end, with its report in the file beside it.
+fn take_example(rt: &HostRuntime, row: &mut Row) -> Result<()> {
+    row.put_word(rt.alloc(), "replay")?;
+    row.recording = content_of(rt, &row.file)?;
+    let name = row.file.strip_suffix(".mms").unwrap_or(&row.file);
+    let beside = format!(in rt.alloc(); "{name}.report")?;
+    row.report = content_of(rt, &beside)?;
+    Ok(())
+}
+
+/// Puts an example behind `rows`.
+fn put_example(rt: &HostRuntime, name: &str, rows: &mut Vec<Row>) -> Result<()> {
+    let file = format!(in rt.alloc(); "examples/{name}")?;
+    rows.push(Row::new(rt.alloc(), file, 1))?;
+    match rows.last_mut() {
+        Some(row) => take_example(rt, row),
+        None => Ok(()),
+    }
+}
+
+/// Puts the rows of the files `*.rows` behind `rows`.
+fn put_files(rt: &HostRuntime, rows: &mut Vec<Row>) -> Result<()> {
     let content = fs::read_to_string(rt, "shorthands").context("reading shorthands")?;
-    let texts = Shorthands::of(&content);
-    let mut rows = Vec::new(rt.alloc());
-    for file in files_of(rt, ".", ".rows")? {
-        put_rows(rt, &file, texts, &mut rows)?;
+    for file in &files_of(rt, ".", ".rows")? {
+        put_rows(rt, file, Shorthands::of(&content), rows)?;
     }
-    for name in files_of(rt, "examples", ".mms")? {
-        rows.push(example(rt, &name)?)?;
+    Ok(())
+}
+
+/// Puts the examples behind `rows`.
+fn put_examples(rt: &HostRuntime, rows: &mut Vec<Row>) -> Result<()> {
+    for name in &files_of(rt, "examples", ".mms")? {
+        put_example(rt, name, rows)?;
     }
-    Ok(rows)
+    Ok(())
+}
+
+/// Whether nothing differs. Else puts a line behind `differences`, with the number of workers, where there are some.
+fn agrees(
+    differences: &mut String,
+    row: &Row,
+    by: &str,
+    apart: Option<Difference>,
+) -> Result<bool, AllocError> {
+    let Some(apart) = apart else {
+        return Ok(true);
+    };
+    put_apart(differences, row, by, &apart)?;
+    Ok(false)
+}
+
+/// Puts a line behind `differences`.
+fn put_apart(
+    differences: &mut String,
+    row: &Row,
+    by: &str,
+    apart: &Difference,
+) -> Result<(), AllocError> {
+    let behind = if by.is_empty() { "" } else { ", by " };
+    writeln!(
+        differences,
+        "{}, line {}{behind}{by}: {apart}",
+        row.file, row.line
+    )
 }
 
 /// How many rows agree. Puts a line for each that differs behind `differences`.
@@ -80,9 +128,9 @@ fn agreeing_rows<R: Threads + Wait + Sync>(
 ) -> Result<u64> {
     let mut agree = 0u64;
     for row in rows {
-        match first_difference(rt, alloc, row)? {
-            None => agree = agree.saturating_add(1),
-            Some(it) => writeln!(differences, "{}, line {}: {it}", row.file, row.line)?,
+        let apart = first_difference(rt, alloc, row)?;
+        if agrees(differences, row, "", apart)? {
+            agree = agree.saturating_add(1);
         }
     }
     Ok(agree)
@@ -102,28 +150,36 @@ fn agreeing_runs<R: Threads + Wait + Sync>(
             continue;
         }
         for by in WORKERS {
-            match run_apart(rt, alloc, row, by)? {
-                None => agree = agree.saturating_add(1),
-                Some(it) => {
-                    writeln!(
-                        differences,
-                        "{}, line {}, by {by}: {it}",
-                        row.file, row.line
-                    )?;
-                }
+            let apart = run_apart(rt, alloc, row, by)?;
+            if agrees(differences, row, by, apart)? {
+                agree = agree.saturating_add(1);
             }
         }
     }
     Ok(agree)
 }
 
-/// Runs all rows, and the recordings that they replay by workers too. Prints a line for each that differs, and how many
-/// agree.
+/// How many rows agree, and how many runs by workers of the recordings that they replay. Puts a line for each that
+/// differs behind `differences`.
+fn agreeing<R: Threads + Wait + Sync>(
+    rt: &R,
+    alloc: Global,
+    rows: &[Row],
+    differences: &mut String,
+) -> Result<(u64, u64)> {
+    let agree = agreeing_rows(rt, alloc, rows, differences)?;
+    let runs = agreeing_runs(rt, alloc, rows, differences)?;
+    Ok((agree, runs))
+}
+
+/// Runs all rows, those of the files `*.rows` and the examples, and the recordings that they replay by workers too. Prints
+/// a line for each that differs, and how many agree.
 fn main(rt: HostRuntime) -> Result<ExitCode> {
-    let rows = all_rows(&rt)?;
+    let mut rows = Vec::new(rt.alloc());
+    put_files(&rt, &mut rows)?;
+    put_examples(&rt, &mut rows)?;
     let mut differences = String::new(rt.alloc());
-    let agree = agreeing_rows(&rt, rt.alloc(), &rows, &mut differences)?;
-    let runs = agreeing_runs(&rt, rt.alloc(), &rows, &mut differences)?;
+    let (agree, runs) = agreeing(&rt, rt.alloc(), &rows, &mut differences)?;
     print!(rt; "{differences}{agree} rows agree\n{runs} runs by workers agree\n")?;
     Ok(ExitCode::from(u8::from(!differences.is_empty())))
 }

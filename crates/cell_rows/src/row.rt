@@ -2,10 +2,9 @@
 
 use crate::number::number as number_of;
 use anyhow::{Result, bail};
-use std::alloc::Global;
+use std::alloc::{AllocError, Global};
 
 /// What the source and the sink refuse.
-#[derive(Drop)]
 pub(crate) struct Limits {
     /// The reads and the writes that fail, by their numbers from 1.
     pub failing_reads: Vec<u64>,
@@ -15,7 +14,6 @@ pub(crate) struct Limits {
 }
 
 /// A run of the command, and the status and the report that it must have.
-#[derive(Drop)]
 pub(crate) struct Row {
     /// The file that it stands in, and the line on which it begins, from 1.
     pub file: String,
@@ -31,12 +29,36 @@ pub(crate) struct Row {
     pub report: Vec<u8>,
 }
 
+impl Drop for Limits {
+    fn drop(self) {
+        let Limits {
+            failing_reads: _failing_reads,
+            failing_writes: _failing_writes,
+            room: _,
+        } = self;
+    }
+}
+
+impl Drop for Row {
+    fn drop(self) {
+        let Row {
+            file: _file,
+            line: _,
+            words: _words,
+            limits: _limits,
+            recording: _recording,
+            status: _,
+            report: _report,
+        } = self;
+    }
+}
+
 /// The room of a sink of which nothing is said.
 const ROOM: usize = 16_777_216;
 
 impl Row {
     /// A row on a line of a file, without words, which ends with status 0.
-    fn new(alloc: Global, file: String, line: usize) -> Row {
+    pub(crate) fn new(alloc: Global, file: String, line: usize) -> Row {
         Row {
             file,
             line,
@@ -48,37 +70,23 @@ impl Row {
         }
     }
 
-    /// A recording that is replayed to its end, and its report.
-    pub(crate) fn example(
-        alloc: Global,
-        file: String,
-        recording: Vec<u8>,
-        report: Vec<u8>,
-    ) -> Result<Row> {
-        let mut row = Row::new(alloc, file, 1);
-        row.words.push(String::from_str(alloc, "replay")?)?;
-        row.recording = recording;
-        row.report = report;
-        Ok(row)
+    /// Puts a word behind those of the command.
+    pub(crate) fn put_word(&mut self, alloc: Global, word: &str) -> Result<(), AllocError> {
+        self.words.push(String::from_str(alloc, word)?)?;
+        Ok(())
     }
 
-    /// A row of a line `= <words> | read <k> fails | write <k> fails | room <n>`, given without its `= `. The word `''`
+    /// Takes what stands behind `= ` in a line `= <words> | read <k> fails | write <k> fails | room <n>`. The word `''`
     /// is an empty one.
-    pub(crate) fn headed(alloc: Global, file: &str, line: usize, head: &str) -> Result<Row> {
-        let mut words = Vec::new(alloc);
-        let mut limits = Limits::room(alloc, ROOM);
+    pub(crate) fn take_head(&mut self, alloc: Global, head: &str) -> Result<()> {
         let mut parts = head.split('|');
         for word in parts.next().unwrap_or("").split_whitespace() {
-            let word = if word == "''" { "" } else { word };
-            words.push(String::from_str(alloc, word)?)?;
+            self.put_word(alloc, if word == "''" { "" } else { word })?;
         }
         for part in parts {
-            limits.take(part.trim())?;
+            self.limits.take(part.trim())?;
         }
-        let mut row = Row::new(alloc, String::from_str(alloc, file)?, line);
-        row.words = words;
-        row.limits = limits;
-        Ok(row)
+        Ok(())
     }
 }
 
@@ -97,12 +105,25 @@ impl Limits {
         let call = part.strip_suffix(" fails").unwrap_or(part);
         let (kind, number) = call.split_once(' ').unwrap_or((call, ""));
         let number = number_of(number)?;
-        match kind {
-            "read" => self.failing_reads.push(u64::from(number))?,
-            "write" => self.failing_writes.push(u64::from(number))?,
-            "room" => self.room = number as usize,
-            _ => bail!("no limit is {part:?}"),
+        if kind == "room" {
+            self.room = number as usize;
+            return Ok(());
+        }
+        match self.calls_of(kind) {
+            Some(calls) => calls.push(u64::from(number))?,
+            None => bail!("no limit is {part:?}"),
         }
         Ok(())
+    }
+
+    /// The calls that fail of the reads or of the writes.
+    fn calls_of(&mut self, kind: &str) -> Option<&mut Vec<u64>> {
+        if kind == "read" {
+            Some(&mut self.failing_reads)
+        } else if kind == "write" {
+            Some(&mut self.failing_writes)
+        } else {
+            None
+        }
     }
 }

@@ -5,7 +5,7 @@ use crate::row::Row;
 use crate::shorthand::Shorthands;
 use crate::steps::{Phases, Steps};
 use anyhow::{Context, Result, bail};
-use std::alloc::Global;
+use std::alloc::{AllocError, Global};
 
 /// The part of a file that its lines are of.
 #[derive(Clone, Copy)]
@@ -60,16 +60,31 @@ fn end_row(alloc: Global, rows: &mut Vec<Row>, place: Place) -> Result<()> {
     }
 }
 
+/// Puts a row on a line of a file behind `rows`, without words.
+fn put_row(alloc: Global, rows: &mut Vec<Row>, file: &str, line: usize) -> Result<(), AllocError> {
+    let file = String::from_str(alloc, file)?;
+    rows.push(Row::new(alloc, file, line))?;
+    Ok(())
+}
+
 /// Puts the two recordings of a row by steps behind `rows`.
 fn put_both(alloc: Global, rows: &mut Vec<Row>, row: &Row) -> Result<()> {
     let text = String::from_utf8_lossy(alloc, &row.recording)?;
     let steps = Steps::of(&text)?;
     for phases in [Phases::One, Phases::OneAStep] {
-        let mut both = Row::headed(alloc, &row.file, row.line, "replay")?;
-        both.recording = steps.recording(alloc, phases)?;
-        both.report = steps.report(alloc, phases)?;
-        rows.push(both)?;
+        put_row(alloc, rows, &row.file, row.line)?;
+        if let Some(both) = rows.last_mut() {
+            take_steps(alloc, both, steps, phases)?;
+        }
     }
+    Ok(())
+}
+
+/// Takes the recording of steps into a row, and its report.
+fn take_steps(alloc: Global, row: &mut Row, steps: Steps<'_>, phases: Phases) -> Result<()> {
+    row.put_word(alloc, "replay")?;
+    row.recording = steps.recording(alloc, phases)?;
+    row.report = steps.report(alloc, phases)?;
     Ok(())
 }
 
@@ -83,10 +98,7 @@ impl Reading<'_> {
         line: &str,
     ) -> Result<Place> {
         if let Some(status) = line.strip_prefix("= status ") {
-            let (Place::Recording, Some(row)) = (self.place, rows.last_mut()) else {
-                bail!("a status stands behind no recording");
-            };
-            row.status = number(status)?;
+            self.take_status(rows, status)?;
             return Ok(Place::Report);
         }
         if line.starts_with("=#") || (matches!(self.place, Place::Steps) && line.is_empty()) {
@@ -95,20 +107,51 @@ impl Reading<'_> {
         }
         if let Some(head) = line.strip_prefix("=") {
             end_row(alloc, rows, self.place)?;
-            rows.push(Row::headed(alloc, self.file, at, head)?)?;
-            return Ok(if head == " steps" {
-                Place::Steps
-            } else {
-                Place::Recording
-            });
+            return self.begin_row(alloc, rows, at, head);
         }
+        self.put_line(alloc, rows, line)?;
+        Ok(self.place)
+    }
+
+    /// Takes the status of the last row.
+    fn take_status(&self, rows: &mut [Row], status: &str) -> Result<()> {
+        let status = number(status)?;
+        match (self.place, rows.last_mut()) {
+            (Place::Recording, Some(row)) => {
+                row.status = status;
+                Ok(())
+            }
+            _ => bail!("a status stands behind no recording"),
+        }
+    }
+
+    /// Begins a row on this line, and answers the part that the next one is of.
+    fn begin_row(
+        &self,
+        alloc: Global,
+        rows: &mut Vec<Row>,
+        at: usize,
+        head: &str,
+    ) -> Result<Place> {
+        put_row(alloc, rows, self.file, at)?;
+        if let Some(row) = rows.last_mut() {
+            row.take_head(alloc, head)?;
+        }
+        Ok(if head == " steps" {
+            Place::Steps
+        } else {
+            Place::Recording
+        })
+    }
+
+    /// Puts a line behind the recording or the report of the last row.
+    fn put_line(&self, alloc: Global, rows: &mut [Row], line: &str) -> Result<()> {
         match (self.place, rows.last_mut()) {
             (Place::Recording | Place::Steps, Some(row)) => {
-                self.texts.put_line(alloc, line, &mut row.recording)?;
+                self.texts.put_line(alloc, line, &mut row.recording)
             }
-            (Place::Report, Some(row)) => self.texts.put_line(alloc, line, &mut row.report)?,
-            _ => {}
+            (Place::Report, Some(row)) => self.texts.put_line(alloc, line, &mut row.report),
+            _ => Ok(()),
         }
-        Ok(self.place)
     }
 }

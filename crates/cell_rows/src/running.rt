@@ -10,7 +10,6 @@ use std::sync::Wait;
 use std::thread::Threads;
 
 /// Where a run differs from what is wanted.
-#[derive(Drop)]
 pub(crate) enum Difference {
     /// Another status.
     Status {
@@ -42,11 +41,48 @@ impl fmt::Display for Difference {
     }
 }
 
+impl Drop for Difference {
+    fn drop(self) {
+        match self {
+            Difference::Status {
+                wanted: _,
+                given: _,
+            } => {}
+            Difference::Line {
+                of: _,
+                line: _,
+                wanted: _wanted,
+                given: _given,
+            } => {}
+        }
+    }
+}
+
 /// What a run came to.
-#[derive(Drop)]
 pub(crate) struct Outcome {
     pub status: u32,
     pub report: Vec<u8>,
+}
+
+impl Drop for Outcome {
+    fn drop(self) {
+        let Outcome {
+            status: _,
+            report: _report,
+        } = self;
+    }
+}
+
+/// A source that gives a recording, of which the reads fail that the limits tell.
+fn source_of(alloc: Global, recording: &[u8], limits: &Limits) -> Result<MemorySource> {
+    let failing = Vec::from_slice(alloc, &limits.failing_reads)?;
+    Ok(MemorySource::new(Vec::from_slice(alloc, recording)?, failing))
+}
+
+/// A sink with room and writes that fail as the limits tell.
+fn sink_of(alloc: Global, limits: &Limits) -> Result<MemorySink> {
+    let failing = Vec::from_slice(alloc, &limits.failing_writes)?;
+    Ok(MemorySink::new(alloc, limits.room, failing)?)
 }
 
 /// Runs the command of these words on a recording.
@@ -57,13 +93,14 @@ pub(crate) fn outcome_of<R: Threads + Wait + Sync>(
     recording: &[u8],
     limits: &Limits,
 ) -> Result<Outcome> {
-    let mut source = MemorySource::new(
-        Vec::from_slice(alloc, recording)?,
-        Vec::from_slice(alloc, &limits.failing_reads)?,
-    );
-    let failing_writes = Vec::from_slice(alloc, &limits.failing_writes)?;
-    let mut sink = MemorySink::new(alloc, limits.room, failing_writes)?;
+    let mut source = source_of(alloc, recording, limits)?;
+    let mut sink = sink_of(alloc, limits)?;
     let status = u32::from(run_cell(rt, alloc, words, &mut source, &mut sink, &Open));
+    ended(alloc, status, &sink)
+}
+
+/// What a run came to that ended with this status.
+fn ended(alloc: Global, status: u32, sink: &MemorySink) -> Result<Outcome> {
     Ok(Outcome {
         status,
         report: Vec::from_slice(alloc, sink.holds())?,
@@ -77,10 +114,8 @@ pub(crate) fn first_difference<R: Threads + Wait + Sync>(
     row: &Row,
 ) -> Result<Option<Difference>> {
     let given = outcome_of(rt, alloc, &row.words, &row.recording, &row.limits)?;
-    if let Some(apart) = line_apart(alloc, "the report", &row.report, &given.report)? {
-        return Ok(Some(apart));
-    }
-    Ok(status_apart(row.status, given.status))
+    let apart = line_apart(alloc, "the report", &row.report, &given.report)?;
+    Ok(apart.or(status_apart(row.status, given.status)))
 }
 
 /// Whether another status was given.

@@ -29,19 +29,30 @@ impl<'a> Frame<'a> {
             Some(text) => (text, false),
             None => (line, true),
         };
-        let mut frame = Frame {
-            times: 1,
+        let (times, text) = times_of(text)?;
+        Ok(Frame {
+            times,
             text,
             is_ended,
-        };
-        if let Some(rest) = text.strip_prefix("<*") {
-            if let Some((times, text)) = rest.split_once('>') {
-                frame.times = number(times)?;
-                frame.text = text;
-            }
-        }
-        Ok(frame)
+        })
     }
+}
+
+/// How often a line stands, and what stands in it.
+fn times_of(line: &str) -> Result<(u32, &str)> {
+    let Some(rest) = line.strip_prefix("<*") else {
+        return Ok((1, line));
+    };
+    match rest.split_once('>') {
+        Some((times, text)) => Ok((number(times)?, text)),
+        None => Ok((1, line)),
+    }
+}
+
+/// The name that stands before a text, and the text.
+fn parts_of(piece: &str) -> (&str, &str) {
+    let (name, text) = piece.split_once('\n').unwrap_or((piece, ""));
+    (name, text.strip_suffix('\n').unwrap_or(text))
 }
 
 impl<'a> Shorthands<'a> {
@@ -53,9 +64,9 @@ impl<'a> Shorthands<'a> {
     /// The text under a name.
     fn get(&self, name: &str) -> Option<&'a str> {
         for piece in self.content.split("\n= ") {
-            let (head, text) = piece.split_once('\n').unwrap_or((piece, ""));
+            let (head, text) = parts_of(piece);
             if head == name {
-                return Some(text.strip_suffix('\n').unwrap_or(text));
+                return Some(text);
             }
         }
         None

@@ -123,6 +123,28 @@ impl<'a> Steps<'a> {
     }
 }
 
+/// To whom an output of an event goes, and what is sent.
+fn sent_of<'a>(event: &'a str, output: &'a str) -> (&'a str, &'a str) {
+    match output.split_once(": ") {
+        Some(parts) => parts,
+        None => (event.split_once(' ').unwrap_or((event, "")).0, output),
+    }
+}
+
+/// Puts an output behind the head of its client's section, which is put before it, where that isn't there yet.
+fn put_output(
+    alloc: Global,
+    text: &mut String,
+    what: &str,
+    client: u32,
+    is_headed: bool,
+) -> Result<(), AllocError> {
+    if !is_headed {
+        put_line(alloc, text, "client ", u64::from(client))?;
+    }
+    put_texts(text, "> ", what)
+}
+
 /// Puts what a step makes the device send to a client, `<output>, <client>: <output>`, and the head of the client's
 /// section before it, where that isn't there yet. Answers whether it is there then. An output that names no client is
 /// sent to the client of the event.
@@ -136,19 +158,10 @@ fn put_outputs(
     let mut is_headed = is_headed;
     let (event, sent) = parts_of(line);
     for output in sent.split(", ") {
-        if output.is_empty() {
-            continue;
-        }
-        let (to, what) = match output.split_once(": ") {
-            Some(parts) => parts,
-            None => (event.split(' ').next().unwrap_or(""), output),
-        };
-        if number(to)? == client {
-            if !is_headed {
-                put_line(alloc, text, "client ", u64::from(client))?;
-                is_headed = true;
-            }
-            put_texts(text, "> ", what)?;
+        let (to, what) = sent_of(event, output);
+        if !output.is_empty() && number(to)? == client {
+            put_output(alloc, text, what, client, is_headed)?;
+            is_headed = true;
         }
     }
     Ok(is_headed)
