@@ -53,7 +53,7 @@ def below(crates, found, crate):
 def built(folder):
     """Proves and builds the program in a folder of its own, beside the crates that it stands on, and answers its path."""
     crates = listed()
-    uses = ["cell_config", "cell_io", "mms_device", "mms_step", "mms_types", "part_table"]
+    uses = ["cell_config", "cell_io", "mms_device", "mms_step", "mms_types", "part_table", "step_parts"]
     needed = []
     for name in uses:
         below(crates, needed, name)
