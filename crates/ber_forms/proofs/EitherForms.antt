@@ -46,10 +46,9 @@ record Respells (c d : List ℕ) : Type 0 where
   is : d ≡ respelled depth c
   bytes : IsBytes c
   short : length d < 2 ^ 64
-  few : length c < 2 ^ 64
 
 respells_itself : (c : List ℕ) → IsBytes c → length c < 2 ^ 64 → Respells c c
-respells_itself c fits short = record { depth = 0; is = sym (respelled_itself c); bytes = fits; short = short; few = short }
+respells_itself c fits short = record { depth = 0; is = sym (respelled_itself c); bytes = fits; short = short }
 
 abbrev IsAnew : List ℕ → List ℕ → Type 0
 IsAnew d c = Respells c d
@@ -83,34 +82,34 @@ plain_anew depth p e = sym (ap (λ (b : Bool). contents_by b (respelled depth) p
 deep_anew : (depth : ℕ) (p : Part) → p.tag.constructed ≡ true → (anew depth p).contents ≡ respelled depth p.contents
 deep_anew depth p e = ap (λ (b : Bool). contents_by b (respelled depth) p.contents) e
 
-anew_respells : (depth : ℕ) (p : Part) → IsBytes p.contents → length p.contents < 2 ^ 64 → length (anew depth p).contents < 2 ^ 64 → p.tag.constructed ≡ true → Respells p.contents (anew depth p).contents
-anew_respells depth p fits few short e = record { depth = depth; is = deep_anew depth p e; bytes = fits; short = short; few = few }
+anew_respells : (depth : ℕ) (p : Part) → IsBytes p.contents → length (anew depth p).contents < 2 ^ 64 → p.tag.constructed ≡ true → Respells p.contents (anew depth p).contents
+anew_respells depth p fits short e = record { depth = depth; is = deep_anew depth p e; bytes = fits; short = short }
 
-anew_parts : (depth : ℕ) (octets : List ℕ) (ps : List Part) → IsCut Either octets ps → IsBytes octets → length octets < 2 ^ 64 → length (each_of (spelled_anew depth) ps) < 2 ^ 64
+anew_parts : (depth : ℕ) (octets : List ℕ) (ps : List Part) → IsCut Either octets ps → IsBytes octets → length (each_of (spelled_anew depth) ps) < 2 ^ 64
     → AreSameParts Either Either Respells ps (map (anew depth) ps) × AreSameParts Either Either IsAnew (map (anew depth) ps) ps
-anew_parts depth octets [] cut fits few short = (tt, tt)
-anew_parts depth octets (p ∷ ps) (first, rest, is, split, more) fits few short =
+anew_parts depth octets [] cut fits short = (tt, tt)
+anew_parts depth octets (p ∷ ps) (first, rest, is, split, more) fits short =
     let part = is_part first p is in
     let whole : IsBytes (first ++ rest) = subst IsBytes split fits in
-    let len = length-append first rest in
     let inner = part.bytes (bytes_before first rest whole) in
     let sum = length-append (spelled_anew depth p) (each_of (spelled_anew depth) ps) in
     let within : length (anew depth p).contents < 2 ^ 64 = omega (arith, short, sum, contents_shorter p.tag (anew depth p).contents) in
-    let few-in : length p.contents < 2 ^ 64 = omega (arith, part.shorter, few, ap length split, len) in
-    let others = anew_parts depth rest ps more (bytes_after first rest whole) (omega (arith, few, ap length split, len)) (omega (arith, short, sum)) in (
-      (record { tag = refl; plain_contents = plain_anew depth p; contents = anew_respells depth p inner few-in within }, others.0),
-      (record { tag = refl; plain_contents = λ e. sym (plain_anew depth p e); contents = anew_respells depth p inner few-in within }, others.1),
+    let others = anew_parts depth rest ps more (bytes_after first rest whole) (omega (arith, short, sum)) in (
+      (record { tag = refl; plain_contents = plain_anew depth p; contents = anew_respells depth p inner within }, others.0),
+      (record { tag = refl; plain_contents = λ e. sym (plain_anew depth p e); contents = anew_respells depth p inner within }, others.1),
     )
 
 there_carries : Carries Either Either Respells
 there_carries c d same ps cut = by_depth same.depth same.is
   where
     by_depth : (k : ℕ) → d ≡ respelled k c → (qs : List Part) × AreSameParts Either Either Respells ps qs × IsCut Either d qs
-    by_depth zero is = (ps, itself_parts c ps cut same.bytes same.few, subst (λ (s : List ℕ). IsCut Either s ps) (sym (is ∙ respelled_itself c)) cut)
+    by_depth zero is =
+        let e : d ≡ c = is ∙ respelled_itself c in
+        (ps, itself_parts c ps cut same.bytes (subst (λ (s : List ℕ). length s < 2 ^ 64) e same.short), subst (λ (s : List ℕ). IsCut Either s ps) (sym e) cut)
     by_depth (suc k) is =
         let e : d ≡ each_of (spelled_anew k) ps = is ∙ respelled_cut k c ps cut in
         let short : length (each_of (spelled_anew k) ps) < 2 ^ 64 = subst (λ (s : List ℕ). length s < 2 ^ 64) e same.short in
-        (map (anew k) ps, (anew_parts k c ps cut same.bytes same.few short).0, subst (λ (s : List ℕ). IsCut Either s (map (anew k) ps)) (sym e) (anew_cut Either k c ps cut short))
+        (map (anew k) ps, (anew_parts k c ps cut same.bytes short).0, subst (λ (s : List ℕ). IsCut Either s (map (anew k) ps)) (sym e) (anew_cut Either k c ps cut short))
 
 back_carries : Carries Either Either IsAnew
 back_carries c d same ps cut = by_depth same.depth same.is
@@ -119,7 +118,7 @@ back_carries c d same ps cut = by_depth same.depth same.is
     kept : c ≡ d → (qs : List Part) × AreSameParts Either Either IsAnew ps qs × IsCut Either d qs
     kept is =
         let here = subst (λ (s : List ℕ). IsCut Either s ps) is cut in
-        (ps, itself_back d ps here same.bytes same.few, here)
+        (ps, itself_back d ps here same.bytes (subst (λ (s : List ℕ). length s < 2 ^ 64) is same.short), here)
 
     by_parts : (k : ℕ) → c ≡ respelled (suc k) d → (o : Option (List Part)) → parts_in (length d) d ≡ o → (qs : List Part) × AreSameParts Either Either IsAnew ps qs × IsCut Either d qs
     by_parts k is None e = kept (is ∙ respelled_other k d e)
@@ -129,15 +128,15 @@ back_carries c d same ps cut = by_depth same.depth same.is
         let short : length (each_of (spelled_anew k) qs) < 2 ^ 64 = subst (λ (s : List ℕ). length s < 2 ^ 64) spelled same.short in
         let cuts = anew_cut Either k d qs first short in
         let one : map (anew k) qs ≡ ps = one_cut Either c (map (anew k) qs) ps (subst (λ (s : List ℕ). IsCut Either s (map (anew k) qs)) (sym spelled) cuts) cut in
-        (qs, subst (λ (rs : List Part). AreSameParts Either Either IsAnew rs qs) one (anew_parts k d qs first same.bytes same.few short).1, first)
+        (qs, subst (λ (rs : List Part). AreSameParts Either Either IsAnew rs qs) one (anew_parts k d qs first same.bytes short).1, first)
 
     by_depth : (k : ℕ) → c ≡ respelled k d → (qs : List Part) × AreSameParts Either Either IsAnew ps qs × IsCut Either d qs
     by_depth zero is = kept (is ∙ respelled_itself d)
     by_depth (suc k) is = by_parts k is (parts_in (length d) d) refl
 
-module _ (depth : ℕ) (f : Form) (looked : IsTrue (is_looked_into f)) (bit : is_constructed f ≡ true) (c : List ℕ) (fits : IsBytes c) (few : length c < 2 ^ 64) (short : length (respelled depth c) < 2 ^ 64) where
+module _ (depth : ℕ) (f : Form) (looked : IsTrue (is_looked_into f)) (bit : is_constructed f ≡ true) (c : List ℕ) (fits : IsBytes c) (short : length (respelled depth c) < 2 ^ 64) where
   respells : Respells c (respelled depth c)
-  respells = record { depth = depth; is = refl; bytes = fits; short = short; few = few }
+  respells = record { depth = depth; is = refl; bytes = fits; short = short }
 
   pub there : (v : Value) → InForm Either f c v → InForm Either f (respelled depth c) v
   there v h = form_carried Either Either Respells there_carries true (λ no. absurd cc) f (λ yes. looked) bit c (respelled depth c) v respells h

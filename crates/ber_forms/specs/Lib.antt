@@ -12,3 +12,4 @@ pub mod Fits
 pub mod TooDeep
 pub mod Reads
 pub mod Kept
+pub mod Wider

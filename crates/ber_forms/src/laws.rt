@@ -77,7 +77,7 @@ pub fn reads_definite_lengths()
 /// Contents that may be elements say the same when they are spelled anew, with definite lengths.
 pub fn says_the_same_anew()
     ensures { (depth : ℕ) (f : Form) (c : List ℕ) (v : Value) → IsTrue (is_looked_into f)
-        → is_constructed f ≡ true → ((i : ℕ) → slice_index c i < 256) → length c < 2 ^ 64
+        → is_constructed f ≡ true → ((i : ℕ) → slice_index c i < 256)
         → length (respelled depth c) < 2 ^ 64
         → InForm Either f c v ↔ InForm Either f (respelled depth c) v }
 {}

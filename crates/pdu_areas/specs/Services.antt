@@ -3,6 +3,8 @@ use Rattle.std.specs.Prelude.{ℕ, List, [], ◌∷◌, Option, Some, None, ◌=
 use Rattle.ber_forms.specs.Value.{Value, chosen}
 use Rattle.ber_forms.specs.Form as asn
 use Rattle.ber_forms.specs.Form.{Form, Alternatives}
+use Rattle.ber_forms.specs.Wider.{Widens, ChoiceWidens}
+use Rattle.ber_forms.proofs.Wider.{no_other_wider, or_wider}
 use Rattle.mms_types.specs.declared.identifier.Edition.{Edition}
 use Rattle.mms_types.specs.declared.pdu.Request.{Request}
 use Rattle.mms_types.specs.declared.pdu.Answer.{Answer}
@@ -18,9 +20,10 @@ pub record Arm (R : Type 0) : Type 0 where
   pub form : Edition → Form
   pub made : Value → R
   pub alike : (edition : Edition) → SpellAlike (form edition) (form widest)
+  pub wider : (edition : Edition) → Widens (form edition) (form widest)
 
 abbrev pub arm : {R X : Type 0} → ℕ → Kind X → (X → R) → Arm R
-arm n k make = record { number = n; form = k.form; made = λ v. make (k.said v); alike = k.alike }
+arm n k make = record { number = n; form = k.form; made = λ v. make (k.said v); alike = k.alike; wider = k.wider }
 
 -- A confirmed service, what is asked and what is answered under one number: clients ask it and the server answers, or the server asks it
 -- and a client answers.
@@ -60,6 +63,10 @@ pub forms_alike : {R : Type 0} → (arms : List (Arm R)) (edition : Edition) →
 forms_alike [] edition = λ v. refl
 forms_alike (a ∷ more) edition = or_alike a.number (a.form edition) (a.form widest) (forms_of more edition) (forms_of more widest) (a.alike edition) (forms_alike more edition)
 
+pub forms_wider : {R : Type 0} → (arms : List (Arm R)) (edition : Edition) → ChoiceWidens (forms_of arms edition) (forms_of arms widest)
+forms_wider [] edition = no_other_wider asn.no_other
+forms_wider (a ∷ more) edition = or_wider a.number (a.form edition) (a.form widest) (forms_of more edition) (forms_of more widest) (a.wider edition) (forms_wider more edition)
+
 -- the alternatives, and what is said back of a value of another number
 abbrev pub arms_of : {R : Type 0} → R → List (Arm R) → Arms R
-arms_of other arms = record { alternatives = forms_of arms; made = made_or other arms; alike = forms_alike arms }
+arms_of other arms = record { alternatives = forms_of arms; made = made_or other arms; alike = forms_alike arms; wider = forms_wider arms }

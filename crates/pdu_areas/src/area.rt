@@ -44,7 +44,7 @@ pub trait Area {
         ensures err { OnErr result (out.new ≡ out.old) };
 }
 
-/// The same answer: what was written is of the area.
+/// What writing came to, told as of a request or an answer of the area: it was written.
 #[inline]
 pub fn own(written: Result<(), Full>) -> Result<bool, Full>
     ensures same { is_ok result ≡ is_ok written }

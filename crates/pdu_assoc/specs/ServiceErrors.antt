@@ -41,6 +41,7 @@ error_classes = record {
   said = λ v. (number_said v, code_said v);
   again = λ x. refl;
   alike = λ _ v. refl;
+  wider = λ _ lengths p v h. h;
 }
 
 -- serviceSpecificInformation that tells the state of a program invocation: Start 1, Stop 2, Resume 3, Reset 4
@@ -51,6 +52,7 @@ state_kinds = record {
   said = λ v. record { kind = number_said v; state = code_said v };
   again = λ s. refl;
   alike = λ _ v. refl;
+  wider = λ _ lengths p v h. h;
 }
 
 pub classes_sound : sound_alternatives (numbered 0 13 asn.unsigned8) ≡ true

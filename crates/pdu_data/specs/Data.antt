@@ -105,9 +105,9 @@ mutual
 
 -- ---- the choice
 
--- data that nests no deeper than 10 (this profile's choice), alike in each edition
+-- data that nests no deeper than 10 (this profile's choice), the same in each edition
 unfoldable pub data_choice : Choice Datum
-data_choice = record { alternatives = λ _. data_alternatives 10; value = data_value; said = data_of; again = data_again; alike = λ _ v. refl }
+data_choice = record { alternatives = λ _. data_alternatives 10; value = data_value; said = data_of; again = data_again; alike = λ _ v. refl; wider = λ _ lengths p v h. h }
 
 alternatives_sound : (d : ℕ) → sound_alternatives (data_alternatives d) ≡ true
 unfolding data_alternatives

@@ -7,6 +7,8 @@ use Rattle.ber_forms.specs.Form.{Form, Member, Components, Alternatives, sequenc
 use Rattle.ber_forms.specs.Form as form
 use Rattle.ber_forms.specs.Fits.{sound_alternatives}
 use Rattle.ber_forms.specs.Spelling.{tag_of, member_octets, optional_octets, defaulted_octets}
+use Rattle.ber_forms.specs.Wider.{Widens, ChoiceWidens}
+use Rattle.ber_forms.proofs.Wider.{tagged_begin, tagged_wider, no_more_wider, required_wider, optional_wider, defaulted_wider, sequence_wider, list_wider, or_wider, choice_wider}
 use Rattle.mms_types.specs.declared.identifier.Edition.{Edition}
 use Rattle.mms_types.specs.Spelling.{widest}
 use Rattle.mms_types.specs.Shape.{Shape, Fields, array, structure, boolean, bits, integer, unsigned, floating, octets, visible, time, no_field, field}
@@ -254,11 +256,50 @@ types_alike e (suc d) v =
     or_alike 2 (structure_form e (type_alternatives e d)) (structure_form widest (type_alternatives widest d)) simple_types simple_types
     (structures_alike e (type_alternatives e d) (type_alternatives widest d) (types_alike e d)) (λ w. refl)) v
 
+-- ---- and a type of an edition is one of the widest
+
+arrays_wider : (a b : Alternatives) → ChoiceWidens a b → Widens (array_form a) (array_form b)
+arrays_wider a b h = sequence_wider (array_parts a) (array_parts b) (
+    defaulted_wider left_out (context 0 form.boolean) (context 0 form.boolean) (truth false) (array_count a) (array_count b) (λ t. refl) (λ lengths p v k. k) (
+    required_wider (context 1 (form.integer (pos 0) (pos 4096))) (context 1 (form.integer (pos 0) (pos 4096))) (array_element a) (array_element b) (λ lengths p v k. k) (
+    required_wider (context 2 (choice a)) (context 2 (choice b)) no_more no_more (tagged_wider 2 2 (choice a) (choice b) (choice_wider a b h)) no_more_wider)))
+
+components_wider : (e : Edition) (a b : Alternatives) → ChoiceWidens a b → Widens (component_form e a) (component_form widest b)
+components_wider e a b h = sequence_wider (component_parts e a) (component_parts widest b) (
+    optional_wider (context 0 (identifier.form e)) (context 0 (identifier.form widest)) (component_type a) (component_type b)
+    (tagged_begin 2 0 (identifier.form e) (identifier.form widest) (identifier.wider e)) (tagged_wider 2 0 (identifier.form e) (identifier.form widest) (identifier.wider e)) (
+    required_wider (context 1 (choice a)) (context 1 (choice b)) no_more no_more (tagged_wider 2 1 (choice a) (choice b) (choice_wider a b h)) no_more_wider))
+
+structures_wider : (e : Edition) (a b : Alternatives) → ChoiceWidens a b → Widens (structure_form e a) (structure_form widest b)
+structures_wider e a b h = sequence_wider (structure_parts e a) (structure_parts widest b) (
+    defaulted_wider left_out (context 0 form.boolean) (context 0 form.boolean) (truth false) (structure_list e a) (structure_list widest b) (λ t. refl) (λ lengths p v k. k) (
+    required_wider (context 1 (component_list e a)) (context 1 (component_list widest b)) no_more no_more (
+    tagged_wider 2 1 (component_list e a) (component_list widest b) (
+    list_wider any_number (component_member e a) (component_member widest b) (
+    tagged_wider 0 16 (component_form e a) (component_form widest b) (components_wider e a b h)))) no_more_wider))
+
+pub types_wider : (e : Edition) (d : ℕ) → ChoiceWidens (type_alternatives e d) (type_alternatives widest d)
+unfolding type_alternatives
+types_wider e zero = λ lengths p v h. h
+types_wider e (suc d) =
+    or_wider 1 (array_form (type_alternatives e d)) (array_form (type_alternatives widest d))
+    (or 2 (structure_form e (type_alternatives e d)) simple_types) (or 2 (structure_form widest (type_alternatives widest d)) simple_types)
+    (arrays_wider (type_alternatives e d) (type_alternatives widest d) (types_wider e d)) (
+    or_wider 2 (structure_form e (type_alternatives e d)) (structure_form widest (type_alternatives widest d)) simple_types simple_types
+    (structures_wider e (type_alternatives e d) (type_alternatives widest d) (types_wider e d)) (λ lengths p v h. h))
+
 -- ---- the choice
 
 -- a type that nests no deeper than 10 (this profile's choice)
 unfoldable pub type_choice : Choice Shape
-type_choice = record { alternatives = λ e. type_alternatives e 10; value = type_value; said = type_of; again = type_again; alike = λ e. types_alike e 10 }
+type_choice = record {
+  alternatives = λ e. type_alternatives e 10;
+  value = type_value;
+  said = type_of;
+  again = type_again;
+  alike = λ e. types_alike e 10;
+  wider = λ e. types_wider e 10;
+}
 
 alternatives_sound : (e : Edition) (d : ℕ) → sound_alternatives (type_alternatives e d) ≡ true
 unfolding type_alternatives

@@ -4,13 +4,15 @@ use Rattle.std.proofs.Common.{refl}
 use Rattle.ber_forms.specs.Value.{Value, text, chosen}
 use Rattle.ber_forms.specs.Form as asn
 use Rattle.ber_forms.specs.Fits.{sound_alternatives}
+use Rattle.ber_forms.proofs.Wider.{texts_wider}
 use Rattle.mms_types.specs.declared.identifier.Edition.{Edition}
 use Rattle.mms_types.specs.declared.object_name.ObjectName.{ObjectName}
 use Rattle.mms_types.specs.declared.object_name.ObjectName.TheVariants.{Vmd, Domain, Association}
 use Rattle.mms_types.specs.Spelling.{widest, is_identifier}
+use Rattle.mms_types.proofs.Texts.{is_name}
 use Rattle.pdu_names.specs.Said.{text_of}
 use Rattle.pdu_names.specs.Alike.{texts_alike}
-use Rattle.pdu_names.specs.Kinds.{Kind, Item, Choice, Arms, universal, list_of, sequence, required, no_more, or, no_other, alternatives, made_of}
+use Rattle.pdu_names.specs.Kinds.{Kind, settled, Item, Choice, Arms, universal, list_of, sequence, required, no_more, or, no_other, alternatives, made_of}
 
 -- a VisibleString that is an identifier of the edition
 abbrev pub identifier : Kind (List ℕ)
@@ -20,10 +22,11 @@ identifier = record {
   said = text_of;
   again = λ o. refl;
   alike = λ e. texts_alike (is_identifier e) (is_identifier widest);
+  wider = λ e. texts_wider (is_identifier e) (is_identifier widest) (is_name e);
 }
 
 -- the universal tag of VisibleString (ITU-T X.680, 8.4)
-abbrev pub own_identifier : Item (List ℕ)
+abbrev pub own_identifier : Item settled (List ℕ)
 own_identifier = universal 26 identifier
 
 -- identifiers one after the other

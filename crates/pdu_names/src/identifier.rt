@@ -1,7 +1,7 @@
 //! Identifiers, and lists of them.
 
 ghost use Rattle.std.specs.Prelude.{◌≡◌, ◌<◌, refl, false, Ok, Err, OnErr};
-ghost use Rattle.pdu_names.specs.Kinds.{context};
+ghost use Rattle.pdu_names.specs.Kinds.{settled, context};
 ghost use Rattle.pdu_names.specs.Names.{identifier, own_identifier, identifiers};
 ghost use Rattle.pdu_names.specs.Gives.{GivesContents, Puts};
 
@@ -51,9 +51,11 @@ impl Formed for Identifier {
     ghost sound = { λ _. refl };
 }
 
-/// The same under the universal tag of VisibleString (ITU-T X.680, 8.4).
+/// An identifier under the universal tag of VisibleString (ITU-T X.680, 8.4).
 impl Own for Identifier {
     type Item = Identifier;
+
+    ghost tags = { settled };
 
     ghost item = { own_identifier };
 

@@ -2,7 +2,7 @@
 
 ghost use Rattle.std.specs.Prelude.{◌≡◌, ℕ, Bool, false, Ok, Err};
 ghost use Rattle.ber_forms.specs.Form.{any_number, from_to};
-ghost use Rattle.pdu_names.specs.Kinds.{list_of, universal};
+ghost use Rattle.pdu_names.specs.Kinds.{settled, list_of, universal};
 
 use crate::formed::Formed;
 use crate::own::{Own, put_each, read_each};
@@ -85,6 +85,8 @@ pub struct InSequence<F: Formed> {
 
 impl<F: Formed> Own for InSequence<F> {
     type Item = F::Item;
+
+    ghost tags = { settled };
 
     ghost item = { universal 16 F.kind };
 

@@ -12,7 +12,7 @@ ghost use Rattle.std.specs.Prelude.{Some};
 ghost use Rattle.mms_types.specs.declared.identifier.Edition.{Edition};
 ghost use Rattle.mms_types.specs.Spelling.{widest};
 ghost use Rattle.pdu_names.specs.Editions.{lengths_of};
-ghost use Rattle.pdu_names.specs.Kinds.{Item, Choice, choice, one_of};
+ghost use Rattle.pdu_names.specs.Kinds.{Tags, growing, Item, Choice, choice, one_of};
 ghost use Rattle.pdu_names.specs.Gives.{GivesNext, Puts};
 
 use crate::edition::cursor;
@@ -28,8 +28,11 @@ pub trait Own {
     /// What such an element says.
     type Item: Drop;
 
+    /// Whether it begins with the same tags in each edition.
+    ghost tags: { Tags };
+
     /// The element's form in each edition, and what an item says in it.
-    ghost item: { Item Self.Item };
+    ghost item: { Item tags Self.Item };
 
     /// Reading needs no memory.
     ghost needs_no_memory: { Bool };
@@ -113,6 +116,8 @@ impl<C: Chosen> Formed for OneOf<C> {
 /// A choice with no tag of its own.
 impl<C: Chosen> Own for OneOf<C> {
     type Item = C::Item;
+
+    ghost tags = { growing };
 
     ghost item = { one_of C.arms };
 

@@ -28,7 +28,7 @@ pub fn read_form<F: Formed>(
     F::read(alloc, contents, edition)
 }
 
-/// The same answer, with want of memory as callers know it.
+/// What writing came to, with want of memory in the type that callers of this crate know.
 pub fn as_memory(written: Result<(), Full>) -> Result<(), Memory>
     ensures { is_ok result ≡ is_ok written }
 {

@@ -2,7 +2,7 @@
 #![tactic(auto, unfolding(ber_forms::specs::Spelling::appended), using(ber_forms::proofs::Joined::writing))]
 
 ghost use Rattle.std.specs.Prelude.{refl, false};
-ghost use Rattle.pdu_names.specs.Kinds.{universal};
+ghost use Rattle.pdu_names.specs.Kinds.{settled, universal};
 ghost use Rattle.pdu_programs.specs.Texts.{capability};
 
 use ber_core::{Memory as Full, Tag, Writer};
@@ -19,6 +19,8 @@ pub struct InText<F: Formed> {
 
 impl<F: Formed> Own for InText<F> {
     type Item = F::Item;
+
+    ghost tags = { settled };
 
     ghost item = { universal 26 F.kind };
 

@@ -5,6 +5,7 @@ use Rattle.ber_forms.specs.Value.{Value, chosen, nothing}
 use Rattle.ber_forms.specs.Form as asn
 use Rattle.ber_forms.specs.Form.{any_number}
 use Rattle.ber_forms.specs.Fits.{sound_alternatives}
+use Rattle.ber_forms.proofs.Wider.{or_wider}
 use Rattle.mms_types.specs.declared.identifier.Edition.{Edition}
 use Rattle.mms_types.specs.Spelling.{widest}
 use Rattle.mms_types.specs.AccessErrors.{access_error_number}
@@ -77,6 +78,8 @@ access_results = record {
   again = read_again;
   alike = λ e. or_alike 0 (data_access_error.form e) (data_access_error.form widest) (data_choice.alternatives e) (data_choice.alternatives widest)
       (alike_itself (data_access_error.form widest)) (data_choice.alike e);
+  wider = λ e. or_wider 0 (data_access_error.form e) (data_access_error.form widest) (data_choice.alternatives e) (data_choice.alternatives widest)
+      (data_access_error.wider e) (data_choice.wider e);
 }
 
 pub access_results_sound : (e : Edition) → sound_alternatives (access_results.alternatives e) ≡ true

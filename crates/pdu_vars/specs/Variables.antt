@@ -10,7 +10,7 @@ use Rattle.mms_types.specs.declared.variable.Spec.TheVariants.{Name, Address}
 use Rattle.mms_types.specs.declared.variable.Access.{Access}
 use Rattle.mms_types.specs.declared.variable.Access.TheVariants as access
 use Rattle.pdu_names.specs.Names.{names, names_sound}
-use Rattle.pdu_names.specs.Kinds.{Kind, Item, Choice, Arms, unsigned32, universal, one_of, list_of, choice, sequence, required, no_more, or, no_other, alternatives, made_of}
+use Rattle.pdu_names.specs.Kinds.{Kind, settled, Item, Choice, Arms, unsigned32, universal, one_of, list_of, choice, sequence, required, no_more, or, no_other, alternatives, made_of}
 
 -- numericAddress 0, and no other kind of address (this profile's choice)
 abbrev pub addresses : Choice ℕ
@@ -41,7 +41,7 @@ abbrev pub listed_variable : Kind Spec
 listed_variable = sequence (required (one_of specifications) (λ s. s) no_more) (λ s. s) (λ s. refl)
 
 -- the universal tag of SEQUENCE (ITU-T X.680, 8.4)
-abbrev pub own_variable : Item Spec
+abbrev pub own_variable : Item settled Spec
 own_variable = universal 16 listed_variable
 
 -- from the first number of variables to the second
