@@ -6,7 +6,7 @@ use Rattle.std.specs.declared.option.Option.{Option}
 use Rattle.cell_io.specs.Lines.{lines_of}
 use Rattle.mms_types.specs.FirstCause.{Holds, Tells}
 use Rattle.mms_types.specs.declared.identifier.Edition.{Edition}
-use Rattle.mms_types.specs.declared.identifier.Edition.TheVariants.{One}
+use Rattle.mms_types.specs.declared.identifier.Edition.TheVariants.{One, Two}
 use Rattle.cell_config.specs.declared.config.Config.{Config}
 use Rattle.cell_config.specs.Rules.{document_of, least_broken}
 use Rattle.cell_config.specs.Said.{config_of}
@@ -377,12 +377,17 @@ config_ends edition header (l ∷ ls) p h q n = by_fit (fits p l) refl
         (by_want e (same (content l) (codes "config")) refl)
     by_fit false e = rw q.lines (stop_here (header ∷ []) l ls (TooMuch 2) n (over_tells (header ∷ []) (Some l) (over_is p (header ∷ []) l q e)))
 
-header_is : (line : List ℕ) (edition : Edition) → header_of line ≡ Some edition → line ≡ codes "mms-recording 1"
-header_is line edition h = by_same (same line (codes "mms-recording 1")) refl h
+header_is : (line : List ℕ) (edition : Edition) → header_of line ≡ Some edition → (line ≡ codes "mms-recording 1") ⊎ (line ≡ codes "mms-recording 2")
+header_is line edition h = by_first (same line (codes "mms-recording 1")) refl h
   where
-    by_same : (b : Bool) → same line (codes "mms-recording 1") ≡ b → (if b then Some One else None) ≡ Some edition → line ≡ codes "mms-recording 1"
-    by_same true e k = (same_text line (codes "mms-recording 1")).0 e
-    by_same false e k = absurd (none_some edition k)
+    by_second : (b : Bool) → same line (codes "mms-recording 2") ≡ b → (if b then Some Two else None) ≡ Some edition → line ≡ codes "mms-recording 2"
+    by_second true e k = (same_text line (codes "mms-recording 2")).0 e
+    by_second false e k = absurd (none_some edition k)
+
+    by_first : (b : Bool) → same line (codes "mms-recording 1") ≡ b → (if b then Some One else (if same line (codes "mms-recording 2") then Some Two else None)) ≡ Some edition
+        → (line ≡ codes "mms-recording 1") ⊎ (line ≡ codes "mms-recording 2")
+    by_first true e k = inl ((same_text line (codes "mms-recording 1")).0 e)
+    by_first false e k = inr (by_second (same line (codes "mms-recording 2")) refl k)
 
 none_before : NoneRefused []
 none_before b r l e h = not_empty b r l e
@@ -397,9 +402,11 @@ opening_ends (l ∷ ls) = by_fit (fits front l) refl
     by_edition : fits front l ≡ true → (edition : Option Edition) → header_of (content l) ≡ edition → Ends (l ∷ ls) (refusal_behind (under edition setup_in ls 1 (behind front l)))
     by_edition f None e = stop_here [] l ls (Bad 1 bad.Header) none_before (header_tells [] (Some l) (not_over front [] l at_front f) (refl, e))
     by_edition f (Some edition) e =
-        let is = header_is (content l) edition e in
-        let t = front_tells [] l (codes "mms-recording 1") (omega arith) (omega arith) is (not_over front [] l at_front f) (λ k. none_some edition (sym k.1 ∙ e)) (λ k. let z = k.0 in absurd (omega (arith, z))) in
-        config_ends edition l ls (behind front l) e (place_further front [] l at_front) (one_more [] l none_before t)
+        config_ends edition l ls (behind front l) e (place_further front [] l at_front) (one_more [] l none_before (by_header (header_is (content l) edition e)))
+      where
+        by_header : (content l ≡ codes "mms-recording 1") ⊎ (content l ≡ codes "mms-recording 2") → Tells (Refuses [] (Some l)) None
+        by_header (inl is) = front_tells [] l (codes "mms-recording 1") (omega arith) (omega arith) is (not_over front [] l at_front f) (λ k. none_some edition (sym k.1 ∙ e)) (λ k. let z = k.0 in absurd (omega (arith, z)))
+        by_header (inr is) = front_tells [] l (codes "mms-recording 2") (omega arith) (omega arith) is (not_over front [] l at_front f) (λ k. none_some edition (sym k.1 ∙ e)) (λ k. let z = k.0 in absurd (omega (arith, z)))
 
     by_fit : (b : Bool) → fits front l ≡ b → Ends (l ∷ ls) (refusal_behind (if b then under (header_of (content l)) setup_in ls 1 (behind front l) else Err (TooMuch 1)))
     by_fit true e = by_edition e (header_of (content l)) refl

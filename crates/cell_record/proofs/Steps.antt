@@ -1,7 +1,7 @@
 -- What one line makes of what is said of the lines ahead.
 use Rattle.cell_config.specs.declared.config.Config.{Config}
 use Rattle.mms_types.specs.declared.identifier.Edition.{Edition}
-use Rattle.mms_types.specs.declared.identifier.Edition.TheVariants.{One}
+use Rattle.mms_types.specs.declared.identifier.Edition.TheVariants.{One, Two}
 use Rattle.std.proofs.Common.{◌≡◌, ℕ, ◌+◌, ◌-◌, ◌<◌, ◌≤◌, Bool, true, false, if◌then◌else◌, List, [], ◌∷◌, ◌++◌, length, codes, refl, sym, ap, ◌∙◌, arith, Some, None, IfSome, Ok, Err}
 use Rattle.std.proofs.lemmas.Bool.Decides.{nat_tests}
 use Rattle.std.specs.Option.{option_map}
@@ -105,8 +105,10 @@ much_wanted want word next p l rest f = rw f refl
 
 kept_header : (line l : List ℕ) → line ≡ kept_of l → header_of (content l) ≡ header_of (content line)
 kept_header line l k =
-    let is : same (content l) (codes "mms-recording 1") ≡ same (content line) (codes "mms-recording 1") = sym (kept_same l (codes "mms-recording 1") (omega arith)) ∙ ap (λ (x : List ℕ). same (content x) (codes "mms-recording 1")) (sym k) in
-    ap (λ (b : Bool). if b then Some One else None) is
+    let first : same (content l) (codes "mms-recording 1") ≡ same (content line) (codes "mms-recording 1") = sym (kept_same l (codes "mms-recording 1") (omega arith)) ∙ ap (λ (x : List ℕ). same (content x) (codes "mms-recording 1")) (sym k) in
+    let second : same (content l) (codes "mms-recording 2") ≡ same (content line) (codes "mms-recording 2") = sym (kept_same l (codes "mms-recording 2") (omega arith)) ∙ ap (λ (x : List ℕ). same (content x) (codes "mms-recording 2")) (sym k) in
+    ap (λ (b : Bool). if b then Some One else (if same (content l) (codes "mms-recording 2") then Some Two else None)) first
+    ∙ ap (λ (b : Bool). if same (content line) (codes "mms-recording 1") then Some One else (if b then Some Two else None)) second
 
 pub is_headed : (next : Edition → List (List ℕ) → Place → Opening) (p : Place) (line l : List ℕ) (rest : List (List ℕ)) (edition : Option Edition) → header_of (content line) ≡ edition
     → line ≡ kept_of l → fits p l ≡ true → headed next (l ∷ rest) p ≡ under edition next rest (p.lines + 1) (behind p l)

@@ -7,7 +7,7 @@ use Rattle.cell_io.specs.Lines.{lines_of}
 use Rattle.mms_types.specs.declared.event.CellEvent.{CellEvent}
 use Rattle.mms_types.specs.declared.event.CellEvent.TheVariants.{Heard, Lost, Tick, Ends, Drain}
 use Rattle.mms_types.specs.declared.identifier.Edition.{Edition}
-use Rattle.mms_types.specs.declared.identifier.Edition.TheVariants.{One}
+use Rattle.mms_types.specs.declared.identifier.Edition.TheVariants.{One, Two}
 use Rattle.cell_config.specs.declared.config.Config.{Config}
 use Rattle.cell_config.specs.Rules.{document_of, least_broken}
 use Rattle.cell_config.specs.Said.{config_of}
@@ -165,7 +165,9 @@ expected want word next (line ∷ rest) p =
 
 -- the edition of which the recording is that begins with this line
 abbrev pub header_of : List ℕ → Option Edition
-header_of line = if same line (codes "mms-recording 1") then Some One else None
+header_of line =
+    if same line (codes "mms-recording 1") then Some One
+    else if same line (codes "mms-recording 2") then Some Two else None
 
 -- what stands behind a header of that edition
 abbrev pub under : Option Edition → (Edition → List (List ℕ) → Place → Opening)

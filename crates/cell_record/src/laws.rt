@@ -47,9 +47,9 @@ pub fn a_report_has_one_history()
         → HasOneHistory said configured.clients phases }
 {}
 
-/// The same of the phases at the front of what any text says, so also of those before the line that
-/// refuses it, and of those that are complete where it was cut: two lists of bodies that serve them
-/// and have the same report are the same.
+/// A report has one history also for the phases at the front of what any text says, so for those before the line that
+/// refuses it, and for those that are complete where it was cut: two lists of bodies that serve them and have the same
+/// report are the same.
 pub fn a_report_so_far_has_one_history()
     ensures { (said : List CellEvent → ℕ → List What) (text : List ℕ) (configured : Config)
         (done rest : List (List CellEvent))

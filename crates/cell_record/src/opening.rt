@@ -29,6 +29,8 @@ fn edition_of(line: &[u8]) -> Option<Edition>
 {
     if line == b"mms-recording 1".as_slice() {
         Some(Edition::One)
+    } else if line == b"mms-recording 2".as_slice() {
+        Some(Edition::Two)
     } else {
         None
     }

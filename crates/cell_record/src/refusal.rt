@@ -8,7 +8,7 @@ use thiserror::Error;
 /// these is told.
 #[derive(Clone, Copy, Debug, PartialEq, Eq, Drop, Error)]
 pub enum BadWord {
-    /// Line 1 names no edition: it isn't `mms-recording 1`.
+    /// Line 1 names no edition: it isn't `mms-recording 1` or `mms-recording 2`.
     #[error("header")]
     Header,
     /// Line 2 isn't `config`, the line `end` is missing, or the configuration's text passes

@@ -10,7 +10,7 @@ use Rattle.mms_types.specs.ConditionStates.{condition_state_number}
 use Rattle.mms_types.specs.Datum.{Datum, Row, array, structure, boolean, bits, integer, unsigned, floating, octets, visible, time, no_part, part, row, depth, deepest}
 use Rattle.mms_types.specs.declared.condition.ConditionState.{ConditionState}
 use Rattle.mms_types.specs.declared.condition.ConditionState.TheVariants.{Disabled, Idle, Active}
-use Rattle.mms_types.specs.declared.identifier.Edition.TheVariants.{One}
+use Rattle.mms_types.specs.declared.identifier.Edition.TheVariants.{Two}
 use Rattle.mms_types.specs.declared.journal.EntryContent.{EntryContent}
 use Rattle.mms_types.specs.declared.journal.EntryContent.TheVariants.{Data, Text}
 use Rattle.mms_types.specs.declared.journal.JournalEntry.{JournalEntry}
@@ -71,7 +71,7 @@ mutual
   row_fits d no_part h low = tt
   row_fits d (part x r) h low = (data_fits d x h.0 (omega (arith, low)), row_fits d r h.1 (omega (arith, low)))
 
-value_fits : (x : Datum) → IsFormed x → depth x ≤ 10 → FitsOne (data_choice.alternatives One) (data_choice.value x)
+value_fits : (x : Datum) → IsFormed x → depth x ≤ 10 → FitsOne (data_choice.alternatives Two) (data_choice.value x)
 unfolding data_choice
 value_fits x h low = data_fits 10 x h low
 
@@ -88,30 +88,30 @@ formed_next xs i x low is front h =
 
 -- ---- variables, events and entries
 
-variable_fits : (v : JournalVariable) → IsVariable v → Fits (journal_variable.form One) (journal_variable.value v)
+variable_fits : (v : JournalVariable) → IsVariable v → Fits (journal_variable.form Two) (journal_variable.value v)
 variable_fits v h = (h.tag, (value_fits v.value h.value h.deep, tt))
 
-variables_fit : (vs : List JournalVariable) → AreVariables vs → Fits (journal_variables.form One) (journal_variables.value vs)
-variables_fit vs h = list_fits any_number ((universal 16 journal_variable).member One) journal_variable.value IsVariable variable_fits vs h refl
+variables_fit : (vs : List JournalVariable) → AreVariables vs → Fits (journal_variables.form Two) (journal_variables.value vs)
+variables_fit vs h = list_fits any_number ((universal 16 journal_variable).member Two) journal_variable.value IsVariable variable_fits vs h refl
 
 state_fits : (s : ConditionState) → condition_state_number s ≤ 2
 state_fits Disabled = omega arith
 state_fits Idle = omega arith
 state_fits Active = omega arith
 
-event_fits : (e : JournalEvent) → IsEvent e → Fits (journal_event.form One) (journal_event.value e)
+event_fits : (e : JournalEvent) → IsEvent e → Fits (journal_event.form Two) (journal_event.value e)
 unfolding journal_event
 event_fits e h = (h, (natural_fits 2 (condition_state_number e.state) (state_fits e.state), tt))
 
-content_fits : (c : EntryContent) → IsContent c → FitsOne (entry_contents.alternatives One) (entry_contents.value c)
+content_fits : (c : EntryContent) → IsContent c → FitsOne (entry_contents.alternatives Two) (entry_contents.value c)
 unfolding entry_contents
 content_fits (Data event variables) h = (
-  optionally_fits (FitsMember ((context 0 journal_event).member One)) journal_event.value IsEvent event_fits event h.0,
-  (optionally_fits (FitsMember ((context 1 journal_variables).member One)) journal_variables.value AreVariables variables_fit variables h.1, tt),
+  optionally_fits (FitsMember ((context 0 journal_event).member Two)) journal_event.value IsEvent event_fits event h.0,
+  (optionally_fits (FitsMember ((context 1 journal_variables).member Two)) journal_variables.value AreVariables variables_fit variables h.1, tt),
 )
 content_fits (Text text) h = h
 
-pub entry_fits : (e : JournalEntry) → IsContent e.content → IsOf journal_entry One e
+pub entry_fits : (e : JournalEntry) → IsContent e.content → IsOf journal_entry Two e
 entry_fits e h = (refl, (content_fits e.content h, tt))
 
 -- ---- one more element that is so

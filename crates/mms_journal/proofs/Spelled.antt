@@ -3,15 +3,17 @@ use Rattle.std.proofs.Common.{◌≡◌, ◌∙◌, ap, subst, sym, refl, ℕ, �
 use Rattle.std.proofs.Math.Seq.{drop-append_seam}
 use Rattle.ber_core.specs.Spelling.{element_octets, identifier_octets, length_octets}
 use Rattle.ber_core.specs.declared.element.Tag.{Tag}
+use Rattle.ber_forms.specs.declared.unread.Unread.{Unread}
+use Rattle.ber_forms.specs.declared.unread.Unread.TheVariants as unread
 use Rattle.ber_forms.specs.Fits.{is_sound}
-use Rattle.ber_forms.specs.Reading.{reading}
+use Rattle.ber_forms.specs.Reading.{Fails, reading}
 use Rattle.ber_forms.specs.Spelling.{member_octets, slot_octets, spelling, tag_of}
-use Rattle.ber_forms.specs.Value.{optionally}
+use Rattle.ber_forms.specs.Value.{Value, optionally}
 use Rattle.ber_forms.proofs.Complete.{reading_complete}
 use Rattle.mms_types.specs.Spelling.{widest}
 use Rattle.mms_types.specs.declared.condition.TimeOfDay.{TimeOfDay}
 use Rattle.mms_types.specs.declared.identifier.Edition.{Edition}
-use Rattle.mms_types.specs.declared.identifier.Edition.TheVariants.{One}
+use Rattle.mms_types.specs.declared.identifier.Edition.TheVariants.{Two}
 use Rattle.mms_types.specs.declared.journal.EntryContent.TheVariants.{Data}
 use Rattle.mms_types.specs.declared.journal.JournalEntry.{JournalEntry}
 use Rattle.mms_types.specs.declared.journal.JournalEvent.{JournalEvent}
@@ -41,17 +43,24 @@ said_back k edition x sound of short =
 entry_sound : (e : Edition) → is_sound (journal_entry.form e) ≡ true
 entry_sound e = rw (entry_contents_sound e) refl
 
-pub entry_said : (e : JournalEntry) → IsOf journal_entry One e → entry_length e < 2 ^ 64 → entry_read (entry_octets e) ≡ Ok (journal_entry.value e)
+pub entry_said : (e : JournalEntry) → IsOf journal_entry Two e → entry_length e < 2 ^ 64 → entry_read (entry_octets e) ≡ Ok (journal_entry.value e)
 unfolding entry_read entry_octets
-entry_said e of short = said_back journal_entry One e (entry_sound One) of short
+entry_said e of short = said_back journal_entry Two e (entry_sound Two) of short
 
 pub entry_again : (octets : List ℕ) (e : JournalEntry) → entry_read octets ≡ Ok (journal_entry.value e) → entry_in octets ≡ e
 unfolding entry_in
 entry_again octets e h = rw h (journal_entry.again e)
 
-pub entry_found : (octets : List ℕ) (e : JournalEntry) → reading (lengths_of One) (journal_entry.form One) octets ≡ Ok (journal_entry.value e) → entry_in octets ≡ e
+pub entry_found : (octets : List ℕ) (e : JournalEntry) → reading (lengths_of Two) (journal_entry.form Two) octets ≡ Ok (journal_entry.value e) → entry_in octets ≡ e
 unfolding entry_read
 entry_found octets e h = entry_again octets e h
+
+-- what is kept is read, unless memory runs out
+pub only_memory : (octets : List ℕ) (v : Value) (u : Unread) → entry_read octets ≡ Ok v → Fails u (reading (lengths_of Two) (journal_entry.form Two) octets) → u ≡ unread.Memory
+unfolding entry_read
+only_memory octets v unread.Memory kept fails = refl
+only_memory octets v unread.Malformed kept fails = absurd (cc (kept, fails))
+only_memory octets v unread.TooDeep kept fails = absurd (cc (kept, fails))
 
 -- ---- its variables
 
@@ -93,7 +102,7 @@ variables_end e event variables is =
 
 -- ---- what is kept of it
 
-pub kept_is : (e : JournalEntry) (octets : List ℕ) (moment : ℕ) (place : Option ℕ) → IsOf journal_entry One e → octets ≡ entry_octets e → length octets < 2 ^ 64
+pub kept_is : (e : JournalEntry) (octets : List ℕ) (moment : ℕ) (place : Option ℕ) → IsOf journal_entry Two e → octets ≡ entry_octets e → length octets < 2 ^ 64
     → moment ≡ moment_in e → BeginAt place (entry_octets e) (variables_of e.content) → (entry_in octets ≡ e) × IsKept octets moment place
 kept_is e octets moment place of is short when begins =
     let read : entry_read octets ≡ Ok (journal_entry.value e) = ap entry_read is ∙ entry_said e of (subst (λ (o : List ℕ). length o < 2 ^ 64) is short) in

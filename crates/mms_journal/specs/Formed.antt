@@ -5,7 +5,7 @@ use Rattle.ber_forms.specs.Fits.{Fits}
 use Rattle.ber_forms.specs.Form.{are_visible, bit_string, int64, unsigned32}
 use Rattle.ber_forms.specs.Value as value
 use Rattle.mms_types.specs.Datum.{Datum, Row, array, structure, boolean, bits, integer, unsigned, floating, octets, visible, time, no_part, part, depth}
-use Rattle.mms_types.specs.declared.identifier.Edition.TheVariants.{One}
+use Rattle.mms_types.specs.declared.identifier.Edition.TheVariants.{Two}
 use Rattle.mms_types.specs.declared.journal.EntryContent.{EntryContent}
 use Rattle.mms_types.specs.declared.journal.EntryContent.TheVariants.{Data, Text}
 use Rattle.mms_types.specs.declared.journal.JournalEvent.{JournalEvent}
@@ -39,7 +39,7 @@ abbrev pub AreVariables : List JournalVariable → Type 0
 AreVariables variables = All IsVariable variables
 
 abbrev pub IsEvent : JournalEvent → Type 0
-IsEvent event = IsOf (choice names) One event.name
+IsEvent event = IsOf (choice names) Two event.name
 
 abbrev pub IsContent : EntryContent → Type 0
 IsContent (Data event variables) = IfSome event IsEvent × IfSome variables AreVariables

@@ -5,7 +5,7 @@ use Rattle.ber_forms.specs.Reading.{reading}
 use Rattle.ber_forms.specs.Spelling.{each_octets, member_octets}
 use Rattle.ber_forms.specs.Value.{Value, all_of, nothing}
 use Rattle.mms_types.specs.Spelling.{widest}
-use Rattle.mms_types.specs.declared.identifier.Edition.TheVariants.{One}
+use Rattle.mms_types.specs.declared.identifier.Edition.TheVariants.{Two}
 use Rattle.mms_types.specs.declared.journal.JournalEntry.{JournalEntry}
 use Rattle.mms_types.specs.declared.journal.JournalVariable.{JournalVariable}
 use Rattle.pdu_names.specs.Editions.{lengths_of}
@@ -15,7 +15,7 @@ use Rattle.mms_journal.specs.Entries.{entry_octets, moment_in, variables_of}
 
 -- what octets are read as, by the form of an entry's contents
 unfoldable pub entry_read : List ℕ → Result Value Fault
-entry_read octets = reading (lengths_of One) (journal_entry.form One) octets
+entry_read octets = reading (lengths_of Two) (journal_entry.form Two) octets
 
 abbrev value_or_nothing : Result Value Fault → Value
 value_or_nothing (Ok v) = v

@@ -6,7 +6,7 @@ ghost use Rattle.ber_forms.specs.Form.{are_visible, bit_string, int64, unsigned3
 ghost use Rattle.ber_forms.specs.Value as value;
 ghost use Rattle.mms_types.specs.Datum.{row};
 ghost use Rattle.mms_types.specs.Spelling.{IsName};
-ghost use Rattle.mms_types.specs.declared.identifier.Edition.TheVariants.{One};
+ghost use Rattle.mms_types.specs.declared.identifier.Edition.TheVariants.{Two};
 ghost use Rattle.pdu_names.specs.Kinds.{IsOf, choice};
 ghost use Rattle.pdu_names.specs.Names.{names};
 ghost use Rattle.pdu_events.specs.Entries.{journal_entry};
@@ -131,7 +131,7 @@ fn is_identifier(name: &Identifier) -> bool
 #[tactic(auto, unfolding(pdu_names::specs::Names::names))]
 fn is_name(name: &ObjectName) -> bool
     ensures always { result ≡ true }
-    ensures name { IsOf (choice names) One name.now }
+    ensures name { IsOf (choice names) Two name.now }
 {
     match name {
         ObjectName::Vmd(item) => is_identifier(item),
@@ -167,7 +167,7 @@ fn is_content(content: &EntryContent) -> bool
 
 /// Whether an entry is of its form: all that were read are.
 pub(crate) fn is_formed(entry: &JournalEntry) -> bool
-    ensures { IsTrue result → IsOf journal_entry One entry.now }
+    ensures { IsTrue result → IsOf journal_entry Two entry.now }
 {
     is_content(&entry.content)
 }

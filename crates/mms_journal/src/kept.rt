@@ -8,6 +8,7 @@ use crate::formed::is_formed;
 use crate::tags::Tags;
 use crate::walking::any_tagged;
 use ber_core::Writer;
+use ber_forms::Unread;
 use mms_types::{Edition, EntryContent, JournalEntry, JournalVariables, Memory, Octets, TimeOfDay};
 use object_names::Copied;
 use pdu_events::{JournalEntryContents, JournalVariableContents};
@@ -146,9 +147,11 @@ impl Kept {
     pub(crate) fn read(&self, alloc: Global) -> Result<JournalEntry, Memory>
         ensures { IfOk result (λ entry. entry ≡ self.now) }
     {
-        match read_form::<JournalEntryContents>(alloc, self.octets.as_slice(), Edition::One) {
+        match read_form::<JournalEntryContents>(alloc, self.octets.as_slice(), Edition::Two) {
             Ok(entry) => Ok(entry),
-            Err(_) => Err(Memory::wanting()),
+            Err(Unread::Memory) => Err(Memory::wanting()),
+            Err(Unread::Malformed) => unreachable!(),
+            Err(Unread::TooDeep) => unreachable!(),
         }
     }
 }

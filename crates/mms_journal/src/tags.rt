@@ -13,7 +13,7 @@ use std::marker::Model;
 #[derive(Drop)]
 pub(crate) struct Tags<'a> {
     listed: &'a [Octets],
-    /// The same, each once.
+    /// The tags that are asked for, each once.
     set: IndexSet<&'a [u8]>,
     /// Whether a slot has one of them: most others are told from them by it.
     slots: [bool; 256],
@@ -90,7 +90,7 @@ impl<'a> Tags<'a> {
         self.set.contains(&tag)
     }
 
-    /// The same, told of most other tags by their slot.
+    /// Whether a tag is one of them: of most others that is told by their slot alone.
     #[tactic(auto, using(crate::proofs::Tagged::slot_told))]
     #[inline(always)]
     pub(crate) fn has(&self, tag: &[u8]) -> bool

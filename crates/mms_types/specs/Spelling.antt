@@ -3,7 +3,7 @@ use Rattle.std.specs.Prelude.{ℕ, Bool, false, not, ◌&&◌, ◌||◌, ◌==�
 use Rattle.std.specs.List.{list_all}
 use Rattle.std.specs.Char.{is_ascii_alphanumeric, is_ascii_digit}
 use Rattle.mms_types.specs.declared.identifier.Edition.{Edition}
-use Rattle.mms_types.specs.declared.identifier.Edition.TheVariants.{One}
+use Rattle.mms_types.specs.declared.identifier.Edition.TheVariants.{One, Two}
 use Rattle.mms_types.specs.declared.identifier.Unnamed.{Unnamed}
 use Rattle.mms_types.specs.declared.identifier.Unnamed.TheVariants.{Bad, Memory}
 use Rattle.mms_types.specs.declared.identifier.BadName.{BadName}
@@ -24,6 +24,7 @@ is_spelled octets = not (begins_with_digit octets) && list_all is_name_octet oct
 -- the most octets that an identifier has (this profile's choice)
 abbrev pub longest : Edition → ℕ
 longest One = 32
+longest Two = 64
 
 -- the rule that octets break, the first where they break several (this profile's choice of their order)
 abbrev pub bad_name : Edition → List ℕ → Option BadName
@@ -48,7 +49,7 @@ IsIdentifier edition octets = IsTrue (is_identifier edition octets)
 
 -- the edition whose identifiers are the most: each identifier of another one is one of this
 abbrev pub widest : Edition
-widest = One
+widest = Two
 
 -- the octets are an identifier of some edition
 abbrev pub IsName : List ℕ → Type 0

@@ -21,8 +21,10 @@ use thiserror::Error;
 /// The edition of the profile that octets are read by.
 #[derive(Clone, Copy)]
 pub enum Edition {
-    /// Identifiers have at most 32 octets.
+    /// Identifiers have at most 32 octets, and lengths are definite.
     One,
+    /// Identifiers have at most 64 octets, and the length of a constructed element may be indefinite.
+    Two,
 }
 
 /// Why octets are no identifier.
@@ -93,6 +95,7 @@ fn longest(edition: Edition) -> usize
 {
     match edition {
         Edition::One => 32,
+        Edition::Two => 64,
     }
 }
 
@@ -146,6 +149,7 @@ impl Identifier {
 
     /// The identifier that the octets are, copied. Where they are none of the edition, `Bad` tells
     /// the rule that `check` tells; else the one refusal is want of memory.
+    #[tactic(auto, using(crate::proofs::Texts::is_name))]
     pub fn read(alloc: Global, octets: &[u8], edition: Edition) -> Result<Identifier, Unnamed>
         ensures name { IfOk result (λ name. name ≡ octets.now) }
         ensures rule { rule_told result ≡ bad_name edition octets.now }

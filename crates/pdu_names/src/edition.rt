@@ -14,6 +14,7 @@ pub fn lengths(edition: Edition) -> Lengths
 {
     match edition {
         Edition::One => Lengths::Definite,
+        Edition::Two => Lengths::Either,
     }
 }
 
