@@ -10,3 +10,6 @@ pub mod HeardAgain
 pub mod Causes
 pub mod FirstCause
 mod Worked
+pub mod LookedInto
+pub mod ByEdition
+pub mod Anew

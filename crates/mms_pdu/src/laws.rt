@@ -2,10 +2,15 @@
 
 ghost use Rattle.std.specs.Prelude.{◌≡◌, ◌≢◌, ◌<◌, ◌^◌, ◌++◌, ◌↔◌, ℕ, true, List, length, slice_index, Ok, Err};
 ghost use Rattle.ber_core.specs.declared.element.Lengths.{Lengths};
+ghost use Rattle.ber_core.specs.declared.element.Lengths.TheVariants.{Definite, Either};
+ghost use Rattle.ber_core.specs.Part.{Part};
+ghost use Rattle.ber_core.specs.Element.{IsElement};
+ghost use Rattle.ber_core.specs.Respelling.{definite};
 ghost use Rattle.ber_forms.specs.Value.{Value, chosen};
 ghost use Rattle.ber_forms.specs.Form.{choice};
 ghost use Rattle.ber_forms.specs.InForm.{InForm};
 ghost use Rattle.mms_types.specs.declared.identifier.Edition.{Edition};
+ghost use Rattle.mms_types.specs.declared.identifier.Edition.TheVariants.{One, Two};
 ghost use Rattle.mms_types.specs.declared.pdu.Pdu.{Pdu};
 ghost use Rattle.mms_types.specs.declared.pdu.Pdu.TheVariants as pdu;
 ghost use Rattle.mms_types.specs.declared.pdu.Request.{Request};
@@ -92,4 +97,22 @@ pub fn spells_each_sent()
         → IsSent edition q → length (pdu_octets p) < 2 ^ 64 → length (pdu_octets q) < 2 ^ 64
         → pdu_octets p ++ a ≡ pdu_octets q ++ b → pdu_octets p ≡ pdu_octets q }
     ensures invoke { (edition : Edition) (p : Pdu) → IsSent edition p → HasUnsigned32 p }
+{}
+
+/// What edition 1 keeps of octets, edition 2 keeps too, the same. What is kept of an unconfirmed PDU, a cancel-Response
+/// and a cancel-Error is nothing.
+pub fn edition_2_keeps_what_edition_1_keeps()
+    ensures { (octets : List ℕ) (v : Value) → IsKeptAs Definite One octets v
+        → IsKeptAs Either Two octets v }
+{}
+
+/// Of an element of either kind of length (ITU-T X.690, 8.1.3) the same is kept as of the same element with definite
+/// lengths alone. These are spelled where they are shorter than 2^64 octets, since no more than eight octets tell a
+/// length. What is kept of an unconfirmed PDU, a cancel-Response and a cancel-Error is nothing, whatever their contents.
+/// Contents of a definite length that are no elements stay as they are, since only who reads them looks into them.
+pub fn keeps_the_same_with_definite_lengths()
+    ensures { (edition : Edition) (octets : List ℕ) (p : Part) (v : Value)
+        → ((i : ℕ) → slice_index octets i < 256) → IsElement Either octets p
+        → length (definite octets) < 2 ^ 64
+        → IsKeptAs Either edition octets v ↔ IsKeptAs Either edition (definite octets) v }
 {}

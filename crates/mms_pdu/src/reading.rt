@@ -81,7 +81,7 @@ fn invalid(unread: Unread) -> Refusal
     }
 }
 
-/// Tells what was read in the place of a refusal, which holds no memory that were to be given back. A PDU is large, and
+/// Tells what was read in the place of a refusal, which owns no memory. A PDU is large, and
 /// what reads one puts it where it stays.
 #[inline(always)]
 pub(crate) fn tell(told: &mut Result<Read, Refusal>, read: Result<Read, Refusal>)

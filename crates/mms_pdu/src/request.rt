@@ -104,7 +104,7 @@ fn argument<F: Formed>(
     }
 }
 
-/// The same, kept apart from the request.
+/// What the contents of a service ask, in a box of its own: a request doesn't grow by it.
 fn argument_apart<F: Formed>(
     alloc: Global,
     invoke: u32,
