@@ -67,10 +67,18 @@ fn put_row(alloc: Global, rows: &mut Vec<Row>, file: &str, line: usize) -> Resul
     Ok(())
 }
 
+/// The edition of a row by steps: the word behind `steps`, and 1 where there is none.
+fn edition_of(row: &Row) -> &str {
+    match row.words.get(1) {
+        Some(word) => word.as_str(),
+        None => "1",
+    }
+}
+
 /// Puts the two recordings of a row by steps behind `rows`.
 fn put_both(alloc: Global, rows: &mut Vec<Row>, row: &Row) -> Result<()> {
     let text = String::from_utf8_lossy(alloc, &row.recording)?;
-    let steps = Steps::of(&text)?;
+    let steps = Steps::of(edition_of(row), &text)?;
     for phases in [Phases::One, Phases::OneAStep] {
         put_row(alloc, rows, &row.file, row.line)?;
         if let Some(both) = rows.last_mut() {
@@ -137,7 +145,7 @@ impl Reading<'_> {
         if let Some(row) = rows.last_mut() {
             row.take_head(alloc, head)?;
         }
-        Ok(if head == " steps" {
+        Ok(if head == " steps" || head == " steps 2" {
             Place::Steps
         } else {
             Place::Recording

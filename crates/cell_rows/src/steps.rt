@@ -8,6 +8,8 @@ use std::alloc::{AllocError, Global};
 /// The lines of a row by steps.
 #[derive(Clone, Copy)]
 pub(crate) struct Steps<'a> {
+    /// The edition that the first line of the recording names.
+    edition: &'a str,
     /// The lines of the configuration.
     config: &'a str,
     /// How many clients it has.
@@ -49,8 +51,9 @@ fn clients_of(config: &str) -> Result<u32> {
 }
 
 impl<'a> Steps<'a> {
-    /// The steps of these lines: those of the configuration, a line `end`, and then the steps.
-    pub(crate) fn of(text: &'a str) -> Result<Steps<'a>> {
+    /// The steps of these lines, in a recording of this edition: those of the configuration, a line `end`, and then the
+    /// steps.
+    pub(crate) fn of(edition: &'a str, text: &'a str) -> Result<Steps<'a>> {
         let (config, lines) = match text.strip_prefix("end\n") {
             Some(lines) => ("", lines),
             None => match text.split_once("\nend\n") {
@@ -60,6 +63,7 @@ impl<'a> Steps<'a> {
         };
         let clients = clients_of(config)?;
         Ok(Steps {
+            edition,
             config,
             clients,
             lines,
@@ -68,7 +72,9 @@ impl<'a> Steps<'a> {
 
     /// The recording of the steps.
     pub(crate) fn recording(&self, alloc: Global, phases: Phases) -> Result<Vec<u8>, AllocError> {
-        let mut text = String::from_str(alloc, "mms-recording 1\nconfig\n")?;
+        let mut text = String::new(alloc);
+        put_texts(&mut text, "mms-recording ", self.edition)?;
+        text.push_str("config\n")?;
         for line in self.config.lines() {
             put_texts(&mut text, line, "")?;
         }
