@@ -1,11 +1,13 @@
 """Elements of the basic encoding rules (ITU-T X.690), read as far as they can be read and never with an exception."""
 
 from dataclasses import dataclass, field
-from typing import List, Optional, Tuple
+from typing import Iterator, List, Optional, Tuple
 
 DEEPEST = 64  # parts below that depth are not looked at
 LONGEST_LENGTH = 8  # octets behind 81 to 88
 END_OF_CONTENTS = b"\0\0"
+UNENDED = "an indefinite length that does not end"
+UNFIT = "an indefinite length, which no primitive element has"
 
 
 @dataclass
@@ -22,6 +24,7 @@ class Element:
     number: int
     parts: List["Element"] = field(default_factory=list)
     flaw: str = ""  # what is wrong with it, where something is
+    is_ended: bool = False  # its length is indefinite, and its end stands behind the contents
 
     @property
     def contents(self) -> bytes:
@@ -34,6 +37,12 @@ class Element:
     @property
     def is_indefinite(self) -> bool:
         return self.octets[self.tag_end : self.start] == b"\x80"
+
+    def walk(self) -> Iterator["Element"]:
+        """The element and all parts of it, each before its own."""
+        yield self
+        for part in self.parts:
+            yield from part.walk()
 
     def find(self, number: int, cls: int = 2) -> Optional["Element"]:
         """The first part with that tag."""
@@ -53,7 +62,7 @@ def elements(octets: bytes, at: int = 0, end: Optional[int] = None, depth: int =
                 one.parts = elements(octets, one.start, one.end, depth + 1)
         out.append(one)
         at = max(one.end, at + 1)
-        if one.is_indefinite and octets[one.end : one.end + 2] == END_OF_CONTENTS:
+        if one.is_ended:
             at = one.end + 2
     return out
 
@@ -70,7 +79,8 @@ def _element(octets: bytes, at: int, end: int) -> Element:
     size, start, flaw = _length(octets, one.tag_end, end)
     if not flaw and size is None:
         size = _before_end_of_contents(octets, start, end) if one.constructed else None
-        flaw = "" if size is not None else "an indefinite length that does not end"
+        one.is_ended = size is not None
+        flaw = "" if one.is_ended else UNENDED if one.constructed else UNFIT
     if flaw or size is None:
         one.flaw = flaw
         return one

@@ -239,6 +239,7 @@ class Options:
     each: bool = False  # a phase for each event
     learn: bool = True
     config: Optional[List[str]] = None  # lines of a configuration in place of what is learned
+    edition: str = ""  # of the recording; empty for the least one that takes what is sent
 
 
 @dataclass
@@ -363,18 +364,19 @@ class _Build:
         while len(self.events) > 1 and not self.events[-1] and not self.outputs[-1]:
             self.events.pop()
             self.outputs.pop()
-        recording = Recording("1", self.config(), self.events, self.notes)
+        edition = self.options.edition or edition_of(self.events, self.outputs)
+        recording = Recording(edition, self.config(edition), self.events, self.notes)
         if recording.clients() < len(self.names):
             raise Unread(f"{len(self.names)} clients are in it, and the configuration has {recording.clients()}")
         seen = seen_report(self.events, self.outputs, recording.clients())
-        return Captured(recording, seen, self.warnings, self.names, remarks(self.events))
+        return Captured(recording, seen, self.warnings, self.names, remarks(self.events, edition))
 
-    def config(self) -> List[str]:
+    def config(self, edition: str) -> List[str]:
         """The lines of the configuration: the clients, the moment of the start, and what is given or learned."""
         given = self.options.config
         rest = given if given is not None else []
         if given is None and self.options.learn:
-            lines = learned(self.events, self.outputs)
+            lines = learned(self.events, self.outputs, edition)
             rest = [MARK, *lines] if lines else []
         day, ms = divmod(self.start // 1000 - EPOCH_1984 * 1000, 86400000)
         said = {line.split("=")[0].strip() for line in rest}
@@ -502,9 +504,30 @@ class _Build:
 # ---------------------------------------------------------------- what the device can't have
 
 
-def remarks(events) -> List[str]:
+def edition_of(events, outputs) -> str:
+    """The edition that takes what clients send and servers name: 2 where a PDU has an element of indefinite length, or a
+    name of more octets than edition 1 has; else 1."""
+    heard = (e.octets for p in events for e in p if e.kind == "heard")
+    said = (o for p in outputs for sent in p.values() for o in sent if o is not ABORT)
+    return "2" if any(map(_is_of_two, heard)) or any(map(_has_long_name, said)) else "1"
+
+
+def _is_of_two(octets: bytes) -> bool:
+    """Whether a client's octets are a PDU of edition 2 and none of edition 1, or the same with a name too long."""
+    found = ber.elements(octets)
+    whole = len(found) == 1 and not any(e.flaw for e in found[0].walk())
+    return whole and any(e.is_indefinite for e in found[0].walk()) or _has_long_name(octets)
+
+
+def _has_long_name(octets: bytes) -> bool:
+    """Whether a name in these octets has more octets than edition 1 allows, and no more than edition 2 does."""
+    names = (n.element.contents for top in grammar.decode(octets) for n in top.walk() if n.kind == "Id")
+    return any(texts.LONGEST["1"] < len(name) <= texts.LONGEST["2"] for name in names)
+
+
+def remarks(events, edition: str) -> List[str]:
     """What in these requests a device that is configured can't have, each said once with how many there are."""
-    of_domains, loaded, long = set(), set(), set()
+    of_domains, loaded, long, most = set(), set(), set(), texts.LONGEST[edition]
     for e in (e for p in events for e in p if e.kind == "heard" and e.octets[:1] == b"\xa0"):
         for n in (n for top in grammar.decode(e.octets) for n in top.walk()):
             if n.label == "domain-specific" and n.find("domainId") is not None:
@@ -512,7 +535,7 @@ def remarks(events) -> List[str]:
                 of_domains.add((n.find("domainId").value, item.value if item is not None else ""))
             elif n.label == "initiateDownloadSequence" and n.find("domainName") is not None:
                 loaded.add(n.find("domainName").value)
-            if n.kind == "Id" and len(n.element.contents) > 32:
+            if n.kind == "Id" and len(n.element.contents) > most:
                 long.add(n.value)
     missing = {name for name in of_domains if name[0] not in loaded}
     out = []
@@ -524,7 +547,10 @@ def remarks(events) -> List[str]:
             " domains but those that clients load, and answers object-non-existent"
         )
     if long:
-        out.append(f"{len(long)} names have more than 32 octets, such as {sorted(long)[0]}; mmscell takes no such name")
+        name = sorted(long)[0]
+        out.append(f"{len(long)} names have more than {most} octets, such as {name}; mmscell takes no such name")
+    if edition != "1":
+        out.append(f"the recording is of edition {edition}, which takes indefinite lengths and names of {most} octets")
     return out
 
 

@@ -59,6 +59,8 @@ def _capture_words(sub) -> None:
     add("--each", action="store_true", help="a phase for each event")
     given = "lines of the configuration, such as cells and pools, in place of what the answers tell"
     add("--config", metavar="FILE", help=given)
+    least = "1 or 2, of the recording; where it is left out the least that takes what clients send"
+    add("--edition", choices=("1", "2"), default="", help=least)
     learned = "do not write cells, names and texts of the answers into the configuration"
     add("--no-learn", action="store_true", help=learned)
 
@@ -139,7 +141,7 @@ def _capture(a) -> int:
     if not os.path.exists(a.file):
         raise capturing.Unread(f"{a.file}: no such file")
     config = _config(a.config)
-    options = capturing.Options(_server(a.server), a.port, a.tick, a.quiet, a.each, not a.no_learn, config)
+    options = capturing.Options(_server(a.server), a.port, a.tick, a.quiet, a.each, not a.no_learn, config, a.edition)
     got = capturing.capture(a.file, options)
     _write(a.output, texts.write_recording(got.recording))
     if a.seen:

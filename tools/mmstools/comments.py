@@ -5,7 +5,7 @@ stood there before give way to them, and all else stays as it is."""
 import textwrap
 from typing import Iterator, List
 
-from .explain import Line, table
+from .explain import END, Line, table
 from .texts import MADE, event, read_recording
 
 WIDE = 120  # columns of a line
@@ -37,7 +37,7 @@ def _lines(lines: List[str]) -> Iterator[str]:
 def of_pdu(octets: bytes) -> List[str]:
     """The comments of one PDU; a line ends behind an element, unless one alone is longer."""
     lines, room = [], WIDE - len(MADE) - 3
-    for said in [_element(line) for line in table(octets)]:
+    for said in [_element(line) for line in table(octets) if line.kind != END]:
         if lines and len(lines[-1]) + len(said) + 3 <= room:
             lines[-1] += f"; {said}"
         else:

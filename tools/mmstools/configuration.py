@@ -6,9 +6,11 @@ TOML is read by Python's tomllib, which knows TOML 1.0; the device reads 1.1.
 import re
 import tomllib
 from dataclasses import dataclass
+from functools import partial
 from typing import Any, Dict, Iterator, List, Optional, Tuple
 
 from . import types_of_cells
+from .texts import is_name
 
 NUMBERS = {"clients": (1, 64), "day": (0, 65535), "ms": (0, 86399999)}
 TEXTS = ("vendor", "model", "revision")
@@ -19,7 +21,6 @@ ROWS = {
 }  # the keys of a row, each with the type of its value
 MAY_BE_LEFT_OUT = {"guard"}
 MOST_CELL, MOST_VARIABLES, MOST_POOLS, MOST_TOKENS = 4095, 4096, 256, 256
-IDENTIFIER = re.compile(r"[A-Za-z_$][A-Za-z0-9_$]{0,31}")
 
 
 @dataclass(frozen=True)
@@ -58,8 +59,8 @@ def line_of(found: Broken, lines: List[str]) -> Optional[int]:
     return None
 
 
-def broken(text: str) -> Tuple[Optional[Broken], Dict[str, Any]]:
-    """The first breach of the least rule that is broken, None where all are kept, and the document."""
+def broken(text: str, edition: str = "1") -> Tuple[Optional[Broken], Dict[str, Any]]:
+    """The first breach of the least rule that is broken in that edition, None where all are kept, and the document."""
     try:
         document = tomllib.loads(text.encode("latin-1").decode("utf-8-sig"))
     except (ValueError, RecursionError) as bad:
@@ -68,7 +69,8 @@ def broken(text: str) -> Tuple[Optional[Broken], Dict[str, Any]]:
         found = next(rule(document), None)
         if found is not None:
             return found, {}
-    for rule in (_ranges, _texts, _names, _cells, _values, _variables, _pools, _counts):
+    names, values = partial(_names, edition), partial(_values, edition)
+    for rule in (_ranges, _texts, names, _cells, values, _variables, _pools, _counts):
         found = next(rule(document), None)
         if found is not None:
             return found, document
@@ -143,13 +145,13 @@ def _texts(document: Dict[str, Any]) -> Iterator[Broken]:
             yield Broken(3, f"{value!r} is not 1 to 32 octets from 20 to 7E", key=key)
 
 
-def _names(document: Dict[str, Any]) -> Iterator[Broken]:
+def _names(edition: str, document: Dict[str, Any]) -> Iterator[Broken]:
     """Rule 4."""
     for table, key in (("cell", "guard"), ("variable", "name"), ("pool", "name"), ("pool", "tokens")):
         for number, row in _rows(document, table):
             names = row.get(key, []) if key == "tokens" else [row[key]] if key in row else []
             for name in names:
-                if not IDENTIFIER.fullmatch(name):
+                if not is_name(name, edition):
                     yield Broken(4, f"{name!r} is no Identifier", table, number, key)
 
 
@@ -165,10 +167,10 @@ def _cells(document: Dict[str, Any]) -> Iterator[Broken]:
         seen[row["number"]] = number
 
 
-def _values(document: Dict[str, Any]) -> Iterator[Broken]:
+def _values(edition: str, document: Dict[str, Any]) -> Iterator[Broken]:
     """Rule 6."""
     for number, row in _rows(document, "cell"):
-        for key, what in types_of_cells.wrong(row["type"], row["value"]):
+        for key, what in types_of_cells.wrong(row["type"], row["value"], edition):
             yield Broken(6, what, "cell", number, key)
 
 

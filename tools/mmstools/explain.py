@@ -15,7 +15,7 @@ import textwrap
 from dataclasses import dataclass
 from typing import Iterable, Iterator, List, Optional, Tuple
 
-from . import grammar, refusals
+from . import ber, grammar, refusals
 from .grammar import Node
 from .history import Row, history
 from .refusals import Refusal
@@ -38,6 +38,7 @@ UNIVERSAL = {
     25: "GraphicString",
     26: "VisibleString",
 }
+END = "end of contents"  # of indefinite length
 SPOKEN_AS = {
     "confirmed-Request": "request",
     "confirmed-Response": "response",
@@ -78,6 +79,8 @@ def table(octets: bytes) -> List[Line]:
         out.append(_line(n, depth))
         for p in n.parts:
             add(p, depth + 1)
+        if n.element.is_ended:
+            out.append(Line(depth, "00", "00", "", END, "", ""))
 
     for n in grammar.decode(octets):
         add(n, 0)
@@ -170,7 +173,7 @@ def of_recording(r: Recording) -> Iterator[str]:
         for i, one in enumerate(events):
             yield ""
             yield from ("# " + note for note in r.notes.get((k - 1, i), []))
-            yield from _event("", one)
+            yield from _event("", one, r.edition)
 
 
 def _phases(count: int) -> str:
@@ -253,13 +256,15 @@ def _ended(r: Report, recording: str, name: str) -> Iterator[str]:
             yield f"The line itself is not shown: {name} is not refused so."
 
 
-def _event(head: str, one: Event) -> Iterator[str]:
-    """An event, and its octets by element."""
+def _event(head: str, one: Event, edition: str = "") -> Iterator[str]:
+    """An event, and its octets by element; with a note where the edition, if it is known, hasn't their lengths."""
     if one.kind == "heard":
         said = say(one.octets)
         does = "answers" if said.pdu in ("confirmed-Response", "confirmed-Error") else "sends"
         yield f"{head}client {one.client} {does}: {heading(said)}"
         yield from _hinted(one.octets, "    ")
+        if edition == "1" and any(e.is_ended for top in ber.elements(one.octets) for e in top.walk()):
+            yield "    Note: an indefinite length, which recordings of edition 2 allow (`mms-recording 2`)."
         yield from pdu(one.octets)
     else:
         yield head + {

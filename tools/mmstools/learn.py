@@ -7,14 +7,15 @@ from dataclasses import dataclass
 from typing import Dict, List, Optional
 
 from . import ber, grammar
-from .texts import ABORT
+from .texts import ABORT, LONGEST
 
-MOST_CELLS, LONGEST = 4096, 32
+MOST_CELLS = 4096
 
 
-def learned(events, outputs) -> List[str]:
-    """Lines of a configuration for these phases of events and of what was answered to each client."""
-    got = _Learned()
+def learned(events, outputs, edition: str = "1") -> List[str]:
+    """Lines of a configuration for these phases of events and of what was answered to each client; names too long for the
+    edition are left out."""
+    got = _Learned(LONGEST[edition])
     for request, answer in _pairs(events, outputs):
         got.take(request, answer)
     return got.lines()
@@ -75,7 +76,8 @@ class _Cell:
 class _Learned:
     """What the answers told up to now."""
 
-    def __init__(self):
+    def __init__(self, longest: int):
+        self.longest = longest  # octets of a name
         self.texts: List[str] = []
         self.cells: Dict[str, _Cell] = {}
         self.pools: Dict[str, List[str]] = {}
@@ -124,7 +126,7 @@ class _Learned:
         for name, c in self.cells.items():
             kind = _octets(c.told) if c.told is not None else c.guess
             value = c.value()
-            if len(name) > LONGEST or kind is None or value is None or len(names) >= 3 * MOST_CELLS:
+            if len(name) > self.longest or kind is None or value is None or len(names) >= 3 * MOST_CELLS:
                 continue
             number = len(names) // 3
             cells += [
@@ -136,7 +138,7 @@ class _Learned:
             names += ["[[variable]]", "name = \"%s\"" % name, "cell = %d" % number]
         pools = []
         for name, tokens in self.pools.items():
-            if tokens:
+            if tokens and all(len(t) <= self.longest for t in (name, *tokens)):
                 pools += ["[[pool]]", "name = \"%s\"" % name, "tokens = [%s]" % ", ".join("\"%s\"" % t for t in tokens)]
         return self.texts + cells + names + pools
 

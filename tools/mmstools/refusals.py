@@ -6,11 +6,11 @@ from dataclasses import dataclass
 from typing import Iterator, List, Optional, Tuple
 
 from .configuration import Broken, broken, line_of
-from .texts import CLIENTS, MOST_EVENTS, MOST_OCTETS, MOST_PDU, MOST_TICK
+from .texts import CLIENTS, MOST_EVENTS, MOST_OCTETS, MOST_PDU, MOST_TICK, is_name
 
 LINE, CONFIG_TEXT = 196608, 1048576  # octets
 DAY, LAST_DAY = 86400000, 65535
-HEADER = "mms-recording 1"
+HEADERS = {"mms-recording 1": "1", "mms-recording 2": "2"}  # the first line, and the edition that it names
 
 
 @dataclass(frozen=True)
@@ -23,7 +23,7 @@ class Meaning:
 
 WORDS = {
     "header": Meaning(
-        "line 1 is not `mms-recording 1`, or is missing",
+        "line 1 is neither `mms-recording 1` nor `mms-recording 2`, or is missing",
         "the first line: no blank before or behind it, no mark of UTF-8 in front; is it a recording at all?",
     ),
     "config": Meaning(
@@ -79,13 +79,13 @@ RULES = {
     ),
     4: Meaning(
         "the name of a variable or a pool, a guard or a token is not an Identifier",
-        "letters, digits, `_` and `$` alone, no digit in front, at most 32",
+        "letters, digits, `_` and `$` alone, no digit in front, at most 32 in edition 1 and 64 in edition 2",
     ),
     5: Meaning("a cell's number is not 0 to 4,095, or two cells share one", "the numbers of all cells"),
     6: Meaning(
         "a type or a value is not pairs of digits of one whole element of its form, nests deeper than 10, or the value"
         " is not of the type",
-        "an odd digit or a space; lengths and widths; an array's count of elements",
+        "an odd digit or a space; lengths, which edition 1 has definite alone, and widths; an array's count of elements",
     ),
     7: Meaning(
         "two variables share a name, or a variable's cell is missing",
@@ -145,18 +145,19 @@ def lines_of(text: str) -> List[Tuple[str, int]]:
 def first_refusal(text: str) -> Optional[Refusal]:
     """The first rule that a recording breaks; its octets are the signs of the text. None where it keeps them all."""
     lines = lines_of(text)
-    if not lines or lines[0][0] != HEADER:
+    edition = HEADERS.get(lines[0][0], "") if lines else ""
+    if not edition:
         return Refusal("header", 1)
     if len(lines) < 2 or lines[1][0] != "config":
         return Refusal("config", 2)
     end, refusal = _end(lines)
     if refusal is not None:
         return refusal
-    found, document = broken("".join(line + "\n" for line, _ in lines[2:end]))
+    found, document = broken("".join(line + "\n" for line, _ in lines[2:end]), edition)
     if found is not None:
         return Refusal("config", rule=found.rule, broken=found)
     start = document.get("day", 0) * DAY + document.get("ms", 0)
-    return _events(lines, end + 1, document.get("clients", CLIENTS), start)
+    return _events(lines[end + 1 :], end + 2, document.get("clients", CLIENTS), start, edition)
 
 
 def _end(lines: List[Tuple[str, int]]) -> Tuple[int, Optional[Refusal]]:
@@ -173,27 +174,29 @@ def _end(lines: List[Tuple[str, int]]) -> Tuple[int, Optional[Refusal]]:
     return len(lines), Refusal("config", len(lines) + 1)
 
 
-def _events(lines: List[Tuple[str, int]], at: int, clients: int, moment: int) -> Optional[Refusal]:
-    """The first event line that breaks a rule."""
+def _events(
+    lines: List[Tuple[str, int]], first: int, clients: int, moment: int, edition: str
+) -> Optional[Refusal]:
+    """The first of these event lines that breaks a rule; they are numbered from the first on."""
     events = octets = 0
-    for i, (line, _) in enumerate(lines[at:], at):
-        word, what = ("long", "") if len(line) > LINE else _word(line.strip(" \t"), clients)
+    for number, (line, _) in enumerate(lines, first):
+        word, what = ("long", "") if len(line) > LINE else _word(line.strip(" \t"), clients, edition)
         if word == "tick":
             moment += int(what)
             word = "" if moment < (LAST_DAY + 1) * DAY else "clock"
         if word:
-            return Refusal(word, i + 1)
+            return Refusal(word, number)
         if what == "phase":
             events = octets = 0
         elif what:
             events += 1
             octets += len(what) // 2 if line.strip(" \t")[0].isdigit() else 0
         if events > MOST_EVENTS or octets > MOST_OCTETS:
-            return Refusal("too much", i + 1)
+            return Refusal("too much", number)
     return None
 
 
-def _word(line: str, clients: int) -> Tuple[str, str]:
+def _word(line: str, clients: int, edition: str) -> Tuple[str, str]:
     """The word that refuses an event line, and else what the line says: "" for nothing, "phase", or of an event its
     octets or its argument. A tick, whose moment decides, has the word "tick"."""
     if not line or line[0] == "#":
@@ -211,8 +214,8 @@ def _word(line: str, clients: int) -> Tuple[str, str]:
         return ("" if 1 <= int(m[2]) <= clients else "client"), m[2]
     if m and 1 <= int(m[2]) <= MOST_TICK:
         return "tick", m[2]
-    m = re.fullmatch(r"ends[ \t]+([A-Za-z_$][A-Za-z0-9_$]{0,31})", line)
-    return ("", m[1]) if m else ("event", "")
+    m = re.fullmatch(r"ends[ \t]+([A-Za-z0-9_$]+)", line)
+    return ("", m[1]) if m and is_name(m[1], edition) else ("event", "")
 
 
 def explained(refusal: Refusal, text: str = "") -> Iterator[str]:

@@ -8,6 +8,7 @@ ABORT = None  # an output that is no PDU
 MOST_EVENTS, MOST_OCTETS = 16384, 67108864  # of a phase
 MOST_CLIENTS, MOST_TICK, MOST_PDU = 64, 3600000, 65000
 CLIENTS = 4  # where the configuration doesn't say
+LONGEST = {"1": 32, "2": 64}  # octets of a name, by edition
 MADE = "#:"  # a comment that `explain --comments` made begins so
 
 
@@ -70,23 +71,28 @@ class Recording:
         return next((int(m[1]) for m in said if m), CLIENTS)
 
 
-def event(words: str) -> Optional[Event]:
-    """The event that a line without blanks at its ends says, or None."""
+def is_name(text: str, edition: str = "2") -> bool:
+    """Whether a text is an Identifier of that edition; of edition 2 where none is said, as in a report."""
+    return len(text) <= LONGEST[edition] and re.fullmatch(r"[A-Za-z_$][A-Za-z0-9_$]*", text) is not None
+
+
+def event(words: str, edition: str = "2") -> Optional[Event]:
+    """The event that a line without blanks at its ends says in that edition, or None."""
     m = re.fullmatch(r"(\d{1,9})[ \t]+((?:[0-9A-Fa-f]{2} *)+)", words, re.ASCII)
     if m:
         return Event("heard", int(m[1]), bytes.fromhex(m[2]))
     m = re.fullmatch(r"(lost|tick)[ \t]+(\d{1,9})", words, re.ASCII)
     if m:
         return Event("lost", client=int(m[2])) if m[1] == "lost" else Event("tick", ms=int(m[2]))
-    m = re.fullmatch(r"ends[ \t]+([A-Za-z_$][A-Za-z0-9_$]{0,31})", words)
-    return Event("ends", name=m[1]) if m else None
+    m = re.fullmatch(r"ends[ \t]+([A-Za-z0-9_$]+)", words)
+    return Event("ends", name=m[1]) if m and is_name(m[1], edition) else None
 
 
 def read_recording(text: str) -> Recording:
     """The recording that a text is, by the forms of its lines alone; raises BadText at the first that has none."""
     lines = [line[:-1] if line.endswith("\r") else line for line in text.split("\n")]
     if not re.fullmatch(r"mms-recording [12]", lines[0]):
-        raise BadText("line 1: no recording, which begins with `mms-recording 1`")
+        raise BadText("line 1: no recording, which begins with `mms-recording 1` or `mms-recording 2`")
     if len(lines) < 2 or lines[1] != "config" or "end" not in lines[2:]:
         raise BadText("line 2: `config` and, behind the configuration, `end` are missing")
     stop = lines.index("end", 2)
@@ -99,7 +105,7 @@ def read_recording(text: str) -> Recording:
         elif line == "phase":
             out.phases.append([])
         elif line:
-            one = event(line)
+            one = event(line, out.edition)
             if one is None:
                 raise BadText(f"line {n}: {line[:60]}")
             if notes:

@@ -5,6 +5,7 @@ from dataclasses import dataclass
 from typing import Iterator, List, Optional, Tuple
 
 from .ber import Element, elements, integer
+from .texts import is_name
 
 DEEPEST, MOST_PARTS, MOST_SIZE = 10, 4096, 60000
 ARRAY, STRUCTURE, BOOLEAN, BITS, INTEGER, UNSIGNED, FLOAT = 1, 2, 3, 4, 5, 6, 7
@@ -24,10 +25,10 @@ class Type:
     parts: Optional[List["Type"]] = None  # of an array the one of its elements
 
 
-def wrong(type_digits: str, value_digits: str) -> Iterator[Tuple[str, str]]:
-    """Which of the two keys is wrong, and why."""
-    kind, data = _whole(type_digits), _whole(value_digits)
-    told = None if kind is None else type_of(kind)
+def wrong(type_digits: str, value_digits: str, edition: str = "1") -> Iterator[Tuple[str, str]]:
+    """Which of the two keys is wrong in that edition, and why."""
+    kind, data = _whole(type_digits, edition), _whole(value_digits, edition)
+    told = None if kind is None else type_of(kind, edition)
     if kind is None or told is None:
         yield "type", f"{_cut(type_digits)} is not one whole element that is a TypeSpecification"
     if data is None:
@@ -41,17 +42,17 @@ def _cut(digits: str) -> str:
     return f"`{digits[:40]}`" + (f" .. ({len(digits)} digits)" if len(digits) > 40 else "")
 
 
-def _whole(digits: str) -> Optional[Element]:
-    """The one element that the digits are, all of it definite; None otherwise."""
+def _whole(digits: str, edition: str) -> Optional[Element]:
+    """The one element that the digits are, in edition 1 all of it definite; None otherwise."""
     if not re.fullmatch(r"(?:[0-9A-Fa-f]{2})+", digits):
         return None
     found = elements(bytes.fromhex(digits))
-    return found[0] if len(found) == 1 and _is_sound(found[0]) else None
+    return found[0] if len(found) == 1 and _is_sound(found[0], edition) else None
 
 
-def _is_sound(e: Element) -> bool:
-    """Whether it and its parts are whole and have definite lengths."""
-    return not e.flaw and not e.is_indefinite and all(_is_sound(p) for p in e.parts)
+def _is_sound(e: Element, edition: str) -> bool:
+    """Whether it and its parts are whole and have lengths of that edition."""
+    return not e.flaw and (edition != "1" or not e.is_indefinite) and all(_is_sound(p, edition) for p in e.parts)
 
 
 def _number(e: Optional[Element], tag: Tuple[int, int]) -> Optional[int]:
@@ -60,14 +61,14 @@ def _number(e: Optional[Element], tag: Tuple[int, int]) -> Optional[int]:
     return integer(e.contents) if fits else None
 
 
-def type_of(e: Element, depth: int = 0) -> Optional[Type]:
-    """The type that a TypeSpecification says; None where it is none of the profile's."""
+def type_of(e: Element, edition: str = "1", depth: int = 0) -> Optional[Type]:
+    """The type that a TypeSpecification says in that edition; None where it is none of the profile's."""
     if e.cls != 2 or e.constructed != (e.number in CONSTRUCTED or e.number == FLOAT):
         return None
     if e.number in CONSTRUCTED:
         if depth >= DEEPEST:
             return None
-        return _array(e, depth + 1) if e.number == ARRAY else _structure(e, depth + 1)
+        return (_array if e.number == ARRAY else _structure)(e, edition, depth + 1)
     if e.number == FLOAT:
         widths = tuple(_number(p, (0, 2)) for p in e.parts)
         return Type(FLOAT, FLOATS[widths]) if widths in FLOATS else None
@@ -86,39 +87,39 @@ def _unpacked(parts: List[Element]) -> List[Element]:
     return parts[1:] if packed else parts
 
 
-def _explicit(e: Element, number: int, depth: int) -> Optional[Type]:
+def _explicit(e: Element, number: int, edition: str, depth: int) -> Optional[Type]:
     """The type in the component with that number."""
     fits = e.tag == (2, number) and e.constructed and len(e.parts) == 1
-    return type_of(e.parts[0], depth) if fits else None
+    return type_of(e.parts[0], edition, depth) if fits else None
 
 
-def _array(e: Element, depth: int) -> Optional[Type]:
+def _array(e: Element, edition: str, depth: int) -> Optional[Type]:
     """The type of an array."""
     parts = _unpacked(e.parts)
     count = _number(parts[0], (2, 1)) if len(parts) == 2 else None
-    element = _explicit(parts[1], 2, depth) if count is not None else None
+    element = _explicit(parts[1], 2, edition, depth) if count is not None else None
     return Type(ARRAY, count, [element]) if element is not None and 0 <= count <= MOST_PARTS else None
 
 
-def _structure(e: Element, depth: int) -> Optional[Type]:
+def _structure(e: Element, edition: str, depth: int) -> Optional[Type]:
     """The type of a structure."""
     parts = _unpacked(e.parts)
     if len(parts) != 1 or parts[0].tag != (2, 1) or not parts[0].constructed:
         return None
-    types = [_typed(p, depth) for p in parts[0].parts]
+    types = [_typed(p, edition, depth) for p in parts[0].parts]
     return None if None in types else Type(STRUCTURE, len(types), types)
 
 
-def _typed(e: Element, depth: int) -> Optional[Type]:
+def _typed(e: Element, edition: str, depth: int) -> Optional[Type]:
     """The type of a structure's component, whose name is an Identifier where it has one."""
     if e.tag != (0, 16) or not e.constructed or not e.parts:
         return None
     named = e.parts[0].tag == (2, 0)
     name = e.parts[0].contents if named and not e.parts[0].constructed else b""
-    if named and not re.fullmatch(rb"[A-Za-z_$][A-Za-z0-9_$]{0,31}", name):
+    if named and not is_name(name.decode("latin-1"), edition):
         return None
     rest = e.parts[named:]
-    return _explicit(rest[0], 1, depth) if len(rest) == 1 else None
+    return _explicit(rest[0], 1, edition, depth) if len(rest) == 1 else None
 
 
 def is_of(e: Element, kind: Type) -> bool:

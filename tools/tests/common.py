@@ -58,14 +58,14 @@ def recordings_of_rows():
 
 
 def _rows(text):
-    """The recordings of one file of rows: of `= replay` with status 0, and of `= steps`."""
+    """The recordings of one file of rows: of `= replay` with status 0, and of `= steps` and `= steps 2`."""
     lines, kind = [], ""
     for line in text.split("\n"):
         if line.startswith("= "):
             if kind == "replay" and line == "= status 0":
                 yield "\n".join(lines) + "\n"
-            kind = line[2:] if line in ("= replay", "= steps") else ""
-            lines = ["mms-recording 1", "config"] if kind == "steps" else []
+            kind = line[2:].split(" ")[0] if line in ("= replay", "= steps", "= steps 2") else ""
+            lines = [f"mms-recording {2 if line[-1] == '2' else 1}", "config"] if kind == "steps" else []
         elif kind == "steps" and not line:
             yield "\n".join(lines) + "\n"
             kind = ""

@@ -23,10 +23,11 @@ class Step:
 
 @dataclass
 class Row:
-    """A row: where it stands, the words behind its sign, and the recording with its report, or the steps."""
+    """A row: where it stands, the words behind its sign, and the recording with its report, or with the steps, which are
+    then all in one phase."""
 
     place: str  # the file's name and the line
-    words: str
+    words: str  # `steps` of edition 1, `steps 2` of edition 2
     recording: str = ""
     status: int = 0
     report: str = ""
@@ -86,11 +87,14 @@ def _read(name: str) -> Iterator[Row]:
     row, source = None, []
     for at, end in zip(starts, starts[1:]):
         head, body = lines[at], lines[at + 1 : end]
-        if head == "= steps":
+        if re.fullmatch(r"= steps(?: 2)?", head):
             first = body.index("end")
             last = next((i for i in range(first, len(body)) if not body[i]), len(body))
-            steps = [_step(line) for line in text_of(body[first + 1 : last]).split("\n") if line]
-            yield Row(f"{name}:{at + 1}", "steps", steps=steps)
+            lines_of = [line for line in text_of(body[first + 1 : last]).split("\n") if line]
+            config, events = text_of(body[:first]), [line.partition(" -> ")[0] for line in lines_of]
+            recording = f"mms-recording {head[-1] if head[-1] == '2' else 1}\nconfig\n{config}end\n"
+            recording += "".join(f"{line}\n" for line in events)
+            yield Row(f"{name}:{at + 1}", head[2:], recording, steps=[_step(line) for line in lines_of])
         elif head.startswith("= status"):
             last = len(body) - 1 if body and not body[-1] and end == len(lines) else len(body)
             row.recording, row.status, row.report = text_of(source), int(head.split()[2]), text_of(body[:last])

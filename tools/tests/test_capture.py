@@ -142,6 +142,39 @@ class Capture(unittest.TestCase):
         c.pdu(0, bytes.fromhex("A00F020102BA0A80034C4430A1008201FF"))
         self.assertEqual(self.of(wire).remarks, [])
 
+    def test_editions(self):
+        """A recording is of edition 2 where a client sends an indefinite length, or somebody a name of 33 to 64 octets."""
+        name = {size: tlv(0x80, b"T" * size) for size in (32, 33, 64, 65)}
+        status = {size: tlv(0xA0, b"\2\1\1" + tlv(0xB7, name[size])) for size in name}
+        names = tlv(0xA1, b"\2\1\1" + tlv(0xA1, tlv(0xA0, tlv(0x1A, b"T" * 40)) + b"\x81\1\0"))
+        for side, octets, edition in [
+            (0, bytes.fromhex("A0800201018001000000"), "2"),
+            (0, bytes.fromhex("A080020101800100"), "1"),
+            (1, bytes.fromhex("A180020101A08080010081010000000000"), "1"),
+            (0, status[32], "1"),
+            (0, status[33], "2"),
+            (0, status[64], "2"),
+            (0, status[65], "1"),
+            (1, names, "2"),
+        ]:
+            wire, c = self.talk(0)
+            c.pdu(0, IDENTIFY)
+            c.pdu(side, octets)
+            got = self.of(wire)
+            self.assertEqual(got.recording.edition, edition, octets.hex())
+            self.assertEqual("the recording is of edition 2" in " ".join(got.remarks), edition == "2")
+            self.assertTrue(texts.write_recording(got.recording).startswith(f"mms-recording {edition}\n"))
+            self.assertEqual(self.of(wire, capture.Options(learn=False, edition="1")).recording.edition, "1")
+        self.assertIn("1 names have more than 32 octets", " ".join(self.remarks_of(status[65])))
+        self.assertIn("1 names have more than 64 octets", " ".join(self.remarks_of(status[64], status[65])))
+        self.assertEqual(len(self.remarks_of(status[64])), 1)
+
+    def remarks_of(self, *pdus):
+        wire, c = self.talk(0)
+        for octets in pdus:
+            c.pdu(0, octets)
+        return self.of(wire).remarks
+
     def test_malformed(self):
         """PDUs of any octets, in both encodings of user data, and two in one, come as they stood."""
         rng = random.Random(5)

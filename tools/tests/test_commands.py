@@ -95,7 +95,7 @@ class Unreadable(Refusing):
 
     def test_cut_reports(self):
         whole = text_of(REPORTS[1]).encode("latin-1")
-        for i in range(0, len(whole), 3):
+        for i in range(0, len(whole) - 1, 3):  # without its last line feed alone it is whole
             status, _, err = self.run_("compare", self.file(whole[:i]), REPORTS[1])
             self.assertIn(status, (1, 2))
             self.assertTrue(status == 1 or err.startswith("mms compare: "))

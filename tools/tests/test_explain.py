@@ -71,6 +71,26 @@ class Pdus(unittest.TestCase):
             ],
         )
 
+    def test_indefinite(self):
+        """Each end of contents is a line; the words are those of the same PDU with definite lengths."""
+        self.assertEqual(
+            explain.pdu(bytes.fromhex("A080020101B380A080800154000083010500000000"), ""),
+            [
+                "A0 80            [0] SEQUENCE         confirmed-Request",
+                "  02 01      01  INTEGER              invokeID           1",
+                "  B3 80          [19] Take, SEQUENCE  takeControl",
+                "    A0 80        [0] Name             semaphoreName",
+                "      80 01  54  [0] Identifier       vmd-specific       T",
+                "    00 00        end of contents",
+                "    83 01    05  [3] INTEGER, ms      acceptableDelay    5 ms",
+                "  00 00          end of contents",
+                "00 00            end of contents",
+            ],
+        )
+        alike = ("A080020101B380A080800154000083010500000000", "A00D020101B308A003800154830105")
+        said = [run("explain", digits)[1].split("\n")[0] for digits in alike]
+        self.assertEqual(said[0], said[1])
+
     def test_digits(self):
         for digits in ("A0050201018200", "a0 05 02 01 01 82 00"):
             status, out, err = run("explain", digits)
@@ -152,6 +172,20 @@ class Recordings(Files):
         ):
             self.assertIn("\n" + line + "\n", out)
 
+    def test_editions(self):
+        """A recording of edition 2 with an indefinite length and a long name; in edition 1 the length has a note."""
+        for edition, noted in (("1", True), ("2", False)):
+            text = HEAD.replace("1", edition) + "1 A080 020101 800100 0000\nends p\n"
+            status, out, err = self.explained(text)
+            self.assertEqual((status, err), (0, ""))
+            self.assertIn(f"A recording of edition {edition}, 1 phase.", out)
+            self.assertIn("client 1 sends: Status, request, invokeID 1\n", out)
+            self.assertEqual("Note: an indefinite length, which recordings of edition 2 allow" in out, noted)
+        for edition, most in (("1", 32), ("2", 64)):
+            head = HEAD.replace("1", edition) + "ends "
+            self.assertEqual(self.explained(head + "p" * most)[0], 0)
+            self.assertEqual(self.explained(head + "p" * (most + 1))[0], 2)
+
     def test_tpkt_in_an_event(self):
         _, out, _ = self.explained(HEAD + "2 0300 0019 02F080\n")
         self.assertRegex(out, r"client 2 sends: .*\n    Note: .*PDUs are bare here")
@@ -191,6 +225,11 @@ class Comments(Files):
         self.assertEqual(comments.commented(wanted), wanted)
         self.assertEqual(texts.read_recording(wanted).notes, {(0, 0): ["who"]})
 
+    def test_indefinite(self):
+        """Ends of contents have no comment."""
+        lines = comments.of_pdu(bytes.fromhex("A0800201018001000000"))
+        self.assertEqual(lines, ["#: A0 confirmed-Request; 02 invokeID 1; 80 status FALSE"])
+
     def test_no_recording(self):
         status, out, err = run("explain", "--comments", REPORTS[0])
         self.assertEqual((status, out, err.count("\n")), (2, "", 1))
@@ -203,7 +242,7 @@ class Comments(Files):
             lines = comments.of_pdu(octets)
             self.assertLessEqual(max(map(len, lines)), 120)
             self.assertTrue(all(line.startswith("#: ") for line in lines))
-            tags = [line.tag.replace(" ", "") for line in explain.table(octets)]
+            tags = [line.tag.replace(" ", "") for line in explain.table(octets) if line.kind != explain.END]
             at, said = 0, " ".join(line[2:].strip() for line in lines)
             for tag in tags:
                 at = said.index(tag, at) + len(tag)

@@ -102,7 +102,9 @@ class Explained(Files):
 
     def test_head(self):
         for text, told, line in [
-            ("mms-recording 2\nconfig\nend\n", "bad 1 header", "`mms-recording 2`"),
+            ("mms-recording 3\nconfig\nend\n", "bad 1 header", "`mms-recording 3`"),
+            ("mms-recording 2 \nconfig\nend\n", "bad 1 header", "`mms-recording 2 `"),
+            ("mms-recording 2\n", "bad 2 config", "no line 2"),
             ("\xef\xbb\xbfmms-recording 1\nconfig\nend\n", "bad 1 header", r"`\xEF\xBB\xBFmms-recording 1`"),
             ("mms-recording 1\nConfig\nend\n", "bad 2 config", "`Config`"),
         ]:

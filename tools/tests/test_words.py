@@ -51,8 +51,23 @@ class Texts(unittest.TestCase):
         """The forms of an event line, and what is none."""
         for line in ("1 8B00", "1\t 8b 00", "lost 3", "tick 5", "ends a$_1", "ends " + "a" * 32):
             self.assertIsNotNone(texts.event(line), line)
-        for line in ("1 8B0", "1 8 B00", "1", "lost", "tick -1", "ends 1a", "ends " + "a" * 33, "\u0661 8B00", "phase"):
+        for line in ("1 8B0", "1 8 B00", "1", "lost", "tick -1", "ends 1a", "ends " + "a" * 65, "\u0661 8B00", "phase"):
             self.assertIsNone(texts.event(line), line)
+
+    def test_editions(self):
+        """A name has 32 octets at most in edition 1, 64 in edition 2, and in a report, which names none."""
+        for edition, most in (("1", 32), ("2", 64)):
+            head = f"mms-recording {edition}\nconfig\nend\nends "
+            recording = texts.read_recording(head + "a" * most)
+            self.assertEqual((recording.edition, recording.phases[0][0].name), (edition, "a" * most))
+            self.assertEqual(texts.write_recording(recording), head + "a" * most + "\n")
+            with self.assertRaises(texts.BadText):
+                texts.read_recording(head + "a" * (most + 1))
+        report = "phase 1\n1 ends " + "a" * 64 + "\n"
+        self.assertEqual(texts.write_report(texts.read_report(report)), report)
+        for head in ("mms-recording 3", "mms-recording 02", "mms-recording 2 "):
+            with self.assertRaises(texts.BadText):
+                texts.read_recording(head + "\nconfig\nend\n")
 
     def test_examples_are_spelled_by_element(self):
         """Octets of an example are parted element by element; what isn't whole stands as it is."""
@@ -66,11 +81,12 @@ class Texts(unittest.TestCase):
 
 
 def by_element(octets: bytes) -> str:
-    """Octets parted so that tag and length of what holds others stand alone, and other elements stand whole."""
+    """Octets parted so that tag and length of what holds others, and its end, stand alone, and other elements whole."""
 
     def pieces(e: ber.Element) -> List[bytes]:
         inner = [piece for part in e.parts for piece in pieces(part)]
-        return [octets[e.at : e.start], *inner] if inner else [octets[e.at : e.end]]
+        end = [ber.END_OF_CONTENTS] * e.is_ended
+        return [octets[e.at : e.start], *inner, *end] if inner else [octets[e.at : e.end], *end]
 
     return " ".join(piece.hex().upper() for e in ber.elements(octets) for piece in pieces(e))
 
@@ -85,7 +101,9 @@ class Elements(unittest.TestCase):
             ("9F8501" + "00", 641, "", ""),
             ("A0803080" + "00000000", 0, "30800000", ""),
             ("A0803080000080000000", 0, "308000008000", ""),
-            ("8080AA0000", 0, "", "an indefinite length that does not end"),
+            ("8080AA0000", 0, "", "an indefinite length, which no primitive element has"),
+            ("A080AA00", 0, "", "an indefinite length that does not end"),
+            ("A080AA000000", 0, "AA00", ""),
             ("8002AA", 0, "AA", "says 2 octets, and there are 1"),
             ("8082", 0, "", "the length is cut off"),
             ("8089", 0, "", "the length has too many octets"),

@@ -5,7 +5,7 @@ import unittest
 from typing import Iterator, List, Set, Tuple
 
 from common import REPORTS, text_of
-from mmstools import grammar, texts, words
+from mmstools import ber, grammar, texts, words
 from mmstools.grammar import Component, Form, Node
 from row_files import HERE, Step, rows
 
@@ -39,7 +39,8 @@ def steps() -> List[Step]:
 def shown(n: Node) -> bytes:
     """The octets that a node and its parts show."""
     e = n.element
-    return e.octets[e.at : e.start] + (b"".join(map(shown, n.parts)) if n.parts else e.contents)
+    end = ber.END_OF_CONTENTS if e.is_ended else b""
+    return e.octets[e.at : e.start] + (b"".join(map(shown, n.parts)) if n.parts else e.contents) + end
 
 
 def lacks(e, form, at: str) -> List[str]:
