@@ -3,7 +3,8 @@ use Rattle.std.specs.Prelude.{◌≡◌, ℕ, ◌==◌, Bool, not, ◌&&◌, ◌
 use Rattle.mms_types.specs.declared.key.Key.{Key}
 use Rattle.mms_types.specs.declared.key.Scope.TheVariants.{Association}
 use Rattle.mms_types.specs.Order.{key_eq, scope_eq}
-use Rattle.event_enrol.specs.Given.{is_among, key_meant}
+use Rattle.object_names.specs.Borrowed.{key_meant}
+use Rattle.object_names.specs.Selected.{is_among}
 use Rattle.event_enrol.specs.Groups.{Groups, group_of}
 use Rattle.event_enrol.specs.declared.enrolment.Enrolment.{Enrolment}
 use Rattle.event_enrol.specs.declared.going.Going.{Going}

@@ -2,9 +2,9 @@
 ghost use Rattle.std.specs.Prelude.{◌≡◌, Bool, None, OnErr, OnOk};
 ghost use Rattle.event_enrol.specs.Enrolments.{define_cause, defined, is_defined};
 
-use crate::given::Given;
 use crate::{Enrolment, Enrolments};
 use mms_types::{DefineEventEnrollment, Memory, ObjectName, ServiceError};
+use object_names::KeyRef;
 use std::alloc::Global;
 
 /// The most enrollments.
@@ -15,7 +15,7 @@ impl Enrolments {
     pub fn is_defined(&self, client: u32, name: &ObjectName) -> bool
         ensures { result ≡ is_defined client name.now self.now }
     {
-        self.rows.contains_key(Given::of(client, name))
+        self.rows.contains_key(KeyRef::of(client, name))
     }
 
     /// Why an enrollment is not defined: the first condition that holds (ISO 9506-2, DefineEventEnrollment). It is

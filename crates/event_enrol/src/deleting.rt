@@ -3,13 +3,13 @@ ghost use Rattle.std.specs.Prelude.{◌≡◌, IfOk, filter, not};
 ghost use Rattle.object_names.specs.Deletion.{is_listed_by};
 ghost use Rattle.event_enrol.specs.Deleted.{selected};
 ghost use Rattle.event_enrol.specs.Enrolments.{delete_cause, is_deleted, missing, undeleted, without_client, without_condition};
-ghost use Rattle.event_enrol.specs.Given.{is_among};
+ghost use Rattle.object_names.specs.Selected.{is_among};
 
 use crate::Enrolments;
-use crate::given::Given;
 use crate::going::Going;
 use indexmap::IndexSet;
 use mms_types::{DeleteEventEnrollment, Key, Memory, ObjectName, ServiceError};
+use object_names::KeyRef;
 use std::alloc::Global;
 
 /// What a client asks to be deleted, with each name once, and what it is answered.
@@ -54,7 +54,7 @@ impl Enrolments {
         match asked {
             DeleteEventEnrollment::Condition(name) => Ok(Deletion {
                 undeleted: 0,
-                going: Going::Own(client, Given::of(client, name)),
+                going: Going::Own(client, KeyRef::of(client, name)),
             }),
             DeleteEventEnrollment::Names(names) => {
                 let (names, missing) = self.listed(alloc, client, names.as_slice())?;
@@ -72,7 +72,7 @@ impl Enrolments {
         alloc: Global,
         client: u32,
         names: &'a [ObjectName],
-    ) -> Result<(IndexSet<Given<'a>>, usize), Memory>
+    ) -> Result<(IndexSet<KeyRef<'a>>, usize), Memory>
         ensures set { IfOk result (λ told. is_among told.0.keys ≡ is_listed_by client names.now) }
         ensures count { IfOk result (λ told. told.1 ≡ missing client names.now self.now) }
     {
@@ -81,7 +81,7 @@ impl Enrolments {
         let mut left = names.len();
         while left > 0 {
             left -= 1;
-            let name = Given::of(client, &names[left]);
+            let name = KeyRef::of(client, &names[left]);
             let (_, added) = set.insert_full(name)?;
             if added && !self.rows.contains_key(name) {
                 count += 1;

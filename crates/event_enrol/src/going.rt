@@ -4,17 +4,17 @@ ghost use Rattle.mms_types.specs.Order.{scope_eq};
 ghost use Rattle.mms_types.specs.declared.key.Scope.TheVariants.{Association};
 ghost use Rattle.event_enrol.specs.Going.{goes};
 
-use crate::given::Given;
 use indexmap::IndexSet;
 use mms_types::{Key, Scope};
+use object_names::KeyRef;
 
 /// Which enrollments go.
 #[derive(Drop)]
 pub(crate) enum Going<'a> {
     /// Those of these names.
-    Names(IndexSet<Given<'a>>),
+    Names(IndexSet<KeyRef<'a>>),
     /// Those of a client on a condition.
-    Own(u32, Given<'a>),
+    Own(u32, KeyRef<'a>),
     /// Those of a client that is lost, and those whose names are of its association.
     Client(u32),
     /// Those on a condition.

@@ -11,7 +11,6 @@ mod defining;
 mod deleting;
 mod enrolment;
 mod enrolments;
-mod given;
 mod going;
 mod group;
 mod laws;

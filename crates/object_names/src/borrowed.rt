@@ -30,7 +30,7 @@ pub struct KeyRef<'a> {
 
 impl<'a> KeyRef<'a> {
     /// The key of the object that a client's PDU names so.
-    pub(crate) fn of(client: u32, name: &'a ObjectName) -> KeyRef<'a>
+    pub fn of(client: u32, name: &'a ObjectName) -> KeyRef<'a>
         ensures { key_meant result ≡ key_of client name.now }
     {
         match name {
@@ -61,7 +61,8 @@ impl<'a> KeyRef<'a> {
         }
     }
 
-    fn is(&self, key: &Key) -> bool
+    /// Whether it is that key.
+    pub fn is(&self, key: &Key) -> bool
         ensures { result ≡ key_eq (key_meant self.entry.now) key.now }
     {
         self.scope.is(&key.scope) && *self.item == key.item

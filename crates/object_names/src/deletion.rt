@@ -207,7 +207,7 @@ impl<T: Deletable> Named<T> {
         self.take_out(selection);
     }
 
-    /// The same, where the table is gone through.
+    /// Takes out the rows that are selected and may go, in one pass over the table.
     fn take_out(&mut self, selection: &Selection<'_>)
         ensures { self.new ≡ left T.is_fixed (selected selection.entry.now) self.old }
     {

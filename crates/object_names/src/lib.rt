@@ -16,6 +16,7 @@ mod listing;
 mod ranking;
 mod table;
 
+pub use borrowed::KeyRef;
 pub use copying::{Copied, each_name_stands_once};
 pub use deletion::{Deletable, Selection};
 pub use listing::{Names, names_stand_in_order};

@@ -2,7 +2,7 @@ use Rattle.std.proofs.Common.{◌≡◌, ◌∙◌, ◌-◌, ◌&&◌, ◌∷◌
 use Rattle.std.specs.Map.{lookup}
 use Rattle.mms_types.specs.Order.{key_eq}
 use Rattle.event_enrol.specs.Enrolments.{is_defined, missing}
-use Rattle.event_enrol.specs.Given.{is_among}
+use Rattle.object_names.specs.Selected.{is_among}
 use Rattle.event_enrol.proofs.Listed.{listed_front, name_before, none_missing, one_missing}
 use Rattle.event_enrol.proofs.enrolments.Enrolments.listed.Goals.{else-added-via-else-added, else-added-via-then-added+else-not-contains_key}
 use Rattle.event_enrol.proofs.enrolments.Enrolments.listed.Goals as goal

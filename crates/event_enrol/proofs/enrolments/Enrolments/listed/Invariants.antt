@@ -1,7 +1,7 @@
 use Rattle.std.proofs.Common.{◌≡◌, ◌≤◌, ◌+◌, drop, length}
 use Rattle.object_names.specs.Deletion.{is_listed_by}
 use Rattle.event_enrol.specs.Enrolments.{missing}
-use Rattle.event_enrol.specs.Given.{is_among}
+use Rattle.object_names.specs.Selected.{is_among}
 use Rattle.event_enrol.proofs.enrolments.Enrolments.listed.Given as goal
 
 -- the names from that one on are in the set, and no others, and those that are missing are counted
