@@ -51,7 +51,7 @@ fn lost_told(
     Ok(clients)
 }
 
-/// The client that there is.
+/// That client alone, where there is one.
 fn listed(alloc: Global, told: Option<u32>) -> Result<Vec<u32>, Memory>
     ensures { IfOk result (λ clients. clients.items ≡ option_to_list told) }
 {

@@ -47,7 +47,7 @@ impl Watch {
         watch
     }
 
-    /// The same, where another interval is asked for.
+    /// How it is watched where another interval is asked for.
     fn interval_altered(self, now: Moment, interval: Option<u32>) -> Watch
         requires sound { IsWatch self }
         requires now { IsDated now }

@@ -46,7 +46,7 @@ impl Condition {
 }
 
 impl Kept {
-    /// The same of one that is kept.
+    /// The status of a condition as the table keeps it, with how many enrollments are on it.
     fn status(&self, enrolments: u32) -> ConditionStatus
         ensures { result ≡ status_of enrolments self.now }
     {

@@ -17,7 +17,7 @@ fn in_order(mut names: Vec<Identifier>) -> Vec<Identifier>
     names
 }
 
-/// The same names.
+/// Copies of these names, in the same order.
 fn copied(alloc: Global, names: &[Identifier]) -> Result<Vec<Identifier>, Memory>
     ensures { IfOk result (λ copies. copies.items ≡ names.now) }
 {

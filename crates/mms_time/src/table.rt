@@ -221,8 +221,8 @@ impl Semaphores {
         next_due(self, until).is_some()
     }
 
-    /// The same, where the table may keep what it finds: until a semaphore is changed they aren't gone through again. The
-    /// semaphores stay as they are.
+    /// Whether a deadline is due by that moment, where the table may keep what it finds: until a semaphore is changed they
+    /// aren't gone through again. The semaphores stay as they are.
     pub fn comes_due(&mut self, until: Moment) -> bool
         ensures due { result ≡ is_some (next_due until self.old) }
         ensures same { self.new ≡ self.old }

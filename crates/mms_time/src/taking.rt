@@ -209,7 +209,7 @@ fn take_token(tokens: &mut TokenSem, ask: &Ask, now: Moment) -> Result<(), Memor
     }
 }
 
-/// The same of a pool.
+/// Takes a token of a pool, or waits for it.
 #[tactic(auto, using(crate::proofs::Untaken::none_taken_of))]
 fn take_of_pool(named: &mut PoolSem, ask: &Ask, now: Moment) -> Result<(), Memory>
     requires place { is_place (length named.old.tokens) ask.now.token ≡ true }

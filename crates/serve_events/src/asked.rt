@@ -39,7 +39,7 @@ fn is_in_domain(monitored: &Option<Monitored>) -> bool
     }
 }
 
-/// The same of the enrollments that are to be deleted.
+/// Whether the enrollments that are to be deleted are named in a domain.
 fn writes_domain(asked: &DeleteEventEnrollment) -> bool
     ensures { result ≡ writes_domain asked.now }
 {

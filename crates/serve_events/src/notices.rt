@@ -30,7 +30,7 @@ fn state_numbered(number: u8) -> ConditionState
     }
 }
 
-/// The same, where there is one.
+/// The state of that number, where there is one.
 fn state_of(number: Option<u8>) -> Option<ConditionState>
     ensures { result ≡ option_map state_numbered number }
 {

@@ -37,7 +37,7 @@ fn clients_told(
     Ok(clients)
 }
 
-/// The same, where the answer is not longer than was negotiated.
+/// Who is told of transitions, where the answer is not longer than was negotiated.
 fn clients_if(
     alloc: Global,
     part: &ClientPart,

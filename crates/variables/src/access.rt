@@ -59,7 +59,7 @@ impl Vars {
         self.guarded && self.some_guarded(client, variables)
     }
 
-    /// The same, where each is looked up.
+    /// Whether any of these variables is of a cell whose guard keeps the client out, each looked up by its name.
     fn some_guarded(&self, client: u32, variables: &[Spec]) -> bool
         ensures { result ≡ are_guarded client variables.now self.now }
     {
