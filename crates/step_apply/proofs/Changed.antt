@@ -1,25 +1,13 @@
 -- The part of a client is taken out of its place, changed and put back.
 use Rattle.std.proofs.Common.{◌≡◌, ℕ, List, set, Option, Some, None, ap, sym, ◌∙◌}
 use Rattle.std.specs.Option.{option_map}
-use Rattle.association.specs.Client.{ClientRow, Client as RoomyRow}
+use Rattle.association.specs.Client.{Client as RoomyRow}
 use Rattle.part_table.specs.Held.{held_at}
 use Rattle.parted_state.specs.Served.{change}
-use Rattle.cell_client.specs.Effects.{settled}
-use Rattle.step_parts.proofs.Changed.{as_it_was, changed_part, part_changed}
+use Rattle.step_parts.proofs.Changed.{as_it_was, part_changed}
 use Rattle.step_parts.specs.declared.part.Part.{Part}
 use Rattle.step_parts.specs.declared.part.Part.TheVariants.{Client}
-use Rattle.step_parts.specs.Partition.{on_client}
 use Rattle.step_apply.specs.Lifting.{placed_at}
-
--- the part of a client that is taken out, changed and put back
-pub client_changed : (f : ClientRow → ClientRow) (hand taken new : List (Option Part)) (place : ℕ) (part value : Part) (client after : RoomyRow)
-    → Some part ≡ held_at hand place → taken ≡ set hand place None → value ≡ part → value ≡ Client client → after ≡ settled (f client.row)
-    → new ≡ set taken place (Some (Client after)) → new ≡ change (option_map (on_client f)) hand place
-client_changed f hand taken new place part value client after held out same is done back =
-    back
-    ∙ ap (λ (l : List (Option Part)). set l place (Some (Client after))) out
-    ∙ ap (λ (r : RoomyRow). set (set hand place None) place (Some (Client r))) done
-    ∙ changed_part (on_client f) hand place (Client client) (sym held ∙ ap Some (sym same ∙ is))
 
 -- a client's part that is put back as it was
 pub client_kept : (hand taken new : List (Option Part)) (place : ℕ) (part value : Part) (client after : RoomyRow)

@@ -3,7 +3,7 @@
 use Rattle.std.specs.Prelude.{◌≡◌, ℕ, zero, suc, ◌+◌, ◌-◌, ◌<◌, Option, None, Some, List, [], ◌∷◌, length, slice_get, unwrap_or, refl}
 use Rattle.std.specs.Option.{option_map}
 use Rattle.std.proofs.Common.{set, ap, sym, ◌∙◌, arith}
-use Rattle.part_table.specs.Held.{held_at, IsHandOf}
+use Rattle.part_table.specs.Held.{held_at}
 use Rattle.parted_state.specs.Area.{Own, IsTable}
 use Rattle.parted_state.specs.Lifted.{put_in_place, tables_shown, told_all}
 use Rattle.parted_state.specs.Served.{change, table_place}
@@ -14,11 +14,13 @@ use Rattle.cell_services.specs.Acts.{all_done}
 use Rattle.cell_services.specs.Tables.{Tables}
 use Rattle.step_parts.specs.declared.part.Part.{Part}
 use Rattle.step_parts.specs.AfterLaws.{is_device}
-use Rattle.step_parts.specs.Partition.{cell, clients_among, parts_of}
+use Rattle.step_parts.specs.Partition.{cell}
 use Rattle.step_parts.specs.State.{State}
 use Rattle.step_parts.proofs.Changed.{changed_part}
 use Rattle.step_apply.specs.Lifting.{tabled}
+use Rattle.step_apply.specs.Placing.{IsPartOf}
 use Rattle.step_apply.specs.Rooms.{room_before, room_or_same, room_to, with_rooms, without_rooms, AreClients}
+use Rattle.step_apply.specs.Tasks.{IsServing}
 use Rattle.step_apply.specs.declared.telling.Room.{Room}
 use Rattle.step_apply.proofs.ServeLaws.{clients_kept, rooms_kept, told_in_place}
 use Rattle.step_apply.proofs.TabledAll.{put_tables, tabled_rooms, tabled_same, table_roomless}
@@ -29,8 +31,8 @@ got [] i part below = absurd (omega (arith, below))
 got (x ∷ parts) zero part below = refl
 got (x ∷ parts) (suc i) part below = got parts i part (omega (arith, below))
 
-module _ (s : State) (hand : List (Option Part)) (of : IsHandOf hand (parts_of s)) {A : Type 0} (own : Own Tables A) (its : IsTable cell own) (below : its.number < 7)
-    (at : ℕ) (there : held_at hand at ≡ Some (its.part (its.part_in (held_at hand at)))) where
+module _ {n client : ℕ} {hand : List (Option Part)} (serving : IsServing n client hand) {A : Type 0} {own : Own Tables A} (its : IsTable cell own) (below : its.number < 7)
+    (at : ℕ) (there : IsPartOf its (held_at hand at)) where
   -- the part of the table has no room
   part_roomless : (x : A) (o : Option Room) → room_or_same o (its.part x) ≡ its.part x
   part_roomless x None = refl
@@ -49,9 +51,12 @@ module _ (s : State) (hand : List (Option Part)) (of : IsHandOf hand (parts_of s
           let same : part ≡ its.part (its.part_in (held_at hand at)) = cc is in
           ap Some (ap (room_or_same (room_before last room (at - 5))) same ∙ part_roomless (its.part_in (held_at hand at)) (room_before last room (at - 5)) ∙ sym same)
 
-  module _ (n : ℕ) (many : n ≡ clients_among (length hand)) (is_at : at ≡ table_place cell n its.number) (told : List (ℕ × ClientTold)) (roomy out new : List (Option Part))
-      (table after : Part) (become : A → A) (made : roomy ≡ with_rooms (n + 1) (room_to told) hand) (taken : Some table ≡ held_at roomy at) (left : out ≡ set roomy at None)
+  module _ (is_at : at ≡ table_place cell n its.number) (told : List (ℕ × ClientTold)) {roomy out new : List (Option Part)}
+      {table after : Part} (become : A → A) (made : roomy ≡ with_rooms (n + 1) (room_to told) hand) (taken : Some table ≡ held_at roomy at) (left : out ≡ set roomy at None)
       (changed : after ≡ its.part (become (its.part_in (Some table)))) (put : new ≡ set out at (Some after)) where
+    abbrev s : State
+    s = serving.of.0
+
     abbrev now : A
     now = become (its.part_in (held_at hand at))
 
@@ -72,9 +77,9 @@ module _ (s : State) (hand : List (Option Part)) (of : IsHandOf hand (parts_of s
         ∙ change_placed (at_place (n + 1) (room_to told)) (at_place (n + 1) (room_to told)) (option_map (λ old. its.part now)) (option_map (λ old. its.part now)) hand at
         (λ j other held there. refl) (λ held there. here held)
         ∙ ap (with_rooms (n + 1) (room_to told))
-        (ap (λ (k : ℕ). change (option_map (λ old. its.part now)) hand k) (is_at ∙ ap (λ (m : ℕ). table_place cell m its.number) many)
-        ∙ sym (one_put cell is_device s hand of own its now below)
-        ∙ put_tables s hand of tables_after)
+        (ap (λ (k : ℕ). change (option_map (λ old. its.part now)) hand k) (is_at ∙ ap (λ (m : ℕ). table_place cell m its.number) serving.many)
+        ∙ sym (one_put cell is_device s hand serving.of.1 own its now below)
+        ∙ put_tables s hand serving.of.1 tables_after)
       where
         here : (held : Option Part) → option_map (λ old. its.part now) (at_place (n + 1) (room_to told) at held) ≡ at_place (n + 1) (room_to told) at (option_map (λ old. its.part now) held)
         here None = refl
@@ -83,13 +88,13 @@ module _ (s : State) (hand : List (Option Part)) (of : IsHandOf hand (parts_of s
     are_changed : new ≡ tabled tables_after (with_rooms (n + 1) (room_to told) (tabled (tables_shown cell hand) hand))
     are_changed =
         roomed ∙ sym (tabled_rooms tables_after (n + 1) (room_to told) hand)
-        ∙ ap (λ (h : List (Option Part)). tabled tables_after (with_rooms (n + 1) (room_to told) h)) (sym (tabled_same s hand of))
+        ∙ ap (λ (h : List (Option Part)). tabled tables_after (with_rooms (n + 1) (room_to told) h)) (sym (tabled_same s hand serving.of.1))
 
     pub finish_rooms : new ≡ with_rooms (n + 1) (room_to told) (without_rooms (n + 1) new)
-    finish_rooms = rooms_kept s hand of n many told (tables_shown cell hand) tables_after new are_changed
+    finish_rooms = rooms_kept s hand serving.of.1 n serving.many told (tables_shown cell hand) tables_after new are_changed
 
     pub finish_clients : AreClients n new
-    finish_clients = clients_kept s hand of n many told (tables_shown cell hand) tables_after new are_changed
+    finish_clients = clients_kept s hand serving.of.1 n serving.many told (tables_shown cell hand) tables_after new are_changed
 
     pub finished_in_place : told_all cell n (effects_told told) (without_rooms (n + 1) new) ≡ put_in_place cell (all_done tables_after told) hand
-    finished_in_place = told_in_place s hand of n many told (tables_shown cell hand) tables_after new are_changed
+    finished_in_place = told_in_place s hand serving.of.1 n serving.many told (tables_shown cell hand) tables_after new are_changed

@@ -1,7 +1,7 @@
 -- The tables of held parts are exchanged, each laid over its own part, one after the other.
-use Rattle.std.specs.Prelude.{◌≡◌, ◌≢◌, ℕ, zero, suc, ◌+◌, ◌<◌, ◌≤◌, nat_le, true, Option, None, Some, List, [], ◌∷◌, length, take, refl}
+use Rattle.std.specs.Prelude.{◌≡◌, ℕ, suc, ◌+◌, ◌≤◌, nat_le, true, Option, List, [], ◌∷◌, length, take, refl}
 use Rattle.std.specs.Option.{option_map}
-use Rattle.std.proofs.Common.{ap, ap₂, sym, ◌∙◌, arith}
+use Rattle.std.proofs.Common.{ap, ap₂, ◌∙◌, arith}
 use Rattle.std.proofs.lemmas.Bool.Decides.{nat_tests}
 use Rattle.part_table.specs.Held.{held_at}
 use Rattle.parted_state.specs.Lifted.{laid_from}
@@ -18,7 +18,7 @@ use Rattle.cell_services.specs.Tables.{Tables}
 use Rattle.step_parts.specs.declared.part.Part.{Part}
 use Rattle.step_parts.specs.declared.part.Part.TheVariants.{Clock, Variables, Domains, Programs, Events, Journals, Semaphores}
 use Rattle.step_parts.specs.AfterLaws.{is_device}
-use Rattle.step_parts.specs.Partition.{cell, clients_among, clock_in, clock_or, domains_in, domains_or, events_in, events_or, journals_in, journals_or, programs_in, programs_or, semaphores_in, semaphores_or, tables_held, variables_in, variables_or}
+use Rattle.step_parts.specs.Partition.{cell, clients_among, clock_or, domains_or, events_or, journals_or, programs_or, semaphores_or, tables_held, variables_or}
 use Rattle.step_apply.specs.Lifting.{laid_at, tabled}
 use Rattle.step_parts.specs.Slots.{over}
 

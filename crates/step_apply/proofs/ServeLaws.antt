@@ -1,5 +1,5 @@
 -- What is done on the tables that are lifted out of held parts is put in place.
-use Rattle.std.specs.Prelude.{◌≡◌, ℕ, zero, suc, ◌+◌, ◌≤◌, Bool, true, false, Option, None, Some, List, [], ◌∷◌, ◌++◌, is_some, map, length, slice_get, unwrap_or, if◌then◌else◌, refl}
+use Rattle.std.specs.Prelude.{◌≡◌, ℕ, ◌+◌, ◌≤◌, Bool, true, false, Option, None, Some, List, [], ◌∷◌, ◌++◌, map, length, slice_get, unwrap_or, if◌then◌else◌, refl}
 use Rattle.std.specs.Option.{option_map}
 use Rattle.std.proofs.Common.{ap, sym, ◌∙◌, subst, arith}
 use Rattle.association.specs.Client.{ClientRow}
@@ -7,29 +7,23 @@ use Rattle.part_table.specs.Held.{held_at, IsHandOf}
 use Rattle.part_table.specs.HeldLaws.{held_of_list}
 use Rattle.parted_state.specs.Lifted.{with_tables, tables_shown, part_told, told_to, told_all, put_in_place}
 use Rattle.parted_state.specs.CutLaws.{length-with_places}
-use Rattle.parted_state.specs.Served.{Done, change}
-use Rattle.parted_state.proofs.Laid.{change_as, change_twice, tables_kept}
+use Rattle.parted_state.specs.Served.{change}
+use Rattle.parted_state.proofs.Laid.{change_as, change_twice}
 use Rattle.parted_state.proofs.LiftedLaws.{held_changed}
-use Rattle.cell_client.specs.Association.{Verdict}
 use Rattle.cell_client.specs.Effects.{Effect, felt, felt_all, tell}
 use Rattle.cell_client.specs.Telling.{effects_told}
 use Rattle.cell_client.specs.declared.told.ClientTold.{ClientTold}
 use Rattle.cell_services.specs.Acts.{act_done}
-use Rattle.cell_services.specs.Meant.{no_tables, row_after}
-use Rattle.cell_services.specs.Serving.{hears, own_told}
 use Rattle.cell_services.specs.Tables.{Tables}
-use Rattle.step_parts.proofs.Holding.{client_at, clients_counted, held_part}
+use Rattle.step_parts.proofs.Holding.{client_at, clients_counted}
 use Rattle.step_parts.proofs.Shown.{shown_own}
-use Rattle.step_parts.specs.AfterLaws.{is_device}
-use Rattle.step_parts.specs.Found.{row_held}
-use Rattle.step_parts.specs.Needs.{is_held}
-use Rattle.step_parts.specs.Partition.{cell, parts_of, client_part, client_place, clients_among, on_client, row_in, tables_held, IsClient}
+use Rattle.step_parts.specs.Partition.{cell, parts_of, client_part, client_place, clients_among, row_in, tables_held, IsClient}
 use Rattle.step_parts.specs.State.{State}
 use Rattle.step_parts.specs.declared.part.Part.{Part}
 use Rattle.step_parts.specs.declared.part.Part.TheVariants.{Semaphores}
 use Rattle.step_apply.specs.Lifting.{tabled}
 use Rattle.step_apply.specs.Rooms.{no_room, room_to, with_room, room_or_same, with_rooms, without_rooms, IsSettled, MayBeClient, AreClients}
-use Rattle.step_apply.specs.Tasks.{task_done, HoldsOwn, IsHeardInPlace, IsTimely}
+use Rattle.step_apply.specs.Tasks.{task_done, HoldsOwn, IsTimely}
 use Rattle.step_apply.specs.declared.serving.Task.{Task}
 use Rattle.step_apply.specs.declared.serving.Task.TheVariants as task
 use Rattle.step_apply.specs.declared.telling.Room.{Room}
@@ -170,21 +164,3 @@ told_row_at n (effect ∷ effects) client hand row some few held =
         told_to_one n client effect hand some few
         ∙ change_as (option_map (part_told cell effect)) (λ o. Some (client_part (felt effect row))) hand (client_place client)
         (ap (option_map (part_told cell effect)) held)
-
-module _ (s : State) (hand : List (Option Part)) (of : IsHandOf hand (parts_of s)) where
-  pub alone_in_place : (client : ℕ) (v : Verdict) (new : List (Option Part)) → 1 ≤ client → client ≤ clients_among (length hand) → IsClient (held_at hand (client_place client))
-      → IsHeardInPlace client v hand new → new ≡ put_in_place cell (hears (tables_shown cell hand) (row_held hand client) client v) hand
-  alone_in_place client v new some few held heard =
-      let counted = clients_counted s hand of in
-      let found = client_at s client some (omega (arith, few, counted)) in
-      let is_on : is_held hand (client_place client) ≡ true = ap (λ (o : Option Part). is_some o) held in
-      let row : held_at hand (client_place client) ≡ Some (client_part found.0) =
-      held_part hand (parts_of s) (client_place client) (client_part found.0) of is_on found.1 in
-      let same : row_held hand client ≡ found.0 = ap row_in row in
-      heard.is
-      ∙ change_as (option_map (on_client (row_after v))) (λ o. Some (client_part (row_after v found.0))) hand (client_place client)
-      (ap (option_map (on_client (row_after v))) row)
-      ∙ sym (told_row_at (clients_among (length hand)) (own_told no_tables found.0 v) client hand found.0 some few row)
-      ∙ ap (λ (r : ClientRow). told_all cell (clients_among (length hand)) (tell client (own_told no_tables r v)) hand) (sym same)
-      ∙ ap (told_all cell (clients_among (length hand)) (tell client (own_told no_tables (row_held hand client) v))) (sym (tables_kept cell is_device s hand of))
-      ∙ ap (λ (d : Done Tables Effect). put_in_place cell d hand) (sym (heard.alone (tables_shown cell hand)))

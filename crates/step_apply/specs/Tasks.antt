@@ -1,18 +1,14 @@
 -- What is done on held parts: in place, on the parts that it changes, or on the tables that are lifted out of them
 -- (this profile's choice).
 use Rattle.std.specs.Prelude.{◌≡◌, Bool, true, false, ℕ, ◌+◌, ◌≤◌, List, [], Option, Some, length}
-use Rattle.std.specs.Option.{option_map}
 use Rattle.part_table.specs.Held.{held_at, IsHandOf}
 use Rattle.association.specs.Client.{Client as RoomyRow}
-use Rattle.parted_state.specs.Area.{Own}
 use Rattle.parted_state.specs.Lifted.{put_in_place, tables_shown}
-use Rattle.parted_state.specs.Served.{Done, change}
-use Rattle.cell_services.specs.Acts.{act_done, IsDoneIn, IsLeft, TellsSeveral}
-use Rattle.cell_client.specs.declared.told.ClientTold.{ClientTold}
-use Rattle.cell_client.specs.Association.{Verdict, verdict}
-use Rattle.cell_client.specs.Effects.{Effect, settled, tell}
-use Rattle.cell_services.specs.Meant.{no_tables, row_after}
-use Rattle.cell_services.specs.Serving.{hears, own_told, passes}
+use Rattle.parted_state.specs.Served.{Done}
+use Rattle.cell_services.specs.Acts.{act_done, IsDoneIn, IsLeft}
+use Rattle.cell_client.specs.Association.{Verdict}
+use Rattle.cell_client.specs.Effects.{Effect, settled}
+use Rattle.cell_services.specs.Serving.{hears, passes}
 use Rattle.cell_services.specs.Tables.{Tables, last_moment, own_invocations}
 use Rattle.program_inv.specs.Programs.{Rows}
 use Rattle.serve_domains.specs.Loads.{AreLoads}
@@ -25,7 +21,7 @@ use Rattle.step_apply.specs.declared.serving.Task.TheVariants as task
 use Rattle.step_parts.specs.Needs.{verdict_need}
 use Rattle.step_parts.specs.State.{State}
 use Rattle.step_parts.specs.Found.{row_held}
-use Rattle.step_parts.specs.Partition.{cell, client_place, clients_among, domains_in, domains_place, on_client, parts_of, programs_in, programs_place, row_in, IsClient, IsDomains, IsPrograms}
+use Rattle.step_parts.specs.Partition.{cell, client_place, clients_among, domains_in, domains_place, parts_of, programs_in, programs_place, IsClient, IsDomains, IsPrograms}
 
 -- what a task does with the tables, and who is told what: a client does something, or time goes by
 abbrev pub task_done : Tables → List (Option Part) → Task → Done Tables Effect
@@ -54,57 +50,6 @@ IsLeftTo (task.Time ms) = Unit {0}
 
 -- ---- a client is served
 
--- What holds where a client is served on the parts that are held: they are parts of a state with so many clients, no
--- more than 64; the client is one of them, its part is held, and the row in it has the client's number.
-pub record IsServing (clients client : ℕ) (hand : List (Option Part)) : Type 0 where
-  pub of : (s : State) × IsHandOf hand (parts_of s)
-  pub many : clients ≡ clients_among (length hand)
-  pub few : clients ≤ 64
-  pub among : (1 ≤ client) × (client ≤ clients)
-  pub held : IsClient (held_at hand (client_place client))
-  pub number : (row_held hand client).client ≡ client
-
--- ---- what is done in place
-
--- What octets of a client come to is ready to be done, with n clients: its row has its number, and nothing is needed
--- that isn't held.
-pub record IsReady (n client : ℕ) (v : Verdict) (hand : List (Option Part)) : Type 0 where
-  pub number : (row_held hand client).client ≡ client
-  pub needed : verdict_need n hand (row_held hand client) v ≡ []
-
--- With these tables a verdict on what a client sends is done in place, on two parts: that of the client becomes `new`,
--- and that of the area's table becomes `now`. The client is told something, and nobody else is.
-pub record AreDone {A : Type 0} (own : Own Tables A) (wrap : A → Part) (t : Tables) (v : Verdict) (part new now : Part) : Type 0 where
-  pub before : RoomyRow
-  pub after : RoomyRow
-  pub become : A
-  pub is_own : part ≡ Client before
-  pub is_after : new ≡ Client after
-  pub is_now : now ≡ wrap become
-  pub done : IsDoneIn own t before.row become after v
-
--- The same of a verdict by which a program invocation is made or deleted, on three parts: what those of its client, of
--- the domains and of the program invocations become
-pub record AreMade (t : Tables) (v : Verdict) (part new domains programs : Part) : Type 0 where
-  pub before : RoomyRow
-  pub after : RoomyRow
-  pub become : DomainTables × Rows
-  pub is_own : part ≡ Client before
-  pub is_after : new ≡ Client after
-  pub is_domains : domains ≡ Domains become.0
-  pub is_programs : programs ≡ Programs become.1
-  pub done : IsDoneIn own_invocations t before.row become after v
-
--- With these tables a verdict on what the client of a part sends leaves something to be done: clients are told this, in
--- order, and the table of one area becomes that.
-abbrev pub IsLeftToTell : {A : Type 0} → Own Tables A → Tables → Part → Verdict → List (ℕ × ClientTold) → A → Type 0
-IsLeftToTell own t part v told become = TellsSeveral own t (row_in (Some part)) become told v
-
--- the held parts once a verdict on what a client sends is done on the tables that they show, and those are told that
--- are told something
-abbrev pub heard_in_place : ℕ → Verdict → List (Option Part) → List (Option Part)
-heard_in_place client v hand = put_in_place cell (hears (tables_shown cell hand) (row_held hand client) client v) hand
-
 -- where the domains are held, of what a client is asked by the server, and hasn't answered, there is one request of a
 -- load for each domain that it loads, and none for another
 abbrev pub AreLoadsIn : ℕ → List (Option Part) → Type 0
@@ -118,6 +63,42 @@ AreUsedIn hand =
     IsDomains (held_at hand domains_place) → IsPrograms (held_at hand programs_place)
     → AreUsed (domains_in (held_at hand domains_place)).domains (programs_in (held_at hand programs_place))
 
+-- What holds where a client is served on the parts that are held: they are parts of a state with so many clients, no
+-- more than 64; the client is one of them, its part is held, and the row in it has the client's number; and so it is
+-- with its loads, and with the domains that are used.
+pub record IsServing (clients client : ℕ) (hand : List (Option Part)) : Type 0 where
+  pub of : (s : State) × IsHandOf hand (parts_of s)
+  pub many : clients ≡ clients_among (length hand)
+  pub few : clients ≤ 64
+  pub among : (1 ≤ client) × (client ≤ clients)
+  pub held : IsClient (held_at hand (client_place client))
+  pub number : (row_held hand client).client ≡ client
+  pub loads : AreLoadsIn client hand
+  pub used : AreUsedIn hand
+
+-- What octets of a client come to is ready to be done, with n clients: nothing is needed that isn't held.
+abbrev pub IsReady : ℕ → ℕ → Verdict → List (Option Part) → Type 0
+IsReady n client v hand = verdict_need n hand (row_held hand client) v ≡ []
+
+-- ---- what is done in place
+
+-- With these tables a verdict by which a program invocation is made or deleted is done in place, on three parts: what
+-- those of its client, of the domains and of the program invocations become
+pub record AreMade (t : Tables) (v : Verdict) (part new domains programs : Part) : Type 0 where
+  pub before : RoomyRow
+  pub after : RoomyRow
+  pub become : DomainTables × Rows
+  pub is_own : part ≡ Client before
+  pub is_after : new ≡ Client after
+  pub is_domains : domains ≡ Domains become.0
+  pub is_programs : programs ≡ Programs become.1
+  pub done : IsDoneIn own_invocations t before.row become after v
+
+-- the held parts once a verdict on what a client sends is done on the tables that they show, and those are told that
+-- are told something
+abbrev pub heard_in_place : ℕ → Verdict → List (Option Part) → List (Option Part)
+heard_in_place client v hand = put_in_place cell (hears (tables_shown cell hand) (row_held hand client) client v) hand
+
 -- what stands in one place is the clock
 abbrev pub is_clock : Option Part → Bool
 is_clock (Some (Clock clock)) = true
@@ -127,9 +108,3 @@ is_clock other = false
 abbrev pub IsRoomless : Part → Type 0
 IsRoomless (Client own) = own ≡ settled own.row
 IsRoomless other = Unit {0}
-
--- A verdict on what a client sends uses no table and tells nobody else anything, and its client is told all that comes
--- of it: of the parts that are held its own alone changes.
-pub record IsHeardInPlace (client : ℕ) (v : Verdict) (hand new : List (Option Part)) : Type 0 where
-  pub is : new ≡ change (option_map (on_client (row_after v))) hand (client_place client)
-  pub alone : (t : Tables) → hears t (row_held hand client) client v ≡ record { tables = t; told = tell client (own_told no_tables (row_held hand client) v) }

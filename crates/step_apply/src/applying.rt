@@ -1,8 +1,9 @@
 //! One event on the parts that are held.
 
-ghost use Rattle.std.specs.Prelude.{◌≡◌, ℕ, ◌+◌, ◌<◌, ◌≤◌, true, [], is_none, length, slice_set, None, Some, Result, OnOk, OnErr, OnSome, IfOk, IfNone, IfSome};
+ghost use Rattle.std.specs.Prelude.{◌≡◌, ℕ, ◌+◌, ◌<◌, ◌≤◌, true, [], is_none, length, slice_set, None, Some, Result, OnOk, OnErr, IfOk, IfSome};
 ghost use Rattle.std.specs.Option.{option_map};
 ghost use Rattle.mms_types.specs.Actors.{IsAmong};
+ghost use Rattle.mms_types.specs.Areas.{request_of};
 ghost use Rattle.mms_types.specs.declared.event.CellEvent.TheVariants.{Drain};
 ghost use Rattle.association.specs.Asked.{is_open};
 ghost use Rattle.association.specs.Client.{drained_row};
@@ -19,21 +20,19 @@ ghost use Rattle.cell_client.specs.Reads.{IsDeep};
 ghost use Rattle.cell_client.specs.Meant.{act_verdict, meant, uses_no_table};
 ghost use Rattle.cell_client.specs.Requests.{plain_answer};
 ghost use Rattle.step_parts.specs.Found.{row_held, IsFoundOf};
-ghost use Rattle.step_apply.specs.Tasks.{heard_in_place, AreLoadsIn, AreUsedIn, IsHeardInPlace, IsReady, IsServing};
+ghost use Rattle.step_apply.specs.Tasks.{heard_in_place, IsReady, IsServing};
 ghost use Rattle.step_parts.specs.After.{after};
 
-use crate::areas::{cancel, serve_on_device, serve_on_semaphores, serve_on_variables};
+use crate::areas::{Cancel, serve_on_device};
 use crate::domains::{reply_on_domains, serve_on_domains};
-use crate::events::serve_on_events;
-use crate::journals::serve_on_journals;
 use crate::passing::tick;
-use crate::placing::serve_on;
-use crate::programs::{ForPrograms, end_program, make_on_programs};
+use crate::placing::{Serving, serve_on};
+use crate::programs::{end_program, make_on_programs};
 use crate::serving::{Task, serve};
 use cell_client::{Act, Found, verdict_of, wants_memory};
 use cell_services::{hear, left_of};
 use mms_pdu::{Read, Refusal, read_pdu_to};
-use mms_types::{AreaRequest, CellEvent, Memory, Request, What};
+use mms_types::{AreaRequest, CellEvent, Memory, What};
 use part_table::Hand;
 use std::alloc::Global;
 use step_parts::held::client_held;
@@ -42,176 +41,123 @@ use step_parts::tables::{BEFORE_CLIENTS, clients_of};
 use step_parts::{Cell, Part};
 
 /// Lets a client hear what its octets come to where no table is used. Without memory all is as before.
-fn hear_own(
-    alloc: Global,
-    held: &mut Hand<Cell>,
-    client: u32,
-    found: &Found<'_>,
-) -> Result<(), Memory>
-    requires small { client ≤ 64 }
-    requires held { IsClient (held_at held.old (client_place client)) }
-    requires alone { uses_no_table (row_held held.old client) (meant found.now) ≡ true }
-    ensures done { OnOk result (IsHeardInPlace client (meant found.now) held.old held.new) }
+fn hear_own(who: Serving, held: &mut Hand<Cell>, found: &Found<'_>) -> Result<(), Memory>
+    requires serving { IsServing who.clients who.client held.old }
+    requires alone { uses_no_table (row_held held.old who.client) (meant found.now) ≡ true }
+    ensures put { OnOk result (held.new ≡ heard_in_place who.client (meant found.now) held.old) }
     ensures kept { OnErr result (held.new ≡ held.old) }
 {
-    let mut part = take(held, BEFORE_CLIENTS + client);
+    let mut part = take(held, BEFORE_CLIENTS + who.client);
     let heard = match &mut *part {
-        Part::Client(own) => hear(alloc, own, found),
+        Part::Client(own) => hear(who.alloc, own, found),
         _ => unreachable!(),
     };
-    put(held, BEFORE_CLIENTS + client, part);
+    put(held, BEFORE_CLIENTS + who.client, part);
     heard
 }
 
 /// Serves a request of a client, of which all is held that it needs.
 fn serve_request(
-    alloc: Global,
+    who: Serving,
     held: &mut Hand<Cell>,
-    clients: u32,
-    client: u32,
     invoke: u32,
-    asked: &Request,
+    asked: AreaRequest<'_>,
 ) -> Result<(), Memory>
-    requires serving { IsServing clients client held.old }
-    requires ready { IsReady clients client (Takes invoke asked.now) held.old }
-    requires tables { plain_answer (row_held held.old client) asked.now ≡ None }
-    requires open { is_open (row_held held.old client).association ≡ true }
-    requires used { AreUsedIn held.old }
-    ensures put { OnOk result (held.new ≡ heard_in_place client (Takes invoke asked.now) held.old) }
+    requires serving { IsServing who.clients who.client held.old }
+    requires ready { IsReady who.clients who.client (Takes invoke (request_of asked)) held.old }
+    requires tables { plain_answer (row_held held.old who.client) (request_of asked) ≡ None }
+    requires open { is_open (row_held held.old who.client).association ≡ true }
+    ensures put { OnOk result (held.new
+        ≡ heard_in_place who.client (Takes invoke (request_of asked.entry)) held.old) }
     ensures kept { OnErr result (held.new ≡ held.old) }
 {
-    match asked.area() {
-        AreaRequest::Device(asked) => {
-            serve_on_device(alloc, held, clients, client, invoke, asked)
-        }
-        AreaRequest::Variables(asked) => {
-            serve_on_variables(alloc, held, clients, client, invoke, asked)
-        }
-        AreaRequest::Semaphores(asked) => {
-            serve_on_semaphores(alloc, held, clients, client, invoke, asked)
-        }
-        AreaRequest::Domains(asked) => {
-            serve_on_domains(alloc, held, clients, client, invoke, asked)
-        }
-        AreaRequest::Invocations(asked) => {
-            make_on_programs(alloc, held, clients, client, invoke, asked)
-        }
-        AreaRequest::Programs(asked) => {
-            let asked = ForPrograms { invoke, asked };
-            serve_on(alloc, held, clients, client, 3, &asked)
-        }
-        AreaRequest::Events(asked) => {
-            serve_on_events(alloc, held, clients, client, invoke, asked)
-        }
-        AreaRequest::Journals(asked) => {
-            serve_on_journals(alloc, held, clients, client, invoke, asked)
-        }
+    match asked {
+        AreaRequest::Device(asked) => serve_on_device(who, held, invoke, asked),
+        AreaRequest::Variables(asked) => serve_on(who, held, invoke, &asked),
+        AreaRequest::Semaphores(asked) => serve_on(who, held, invoke, &asked),
+        AreaRequest::Domains(asked) => serve_on_domains(who, held, invoke, asked),
+        AreaRequest::Invocations(asked) => make_on_programs(who, held, invoke, asked),
+        AreaRequest::Programs(asked) => serve_on(who, held, invoke, &asked),
+        AreaRequest::Events(asked) => serve_on(who, held, invoke, &asked),
+        AreaRequest::Journals(asked) => serve_on(who, held, invoke, &asked),
     }
 }
 
 /// Lets a client hear what its octets come to.
-fn hear_found(
-    alloc: Global,
-    held: &mut Hand<Cell>,
-    clients: u32,
-    client: u32,
-    found: &Found<'_>,
-) -> Result<(), Memory>
-    requires serving { IsServing clients client held.old }
+fn hear_found(who: Serving, held: &mut Hand<Cell>, found: &Found<'_>) -> Result<(), Memory>
+    requires serving { IsServing who.clients who.client held.old }
     requires found { (told : Result Pdu Refusal) × (meant found.now
-        ≡ verdict_by (row_held held.old client).association (row_held held.old client) told) }
-    requires ready { IsReady clients client (meant found.now) held.old }
-    requires loads { AreLoadsIn client held.old }
-    requires used { AreUsedIn held.old }
-    ensures heard { OnOk result (held.new ≡ heard_in_place client (meant found.now) held.old) }
+        ≡ verdict_by (row_held held.old who.client).association
+        (row_held held.old who.client) told) }
+    requires ready { IsReady who.clients who.client (meant found.now) held.old }
+    ensures heard { OnOk result (held.new ≡ heard_in_place who.client (meant found.now) held.old) }
     ensures kept { OnErr result (held.new ≡ held.old) }
 {
     match left_of(found) {
-        None => hear_own(alloc, held, client, found),
-        Some(Act::Request { invoke, asked }) => {
-            serve_request(alloc, held, clients, client, invoke, asked)
-        }
-        Some(Act::Reply { number, answer }) => {
-            reply_on_domains(alloc, held, clients, client, number, answer)
-        }
-        Some(Act::Cancel { invoke }) => cancel(alloc, held, clients, client, invoke),
-        Some(act) => serve(alloc, held, clients, &Task::Client(client, act)),
+        None => hear_own(who, held, found),
+        Some(Act::Request { invoke, asked }) => serve_request(who, held, invoke, asked.area()),
+        Some(Act::Reply { number, answer }) => reply_on_domains(who, held, number, answer),
+        Some(Act::Cancel { invoke }) => serve_on(who, held, invoke, &Cancel),
+        Some(act) => serve(who.alloc, held, who.clients, &Task::Client(who.client, act)),
     }
 }
 
-/// Lets a client hear what was read from it, unless memory was wanting to read it.
-fn hear_told(
-    alloc: Global,
-    held: &mut Hand<Cell>,
-    clients: u32,
+/// What was read from a client comes to, unless memory was wanting to read it.
+fn found_of<'a>(
+    held: &Hand<Cell>,
     client: u32,
-    read: &Result<Read, Refusal>,
-) -> Result<(), Memory>
-    requires serving { IsServing clients client held.old }
+    read: &'a Result<Read, Refusal>,
+) -> Result<Found<'a>, Memory>
+    requires small { client ≤ 64 }
+    requires held { IsClient (held_at held.now (client_place client)) }
     requires depth { IsDeep read.now }
-    requires ready { (told : Result Pdu Refusal) × Hears (λ r. r.pdu) read.now told
-        × IsReady clients client (verdict_by (row_held held.old client).association
-        (row_held held.old client) told) held.old }
-    requires loads { AreLoadsIn client held.old }
-    requires used { AreUsedIn held.old }
-    ensures heard { (told : Result Pdu Refusal) → Hears (λ r. r.pdu) read.now told
-        → OnOk result (held.new ≡ heard_in_place client (verdict_by
-        (row_held held.old client).association (row_held held.old client) told) held.old) }
-    ensures kept { OnErr result (held.new ≡ held.old) }
+    ensures { IfOk result (λ found. (told : Result Pdu Refusal) → Hears (λ r. r.pdu) read.now told
+        → meant found ≡ verdict_by (row_held held.now client).association
+        (row_held held.now client) told) }
 {
     if wants_memory(read) {
         return Err(Memory::wanting());
     }
-    let found = verdict_of(client_held(held, client), read)?;
-    hear_found(alloc, held, clients, client, &found)
+    verdict_of(client_held(held, client), read)
 }
 
 /// Lets octets be heard from a client, which are read here.
-fn hear_octets(
-    alloc: Global,
-    held: &mut Hand<Cell>,
-    clients: u32,
-    client: u32,
-    octets: &[u8],
-) -> Result<(), Memory>
-    requires serving { IsServing clients client held.old }
-    requires ready { IsReady clients client (verdict (row_held held.old client) octets.now)
-        held.old }
-    requires loads { AreLoadsIn client held.old }
-    requires used { AreUsedIn held.old }
-    ensures heard { OnOk result (held.new
-        ≡ heard_in_place client (verdict (row_held held.old client) octets.now) held.old) }
+fn hear_octets(who: Serving, held: &mut Hand<Cell>, octets: &[u8]) -> Result<(), Memory>
+    requires serving { IsServing who.clients who.client held.old }
+    requires ready { IsReady who.clients who.client
+        (verdict (row_held held.old who.client) octets.now) held.old }
+    ensures heard { OnOk result (held.new ≡ heard_in_place who.client
+        (verdict (row_held held.old who.client) octets.now) held.old) }
     ensures kept { OnErr result (held.new ≡ held.old) }
 {
-    let edition = client_held(held, client).constants().edition;
+    let edition = client_held(held, who.client).constants().edition;
     let mut read = Err(Refusal::Memory);
-    read_pdu_to(alloc, octets, edition, &mut read);
-    hear_told(alloc, held, clients, client, &read)
+    read_pdu_to(who.alloc, octets, edition, &mut read);
+    match found_of(held, who.client, &read) {
+        Ok(found) => hear_found(who, held, &found),
+        Err(error) => Err(error),
+    }
 }
 
 /// Lets octets be heard from a client that come to that, or whose verdict isn't found yet.
 fn hear_from(
-    alloc: Global,
+    who: Serving,
     held: &mut Hand<Cell>,
-    clients: u32,
-    client: u32,
     octets: &[u8],
     found: &Option<Found<'_>>,
 ) -> Result<(), Memory>
-    requires serving { IsServing clients client held.old }
+    requires serving { IsServing who.clients who.client held.old }
     requires found { IfSome found.now (λ found.
-        meant found ≡ verdict (row_held held.old client) octets.now) }
-    requires ready { IsReady clients client (verdict (row_held held.old client) octets.now)
-        held.old }
-    requires loads { AreLoadsIn client held.old }
-    requires used { AreUsedIn held.old }
-    ensures heard { OnOk result (held.new
-        ≡ heard_in_place client (verdict (row_held held.old client) octets.now) held.old) }
+        meant found ≡ verdict (row_held held.old who.client) octets.now) }
+    requires ready { IsReady who.clients who.client
+        (verdict (row_held held.old who.client) octets.now) held.old }
+    ensures heard { OnOk result (held.new ≡ heard_in_place who.client
+        (verdict (row_held held.old who.client) octets.now) held.old) }
     ensures kept { OnErr result (held.new ≡ held.old) }
 {
     match found {
-        Some(found) => hear_found(alloc, held, clients, client, found),
-        None => hear_octets(alloc, held, clients, client, octets),
+        Some(found) => hear_found(who, held, found),
+        None => hear_octets(who, held, octets),
     }
 }
 
@@ -264,7 +210,12 @@ pub fn apply_by(
     let clients = clients_of(held);
     match event {
         CellEvent::Heard { client, octets } => {
-            hear_from(alloc, held, clients, *client, octets.as_slice(), found)
+            let who = Serving {
+                alloc,
+                clients,
+                client: *client,
+            };
+            hear_from(who, held, octets.as_slice(), found)
         }
         CellEvent::Lost { client } => serve(
             alloc,

@@ -1,29 +1,23 @@
-//! A request of a client is served on its part and that of its area's table, as they are held: variables, semaphores,
-//! and the device itself, which has no table.
+//! What a client sends for variables and for semaphores, and to the device itself, which has no table, is served as
+//! these are held.
 
-ghost use Rattle.std.specs.Prelude.{◌≡◌, ◌≤◌, None, Some, OnErr, OnOk};
-ghost use Rattle.mms_types.specs.Areas.{device_request, semaphore_request, variable_request};
-ghost use Rattle.part_table.specs.Held.{held_at};
+ghost use Rattle.std.specs.Prelude.{◌≡◌, ◌≤◌, None, OnErr, OnOk};
+ghost use Rattle.mms_types.specs.Areas.{device_request};
 ghost use Rattle.parted_state.specs.Area.{no_table};
-ghost use Rattle.cell_client.specs.Association.{Cancels, Takes};
+ghost use Rattle.cell_client.specs.Association.{Takes};
 ghost use Rattle.cell_client.specs.Requests.{plain_answer};
 ghost use Rattle.cell_services.specs.Acts.{IsDoneIn};
-ghost use Rattle.cell_services.specs.Looked.{IsLookedAt};
 ghost use Rattle.cell_services.specs.Tables.{Tables as Rows};
 ghost use Rattle.step_parts.specs.Found.{row_held};
-ghost use Rattle.step_parts.specs.Partition.{client_in, row_in, semaphores_place, variables_place, AreHeld, IsClient, IsSemaphores, IsVariables};
+ghost use Rattle.step_parts.specs.Partition.{AreHeld};
 ghost use Rattle.step_apply.specs.Tasks.{heard_in_place, IsServing};
 
-use crate::placing::{OnParts, serve_on};
-use cell_client::ClientTold;
+use crate::placing::{OnParts, Serving};
+use cell_client::{Client, ClientTold};
 use cell_services::{GuardsOf, NameTables};
-use mms_journal::Journals;
 use mms_time::Semaphores;
 use mms_types::{DeviceRequest, Memory, Moment, SemaphoreRequest, VariableRequest};
 use part_table::Hand;
-use program_inv::Programs;
-use serve_domains::DomainTables;
-use serve_events::EventTables;
 use std::alloc::Global;
 use step_parts::held::{live_held, now_held};
 use step_parts::slots::{put, shown, take};
@@ -33,23 +27,22 @@ use step_parts::tables::{
 use step_parts::{Cell, Part};
 use variable_services::VariableTables;
 
-/// A request for variables, with whether the domain is live that has to be.
-#[derive(Clone, Copy)]
-struct ForVariables<'a> {
-    live: bool,
-    invoke: u32,
-    asked: VariableRequest<'a>,
-}
-
-impl OnParts for ForVariables<'_> {
+impl OnParts for VariableRequest<'_> {
+    ghost use Rattle.std.proofs.Common.{ap, refl};
     ghost use Rattle.mms_types.specs.Areas.{variable_request};
+    ghost use Rattle.parted_state.specs.Cut.{is_in};
     ghost use Rattle.serve_variables.specs.Variables as of_variables;
     ghost use Rattle.cell_client.specs.Association.{Takes};
     ghost use Rattle.cell_services.specs.Facts.{is_domain_live};
+    ghost use Rattle.cell_services.specs.Services.{asks_of};
     ghost use Rattle.cell_services.specs.Tables.{own_variables};
+    ghost use Rattle.cell_services.proofs.AreaTableLaws.{in_variables};
     ghost use Rattle.step_parts.specs.AfterLaws.{is_variables};
 
     type Table = VariableTables;
+
+    /// Whether the domain is live that has to be.
+    type Facts = bool;
 
     type Rest = ();
 
@@ -57,79 +50,68 @@ impl OnParts for ForVariables<'_> {
 
     ghost its = { is_variables };
 
-    ghost verdict = { λ asked. Takes asked.invoke (variable_request asked.asked) };
+    ghost verdict = { λ asked invoke. Takes invoke (variable_request asked) };
 
-    ghost is_told = { λ asked t. asked.live ≡ is_domain_live (of_variables.domain_asked asked.asked) t.domains };
+    ghost is_told = { λ asked live client t. live
+        ≡ is_domain_live (of_variables.domain_asked asked) t.domains };
+
+    fn place(&self, _clients: u32) -> u32 {
+        u32::from(VARIABLES)
+    }
+
+    fn facts(&self, _who: Serving, held: &Hand<Cell>) -> Result<bool, Memory> {
+        Ok(live_held(held, serve_variables::domain_asked(*self)))
+    }
 
     // Guards are looked up among the semaphores where these are.
     fn serve(
         &self,
-        alloc: Global,
+        who: Serving,
         held: &Hand<Cell>,
-        clients: u32,
-        part: &mut Part,
+        invoke: u32,
+        live: bool,
+        client: &mut Client,
         table: &mut Part,
     ) -> Result<Option<(Vec<(u32, ClientTold)>, ())>, Memory> {
-        let none = Semaphores::new(alloc);
-        let semaphores = shown(held, semaphores_part(clients), &none);
-        match (part, table) {
-            (Part::Client(own), Part::Variables(rows)) => {
-                let client = own.part().client();
-                let by = GuardsOf { client, semaphores };
-                serve_variables::serve(alloc, own, rows, self.live, &by, self.invoke, self.asked)?;
+        let semaphores = shown::<Semaphores>(who.alloc, held, semaphores_part(who.clients));
+        match table {
+            Part::Variables(rows) => {
+                let by = GuardsOf {
+                    client: client.part().client(),
+                    semaphores: semaphores.get(),
+                };
+                serve_variables::serve(who.alloc, client, rows, live, &by, invoke, *self)?;
                 Ok(None)
             }
             _ => unreachable!(),
         }
     }
 
-    fn finish(&self, _client: u32, _rest: &(), _table: &mut Part) {}
+    fn finish(&self, _client: u32, _live: bool, _rest: &(), _table: &mut Part) {}
+
+    ghost stands = { λ t. refl };
+
+    ghost asks = { λ asked invoke. ap (λ a. is_in (asks_of a) 1) (in_variables asked) };
 }
 
-/// Serves a client's request for variables, which are held.
-pub(crate) fn serve_on_variables(
-    alloc: Global,
-    held: &mut Hand<Cell>,
-    clients: u32,
-    client: u32,
-    invoke: u32,
-    asked: VariableRequest<'_>,
-) -> Result<(), Memory>
-    requires serving { IsServing clients client held.old }
-    requires table { IsVariables (held_at held.old variables_place) }
-    ensures put { OnOk result (held.new
-        ≡ heard_in_place client (Takes invoke (variable_request asked.entry)) held.old) }
-    ensures kept { OnErr result (held.new ≡ held.old) }
-{
-    let live = live_held(held, serve_variables::domain_asked(asked));
-    let asked = ForVariables {
-        live,
-        invoke,
-        asked,
-    };
-    serve_on(alloc, held, clients, client, u32::from(VARIABLES), &asked)
-}
-
-/// A request for semaphores, with the moment, and whether the domain is live that has to be.
-#[derive(Clone, Copy)]
-struct ForSemaphores<'a> {
-    now: Moment,
-    live: bool,
-    invoke: u32,
-    asked: SemaphoreRequest<'a>,
-}
-
-impl OnParts for ForSemaphores<'_> {
+impl OnParts for SemaphoreRequest<'_> {
+    ghost use Rattle.std.proofs.Common.{ap, refl};
     ghost use Rattle.mms_types.specs.Areas.{semaphore_request};
     ghost use Rattle.mms_types.specs.Moments.{IsDated};
+    ghost use Rattle.parted_state.specs.Cut.{is_in};
     ghost use Rattle.serve_semaphores.specs.Semaphores as of_semaphores;
     ghost use Rattle.serve_semaphores.specs.Tokens.{told_after};
     ghost use Rattle.cell_client.specs.Association.{Takes};
     ghost use Rattle.cell_services.specs.Facts.{is_domain_live};
+    ghost use Rattle.cell_services.specs.Services.{asks_of};
     ghost use Rattle.cell_services.specs.Tables.{own_semaphores};
+    ghost use Rattle.cell_services.proofs.AreaTableLaws.{in_semaphores};
     ghost use Rattle.step_parts.specs.AfterLaws.{is_semaphores};
 
     type Table = Semaphores;
+
+    /// The moment, and whether the domain is live that has to be.
+    type Facts = (Moment, bool);
 
     type Rest = ();
 
@@ -137,34 +119,37 @@ impl OnParts for ForSemaphores<'_> {
 
     ghost its = { is_semaphores };
 
-    ghost verdict = { λ asked. Takes asked.invoke (semaphore_request asked.asked) };
+    ghost verdict = { λ asked invoke. Takes invoke (semaphore_request asked) };
 
-    ghost may = { λ asked row rows. IsDated asked.now };
+    ghost sound = { λ facts. IsDated facts.0 };
 
-    ghost is_told = { λ asked t. (t.now ≡ asked.now.0)
-        × (asked.live ≡ is_domain_live (of_semaphores.domain_asked asked.asked) t.domains) };
+    ghost is_told = { λ asked facts client t. (t.now ≡ facts.0.0)
+        × (facts.1 ≡ is_domain_live (of_semaphores.domain_asked asked) t.domains) };
 
-    ghost becomes = { λ asked client rows. told_after client asked.now asked.asked rows };
+    ghost becomes = { λ asked facts client rows. told_after client facts.0 asked rows };
 
-    ghost fits = { λ asked rest client rows. IsDated asked.now };
+    fn place(&self, clients: u32) -> u32 {
+        u32::from(semaphores_part(clients))
+    }
+
+    fn facts(&self, _who: Serving, held: &Hand<Cell>) -> Result<(Moment, bool), Memory> {
+        let live = live_held(held, serve_semaphores::domain_asked(*self));
+        Ok((now_held(held), live))
+    }
 
     fn serve(
         &self,
-        alloc: Global,
+        who: Serving,
         _held: &Hand<Cell>,
-        _clients: u32,
-        part: &mut Part,
+        invoke: u32,
+        facts: (Moment, bool),
+        client: &mut Client,
         table: &mut Part,
     ) -> Result<Option<(Vec<(u32, ClientTold)>, ())>, Memory> {
-        let Self {
-            now,
-            live,
-            invoke,
-            asked,
-        } = *self;
-        match (part, table) {
-            (Part::Client(own), Part::Semaphores(rows)) => {
-                match serve_semaphores::serve(alloc, own, rows, now, live, invoke, asked)? {
+        let (now, live) = facts;
+        match table {
+            Part::Semaphores(rows) => {
+                match serve_semaphores::serve(who.alloc, client, rows, now, live, invoke, *self)? {
                     None => return Ok(None),
                     Some(told) => Ok(Some((told, ()))),
                 }
@@ -173,51 +158,30 @@ impl OnParts for ForSemaphores<'_> {
         }
     }
 
-    fn finish(&self, client: u32, _rest: &(), table: &mut Part) {
+    fn finish(&self, client: u32, facts: (Moment, bool), _rest: &(), table: &mut Part) {
         match table {
-            Part::Semaphores(rows) => serve_semaphores::finish(rows, client, self.now, self.asked),
+            Part::Semaphores(rows) => serve_semaphores::finish(rows, client, facts.0, *self),
             _ => unreachable!(),
         }
     }
+
+    ghost stands = { λ t. refl };
+
+    ghost asks = { λ asked invoke. ap (λ a. is_in (asks_of a) 6) (in_semaphores asked) };
 }
 
-/// Serves a client's request for semaphores, which are held, as is the clock, and who else is told something.
-pub(crate) fn serve_on_semaphores(
-    alloc: Global,
-    held: &mut Hand<Cell>,
-    clients: u32,
-    client: u32,
-    invoke: u32,
-    asked: SemaphoreRequest<'_>,
-) -> Result<(), Memory>
-    requires serving { IsServing clients client held.old }
-    requires table { IsSemaphores (held_at held.old (semaphores_place clients)) }
-    ensures put { OnOk result (held.new
-        ≡ heard_in_place client (Takes invoke (semaphore_request asked.entry)) held.old) }
-    ensures kept { OnErr result (held.new ≡ held.old) }
-{
-    let asked = ForSemaphores {
-        now: now_held(held),
-        live: live_held(held, serve_semaphores::domain_asked(asked)),
-        invoke,
-        asked,
-    };
-    let place = u32::from(semaphores_part(clients));
-    serve_on(alloc, held, clients, client, place, &asked)
-}
+/// The request of that number, which waits, is to be cancelled.
+pub(crate) struct Cancel;
 
-/// A request that waits, to be cancelled.
-#[derive(Clone, Copy)]
-struct ForCancel {
-    invoke: u32,
-}
-
-impl OnParts for ForCancel {
+impl OnParts for Cancel {
+    ghost use Rattle.std.proofs.Common.{refl};
     ghost use Rattle.cell_client.specs.Association.{Cancels};
     ghost use Rattle.cell_services.specs.Tables.{own_semaphores};
     ghost use Rattle.step_parts.specs.AfterLaws.{is_semaphores};
 
     type Table = Semaphores;
+
+    type Facts = ();
 
     type Rest = ();
 
@@ -225,119 +189,90 @@ impl OnParts for ForCancel {
 
     ghost its = { is_semaphores };
 
-    ghost verdict = { λ asked. Cancels asked.invoke };
+    ghost verdict = { λ asked invoke. Cancels invoke };
+
+    fn place(&self, clients: u32) -> u32 {
+        u32::from(semaphores_part(clients))
+    }
+
+    fn facts(&self, _who: Serving, _held: &Hand<Cell>) -> Result<(), Memory> {
+        Ok(())
+    }
 
     fn serve(
         &self,
-        alloc: Global,
+        who: Serving,
         _held: &Hand<Cell>,
-        _clients: u32,
-        part: &mut Part,
+        invoke: u32,
+        _facts: (),
+        client: &mut Client,
         table: &mut Part,
     ) -> Result<Option<(Vec<(u32, ClientTold)>, ())>, Memory> {
-        match (part, table) {
-            (Part::Client(own), Part::Semaphores(rows)) => {
-                serve_semaphores::cancel(alloc, own, rows, self.invoke)?;
+        match table {
+            Part::Semaphores(rows) => {
+                serve_semaphores::cancel(who.alloc, client, rows, invoke)?;
                 Ok(None)
             }
             _ => unreachable!(),
         }
     }
 
-    fn finish(&self, _client: u32, _rest: &(), _table: &mut Part) {}
+    fn finish(&self, _client: u32, _facts: (), _rest: &(), _table: &mut Part) {}
+
+    ghost stands = { λ t. refl };
+
+    ghost asks = { λ asked invoke. refl };
 }
 
-/// Cancels a client's request that waits, where the semaphores are held.
-pub(crate) fn cancel(
-    alloc: Global,
-    held: &mut Hand<Cell>,
-    clients: u32,
-    client: u32,
-    invoke: u32,
-) -> Result<(), Memory>
-    requires serving { IsServing clients client held.old }
-    requires table { IsSemaphores (held_at held.old (semaphores_place clients)) }
-    ensures put { OnOk result (held.new ≡ heard_in_place client (Cancels invoke) held.old) }
-    ensures kept { OnErr result (held.new ≡ held.old) }
-{
-    let place = u32::from(semaphores_part(clients));
-    serve_on(alloc, held, clients, client, place, &ForCancel { invoke })
-}
-
-/// Serves a request to the device itself on the part of its client, with those tables.
-fn device_in_part(
-    alloc: Global,
-    part: &mut Part,
-    tables: NameTables<'_>,
-    invoke: u32,
-    asked: DeviceRequest<'_>,
-) -> Result<(), Memory>
-    requires client { IsClient (Some part.old) }
-    requires tables { plain_answer (row_in (Some part.old)) (device_request asked) ≡ None }
-    ensures served { OnOk result ((t : Rows) → IsLookedAt tables.entry t
-        → IsDoneIn no_table t (row_in (Some part.old)) tt
-        (client_in (Some part.new)) (Takes invoke (device_request asked.entry))) }
-    ensures client { IsClient (Some part.new) }
-    ensures kept { OnErr result (part.new ≡ part.old) }
-{
-    match part {
-        Part::Client(own) => cell_services::serve_device(alloc, own, tables, invoke, asked),
-        _ => unreachable!(),
-    }
-}
-
-/// The same, where the tables are those that are held.
+/// Serves a request to the device itself on the part of its client, where the tables are those that are held.
 fn device_on(
-    alloc: Global,
+    who: Serving,
     held: &Hand<Cell>,
-    clients: u32,
-    part: &mut Part,
+    own: &mut Client,
     invoke: u32,
     asked: DeviceRequest<'_>,
 ) -> Result<(), Memory>
-    requires few { clients ≤ 64 }
-    requires client { IsClient (Some part.old) }
-    requires tables { plain_answer (row_in (Some part.old)) (device_request asked) ≡ None }
-    ensures served { OnOk result ((t : Rows) → AreHeld clients held.now t
-        → IsDoneIn no_table t (row_in (Some part.old)) tt (client_in (Some part.new))
-        (Takes invoke (device_request asked.entry))) }
-    ensures client { IsClient (Some part.new) }
-    ensures kept { OnErr result (part.new ≡ part.old) }
+    requires few { who.clients ≤ 64 }
+    requires tables { plain_answer own.old.row (device_request asked) ≡ None }
+    ensures served { OnOk result ((t : Rows) → AreHeld who.clients held.now t
+        → IsDoneIn no_table t own.old.row tt own.new (Takes invoke (device_request asked.entry))) }
+    ensures kept { OnErr result (own.new ≡ own.old) }
 {
-    let no_variables = VariableTables::empty(alloc);
-    let no_domains = DomainTables::empty(alloc);
-    let no_programs = Programs::new(alloc);
-    let no_events = EventTables::empty(alloc);
-    let no_journals = Journals::new(alloc);
-    let no_semaphores = Semaphores::new(alloc);
+    let variables = shown(who.alloc, held, VARIABLES);
+    let domains = shown(who.alloc, held, DOMAINS);
+    let programs = shown(who.alloc, held, PROGRAMS);
+    let events = shown(who.alloc, held, EVENTS);
+    let journals = shown(who.alloc, held, JOURNALS);
+    let semaphores = shown(who.alloc, held, semaphores_part(who.clients));
     let tables = NameTables {
-        variables: shown(held, VARIABLES, &no_variables),
-        domains: shown(held, DOMAINS, &no_domains),
-        programs: shown(held, PROGRAMS, &no_programs),
-        events: shown(held, EVENTS, &no_events),
-        journals: shown(held, JOURNALS, &no_journals),
-        semaphores: shown(held, semaphores_part(clients), &no_semaphores),
+        variables: variables.get(),
+        domains: domains.get(),
+        programs: programs.get(),
+        events: events.get(),
+        journals: journals.get(),
+        semaphores: semaphores.get(),
     };
-    device_in_part(alloc, part, tables, invoke, asked)
+    cell_services::serve_device(who.alloc, own, tables, invoke, asked)
 }
 
 /// Serves a client's request to the device itself, which the tables tell that are held.
 pub(crate) fn serve_on_device(
-    alloc: Global,
+    who: Serving,
     held: &mut Hand<Cell>,
-    clients: u32,
-    client: u32,
     invoke: u32,
     asked: DeviceRequest<'_>,
 ) -> Result<(), Memory>
-    requires serving { IsServing clients client held.old }
-    requires tables { plain_answer (row_held held.old client) (device_request asked) ≡ None }
+    requires serving { IsServing who.clients who.client held.old }
+    requires tables { plain_answer (row_held held.old who.client) (device_request asked) ≡ None }
     ensures put { OnOk result (held.new
-        ≡ heard_in_place client (Takes invoke (device_request asked.entry)) held.old) }
+        ≡ heard_in_place who.client (Takes invoke (device_request asked.entry)) held.old) }
     ensures kept { OnErr result (held.new ≡ held.old) }
 {
-    let mut part = take(held, BEFORE_CLIENTS + client);
-    let done = device_on(alloc, held, clients, &mut part, invoke, asked);
-    put(held, BEFORE_CLIENTS + client, part);
+    let mut part = take(held, BEFORE_CLIENTS + who.client);
+    let done = match &mut *part {
+        Part::Client(own) => device_on(who, held, own, invoke, asked),
+        _ => unreachable!(),
+    };
+    put(held, BEFORE_CLIENTS + who.client, part);
     done
 }

@@ -1,22 +1,17 @@
 //! Requests for event conditions and event enrollments, on the part of their client and that of the events, as they are
 //! held, and what clients are told of transitions.
 
-ghost use Rattle.std.specs.Prelude.{◌≡◌, ◌≤◌, Some, OnErr, OnOk};
-ghost use Rattle.mms_types.specs.Areas.{event_request};
+ghost use Rattle.std.specs.Prelude.{◌≡◌, Some};
 ghost use Rattle.association.specs.Client.{ClientRow};
-ghost use Rattle.part_table.specs.Held.{held_at};
 ghost use Rattle.parted_state.specs.Lifted.{tables_shown};
-ghost use Rattle.cell_client.specs.Association.{Takes};
 ghost use Rattle.serve_events.specs.Events.{request_in};
 ghost use Rattle.cell_services.specs.Facts.{is_true};
 ghost use Rattle.cell_services.specs.Requests.{told_in};
 ghost use Rattle.cell_services.specs.Tables.{own_events};
-ghost use Rattle.step_parts.specs.Partition.{cell, events_place, IsEvents};
-ghost use Rattle.step_apply.specs.Placing.{AreTold};
-ghost use Rattle.step_apply.specs.Tasks.{heard_in_place, IsServing};
+ghost use Rattle.step_parts.specs.Partition.{cell};
 
-use crate::placing::{OnParts, serve_on};
-use cell_client::ClientTold;
+use crate::placing::{OnParts, Serving};
+use cell_client::{Client, ClientTold};
 use mms_types::{CellFact, EventRequest, Listed, Memory, Moment, Turned};
 use part_table::Hand;
 use serve_events::{EventTables, Turning, cell_watched, variable_asked};
@@ -32,13 +27,11 @@ fn cell_held(alloc: Global, held: &Hand<Cell>, client: u32, asked: EventRequest<
     ensures { (row : ClientRow) → (told_in own_events (tables_shown cell held.now) row
         (request_in asked.entry)).cell client ≡ result }
 {
-    let none = VariableTables::empty(alloc);
-    match variable_asked(asked) {
-        None => CellFact::Missing,
-        Some(variable) => shown(held, VARIABLES, &none)
-            .vars
-            .cell_fact(client, variable),
-    }
+    let Some(variable) = variable_asked(asked) else {
+        return CellFact::Missing;
+    };
+    let variables = shown::<VariableTables>(alloc, held, VARIABLES);
+    variables.get().vars.cell_fact(client, variable)
 }
 
 /// Whether the cell of that number is TRUE.
@@ -53,17 +46,17 @@ fn truth_held(alloc: Global, held: &Hand<Cell>, client: u32, asked: EventRequest
     ensures { (row : ClientRow) → row.client ≡ client → (told_in own_events
         (tables_shown cell held.now) row (request_in asked.entry)).truth ≡ result }
 {
-    let no_events = EventTables::empty(alloc);
-    let none = VariableTables::empty(alloc);
-    match cell_watched(shown(held, EVENTS, &no_events), client, asked) {
-        None => false,
-        Some(cell) => says_true(shown(held, VARIABLES, &none), cell),
-    }
+    let events = shown(alloc, held, EVENTS);
+    let Some(cell) = cell_watched(events.get(), client, asked) else {
+        return false;
+    };
+    let variables = shown(alloc, held, VARIABLES);
+    says_true(variables.get(), cell)
 }
 
 /// What other tables tell a request for event conditions and enrollments, and the moment.
 #[derive(Clone, Copy)]
-struct Facts {
+pub(crate) struct Facts {
     now: Moment,
     /// Whether the domain is live that has to be.
     live: bool,
@@ -73,37 +66,22 @@ struct Facts {
     is_true: bool,
 }
 
-/// They are those that the held parts tell.
-fn facts_held(alloc: Global, held: &Hand<Cell>, client: u32, asked: EventRequest<'_>) -> Facts
-    ensures { AreTold asked.entry client (tables_shown cell held.now) result }
-{
-    Facts {
-        now: now_held(held),
-        live: live_held(held, serve_events::domain_asked(asked)),
-        cell: cell_held(alloc, held, client, asked),
-        is_true: truth_held(alloc, held, client, asked),
-    }
-}
-
-/// A request of a client for event conditions and enrollments, with what is told it.
-#[derive(Clone, Copy)]
-struct ForEvents<'a> {
-    client: u32,
-    facts: Facts,
-    invoke: u32,
-    asked: EventRequest<'a>,
-}
-
-impl OnParts for ForEvents<'_> {
+impl OnParts for EventRequest<'_> {
+    ghost use Rattle.std.proofs.Common.{ap, refl};
     ghost use Rattle.mms_types.specs.Areas.{event_request};
     ghost use Rattle.mms_types.specs.Moments.{IsDated};
+    ghost use Rattle.parted_state.specs.Cut.{is_in};
     ghost use Rattle.serve_events.specs.Turns.{turned_after, turns_of};
     ghost use Rattle.cell_client.specs.Association.{Takes};
+    ghost use Rattle.cell_services.specs.Services.{asks_of};
     ghost use Rattle.cell_services.specs.Tables.{own_events};
+    ghost use Rattle.cell_services.proofs.AreaTableLaws.{in_events};
     ghost use Rattle.step_parts.specs.AfterLaws.{is_events};
     ghost use Rattle.step_apply.specs.Placing.{AreTold};
 
     type Table = EventTables;
+
+    type Facts = Facts;
 
     type Rest = Listed<Turned>;
 
@@ -111,24 +89,38 @@ impl OnParts for ForEvents<'_> {
 
     ghost its = { is_events };
 
-    ghost verdict = { λ asked. Takes asked.invoke (event_request asked.asked) };
+    ghost verdict = { λ asked invoke. Takes invoke (event_request asked) };
 
-    ghost may = { λ asked row events. (row.client ≡ asked.client) × IsDated asked.facts.now };
+    ghost sound = { λ facts. IsDated facts.now };
 
-    ghost is_told = { λ asked t. AreTold asked.asked asked.client t asked.facts };
+    ghost is_told = { λ asked facts client t. AreTold asked client t facts };
 
-    ghost becomes = { λ asked client events.
-        turned_after client asked.facts.now asked.facts.is_true asked.asked events };
+    ghost becomes = { λ asked facts client events.
+        turned_after client facts.now facts.is_true asked events };
 
-    ghost fits = { λ asked rest client events. IsDated asked.facts.now
-        × (rest ≡ turns_of client asked.facts.now asked.facts.is_true asked.asked events) };
+    ghost fits = { λ asked facts rest client events.
+        rest ≡ turns_of client facts.now facts.is_true asked events };
+
+    fn place(&self, _clients: u32) -> u32 {
+        u32::from(EVENTS)
+    }
+
+    fn facts(&self, who: Serving, held: &Hand<Cell>) -> Result<Facts, Memory> {
+        Ok(Facts {
+            now: now_held(held),
+            live: live_held(held, serve_events::domain_asked(*self)),
+            cell: cell_held(who.alloc, held, who.client, *self),
+            is_true: truth_held(who.alloc, held, who.client, *self),
+        })
+    }
 
     fn serve(
         &self,
-        alloc: Global,
+        who: Serving,
         _held: &Hand<Cell>,
-        _clients: u32,
-        part: &mut Part,
+        invoke: u32,
+        facts: Facts,
+        client: &mut Client,
         table: &mut Part,
     ) -> Result<Option<(Vec<(u32, ClientTold)>, Listed<Turned>)>, Memory> {
         let Facts {
@@ -136,12 +128,11 @@ impl OnParts for ForEvents<'_> {
             live,
             cell,
             is_true,
-        } = self.facts;
-        let (invoke, asked) = (self.invoke, self.asked);
-        match (part, table) {
-            (Part::Client(own), Part::Events(rows)) => {
+        } = facts;
+        match table {
+            Part::Events(rows) => {
                 match serve_events::serve(
-                    alloc, own, rows, now, live, cell, is_true, invoke, asked,
+                    who.alloc, client, rows, now, live, cell, is_true, invoke, *self,
                 )? {
                     None => return Ok(None),
                     Some(left) => {
@@ -154,39 +145,17 @@ impl OnParts for ForEvents<'_> {
         }
     }
 
-    fn finish(&self, client: u32, rest: &Listed<Turned>, table: &mut Part) {
-        let Facts { now, is_true, .. } = self.facts;
+    fn finish(&self, client: u32, facts: Facts, rest: &Listed<Turned>, table: &mut Part) {
+        let Facts { now, is_true, .. } = facts;
         match table {
             Part::Events(rows) => {
-                serve_events::finish(rows, client, now, is_true, self.asked, rest.as_slice());
+                serve_events::finish(rows, client, now, is_true, *self, rest.as_slice());
             }
             _ => unreachable!(),
         }
     }
-}
 
-/// Serves a client's request for event conditions and enrollments, which are held, as are the clock and the parts of
-/// those that are told something.
-pub(crate) fn serve_on_events(
-    alloc: Global,
-    held: &mut Hand<Cell>,
-    clients: u32,
-    client: u32,
-    invoke: u32,
-    asked: EventRequest<'_>,
-) -> Result<(), Memory>
-    requires serving { IsServing clients client held.old }
-    requires table { IsEvents (held_at held.old events_place) }
-    ensures put { OnOk result (held.new
-        ≡ heard_in_place client (Takes invoke (event_request asked.entry)) held.old) }
-    ensures kept { OnErr result (held.new ≡ held.old) }
-{
-    let facts = facts_held(alloc, held, client, asked);
-    let asked = ForEvents {
-        client,
-        facts,
-        invoke,
-        asked,
-    };
-    serve_on(alloc, held, clients, client, u32::from(EVENTS), &asked)
+    ghost stands = { λ t. refl };
+
+    ghost asks = { λ asked invoke. ap (λ a. is_in (asks_of a) 4) (in_events asked) };
 }

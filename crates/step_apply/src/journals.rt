@@ -1,39 +1,32 @@
 //! Requests for journals, on the part of their client and that of the journals, as they are held.
 
-ghost use Rattle.std.specs.Prelude.{◌≡◌, ◌≤◌, [], OnErr, OnOk};
-ghost use Rattle.mms_types.specs.Areas.{journal_request};
-ghost use Rattle.part_table.specs.Held.{held_at};
-ghost use Rattle.cell_client.specs.Association.{Takes};
-ghost use Rattle.step_parts.specs.Partition.{journals_in, journals_place, IsJournals};
-ghost use Rattle.step_apply.specs.Tasks.{heard_in_place, IsServing};
+ghost use Rattle.std.specs.Prelude.{◌≡◌};
 
-use crate::placing::{OnParts, serve_on};
-use cell_client::ClientTold;
+use crate::placing::{OnParts, Serving};
+use cell_client::{Client, ClientTold};
 use mms_journal::Journals;
 use mms_types::{JournalRequest, Memory};
 use part_table::Hand;
-use std::alloc::Global;
 use step_parts::held::live_held;
 use step_parts::tables::JOURNALS;
 use step_parts::{Cell, Part};
 
-/// A request for journals, with whether the domain is live that has to be.
-#[derive(Clone, Copy)]
-struct ForJournals<'a> {
-    live: bool,
-    invoke: u32,
-    asked: JournalRequest<'a>,
-}
-
-impl OnParts for ForJournals<'_> {
+impl OnParts for JournalRequest<'_> {
+    ghost use Rattle.std.proofs.Common.{ap, refl};
     ghost use Rattle.mms_types.specs.Areas.{journal_request};
+    ghost use Rattle.parted_state.specs.Cut.{is_in};
     ghost use Rattle.serve_journals.specs.Journals as of_journals;
     ghost use Rattle.cell_client.specs.Association.{Takes};
     ghost use Rattle.cell_services.specs.Facts.{is_domain_live};
+    ghost use Rattle.cell_services.specs.Services.{asks_of};
     ghost use Rattle.cell_services.specs.Tables.{own_journals};
+    ghost use Rattle.cell_services.proofs.AreaTableLaws.{in_journals};
     ghost use Rattle.step_parts.specs.AfterLaws.{is_journals};
 
     type Table = Journals;
+
+    /// Whether the domain is live that has to be.
+    type Facts = bool;
 
     type Rest = ();
 
@@ -41,50 +34,40 @@ impl OnParts for ForJournals<'_> {
 
     ghost its = { is_journals };
 
-    ghost verdict = { λ asked. Takes asked.invoke (journal_request asked.asked) };
+    ghost verdict = { λ asked invoke. Takes invoke (journal_request asked) };
 
-    ghost is_told = { λ asked t. asked.live ≡ is_domain_live (of_journals.domain_asked asked.asked) t.domains };
+    ghost is_told = { λ asked live client t. live
+        ≡ is_domain_live (of_journals.domain_asked asked) t.domains };
+
+    fn place(&self, _clients: u32) -> u32 {
+        u32::from(JOURNALS)
+    }
+
+    fn facts(&self, _who: Serving, held: &Hand<Cell>) -> Result<bool, Memory> {
+        Ok(live_held(held, serve_journals::domain_asked(*self)))
+    }
 
     fn serve(
         &self,
-        alloc: Global,
+        who: Serving,
         _held: &Hand<Cell>,
-        _clients: u32,
-        part: &mut Part,
+        invoke: u32,
+        live: bool,
+        client: &mut Client,
         table: &mut Part,
     ) -> Result<Option<(Vec<(u32, ClientTold)>, ())>, Memory> {
-        match (part, table) {
-            (Part::Client(own), Part::Journals(rows)) => {
-                serve_journals::serve(alloc, own, rows, self.live, self.invoke, self.asked)?;
+        match table {
+            Part::Journals(rows) => {
+                serve_journals::serve(who.alloc, client, rows, live, invoke, *self)?;
                 Ok(None)
             }
             _ => unreachable!(),
         }
     }
 
-    fn finish(&self, _client: u32, _rest: &(), _table: &mut Part) {}
-}
+    fn finish(&self, _client: u32, _live: bool, _rest: &(), _table: &mut Part) {}
 
-/// Serves a client's request for journals, which are held.
-pub(crate) fn serve_on_journals(
-    alloc: Global,
-    held: &mut Hand<Cell>,
-    clients: u32,
-    client: u32,
-    invoke: u32,
-    asked: JournalRequest<'_>,
-) -> Result<(), Memory>
-    requires serving { IsServing clients client held.old }
-    requires table { IsJournals (held_at held.old journals_place) }
-    ensures put { OnOk result (held.new
-        ≡ heard_in_place client (Takes invoke (journal_request asked.entry)) held.old) }
-    ensures kept { OnErr result (held.new ≡ held.old) }
-{
-    let live = live_held(held, serve_journals::domain_asked(asked));
-    let asked = ForJournals {
-        live,
-        invoke,
-        asked,
-    };
-    serve_on(alloc, held, clients, client, u32::from(JOURNALS), &asked)
+    ghost stands = { λ t. refl };
+
+    ghost asks = { λ asked invoke. ap (λ a. is_in (asks_of a) 5) (in_journals asked) };
 }

@@ -101,8 +101,8 @@ fn is_quiet(held: &mut Hand<Cell>, clients: u32, ms: u32) -> bool
 fn advance(held: &mut Hand<Cell>, ms: u32)
     requires clock { is_clock (held_at held.old clock_place) ≡ true }
     requires time { clock_in (held_at held.old clock_place) + ms ≤ last_moment }
-    ensures { held.new
-        ≡ placed_at (Part.Clock (clock_in (held_at held.old clock_place) + ms)) held.old clock_place }
+    ensures { held.new ≡ placed_at (Part.Clock (clock_in (held_at held.old clock_place) + ms))
+        held.old clock_place }
 {
     let mut part = take(held, 0);
     match &mut *part {

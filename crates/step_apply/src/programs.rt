@@ -10,10 +10,10 @@ ghost use Rattle.cell_services.specs.Tables.{Tables};
 ghost use Rattle.serve_programs.specs.Users.{AreUsed};
 ghost use Rattle.step_parts.specs.Partition.{domains_in, domains_place, programs_in, programs_place, IsClient, IsDomains, IsPrograms};
 ghost use Rattle.step_apply.specs.Lifting.{placed_at};
-ghost use Rattle.step_apply.specs.Tasks.{heard_in_place, AreMade, AreUsedIn, IsRoomless, IsServing};
+ghost use Rattle.step_apply.specs.Tasks.{heard_in_place, AreMade, IsRoomless, IsServing};
 
-use crate::placing::OnParts;
-use cell_client::ClientTold;
+use crate::placing::{OnParts, Serving};
+use cell_client::{Client, ClientTold};
 use mms_types::{Identifier, InvocationRequest, Memory, ProgramRequest};
 use part_table::Hand;
 use program_inv::Programs;
@@ -57,46 +57,48 @@ fn make_in_parts(
 /// Serves a client's request that makes or deletes a program invocation, where domains and program invocations are
 /// held.
 pub(crate) fn make_on_programs(
-    alloc: Global,
+    who: Serving,
     held: &mut Hand<Cell>,
-    clients: u32,
-    client: u32,
     invoke: u32,
     asked: InvocationRequest<'_>,
 ) -> Result<(), Memory>
-    requires serving { IsServing clients client held.old }
+    requires serving { IsServing who.clients who.client held.old }
     requires domains { IsDomains (held_at held.old domains_place) }
     requires programs { IsPrograms (held_at held.old programs_place) }
-    requires used { AreUsedIn held.old }
     ensures put { OnOk result (held.new
-        ≡ heard_in_place client (Takes invoke (invocation_request asked.entry)) held.old) }
+        ≡ heard_in_place who.client (Takes invoke (invocation_request asked.entry)) held.old) }
     ensures kept { OnErr result (held.new ≡ held.old) }
 {
-    let _clients = clients;
-    let mut part = take(held, BEFORE_CLIENTS + client);
+    let mut part = take(held, BEFORE_CLIENTS + who.client);
     let mut domains = take(held, 2);
     let mut programs = take(held, 3);
-    let done = make_in_parts(alloc, &mut part, &mut domains, &mut programs, invoke, asked);
+    let done = make_in_parts(
+        who.alloc,
+        &mut part,
+        &mut domains,
+        &mut programs,
+        invoke,
+        asked,
+    );
     put(held, 3, programs);
     put(held, 2, domains);
-    put(held, BEFORE_CLIENTS + client, part);
+    put(held, BEFORE_CLIENTS + who.client, part);
     done
 }
 
-/// A request for program invocations.
-#[derive(Clone, Copy)]
-pub(crate) struct ForPrograms<'a> {
-    pub invoke: u32,
-    pub asked: ProgramRequest<'a>,
-}
-
-impl OnParts for ForPrograms<'_> {
+impl OnParts for ProgramRequest<'_> {
+    ghost use Rattle.std.proofs.Common.{ap, refl};
     ghost use Rattle.mms_types.specs.Areas.{program_request};
+    ghost use Rattle.parted_state.specs.Cut.{is_in};
     ghost use Rattle.cell_client.specs.Association.{Takes};
+    ghost use Rattle.cell_services.specs.Services.{asks_of};
     ghost use Rattle.cell_services.specs.Tables.{own_programs};
+    ghost use Rattle.cell_services.proofs.AreaTableLaws.{in_programs};
     ghost use Rattle.step_parts.specs.AfterLaws.{is_programs};
 
     type Table = Programs;
+
+    type Facts = ();
 
     type Rest = ();
 
@@ -104,26 +106,39 @@ impl OnParts for ForPrograms<'_> {
 
     ghost its = { is_programs };
 
-    ghost verdict = { λ asked. Takes asked.invoke (program_request asked.asked) };
+    ghost verdict = { λ asked invoke. Takes invoke (program_request asked) };
+
+    fn place(&self, _clients: u32) -> u32 {
+        u32::from(PROGRAMS)
+    }
+
+    fn facts(&self, _who: Serving, _held: &Hand<Cell>) -> Result<(), Memory> {
+        Ok(())
+    }
 
     fn serve(
         &self,
-        alloc: Global,
+        who: Serving,
         _held: &Hand<Cell>,
-        _clients: u32,
-        part: &mut Part,
+        invoke: u32,
+        _facts: (),
+        client: &mut Client,
         table: &mut Part,
     ) -> Result<Option<(Vec<(u32, ClientTold)>, ())>, Memory> {
-        match (part, table) {
-            (Part::Client(own), Part::Programs(rows)) => {
-                serve_programs::serve(alloc, own, rows, self.invoke, self.asked)?;
+        match table {
+            Part::Programs(rows) => {
+                serve_programs::serve(who.alloc, client, rows, invoke, *self)?;
                 Ok(None)
             }
             _ => unreachable!(),
         }
     }
 
-    fn finish(&self, _client: u32, _rest: &(), _table: &mut Part) {}
+    fn finish(&self, _client: u32, _facts: (), _rest: &(), _table: &mut Part) {}
+
+    ghost stands = { λ t. refl };
+
+    ghost asks = { λ asked invoke. ap (λ a. is_in (asks_of a) 3) (in_programs asked) };
 }
 
 /// A program invocation ends by itself, in their part.

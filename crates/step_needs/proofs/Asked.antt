@@ -1,12 +1,12 @@
 -- What an event needs, as code finds it.
-use Rattle.std.specs.Prelude.{◌≡◌, ℕ, ◌==◌, ◌&&◌, ◌||◌, nat_le, Bool, true, false, Option, None, option_and_then, List, [], ◌∷◌, ◌++◌, filter, map, length, if◌then◌else◌, refl}
-use Rattle.std.specs.List.{list_any}
-use Rattle.std.proofs.Common.{ap, sym, ◌∙◌}
+use Rattle.std.specs.Prelude.{◌≡◌, ℕ, ◌==◌, Bool, true, false, Option, None, Some, option_and_then, is_some, List, [], ◌∷◌, ◌++◌, length, if◌then◌else◌, refl}
+use Rattle.std.specs.List.{flat_map, list_any}
+use Rattle.std.specs.Option.{option_copied, option_map_or}
+use Rattle.std.proofs.Common.{Bor, ap, sym, ◌∙◌, subst}
+use Rattle.std.proofs.lemmas.List.{map-append}
 use Rattle.mms_types.specs.declared.moment.Moment.{Moment}
-use Rattle.association.specs.Client.{ClientRow}
-use Rattle.parted_state.specs.Cut.{are_held, is_in, missing}
-use Rattle.parted_state.specs.Lifted.{tables_shown}
-use Rattle.parted_state.specs.Served.{is_told}
+use Rattle.mms_types.specs.declared.pdu.Request.{Request}
+use Rattle.parted_state.specs.Cut.{are_held, missing}
 use Rattle.parted_state.specs.Served as parted
 use Rattle.parted_state.specs.Sets.{IsSetOf}
 use Rattle.mms_time.specs.Deadlines.{next_due}
@@ -15,24 +15,47 @@ use Rattle.sem_ticks.specs.Ticks.{Ticking, entries_left, met, next_met, ticked}
 use Rattle.sem_ticks.proofs.Settling.{settle-none}
 use Rattle.sem_ticks.specs.declared.ticks.Happening.{Happening}
 use Rattle.sem_ticks.specs.declared.ticks.Happening.TheVariants as happens
+use Rattle.cell_client.specs.Facts.{Question, Scoped}
 use Rattle.cell_ticks.specs.Ticks.{aborted}
 use Rattle.step_parts.specs.declared.part.Part.{Part}
+use Rattle.cell_services.specs.Facts.{cell_tables, domain_tables, scope_tables, tables_for}
 use Rattle.cell_services.specs.Others.{is_abort}
-use Rattle.cell_services.specs.Serving.{abort_asks, also_lost}
+use Rattle.cell_services.specs.Services.{InArea, area_of, asks_of, request_asks}
+use Rattle.cell_services.specs.Serving.{abort_asks}
 use Rattle.cell_services.specs.Tables.{domains_table, journals_table, variables_table}
-use Rattle.step_parts.specs.Needs.{client_parts, two_stages}
-use Rattle.step_parts.specs.Partition.{cell, client_place}
+use Rattle.step_parts.specs.Needs.{placed, two_stages}
+use Rattle.step_parts.specs.Partition.{cell}
 use Rattle.step_parts.proofs.Needed.{first_by_test, next_by_test}
-use Rattle.step_parts.proofs.Others.{in_append, told_set}
 
--- ---- those that are told something
+-- ---- a request's words
 
--- beside the client that is lost
-pub lost_set : (hand : List (Option Part)) (n : ℕ) (row : ClientRow) (clients gone : List ℕ)
-    → ((k : ℕ) → is_told (also_lost row.association row.client (tables_shown cell hand)) k ≡ list_any (λ c. c == k) clients)
-    → IsSetOf gone (missing hand (client_parts n clients))
-    → IsSetOf gone (missing hand (parted.told_places cell (also_lost row.association row.client (tables_shown cell hand)) n))
-lost_set hand n row clients gone tells is = told_set hand (also_lost row.association row.client (tables_shown cell hand)) clients n gone (λ k free. tells k) is
+-- domains and cells have their tables' numbers
+pub asked_places : (n : ℕ) (of_domain of_cell : Bool) → placed n (domain_tables of_domain ++ (cell_tables of_cell ++ [])) ≡ domain_tables of_domain ++ cell_tables of_cell
+asked_places n true true = refl
+asked_places n true false = refl
+asked_places n false true = refl
+asked_places n false false = refl
+
+-- a request uses its area's own tables, and those that its words ask
+pub asks_parts : (n : ℕ) (r : Request) (a : InArea) (own : List ℕ) (of_domain of_cell : Bool) (set : List ℕ) → a ≡ area_of r
+    → asks_of a ≡ own ++ (domain_tables of_domain ++ (cell_tables of_cell ++ [])) → IsSetOf set (placed n own ++ (domain_tables of_domain ++ cell_tables of_cell))
+    → IsSetOf set (placed n (request_asks r))
+asks_parts n r a own of_domain of_cell set of is =
+    subst (IsSetOf set)
+    (ap (λ (l : List ℕ). placed n own ++ l) (sym (asked_places n of_domain of_cell))
+    ∙ sym (map-append (parted.table_place cell n) own (domain_tables of_domain ++ (cell_tables of_cell ++ [])))
+    ∙ ap (placed n) (sym is ∙ ap asks_of of))
+
+-- the tables whose objects have a scope are used where that is asked
+pub scope_asks : (words : List Question) (domain : Option (Bor (List ℕ))) → words ≡ option_map_or (λ name. Scoped name ∷ []) (option_copied domain) []
+    → flat_map tables_for words ≡ (if is_some domain then scope_tables else [])
+scope_asks words None is = ap (flat_map tables_for) is
+scope_asks words (Some domain) is = ap (flat_map tables_for) is
+
+-- what is borrowed is there where it is copied
+pub copied_some : {A : Type 0} (o : Option (Bor A)) → is_some (option_copied o) ≡ is_some o
+copied_some None = refl
+copied_some (Some x) = refl
 
 -- ---- time
 
@@ -50,55 +73,6 @@ nothing_due until rows none =
   where
     start : Ticking
     start = record { rows = rows; happened = [] }
-
--- ---- the parts of some clients
-
-one_more : (n : ℕ) (clients : List ℕ) (client : ℕ)
-    → client_parts n (clients ++ client ∷ []) ≡ client_parts n clients ++ (if nat_le 1 client && nat_le client n then client_place client ∷ [] else [])
-one_more n [] client = by_test (nat_le 1 client && nat_le client n)
-  where
-    by_test : (b : Bool) → map client_place (if b then client ∷ [] else []) ≡ (if b then client_place client ∷ [] else [])
-    by_test true = refl
-    by_test false = refl
-one_more n (c ∷ clients) client = by_test (nat_le 1 c && nat_le c n) (one_more n clients client)
-  where
-    last : List ℕ
-    last = if nat_le 1 client && nat_le client n then client_place client ∷ [] else []
-
-    by_test : (b : Bool) → client_parts n (clients ++ client ∷ []) ≡ client_parts n clients ++ last
-        → map client_place (if b then c ∷ filter (λ x. nat_le 1 x && nat_le x n) (clients ++ client ∷ []) else filter (λ x. nat_le 1 x && nat_le x n) (clients ++ client ∷ []))
-        ≡ map client_place (if b then c ∷ filter (λ x. nat_le 1 x && nat_le x n) clients else filter (λ x. nat_le 1 x && nat_le x n) clients) ++ last
-    by_test true rest = ap (λ (l : List ℕ). client_place c ∷ l) rest
-    by_test false rest = rest
-
--- one of clients 1 to n more
-pub part_more : (n : ℕ) (clients : List ℕ) (client : ℕ) (set next : List ℕ) → (nat_le 1 client && nat_le client n) ≡ true → IsSetOf set (client_parts n clients)
-    → IsSetOf next (set ++ client_place client ∷ []) → IsSetOf next (client_parts n (clients ++ client ∷ []))
-part_more n clients client set next within is more = record {
-  increasing = more.increasing;
-  members = λ p.
-      more.members p ∙ in_append set (client_place client ∷ []) p
-      ∙ ap (λ (b : Bool). b || is_in (client_place client ∷ []) p) (is.members p)
-      ∙ sym (in_append (client_parts n clients) (client_place client ∷ []) p)
-      ∙ ap (λ (b : Bool). is_in (client_parts n clients ++ (if b then client_place client ∷ [] else [])) p) (sym within)
-      ∙ ap (λ (l : List ℕ). is_in l p) (sym (one_more n clients client));
-}
-
--- or none of them
-pub part_less : (n : ℕ) (clients : List ℕ) (client : ℕ) (set : List ℕ) → (nat_le 1 client && nat_le client n) ≡ false → IsSetOf set (client_parts n clients)
-    → IsSetOf set (client_parts n (clients ++ client ∷ []))
-part_less n clients client set without is = record {
-  increasing = is.increasing;
-  members = λ p.
-      is.members p
-      ∙ ap (λ (l : List ℕ). is_in l p) (sym (append_none (client_parts n clients)))
-      ∙ ap (λ (b : Bool). is_in (client_parts n clients ++ (if b then client_place client ∷ [] else [])) p) (sym without)
-      ∙ ap (λ (l : List ℕ). is_in l p) (sym (one_more n clients client));
-}
-  where
-    append_none : (xs : List ℕ) → xs ++ [] ≡ xs
-    append_none [] = refl
-    append_none (x ∷ xs) = ap (λ (l : List ℕ). x ∷ l) (append_none xs)
 
 -- ---- three stages
 

@@ -1,3 +1,4 @@
 pub mod Asked
+pub mod Lost
 pub mod Own
 pub mod TimeNeeds

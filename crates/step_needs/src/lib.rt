@@ -2,6 +2,8 @@
 #![tactic(auto)]
 
 mod asks;
+mod heard;
 mod needs;
+mod time;
 
 pub use needs::{footprint, need, need_by, verdict};

@@ -44,9 +44,3 @@ place_left hand taken place part held out =
     let within = held_within hand place part (sym held) in
     let same : length taken ≡ length hand = ap (λ (l : List (Option Part)). length l) out ∙ length-set hand place None in
     omega (arith, within, same)
-
--- a place is still there where another one is set
-pub still_within : {P : Type 0} (hand new : List (Option P)) (place other : ℕ) (x : Option P) → place < length hand → new ≡ set hand other x → place < length new
-still_within {P} hand new place other x within is =
-    let same : length new ≡ length hand = ap (λ (l : List (Option P)). length l) is ∙ length-set hand other x in
-    omega (arith, within, same)

@@ -65,10 +65,6 @@ pub on_some_then : {A : Type 0} {P Q : Type 0} (o : Option A) → (P → Q) → 
 on_some_then None next there = tt
 on_some_then (Some x) next there = next there
 
-pub on_err_both : {A E : Type 0} {P Q R : Type 0} (result : Result A E) → (P → Q → R) → OnErr result P → OnErr result Q → OnErr result R
-on_err_both (Ok x) next p q = tt
-on_err_both (Err e) next p q = next p q
-
 pub on_err_three : {A E : Type 0} {P Q R S : Type 0} (result : Result A E) → (P → Q → R → S) → OnErr result P → OnErr result Q → OnErr result R → OnErr result S
 on_err_three (Ok x) next p q r = tt
 on_err_three (Err e) next p q r = next p q r

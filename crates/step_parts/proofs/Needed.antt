@@ -1,6 +1,6 @@
 -- What an event needs, stage by stage.
 use Rattle.std.specs.Prelude.{◌≡◌, ◌≢◌, ℕ, zero, suc, ◌≤◌, ◌==◌, Bool, true, false, ◌&&◌, Option, Some, List, [], ◌∷◌, ◌++◌, is_some, length, unwrap_or, if◌then◌else◌, refl}
-use Rattle.std.proofs.Common.{ap, ap₂, sym, ◌∙◌, subst, arith}
+use Rattle.std.proofs.Common.{ap, ap₂, sym, ◌∙◌, subst, append-nil, arith}
 use Rattle.std.proofs.lemmas.Bool.Decides.{nat_tests}
 use Rattle.mms_types.specs.declared.event.CellEvent.{CellEvent}
 use Rattle.mms_types.specs.declared.event.CellEvent.TheVariants.{Heard, Lost, Tick, Ends, Drain}
@@ -35,16 +35,11 @@ module _ {P : Type 0} where
   -- and otherwise it is that of the stage alone
   pub first_missing : (hand : List (Option P)) (stage rest : List ℕ) → missing hand stage ≢ []
       → missing hand (stage ++ (if are_held hand stage then rest else [])) ≡ missing hand stage
-  first_missing hand stage rest some =
-      missing_both hand stage (if are_held hand stage then rest else []) ∙ ap (λ (l : List ℕ). missing hand stage ++ l) (by_test (are_held hand stage) refl) ∙ none_behind (missing hand stage)
+  first_missing hand stage rest some = by_test (are_held hand stage) refl
     where
-      by_test : (b : Bool) → are_held hand stage ≡ b → missing hand (if b then rest else []) ≡ []
-      by_test false e = refl
+      by_test : (b : Bool) → are_held hand stage ≡ b → missing hand (stage ++ (if b then rest else [])) ≡ missing hand stage
+      by_test false e = ap (missing hand) (append-nil stage)
       by_test true e = absurd (some (laws.missing_none hand stage e))
-
-      none_behind : (xs : List ℕ) → xs ++ [] ≡ xs
-      none_behind [] = refl
-      none_behind (x ∷ xs) = ap (λ (l : List ℕ). x ∷ l) (none_behind xs)
 
   -- as a test tells it of the set of them
   nothing_missing : (hand : List (Option P)) (stage gone : List ℕ) → IsSetOf gone (missing hand stage) → (length gone == 0) ≡ true → missing hand stage ≡ []
@@ -69,32 +64,19 @@ module _ {P : Type 0} where
   -- what stands behind a stage, by what isn't held of it
   missing_rest : (hand : List (Option P)) (stage one other : List ℕ) → missing hand one ≡ missing hand other
       → missing hand (stage ++ (if are_held hand stage then one else [])) ≡ missing hand (stage ++ (if are_held hand stage then other else []))
-  missing_rest hand stage one other same =
-      missing_both hand stage (if are_held hand stage then one else [])
-      ∙ ap (λ (l : List ℕ). missing hand stage ++ l) (by_test (are_held hand stage))
-      ∙ sym (missing_both hand stage (if are_held hand stage then other else []))
+  missing_rest hand stage one other same = by_test (are_held hand stage)
     where
-      by_test : (b : Bool) → missing hand (if b then one else []) ≡ missing hand (if b then other else [])
-      by_test true = same
+      by_test : (b : Bool) → missing hand (stage ++ (if b then one else [])) ≡ missing hand (stage ++ (if b then other else []))
+      by_test true = missing_both hand stage one ∙ ap (λ (l : List ℕ). missing hand stage ++ l) same ∙ sym (missing_both hand stage other)
       by_test false = refl
 
   -- nothing stands behind the last
   missing_end : (hand : List (Option P)) (stage : List ℕ) → missing hand (stage ++ (if are_held hand stage then [] else [])) ≡ missing hand stage
-  missing_end hand stage =
-      missing_both hand stage (if are_held hand stage then [] else [])
-      ∙ ap (λ (l : List ℕ). missing hand stage ++ l) (by_test (are_held hand stage))
-      ∙ none_behind (missing hand stage)
+  missing_end hand stage = by_test (are_held hand stage)
     where
-      by_test : (b : Bool) → missing hand (if b then [] else []) ≡ []
-      by_test true = refl
-      by_test false = refl
-
-      none_behind : (xs : List ℕ) → xs ++ [] ≡ xs
-      none_behind [] = refl
-      none_behind (x ∷ xs) = ap (λ (l : List ℕ). x ∷ l) (none_behind xs)
-
-  missing_last : (hand : List (Option P)) (stage : List ℕ) → missing hand stage ≡ [] → missing hand (stage ++ (if are_held hand stage then [] else [])) ≡ []
-  missing_last hand stage none = next_missing hand stage [] none
+      by_test : (b : Bool) → missing hand (stage ++ (if b then [] else [])) ≡ missing hand stage
+      by_test true = ap (missing hand) (append-nil stage)
+      by_test false = ap (missing hand) (append-nil stage)
 
 nobody_told : (hand : List (Option Part)) (n : ℕ) → missing hand (parted.told_places cell [] n) ≡ []
 nobody_told hand zero = refl
@@ -181,8 +163,8 @@ own_words hand client some held =
 pub drain_needs_none : (hand : List (Option Part)) (client : ℕ) → 1 ≤ client → is_held hand (client_place client) ≡ true → need (Drain client) hand ≡ []
 drain_needs_none hand client some held =
     need_later hand (Drain client) (clients_among (length hand)) refl (own_words hand client some held)
-    ∙ missing_last hand (parted.told_places cell (tell client (Drains ∷ [])) (length (state_in hand).clients))
-    (own_skipped hand client (Drains ∷ []) [] (length (state_in hand).clients) held ∙ nobody_told hand (length (state_in hand).clients))
+    ∙ missing_end hand (parted.told_places cell (tell client (Drains ∷ [])) (length (state_in hand).clients))
+    ∙ (own_skipped hand client (Drains ∷ []) [] (length (state_in hand).clients) held ∙ nobody_told hand (length (state_in hand).clients))
 
 pub need_lost : (hand : List (Option Part)) (client : ℕ) (n : ℕ) (part : RoomyRow) → n ≡ clients_among (length hand)
     → missing hand (footprint n (Lost client)) ≡ [] → 1 ≤ client → client ≤ n → held_at hand (client_place client) ≡ Some (Client part)
@@ -210,4 +192,4 @@ need_ticked hand ms n counted none =
 pub need_ended : (hand : List (Option Part)) (name : List ℕ) (n : ℕ) → n ≡ clients_among (length hand) → missing hand (footprint n (Ends name)) ≡ [] → need (Ends name) hand ≡ []
 need_ended hand name n counted none =
     need_later hand (Ends name) n counted none
-    ∙ missing_last hand (parted.told_places cell [] (length (state_in hand).clients)) (nobody_told hand (length (state_in hand).clients))
+    ∙ missing_end hand (parted.told_places cell [] (length (state_in hand).clients)) ∙ (nobody_told hand (length (state_in hand).clients))

@@ -1,8 +1,10 @@
 -- The parts of those that are told something, as places and as code finds them.
-use Rattle.std.specs.Prelude.{◌≡◌, ◌≢◌, ℕ, zero, suc, ◌+◌, ◌-◌, ◌<◌, ◌≤◌, ◌==◌, ◌&&◌, ◌||◌, nat_le, Bool, true, false, not, Option, List, [], ◌∷◌, ◌++◌, filter, map, if◌then◌else◌, refl}
+use Rattle.std.specs.Prelude.{◌≡◌, ℕ, zero, suc, ◌+◌, ◌-◌, ◌≤◌, ◌==◌, ◌&&◌, ◌||◌, nat_le, Bool, true, false, not, Option, List, [], ◌∷◌, ◌++◌, filter, map, if◌then◌else◌, refl}
 use Rattle.std.specs.List.{list_any}
 use Rattle.std.proofs.Common.{ap, ap₂, sym, ◌∙◌, arith}
 use Rattle.std.proofs.lemmas.Bool.Decides.{nat_tests}
+use Rattle.std.proofs.lemmas.List.Elements.{filter-append}
+use Rattle.std.proofs.lemmas.List.Folds.{list_any-append}
 use Rattle.parted_state.specs.Cut.{is_in, is_held, missing}
 use Rattle.parted_state.specs.CutLaws.{same_number}
 use Rattle.parted_state.specs.Sets.{IsSetOf}
@@ -19,134 +21,35 @@ use Rattle.step_parts.specs.Partition.{cell, client_place}
 abbrev inside : ℕ → ℕ → Bool
 inside n p = nat_le 6 p && nat_le p (5 + n)
 
-pub in_append : (xs ys : List ℕ) (p : ℕ) → is_in (xs ++ ys) p ≡ (is_in xs p || is_in ys p)
-in_append [] ys p = refl
-in_append (x ∷ xs) ys p = by_test (x == p) (in_append xs ys p)
-  where
-    by_test : (b : Bool) → is_in (xs ++ ys) p ≡ (is_in xs p || is_in ys p) → (b || is_in (xs ++ ys) p) ≡ ((b || is_in xs p) || is_in ys p)
-    by_test true rest = refl
-    by_test false rest = rest
+-- one more number
+last_in : (told y : Bool) (n p : ℕ) → (client_place (suc n) ≡ p → y ≡ told) → ((inside n p && told) || is_in (parted.told_if cell y (suc n)) p) ≡ (inside (suc n) p && told)
+last_in told true n p same = grind (arith, nat_tests)
+last_in told false n p same = grind (arith, nat_tests)
 
 in_told : (told : List (ℕ × Effect)) (n p : ℕ) → is_in (parted.told_places cell told n) p ≡ (inside n p && is_told told (p - 5))
 in_told told zero p = let out : inside 0 p ≡ false = grind (arith, nat_tests) in ap (λ (b : Bool). b && is_told told (p - 5)) (sym out)
 in_told told (suc n) p =
-    in_append (parted.told_places cell told n) (parted.told_if cell (is_told told (suc n)) (suc n)) p
-    ∙ ap₂ (λ (a b : Bool). a || b) (in_told told n p) (last (is_told told (suc n)))
-    ∙ by_test (client_place (suc n) == p) refl
-  where
-    last : (b : Bool) → is_in (parted.told_if cell b (suc n)) p ≡ (b && (client_place (suc n) == p))
-    last true = or_false (client_place (suc n) == p)
-      where
-        or_false : (c : Bool) → (c || false) ≡ c
-        or_false true = refl
-        or_false false = refl
-    last false = refl
+    list_any-append (λ q. q == p) (parted.told_places cell told n) (parted.told_if cell (is_told told (suc n)) (suc n))
+    ∙ ap (λ (b : Bool). b || is_in (parted.told_if cell (is_told told (suc n)) (suc n)) p) (in_told told n p)
+    ∙ last_in (is_told told (p - 5)) (is_told told (suc n)) n p (λ same. ap (λ (k : ℕ). is_told told k) (omega (arith, same)))
 
-    none_behind : (b : Bool) → (b || false) ≡ b
-    none_behind true = refl
-    none_behind false = refl
-
-    and_false : (b : Bool) → (b && false) ≡ false
-    and_false true = refl
-    and_false false = refl
-
-    by_test : (b : Bool) → (client_place (suc n) == p) ≡ b
-        → ((inside n p && is_told told (p - 5)) || (is_told told (suc n) && b)) ≡ (inside (suc n) p && is_told told (p - 5))
-    by_test true e =
-        let here : client_place (suc n) ≡ p = same_number (client_place (suc n)) p e in
-        let number : p - 5 ≡ suc n = omega (arith, here) in
-        let before : inside n p ≡ false = grind (arith, nat_tests) in
-        let within : inside (suc n) p ≡ true = grind (arith, nat_tests) in
-        ap (λ (b : Bool). (b && is_told told (p - 5)) || (is_told told (suc n) && true)) before
-        ∙ and_true (is_told told (suc n))
-        ∙ ap (λ (k : ℕ). is_told told k) (sym number)
-        ∙ ap (λ (b : Bool). b && is_told told (p - 5)) (sym within)
-      where
-        and_true : (b : Bool) → (b && true) ≡ b
-        and_true true = refl
-        and_true false = refl
-    by_test false e =
-        let other : inside (suc n) p ≡ inside n p = same_inside in
-        ap (λ (b : Bool). (inside n p && is_told told (p - 5)) || b) (and_false (is_told told (suc n)))
-        ∙ none_behind (inside n p && is_told told (p - 5))
-        ∙ ap (λ (b : Bool). b && is_told told (p - 5)) (sym other)
-      where
-        same_inside : inside (suc n) p ≡ inside n p
-        same_inside = by_le (nat_le p (5 + n)) refl
-          where
-            by_le : (b : Bool) → nat_le p (5 + n) ≡ b → (nat_le 6 p && nat_le p (5 + suc n)) ≡ (nat_le 6 p && b)
-            by_le true f = let more : nat_le p (5 + suc n) ≡ true = grind (arith, nat_tests) in ap (λ (c : Bool). nat_le 6 p && c) more
-            by_le false f =
-                let apart : client_place (suc n) ≢ p = (λ same. let yes : (client_place (suc n) == p) ≡ true = grind (arith, nat_tests) in cc (sym yes ∙ e)) in
-                let past : 5 + n < p = grind (arith, nat_tests) in
-                let over : 5 + suc n < p = omega (arith, past, apart) in
-                let more : nat_le p (5 + suc n) ≡ false = grind (arith, nat_tests) in
-                ap (λ (c : Bool). nat_le 6 p && c) more
+-- one more client
+one_in : (n c p : ℕ) (rest before : Bool) → before ≡ (inside n p && rest) → (b : Bool) → (nat_le 1 c && nat_le c n) ≡ b
+    → (if b then (client_place c == p) || before else before) ≡ (inside n p && ((c == (p - 5)) || rest))
+one_in n c p rest before is true e = grind (arith, nat_tests)
+one_in n c p rest before is false e = grind (arith, nat_tests)
 
 in_client_parts : (n : ℕ) (clients : List ℕ) (p : ℕ) → is_in (client_parts n clients) p ≡ (inside n p && list_any (λ c. c == (p - 5)) clients)
-in_client_parts n [] p = by_test (inside n p)
+in_client_parts n [] p = grind arith
+in_client_parts n (c ∷ clients) p = at_first (nat_le 1 c && nat_le c n) ∙ one_in n c p (list_any (λ x. x == (p - 5)) clients) before (in_client_parts n clients p) (nat_le 1 c && nat_le c n) refl
   where
-    by_test : (b : Bool) → false ≡ (b && false)
-    by_test true = refl
-    by_test false = refl
-in_client_parts n (c ∷ clients) p = by_tests (nat_le 1 c && nat_le c n) refl (inside n p) refl (in_client_parts n clients p)
-  where
-    rest : Bool
-    rest = list_any (λ x. x == (p - 5)) clients
+    before : Bool
+    before = is_in (client_parts n clients) p
 
-    by_tests : (w : Bool) → (nat_le 1 c && nat_le c n) ≡ w → (i : Bool) → inside n p ≡ i → is_in (client_parts n clients) p ≡ (i && rest)
-        → is_in (map client_place (if w then c ∷ filter (λ x. nat_le 1 x && nat_le x n) clients else filter (λ x. nat_le 1 x && nat_le x n) clients)) p
-        ≡ (i && ((c == (p - 5)) || rest))
-    by_tests true e true f same =
-        let place : (client_place c == p) ≡ (c == (p - 5)) = equal_places in
-        ap₂ (λ (a b : Bool). a || b) place same
-      where
-        equal_places : (client_place c == p) ≡ (c == (p - 5))
-        equal_places = by_equal (c == (p - 5)) refl
-          where
-            by_equal : (b : Bool) → (c == (p - 5)) ≡ b → (client_place c == p) ≡ b
-            by_equal true g =
-                let same : c ≡ p - 5 = same_number c (p - 5) g in
-                let low : 6 ≤ p = grind (arith, nat_tests) in
-                let here : client_place c ≡ p = omega (arith, same, low) in
-                grind (arith, nat_tests)
-            by_equal false g =
-                let apart : c ≢ p - 5 = (λ same. let yes : (c == (p - 5)) ≡ true = grind (arith, nat_tests) in cc (sym yes ∙ g)) in
-                let other : client_place c ≢ p = (λ same. apart (omega (arith, same))) in
-                grind (arith, nat_tests)
-    by_tests true e false f same =
-        let other : (client_place c == p) ≡ false = outside in
-        ap₂ (λ (a b : Bool). a || b) other same
-      where
-        outside : (client_place c == p) ≡ false
-        outside = by_equal (client_place c == p) refl
-          where
-            by_equal : (b : Bool) → (client_place c == p) ≡ b → b ≡ false
-            by_equal false g = refl
-            by_equal true g =
-                let here : client_place c ≡ p = same_number (client_place c) p g in
-                let some : 1 ≤ c = grind (arith, nat_tests) in
-                let few : c ≤ n = grind (arith, nat_tests) in
-                let yes : inside n p ≡ true = grind (arith, nat_tests) in
-                absurd (cc (sym yes ∙ f))
-    by_tests false e true f same =
-        let other : (c == (p - 5)) ≡ false = outside in
-        same ∙ ap (λ (b : Bool). b || rest) (sym other)
-      where
-        outside : (c == (p - 5)) ≡ false
-        outside = by_equal (c == (p - 5)) refl
-          where
-            by_equal : (b : Bool) → (c == (p - 5)) ≡ b → b ≡ false
-            by_equal false g = refl
-            by_equal true g =
-                let here : c ≡ p - 5 = same_number c (p - 5) g in
-                let low : 6 ≤ p = grind (arith, nat_tests) in
-                let high : p ≤ 5 + n = grind (arith, nat_tests) in
-                let some : 1 ≤ c = omega (arith, here, low) in
-                let few : c ≤ n = omega (arith, here, high) in
-                let yes : (nat_le 1 c && nat_le c n) ≡ true = grind (arith, nat_tests) in
-                absurd (cc (sym yes ∙ e))
-    by_tests false e false f same = same
+    at_first : (b : Bool) → is_in (map client_place (if b then c ∷ filter (λ x. nat_le 1 x && nat_le x n) clients else filter (λ x. nat_le 1 x && nat_le x n) clients)) p
+        ≡ (if b then (client_place c == p) || before else before)
+    at_first true = refl
+    at_first false = refl
 
 -- what isn't held of the parts of those that are told something is what isn't held of those parts that code finds
 pub told_set : (hand : List (Option Part)) (told : List (ℕ × Effect)) (clients : List ℕ) (n : ℕ) (gone : List ℕ)
@@ -172,14 +75,6 @@ told_set hand told clients n gone each is = record {
 
 -- ---- the client itself, whose part is held
 
-is_told_append : (xs ys : List (ℕ × Effect)) (k : ℕ) → is_told (xs ++ ys) k ≡ (is_told xs k || is_told ys k)
-is_told_append [] ys k = refl
-is_told_append (x ∷ xs) ys k = by_test (x.0 == k) (is_told_append xs ys k)
-  where
-    by_test : (b : Bool) → is_told (xs ++ ys) k ≡ (is_told xs k || is_told ys k) → (b || is_told (xs ++ ys) k) ≡ ((b || is_told xs k) || is_told ys k)
-    by_test true rest = refl
-    by_test false rest = rest
-
 told_itself : (client : ℕ) (effects : List Effect) (k : ℕ) → is_told (tell client effects) k ≡ true → client ≡ k
 told_itself client [] k on = absurd (cc on)
 told_itself client (effect ∷ effects) k on = by_test (client == k) refl (told_itself client effects k) on
@@ -188,15 +83,8 @@ told_itself client (effect ∷ effects) k on = by_test (client == k) refl (told_
     by_test true e rest h = same_number client k e
     by_test false e rest h = rest h
 
-module _ {P : Type 0} where
-  pub missing_both : (hand : List (Option P)) (xs ys : List ℕ) → missing hand (xs ++ ys) ≡ missing hand xs ++ missing hand ys
-  missing_both hand [] ys = refl
-  missing_both hand (x ∷ xs) ys = by_test (is_held hand x) (missing_both hand xs ys)
-    where
-      by_test : (b : Bool) → missing hand (xs ++ ys) ≡ missing hand xs ++ missing hand ys
-          → (if not b then x ∷ missing hand (xs ++ ys) else missing hand (xs ++ ys)) ≡ (if not b then x ∷ missing hand xs else missing hand xs) ++ missing hand ys
-      by_test true e = e
-      by_test false e = ap (λ (l : List ℕ). x ∷ l) e
+pub missing_both : {P : Type 0} (hand : List (Option P)) (xs ys : List ℕ) → missing hand (xs ++ ys) ≡ missing hand xs ++ missing hand ys
+missing_both hand xs ys = filter-append (λ place. not (is_held hand place)) xs ys
 
 held_none : (hand : List (Option Part)) (k : ℕ) (b : Bool) → is_held hand (client_place k) ≡ true → missing hand (parted.told_if cell b k) ≡ []
 held_none hand k false held = refl
@@ -214,7 +102,7 @@ own_skipped hand client own also (suc n) held =
     by_test : (b : Bool) → is_told (tell client own) (suc n) ≡ b
         → missing hand (parted.told_if cell (is_told (tell client own ++ also) (suc n)) (suc n)) ≡ missing hand (parted.told_if cell (is_told also (suc n)) (suc n))
     by_test false e =
-        ap (λ (b : Bool). missing hand (parted.told_if cell b (suc n))) (is_told_append (tell client own) also (suc n) ∙ ap (λ (b : Bool). b || is_told also (suc n)) e)
+        ap (λ (b : Bool). missing hand (parted.told_if cell b (suc n))) (list_any-append (λ x. x.0 == suc n) (tell client own) also ∙ ap (λ (b : Bool). b || is_told also (suc n)) e)
     by_test true e =
         let here : is_held hand (client_place (suc n)) ≡ true = ap (λ (k : ℕ). is_held hand (client_place k)) (sym (told_itself client own (suc n) e)) ∙ held in
         held_none hand (suc n) (is_told (tell client own ++ also) (suc n)) here ∙ sym (held_none hand (suc n) (is_told also (suc n)) here)

@@ -1,5 +1,5 @@
 -- What each event makes of a state.
-use Rattle.std.specs.Prelude.{◌≡◌, ℕ, zero, suc, ◌+◌, ◌-◌, ◌≤◌, ◌<◌, Bool, true, false, Option, None, Some, List, [], ◌∷◌, ◌++◌, map, fold, length, slice_get, unwrap_or, if◌then◌else◌, refl}
+use Rattle.std.specs.Prelude.{◌≡◌, ℕ, zero, suc, ◌+◌, ◌-◌, ◌≤◌, ◌<◌, Bool, true, false, Option, None, Some, List, [], ◌∷◌, ◌++◌, map, fold, length, if◌then◌else◌, refl}
 use Rattle.std.proofs.Common.{ap, sym, ◌∙◌, arith, length-append}
 use Rattle.std.proofs.lemmas.List.{length-map, map-append}
 use Rattle.mms_types.specs.Actors.{clients_to}
@@ -42,12 +42,7 @@ module _ {A : Type 0} where
   change-twice f g [] i = refl
   change-twice f g (x ∷ xs) zero = refl
   change-twice f g (x ∷ xs) (suc i) = ap (λ (l : List A). x ∷ l) (change-twice f g xs i)
-
   -- what is changed is the one that stands there
-  change-here : (f g : A → A) (xs : List A) (i : ℕ) (d : A) → i < length xs → f (unwrap_or (slice_get xs i) d) ≡ g (unwrap_or (slice_get xs i) d) → change f xs i ≡ change g xs i
-  change-here f g [] i d within same = absurd (omega arith)
-  change-here f g (x ∷ xs) zero d within same = ap (λ (y : A). y ∷ xs) same
-  change-here f g (x ∷ xs) (suc i) d within same = ap (λ (l : List A). x ∷ l) (change-here f g xs i d (omega arith) same)
 
 pub change-map : {A B : Type 0} (g : B → B) (f : A → A) (h : A → B) → ((x : A) → g (h x) ≡ h (f x)) → (xs : List A) (i : ℕ)
     → change g (map h xs) i ≡ map h (change f xs i)

@@ -9,7 +9,6 @@ use Rattle.part_table.specs.Held.{held_at, IsHandOf}
 use Rattle.part_table.specs.HeldLaws.{held_of_list}
 use Rattle.parted_state.specs.Cut.{are_held, missing}
 use Rattle.parted_state.specs.CutLaws as laws
-use Rattle.parted_state.specs.Served.{change}
 use Rattle.parted_state.specs.Served as parted
 use Rattle.step_parts.specs.declared.part.Part.{Part}
 use Rattle.step_parts.specs.declared.part.Part.TheVariants.{Client}
@@ -54,6 +53,10 @@ pub words_held : (hand : List (Option Part)) (event : CellEvent) → need event 
 words_held hand event enough =
     laws.missing_none hand (footprint (length (state_in hand).clients) event)
     (laws.held_parted hand (footprint (length (state_in hand).clients) event) _ (laws.none_missing hand (shown event hand) enough)).0
+
+-- there are 64 clients at most
+pub few_held : (hand : List (Option Part)) (n : ℕ) → OfState hand → n ≡ clients_among (length hand) → n ≤ 64
+few_held hand n (s, sound, of) many = let counted = clients_counted s hand of in let few = sound.1.few in omega (arith, many, counted, few)
 
 -- the row in a client's part that is held has the client's number
 pub own_held : (hand : List (Option Part)) (client n : ℕ) (part : RoomyRow) → OfState hand → n ≡ clients_among (length hand) → 1 ≤ client → client ≤ n

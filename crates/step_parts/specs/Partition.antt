@@ -155,40 +155,10 @@ client_of part = (row_in (Some part)).client
 
 -- ---- a part is changed
 
--- Each of these changes the part of one kind, and leaves a part of another kind as it is: a client's row is changed,
--- and no room is left in its part; and so the moment of the clock, the variables, the domains, the program invocations,
--- the event conditions and enrollments, the journals, and the semaphores.
+-- A client's row is changed, and no room is left in its part; a part of another kind stays as it is.
 abbrev pub on_client : (ClientRow → ClientRow) → Part → Part
 on_client f (Client client) = client_part (f client.row)
 on_client f other = other
-
-abbrev pub on_clock : (ℕ → ℕ) → Part → Part
-on_clock f (Clock now) = Clock (f now)
-on_clock f other = other
-
-abbrev pub on_variables : (VariableTables → VariableTables) → Part → Part
-on_variables f (Variables variables) = Variables (f variables)
-on_variables f other = other
-
-abbrev pub on_domains : (DomainTables → DomainTables) → Part → Part
-on_domains f (Domains domains) = Domains (f domains)
-on_domains f other = other
-
-abbrev pub on_programs : (program.Rows → program.Rows) → Part → Part
-on_programs f (Programs programs) = Programs (f programs)
-on_programs f other = other
-
-abbrev pub on_events : (EventTables → EventTables) → Part → Part
-on_events f (Events events) = Events (f events)
-on_events f other = other
-
-abbrev pub on_journals : (journal.Rows → journal.Rows) → Part → Part
-on_journals f (Journals journals) = Journals (f journals)
-on_journals f other = other
-
-abbrev pub on_semaphores : (Rows → Rows) → Part → Part
-on_semaphores f (Semaphores semaphores) = Semaphores (f semaphores)
-on_semaphores f other = other
 
 -- ---- which part it is
 

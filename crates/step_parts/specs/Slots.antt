@@ -2,12 +2,15 @@
 use Rattle.std.specs.Prelude.{Option}
 use Rattle.step_parts.specs.declared.part.Part.{Part}
 use Rattle.step_parts.specs.declared.part.Part.TheVariants.{Clock, Variables, Domains, Programs, Events, Journals, Semaphores}
+use Rattle.step_parts.specs.declared.slots.ShownTable.{ShownTable}
+use Rattle.step_parts.specs.declared.slots.ShownTable.TheVariants.{Held, Empty}
 
--- A table A that is a part: which part it makes, and what is shown by what stands in one place, where this is its part,
--- and else another
+-- A table A that is a part: which part it makes; what is shown by what stands in one place, where this is its part, and
+-- else another; and an empty one
 pub record Slot (A : Type 0) : Type 0 where
   pub wrap : A → Part
   pub shown_or : A → Option Part → A
+  pub none : A
 
 -- A part is laid over another of its kind; one of another kind stays.
 abbrev pub over : Part → Part → Part
@@ -19,3 +22,8 @@ over (Events new) (Events old) = Events new
 over (Journals new) (Journals old) = Journals new
 over (Semaphores new) (Semaphores old) = Semaphores new
 over new old = old
+
+-- a table as it is shown: that which is held, or an empty one
+abbrev pub shown_by : {A : Type 0} → ShownTable A → A
+shown_by (Held table) = table.now
+shown_by (Empty table) = table

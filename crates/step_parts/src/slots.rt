@@ -4,27 +4,62 @@ ghost use Rattle.std.specs.Prelude.{◌≡◌, ◌<◌, is_some, length, refl, s
 ghost use Rattle.std.specs.Option.{option_map};
 ghost use Rattle.part_table.specs.Held.{held_at};
 ghost use Rattle.parted_state.specs.Served.{change};
-ghost use Rattle.step_parts.specs.Slots.{over, Slot};
+ghost use Rattle.step_parts.specs.Slots.{over, shown_by, Slot};
 
 use crate::{Cell, Part};
 use cell_services::Clock;
 use mms_journal::Journals;
 use mms_time::Semaphores;
+use mms_types::Moment;
 use part_table::Hand;
 use program_inv::Programs;
 use serve_domains::DomainTables;
 use serve_events::EventTables;
+use std::alloc::Global;
 use std::mem;
 use variable_services::VariableTables;
 
+/// A table as it is shown: that which is held, or an empty one where none is.
+pub enum ShownTable<'a, T: Drop> {
+    /// It is held.
+    Held(&'a T),
+    /// It isn't.
+    Empty(T),
+}
+
+impl<T: Drop> Drop for ShownTable<'_, T> {
+    fn drop(self) {
+        match self {
+            ShownTable::Held(_) => {}
+            ShownTable::Empty(_table) => {}
+        }
+    }
+}
+
+impl<T: Drop> ShownTable<'_, T> {
+    /// The table.
+    pub fn get(&self) -> &T
+        ensures { result.now ≡ shown_by self.now }
+    {
+        match self {
+            ShownTable::Held(table) => *table,
+            ShownTable::Empty(table) => table,
+        }
+    }
+}
+
 /// A table that is a part.
-pub trait InPart: Sized {
+pub trait InPart: Sized + Drop {
     /// Its part, and what is shown of it.
     ghost slot: { Slot Self };
 
-    /// The table in a part, where it is one, and else that.
-    fn shown<'a>(part: &'a Part, none: &'a Self) -> &'a Self
-        ensures { result.now ≡ slot.shown_or none.now (Some part.now) };
+    /// An empty one.
+    fn empty(alloc: Global) -> Self
+        ensures { result ≡ slot.none };
+
+    /// The table in a part, where it is one, and else an empty one.
+    fn shown(alloc: Global, part: &Part) -> ShownTable<'_, Self>
+        ensures { shown_by result ≡ slot.shown_or slot.none (Some part.now) };
 
     /// Exchanges the table with that in a part, where it is one.
     fn exchange(part: &mut Part, own: &mut Self)
@@ -40,11 +75,15 @@ impl InPart for Clock {
 
     ghost slot = { clock_slot };
 
+    fn empty(_alloc: Global) -> Clock {
+        Clock::new(Moment(0))
+    }
+
     #[tactic(auto, using(crate::proofs::Tabling::clock_hides, crate::proofs::Tabling::clock_stays))]
-    fn shown<'a>(part: &'a Part, none: &'a Clock) -> &'a Clock {
+    fn shown(alloc: Global, part: &Part) -> ShownTable<'_, Clock> {
         match part {
-            Part::Clock(own) => own,
-            _ => none,
+            Part::Clock(own) => ShownTable::Held(own),
+            _ => ShownTable::Empty(Self::empty(alloc)),
         }
     }
 
@@ -63,11 +102,15 @@ impl InPart for VariableTables {
 
     ghost slot = { variables_slot };
 
+    fn empty(alloc: Global) -> VariableTables {
+        VariableTables::empty(alloc)
+    }
+
     #[tactic(auto, using(crate::proofs::Tabling::variables_hides, crate::proofs::Tabling::variables_stays))]
-    fn shown<'a>(part: &'a Part, none: &'a VariableTables) -> &'a VariableTables {
+    fn shown(alloc: Global, part: &Part) -> ShownTable<'_, VariableTables> {
         match part {
-            Part::Variables(own) => own,
-            _ => none,
+            Part::Variables(own) => ShownTable::Held(own),
+            _ => ShownTable::Empty(Self::empty(alloc)),
         }
     }
 
@@ -86,11 +129,15 @@ impl InPart for DomainTables {
 
     ghost slot = { domains_slot };
 
+    fn empty(alloc: Global) -> DomainTables {
+        DomainTables::empty(alloc)
+    }
+
     #[tactic(auto, using(crate::proofs::Tabling::domains_hides, crate::proofs::Tabling::domains_stays))]
-    fn shown<'a>(part: &'a Part, none: &'a DomainTables) -> &'a DomainTables {
+    fn shown(alloc: Global, part: &Part) -> ShownTable<'_, DomainTables> {
         match part {
-            Part::Domains(own) => own,
-            _ => none,
+            Part::Domains(own) => ShownTable::Held(own),
+            _ => ShownTable::Empty(Self::empty(alloc)),
         }
     }
 
@@ -109,11 +156,15 @@ impl InPart for Programs {
 
     ghost slot = { programs_slot };
 
+    fn empty(alloc: Global) -> Programs {
+        Programs::new(alloc)
+    }
+
     #[tactic(auto, using(crate::proofs::Tabling::programs_hides, crate::proofs::Tabling::programs_stays))]
-    fn shown<'a>(part: &'a Part, none: &'a Programs) -> &'a Programs {
+    fn shown(alloc: Global, part: &Part) -> ShownTable<'_, Programs> {
         match part {
-            Part::Programs(own) => own,
-            _ => none,
+            Part::Programs(own) => ShownTable::Held(own),
+            _ => ShownTable::Empty(Self::empty(alloc)),
         }
     }
 
@@ -132,11 +183,15 @@ impl InPart for EventTables {
 
     ghost slot = { events_slot };
 
+    fn empty(alloc: Global) -> EventTables {
+        EventTables::empty(alloc)
+    }
+
     #[tactic(auto, using(crate::proofs::Tabling::events_hides, crate::proofs::Tabling::events_stays))]
-    fn shown<'a>(part: &'a Part, none: &'a EventTables) -> &'a EventTables {
+    fn shown(alloc: Global, part: &Part) -> ShownTable<'_, EventTables> {
         match part {
-            Part::Events(own) => own,
-            _ => none,
+            Part::Events(own) => ShownTable::Held(own),
+            _ => ShownTable::Empty(Self::empty(alloc)),
         }
     }
 
@@ -155,11 +210,15 @@ impl InPart for Journals {
 
     ghost slot = { journals_slot };
 
+    fn empty(alloc: Global) -> Journals {
+        Journals::new(alloc)
+    }
+
     #[tactic(auto, using(crate::proofs::Tabling::journals_hides, crate::proofs::Tabling::journals_stays))]
-    fn shown<'a>(part: &'a Part, none: &'a Journals) -> &'a Journals {
+    fn shown(alloc: Global, part: &Part) -> ShownTable<'_, Journals> {
         match part {
-            Part::Journals(own) => own,
-            _ => none,
+            Part::Journals(own) => ShownTable::Held(own),
+            _ => ShownTable::Empty(Self::empty(alloc)),
         }
     }
 
@@ -178,11 +237,15 @@ impl InPart for Semaphores {
 
     ghost slot = { semaphores_slot };
 
+    fn empty(alloc: Global) -> Semaphores {
+        Semaphores::new(alloc)
+    }
+
     #[tactic(auto, using(crate::proofs::Tabling::semaphores_hides, crate::proofs::Tabling::semaphores_stays))]
-    fn shown<'a>(part: &'a Part, none: &'a Semaphores) -> &'a Semaphores {
+    fn shown(alloc: Global, part: &Part) -> ShownTable<'_, Semaphores> {
         match part {
-            Part::Semaphores(own) => own,
-            _ => none,
+            Part::Semaphores(own) => ShownTable::Held(own),
+            _ => ShownTable::Empty(Self::empty(alloc)),
         }
     }
 
@@ -208,13 +271,13 @@ pub fn exchange<T: InPart>(held: &mut Hand<Cell>, place: u32, own: &mut T)
     held.put(place, part);
 }
 
-/// The table of the part in a place, where it is held there, and else that.
-pub fn shown<'a, T: InPart>(held: &'a Hand<Cell>, place: u8, none: &'a T) -> &'a T
-    ensures { result.now ≡ T.slot.shown_or none.now (held_at held.now place) }
+/// The table of the part in a place, where it is held there, and else an empty one.
+pub fn shown<T: InPart>(alloc: Global, held: &Hand<Cell>, place: u8) -> ShownTable<'_, T>
+    ensures { shown_by result ≡ T.slot.shown_or T.slot.none (held_at held.now place) }
 {
     match held.get(u32::from(place)) {
-        Some(part) => T::shown(part, none),
-        None => none,
+        Some(part) => T::shown(alloc, part),
+        None => ShownTable::Empty(T::empty(alloc)),
     }
 }
 

@@ -1,8 +1,9 @@
 -- Nothing is needed where all parts are held.
 use Rattle.std.specs.Prelude.{◌≡◌, ℕ, ◌<◌, ◌≤◌, nat_lt, ◌==◌, Bool, true, false, ◌&&◌, ◌||◌, Some, is_some, List, [], ◌∷◌, ◌++◌, map, length, refl}
 use Rattle.std.specs.List.{flat_map, list_all, list_any}
-use Rattle.std.proofs.Common.{arith}
+use Rattle.std.proofs.Common.{ap₂, ◌∙◌, arith}
 use Rattle.std.proofs.lemmas.Bool.Decides.{nat_tests}
+use Rattle.std.proofs.lemmas.List.Folds.{list_all-append}
 use Rattle.mms_types.specs.Actors.{IsAmong, actor_of}
 use Rattle.mms_types.specs.declared.event.CellEvent.{CellEvent}
 use Rattle.mms_types.specs.declared.event.CellEvent.TheVariants.{Heard, Lost, Tick, Ends, Drain}
@@ -46,12 +47,7 @@ below (u ∷ us) all k on = by_test (nat_lt u 7) (u == k) refl refl (below us) a
     by_test true false e f rest h on = rest h k on
 
 both_tables : (us ws : List ℕ) → are_tables us ≡ true → are_tables ws ≡ true → are_tables (us ++ ws) ≡ true
-both_tables [] ws a b = b
-both_tables (u ∷ us) ws a b = by_test (nat_lt u 7) (λ h. both_tables us ws h b) a
-  where
-    by_test : (c : Bool) → (are_tables us ≡ true → are_tables (us ++ ws) ≡ true) → (c && are_tables us) ≡ true → (c && are_tables (us ++ ws)) ≡ true
-    by_test true rest h = rest h
-    by_test false rest h = absurd (cc h)
+both_tables us ws a b = list_all-append (λ u. nat_lt u 7) us ws ∙ ap₂ (λ (x y : Bool). x && y) a b
 
 class_below : (c : ObjectClass) → are_tables (class_tables c) ≡ true
 class_below class.NamedVariable = refl

@@ -1,11 +1,10 @@
 -- The event conditions of a device stay as they should be, at each event.
-use Rattle.std.specs.Prelude.{◌≡◌, ℕ, ◌+◌, Bool, true, false, Option, None, Some, if◌then◌else◌, refl}
+use Rattle.std.specs.Prelude.{◌≡◌, ℕ, ◌+◌, Option, None, Some}
 use Rattle.std.proofs.Common.{sym, subst, arith}
 use Rattle.mms_types.specs.declared.event.CellEvent.{CellEvent}
 use Rattle.mms_types.specs.declared.event.CellEvent.TheVariants.{Heard, Lost, Tick, Ends, Drain}
 use Rattle.mms_types.specs.declared.pdu.Request.{Request}
 use Rattle.mms_types.specs.declared.pdu.Request.TheVariants as request
-use Rattle.mms_types.specs.declared.service_error.ServiceError.{ServiceError}
 use Rattle.mms_time.specs.declared.taking.TakeDone.{TakeDone}
 use Rattle.mms_time.specs.declared.taking.TakeDone.TheVariants.{Answered, Waits}
 use Rattle.mms_time.specs.Services.{take_told}
@@ -15,23 +14,22 @@ use Rattle.sem_ticks.specs.declared.granted.Granted.{Granted}
 use Rattle.association.specs.Client.{ClientRow}
 use Rattle.association.specs.declared.negotiation.Association.{Association}
 use Rattle.association.specs.declared.negotiation.Association.TheVariants.{Idle, Open}
-use Rattle.association.specs.declared.waiting.Waiting.{Waiting}
 use Rattle.parted_state.specs.Served.{row_at}
 use Rattle.serve_events.specs.Events.{alter_condition, define_condition}
 use Rattle.cell_ticks.specs.Parts.{losses_of, of_semaphores}
 use Rattle.cell_ticks.specs.Ticks as device
 use Rattle.cell_ticks.proofs.Ticked.{both_parts}
-use Rattle.cell_client.specs.Association.{Verdict, Tells, Takes, Replies, Exhausts, Concludes, Cancels, Aborts, verdict}
-use Rattle.cell_client.specs.Requests.{fits, is_done, size_of}
+use Rattle.cell_client.specs.Association.{Verdict, verdict}
 use Rattle.cell_services.specs.Requests.{told_in}
-use Rattle.cell_services.specs.Services.{cause, effect, effect_of, relinquish_outcome, reply_in, take_outcome}
-use Rattle.cell_services.specs.Serving.{is_served_in, resolved, saying, tables_cancelled, tables_heard, tables_lost, waiting_of}
+use Rattle.cell_services.specs.Services.{cause, effect, relinquish_outcome, take_outcome}
+use Rattle.cell_services.specs.Serving.{resolved, saying, tables_heard, tables_lost}
 use Rattle.cell_services.specs.Tables.{Tables, moment_after, moment_of, own_events}
 use Rattle.step_parts.specs.Partition.{cell}
 use Rattle.step_parts.specs.State.{IsSound, State}
 use Rattle.step_parts.specs.Step.{step}
 use Rattle.step_sound.proofs.ConditionsKept.{AreWell, sound_of, well_after_alter, well_after_trigger, well_deleted, well_lost, well_more, well_of, well_ticked}
 use Rattle.step_parts.proofs.PartsAfter.{now_lost, step_still}
+use Rattle.step_sound.proofs.Walked.{by_heard}
 
 -- ---- what is heard
 
@@ -60,30 +58,7 @@ module _ (t : Tables) (well : AreWell (moment_of t) t.events.conditions) where
   effect_well row invoke asked none = well
 
   heard_well : (row : ClientRow) (v : Verdict) → Stays (tables_heard t row v)
-  heard_well row (Takes invoke asked) = by_cause (cause t row asked) refl
-    where
-      by_fit : (b : Bool) → cause t row asked ≡ None → Stays (if b then (effect t row invoke asked).tables else t)
-      by_fit true none = effect_well row invoke asked none
-      by_fit false none = well
-
-      by_cause : (o : Option ServiceError) → cause t row asked ≡ o
-          → Stays (if is_done (size_of row.association) invoke o (effect t row invoke asked).answer then (effect t row invoke asked).tables else t)
-      by_cause None e = by_fit (fits (size_of row.association) invoke (effect t row invoke asked).answer) e
-      by_cause (Some refusal) e = well
-  heard_well row (Tells effects) = well
-  heard_well row (Replies number came) = by_served (is_served_in t row number (reply_in number came))
-    where
-      by_served : (b : Bool) → Stays (if b then (effect_of t row number (reply_in number came)).tables else t)
-      by_served true = well
-      by_served false = well
-  heard_well row (Exhausts invoke) = well_lost (moment_of t) row.client t.events.conditions well
-  heard_well row Concludes = well_lost (moment_of t) row.client t.events.conditions well
-  heard_well row (Cancels invoke) = by_waiting (waiting_of invoke row.waiting)
-    where
-      by_waiting : (o : Option Waiting) → Stays (tables_cancelled o t)
-      by_waiting None = well
-      by_waiting (Some request) = well
-  heard_well row Aborts = well_lost (moment_of t) row.client t.events.conditions well
+  heard_well row v = by_heard t row Stays well (well_lost (moment_of t) row.client t.events.conditions well) (effect_well row) (λ number came. well) (λ request. well) v
 
   lost_well : (a : Association) (client : ℕ) → Stays (tables_lost a client t)
   lost_well Idle client = well

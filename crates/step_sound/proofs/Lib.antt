@@ -11,3 +11,4 @@ pub mod TokensKept
 pub mod TwoTicks
 pub mod Answering
 pub mod Waiters
+pub mod Walked

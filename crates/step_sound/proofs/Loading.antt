@@ -41,7 +41,7 @@ use Rattle.domain_upload.proofs.Kept.{initiate_keeps, none_kept, segment_keeps, 
 use Rattle.domain_upload.specs.Uploads.{AreOf}
 use Rattle.parted_state.specs.Served.{delivered, row_at}
 use Rattle.cell_client.specs.Areas.{OutcomeIn}
-use Rattle.cell_client.specs.Association.{Came, Verdict, Tells, Takes, Replies, Exhausts, Concludes, Cancels, Aborts, abort_told, cancel_told, conclusion_told, idle_verdict, keeps_open, loss_told, other_error, verdict}
+use Rattle.cell_client.specs.Association.{Came, Verdict, Tells, Takes, Replies, Exhausts, Concludes, Cancels, Aborts, abort_told, cancel_told, conclusion_told, idle_verdict, loss_told, other_error, verdict}
 use Rattle.cell_client.specs.Effects.{Asks, Effect, Drains, felt_all, tell}
 use Rattle.cell_client.specs.Requests.{answer_told, fits, is_done, refuses, request_told, size_of}
 use Rattle.serve_domains.proofs.Answered.{IsOfLoad, IsSaid, told_idle, verdict_said}
@@ -62,8 +62,8 @@ use Rattle.cell_ticks.specs.declared.happening.DatedHappening.{DatedHappening}
 use Rattle.cell_ticks.specs.declared.happening.Happening.{Happening as DeviceHappening}
 use Rattle.cell_ticks.specs.declared.happening.Happening.TheVariants as device
 use Rattle.cell_services.specs.Requests.{among, told_in}
-use Rattle.cell_services.specs.Services.{area_of, cause, effect, grant_told, grants_told, lacks_number, relinquish_outcome, reply_in, take_outcome}
-use Rattle.cell_services.specs.Serving.{aborted_then, all_told, also_lost, also_served, also_told, domains_without, happened_told, happening_told, is_served_in, keeps_upload, lost_in, loss_also, meanwhile, own_told, resolved, served_told, tables_cancelled, tables_heard, tables_lost, tables_served, waiting_of, without_client}
+use Rattle.cell_services.specs.Services.{area_of, cause, effect, grant_told, grants_told, relinquish_outcome, reply_in, take_outcome}
+use Rattle.cell_services.specs.Serving.{aborted_then, all_told, also_lost, also_served, also_told, domains_without, happened_told, happening_told, is_served_in, lost_in, loss_also, meanwhile, own_told, resolved, served_told, tables_cancelled, tables_heard, tables_lost, tables_served, waiting_of, without_client}
 use Rattle.cell_services.specs.Tables.{Tables, moment_of, own_domains, own_events}
 use Rattle.step_sound.proofs.DomainNames.{HaveNames}
 use Rattle.step_sound.proofs.LoadsKept.{AreQuiet, AreRight, begun_right, both_quiet, closed_right, deleted_right, nobody_lost, quiet_right, replied_right, run_right, told_loads, unused_right, used_right}
@@ -71,6 +71,7 @@ use Rattle.step_parts.proofs.Rows.{delivered_both, nobody_told}
 use Rattle.step_parts.specs.Partition.{cell, no_client}
 use Rattle.step_parts.specs.State.{IsSound, IsSoundRow, State, device_of, start}
 use Rattle.step_parts.specs.Step.{step}
+use Rattle.step_sound.proofs.Walked.{by_tables}
 
 -- ---- grants, and what is told of a request
 
@@ -256,25 +257,7 @@ module _ (t : Tables) (row : ClientRow) (k : ℕ) (own : row.client ≡ suc k) w
     lost_right (Open values) = gone_right (loss_told (Open values)) (λ r. refl)
 
 resolved_said : (t : Tables) (row : ClientRow) (v : Verdict) → IsSaid row v → IsSaid row (resolved t row v)
-resolved_said t row (Takes invoke asked) said = by_test (lacks_number t row invoke (area_of asked))
-  where
-    by_test : (b : Bool) → IsSaid row (if b then Exhausts invoke else Takes invoke asked)
-    by_test true = tt
-    by_test false = tt
-resolved_said t row (Replies number came) said = by_test (lacks_number t row number (reply_in number came))
-  where
-    by_test : (b : Bool) → IsSaid row (if b then Aborts else Replies number came)
-    by_test true = tt
-    by_test false = said
-resolved_said t row Concludes said = by_test (keeps_upload t row)
-  where
-    by_test : (b : Bool) → IsSaid row (if b then Tells keeps_open else Concludes)
-    by_test true = λ apart client domains agree. agree
-    by_test false = tt
-resolved_said t row (Tells effects) said = said
-resolved_said t row (Exhausts invoke) said = said
-resolved_said t row (Cancels invoke) said = said
-resolved_said t row Aborts said = said
+resolved_said t row v said = by_tables t row (IsSaid row) (λ invoke. tt) tt (λ apart client domains agree. agree) v said
 
 -- ---- by whether the client is there
 

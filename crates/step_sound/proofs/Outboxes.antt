@@ -38,7 +38,9 @@ use Rattle.step_parts.specs.State.{State}
 use Rattle.step_parts.specs.Step.{outbox_in, step}
 use Rattle.step_sound.specs.Answered.{grant_answer, IsAnswered, EndsIt}
 use Rattle.step_parts.proofs.PartsAfter.{step_sized}
-use Rattle.step_sound.proofs.Sound.{delivered_both}
+use Rattle.step_parts.proofs.Rows.{delivered_both}
+use Rattle.step_parts.specs.AfterLaws.{is_device}
+use Rattle.parted_state.specs.ServedLaws.{length-delivered}
 
 -- ---- what is to be sent stays so until it is taken away
 
@@ -171,10 +173,6 @@ besides own also s g stay is some there =
     next : g.client ≡ suc (g.client - 1)
     next = omega (arith, some)
 
-length-delivered : (told : List (ℕ × Effect)) (rows : List ClientRow) → length (delivered cell told rows) ≡ length rows
-length-delivered [] rows = refl
-length-delivered (t ∷ told) rows = length-delivered told (reached cell t.0 t.1 rows) ∙ length-reached t.0 t.1 rows
-
 module _ (s : State) (client : ℕ) (octets : List ℕ) (g : Granted) where
   abbrev pub row : ClientRow
   row = row_at cell client s.clients
@@ -185,7 +183,7 @@ module _ (s : State) (client : ℕ) (octets : List ℕ) (g : Granted) where
   heard_besides : AllStay (also_told (cell.tables_of s) row now) → Contains (also_told (cell.tables_of s) row now) (g.client, Sends (grant_answer g))
       → IsAnswered (step s (Heard client octets)) g
   heard_besides stay is some there =
-      let many = length-delivered (tell client (own_told (cell.tables_of s) row now)) s.clients in
+      let many = length-delivered cell is_device (tell client (own_told (cell.tables_of s) row now)) s.clients in
       let sized = step_sized s (Heard client octets) in
       besides (tell client (own_told (cell.tables_of s) row now)) (also_told (cell.tables_of s) row now) s g stay is some
       (omega (arith, many, sized, there))
@@ -221,7 +219,7 @@ module _ (s : State) (client : ℕ) (octets : List ℕ) (g : Granted) where
 pub lost_to : (s : State) (client : ℕ) (g : Granted) (values : Negotiated) → (row_at cell client s.clients).association ≡ Open values
     → Contains (lost_granted (row_at cell client s.clients).client (record { 0 = s.now }) s.semaphores) g → IsAnswered (step s (Lost client)) g
 lost_to s client g values is grant some there =
-    let many = length-delivered (tell client (loss_told (row_at cell client s.clients).association)) s.clients in
+    let many = length-delivered cell is_device (tell client (loss_told (row_at cell client s.clients).association)) s.clients in
     let sized = step_sized s (Lost client) in
     besides (tell client (loss_told (row_at cell client s.clients).association))
     (also_lost (row_at cell client s.clients).association (row_at cell client s.clients).client (cell.tables_of s)) s g

@@ -77,12 +77,12 @@ use Rattle.sem_ticks.specs.declared.ticks.Happening.TheVariants as happens
 use Rattle.mms_types.specs.declared.pdu.Request.TheVariants as request
 use Rattle.step_parts.specs.State.{State, start, device_of, HaveMadeAtMost, IsSound, IsSoundRow, AreNumbered}
 use Rattle.cell_client.specs.Effects.{Effect, Sends, Opens, Closes, Waits, Answers, Drains, felt, felt_all, tell, Asks, Settles}
-use Rattle.cell_client.specs.Association.{Verdict, other_error, Tells, Takes, Concludes, Cancels, Aborts, verdict, verdict_by, idle_verdict, open_verdict, admitted, requested, concluded, cancelled, negotiated, refused, loss_told, Came, Replies, Exhausts, answered_by, failed_by, heard_response, heard_error, heard_reject, rejected, keeps_open}
+use Rattle.cell_client.specs.Association.{Verdict, other_error, Tells, Takes, Concludes, Cancels, Aborts, verdict, verdict_by, idle_verdict, open_verdict, admitted, requested, concluded, cancelled, negotiated, refused, loss_told, Came, Replies, Exhausts, answered_by, failed_by, heard_response, heard_error, heard_reject, rejected}
 use Rattle.cell_services.specs.Tables.{Tables, moment_after, moment_of, own_events}
 use Rattle.step_parts.specs.Partition.{cell}
-use Rattle.cell_services.specs.Services.{cause, effect, grant_told, grants_told, relinquish_outcome, take_outcome, area_of, reply_in, cause_of, effect_of, lacks_number}
+use Rattle.cell_services.specs.Services.{cause, effect, grant_told, grants_told, relinquish_outcome, take_outcome, reply_in, cause_of, effect_of}
 use Rattle.cell_client.specs.Requests.{fits, refuses, request_told, answer_told, size_of}
-use Rattle.cell_services.specs.Serving.{all_told, also_lost, also_told, happened_told, is_served, meanwhile, own_told, is_served_in, keeps_upload, resolved, saying}
+use Rattle.cell_services.specs.Serving.{all_told, also_lost, also_told, happened_told, meanwhile, own_told, resolved, saying}
 use Rattle.step_parts.specs.Step.{step, replay}
 use Rattle.mms_types.specs.declared.condition.Notice.{Notice}
 use Rattle.mms_types.specs.declared.condition.Turned.{Turned}
@@ -98,6 +98,7 @@ use Rattle.step_sound.proofs.EventsKept.{well_after, well_before}
 use Rattle.step_sound.proofs.ConditionsKept.{AreWell, awaited_of, none_well, sound_of}
 use Rattle.step_parts.proofs.PartsAfter.{length-start, length-clients_to, now_lost, step_sized, step_still, told_one}
 use Rattle.step_sound.proofs.TokensKept.{AreKept, kept_heard, kept_later, kept_lost, kept_ticked, waits_numbered}
+use Rattle.step_sound.proofs.Walked.{by_also, by_tables}
 
 -- ---- requests that wait
 
@@ -320,23 +321,7 @@ module _ (count client : ℕ) where
   verdict_fine row (Open values) heard is sound = open_fine values row heard sound
 
   resolved_fine : (t : Tables) (row : ClientRow) (v : Verdict) → IsSoundRow count client row → Fine row v → Fine row (resolved t row v)
-  resolved_fine t row (Takes invoke asked) sound fine = by_test (lacks_number t row invoke (area_of asked))
-    where
-      by_test : (b : Bool) → Fine row (if b then Exhausts invoke else Takes invoke asked)
-      by_test true = tt
-      by_test false = tt
-  resolved_fine t row (Replies number came) sound fine = by_test (lacks_number t row number (reply_in number came))
-    where
-      by_test : (b : Bool) → Fine row (if b then Aborts else Replies number came)
-      by_test true = tt
-      by_test false = tt
-  resolved_fine t row Concludes sound fine = by_test (keeps_upload t row)
-    where
-      by_test : (b : Bool) → Fine row (if b then Tells keeps_open else Concludes)
-      by_test true = sent _ row sound
-      by_test false = tt
-  resolved_fine t row (Tells effects) sound fine = fine
-  resolved_fine t row v sound fine = fine
+  resolved_fine t row v sound fine = by_tables t row (Fine row) (λ invoke. tt) tt (sent _ row sound) v fine
 
   heard_sound : (t : Tables) (row : ClientRow) (octets : List ℕ) → IsSoundRow count client row
       → IsSoundRow count client (felt_all (own_told t row (resolved t row (verdict row octets))) row)
@@ -479,21 +464,9 @@ module _ (count : ℕ) (t : Tables) (made : HaveMadeAtMost count t.semaphores) w
       next (Some kind) = (tt, tt)
 
   also_steady : (row : ClientRow) (v : Verdict) → AreSteady (suc count) (also_told t row v)
-  also_steady row (Takes invoke asked) = by_test (is_served t row invoke asked)
-    where
-      by_test : (b : Bool) → AreSteady (suc count) (if b then (effect t row invoke asked).also else [])
-      by_test true = effect_steady row invoke asked
-      by_test false = tt
-  also_steady row (Tells effects) = tt
-  also_steady row (Replies number came) = by_test (is_served_in t row number (reply_in number came))
-    where
-      by_test : (b : Bool) → AreSteady (suc count) (if b then (effect_of t row number (reply_in number came)).also else [])
-      by_test true = reply_steady row.client number came (asked_of number row.asked)
-      by_test false = tt
-  also_steady row (Exhausts invoke) = grants_steady (suc count) (lost_granted row.client (moment_of t) t.semaphores)
-  also_steady row Concludes = grants_steady (suc count) (lost_granted row.client (moment_of t) t.semaphores)
-  also_steady row (Cancels invoke) = tt
-  also_steady row Aborts = grants_steady (suc count) (lost_granted row.client (moment_of t) t.semaphores)
+  also_steady row v =
+      by_also t row (AreSteady (suc count)) tt (grants_steady (suc count) (lost_granted row.client (moment_of t) t.semaphores)) (effect_steady row)
+      (λ number came. reply_steady row.client number came (asked_of number row.asked)) v
 
   lost_steady : (a : Association) (client : ℕ) → AreSteady (suc count) (also_lost a client t)
   lost_steady Idle client = tt

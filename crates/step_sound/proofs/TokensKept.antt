@@ -15,11 +15,9 @@ use Rattle.mms_types.specs.declared.pdu.Request.TheVariants as request
 use Rattle.mms_types.specs.declared.semaphore.DefineSemaphore.{DefineSemaphore}
 use Rattle.mms_types.specs.declared.semaphore.TakeControl.{TakeControl}
 use Rattle.mms_types.specs.declared.semaphore.TakeControlAnswer.TheVariants.{NoResult}
-use Rattle.mms_types.specs.declared.service_error.ServiceError.{ServiceError}
 use Rattle.association.specs.Client.{ClientRow}
 use Rattle.association.specs.declared.negotiation.Association.{Association}
 use Rattle.association.specs.declared.negotiation.Association.TheVariants.{Idle, Open}
-use Rattle.association.specs.declared.waiting.Waiting.{Waiting}
 use Rattle.token_sem.specs.Semaphore.{Sem, after_cancel, after_freeing, after_giving_back, effect_of, expired_entry, has_token, is_queued, numbered, outcome, owner_of, without}
 use Rattle.token_sem.specs.declared.entry.Ask.{Ask}
 use Rattle.token_sem.specs.declared.entry.Expired.{Expired}
@@ -53,14 +51,14 @@ use Rattle.sem_ticks.proofs.Kept.{keeps_lost, keeps_ticked}
 use Rattle.sem_ticks.proofs.Later.{ahead_cancelled, ahead_defined, ahead_deleted, ahead_lost, ahead_relinquished, ahead_taken}
 use Rattle.sem_ticks.proofs.Requests.{keeps_cancelled, keeps_defined, keeps_deleted, keeps_relinquished, keeps_taken}
 use Rattle.sem_ticks.proofs.Settling.{settle-keeps}
-use Rattle.cell_client.specs.Association.{Verdict, Tells, Takes, Concludes, Cancels, Aborts, Replies, Exhausts}
-use Rattle.cell_services.specs.Services.{cause, effect, relinquish_outcome, take_outcome, effect_of as effect_in_area, reply_in}
-use Rattle.cell_client.specs.Requests.{fits, is_done, size_of}
-use Rattle.cell_services.specs.Serving.{tables_cancelled, tables_heard, tables_lost, waiting_of, is_served_in}
+use Rattle.cell_client.specs.Association.{Verdict}
+use Rattle.cell_services.specs.Services.{cause, effect, relinquish_outcome, take_outcome}
+use Rattle.cell_services.specs.Serving.{tables_heard, tables_lost}
 use Rattle.cell_services.specs.Requests.{told_in}
 use Rattle.cell_services.specs.Tables.{Tables, moment_of, own_semaphores}
 use Rattle.serve_semaphores.specs.Semaphores.{define_semaphore}
 use Rattle.step_parts.specs.State.{HaveMadeAtMost}
+use Rattle.step_sound.proofs.Walked.{by_heard}
 
 -- ---- what each of the things that are done to semaphores keeps
 
@@ -95,30 +93,9 @@ module _ (P Q : Rows → Type 0) (t : Tables) (kept : IsKept (moment_of t) P Q) 
   effect_kept row invoke asked none = as_they_were
 
   heard_kept : (row : ClientRow) (v : Verdict) → Q (tables_heard t row v).semaphores
-  heard_kept row (Takes invoke asked) = by_cause (cause t row asked) refl
-    where
-      by_fit : (b : Bool) → cause t row asked ≡ None → Q (if b then (effect t row invoke asked).tables else t).semaphores
-      by_fit true none = effect_kept row invoke asked none
-      by_fit false none = as_they_were
-
-      by_cause : (o : Option ServiceError) → cause t row asked ≡ o
-          → Q (if is_done (size_of row.association) invoke o (effect t row invoke asked).answer then (effect t row invoke asked).tables else t).semaphores
-      by_cause None e = by_fit (fits (size_of row.association) invoke (effect t row invoke asked).answer) e
-      by_cause (Some refusal) e = as_they_were
-  heard_kept row (Tells effects) = as_they_were
-  heard_kept row (Replies number came) = by_served (is_served_in t row number (reply_in number came))
-    where
-      by_served : (b : Bool) → Q (if b then (effect_in_area t row number (reply_in number came)).tables else t).semaphores
-      by_served true = as_they_were
-      by_served false = as_they_were
-  heard_kept row (Exhausts invoke) = kept.lost row.client t.semaphores is
-  heard_kept row Concludes = kept.lost row.client t.semaphores is
-  heard_kept row (Cancels invoke) = by_waiting (waiting_of invoke row.waiting)
-    where
-      by_waiting : (o : Option Waiting) → Q (tables_cancelled o t).semaphores
-      by_waiting None = as_they_were
-      by_waiting (Some request) = kept.cancelled request.key request.entry t.semaphores is
-  heard_kept row Aborts = kept.lost row.client t.semaphores is
+  heard_kept row v =
+      by_heard t row (λ (u : Tables). Q u.semaphores) as_they_were (kept.lost row.client t.semaphores is) (effect_kept row) (λ number came. as_they_were)
+      (λ request. kept.cancelled request.key request.entry t.semaphores is) v
 
   lost_kept : (a : Association) (client : ℕ) → Q (tables_lost a client t).semaphores
   lost_kept Idle client = as_they_were

@@ -58,15 +58,16 @@ use Rattle.cell_ticks.specs.declared.happening.DatedHappening.{DatedHappening}
 use Rattle.cell_ticks.specs.declared.happening.Happening.{Happening as DeviceHappening}
 use Rattle.cell_ticks.specs.declared.happening.Happening.TheVariants as device
 use Rattle.parted_state.specs.Served.{done_of, row_of}
-use Rattle.cell_client.specs.Association.{Verdict, Tells, Takes, Concludes, Cancels, Aborts, admitted, cancel_error, cancelled, concluded, confirmed_error, idle_verdict, loss_told, negotiated, open_verdict, other_error, sends, refused, requested, timeout_error, verdict, verdict_by, Came, Replies, Exhausts, answered_by, failed_by, heard_response, heard_error, heard_reject, rejected, keeps_open}
+use Rattle.cell_client.specs.Association.{Verdict, Tells, Takes, Concludes, Cancels, Aborts, admitted, cancel_error, cancelled, concluded, confirmed_error, idle_verdict, loss_told, negotiated, open_verdict, other_error, sends, refused, requested, timeout_error, verdict, verdict_by, Came, Replies, Exhausts, answered_by, failed_by, heard_response, heard_error, heard_reject, rejected}
 use Rattle.cell_client.specs.Effects.{Effect, Sends, Opens, Closes, Waits, Answers, Drains, tell, Asks, Settles}
-use Rattle.cell_services.specs.Services.{cause, effect, grant_told, grants_told, relinquish_outcome, take_outcome, area_of, reply_in, cause_of, effect_of, lacks_number}
+use Rattle.cell_services.specs.Services.{cause, effect, grant_told, grants_told, relinquish_outcome, take_outcome, reply_in, cause_of, effect_of}
 use Rattle.cell_client.specs.Requests.{answer_told, fits, refuses, request_told, size_of}
-use Rattle.cell_services.specs.Serving.{all_told, also_lost, also_told, dated_told, happened_told, happening_told, is_served, meanwhile, own_told, services, is_served_in, keeps_upload, resolved}
+use Rattle.cell_services.specs.Serving.{all_told, also_lost, also_told, dated_told, happened_told, happening_told, meanwhile, own_told, services, resolved}
 use Rattle.cell_services.specs.Tables.{Tables, moment_of, own_events}
 use Rattle.step_sound.specs.Answered.{AreAnswered, IsAnswerTo, grant_answer}
 use Rattle.step_parts.specs.Partition.{cell}
 use Rattle.step_parts.specs.State.{State}
+use Rattle.step_sound.proofs.Walked.{by_also, by_tables}
 
 -- ---- what tells nothing of requests that wait no more
 
@@ -246,23 +247,7 @@ verdict_plain row Idle heard = idle_plain heard
 verdict_plain row (Open values) heard = open_plain values row heard
 
 resolved_plain : (t : Tables) (row : ClientRow) (v : Verdict) → TellsPlain v → TellsPlain (resolved t row v)
-resolved_plain t row (Takes invoke asked) plain = by_test (lacks_number t row invoke (area_of asked))
-  where
-    by_test : (b : Bool) → TellsPlain (if b then Exhausts invoke else Takes invoke asked)
-    by_test true = tt
-    by_test false = tt
-resolved_plain t row (Replies number came) plain = by_test (lacks_number t row number (reply_in number came))
-  where
-    by_test : (b : Bool) → TellsPlain (if b then Aborts else Replies number came)
-    by_test true = tt
-    by_test false = tt
-resolved_plain t row Concludes plain = by_test (keeps_upload t row)
-  where
-    by_test : (b : Bool) → TellsPlain (if b then Tells keeps_open else Concludes)
-    by_test true = (tt, tt)
-    by_test false = tt
-resolved_plain t row (Tells effects) plain = plain
-resolved_plain t row v plain = plain
+resolved_plain t row v plain = by_tables t row TellsPlain (λ invoke. tt) tt (tt, tt) v plain
 
 request_plain : (size invoke : ℕ) (why : Option ServiceError) (told : Option Answer) → AllPlain (request_told size invoke why told)
 request_plain size invoke (Some refusal) told = (tt, tt)
@@ -317,21 +302,9 @@ reply_plain client number came (Some of) d = (tt, next (asked_next (reply_of cam
     next (Some kind) = (tt, tt)
 
 also_answered : (t : Tables) (row : ClientRow) (v : Verdict) → AreAnswered (also_told t row v)
-also_answered t row (Takes invoke asked) = by_test (is_served t row invoke asked)
-  where
-    by_test : (b : Bool) → AreAnswered (if b then (effect t row invoke asked).also else [])
-    by_test true = effect_answered t row invoke asked
-    by_test false = plain_answered [] tt
-also_answered t row (Tells effects) = plain_answered [] tt
-also_answered t row (Replies number came) = by_test (is_served_in t row number (reply_in number came))
-  where
-    by_test : (b : Bool) → AreAnswered (if b then (effect_of t row number (reply_in number came)).also else [])
-    by_test true = plain_answered _ (reply_plain row.client number came (asked_of number row.asked) t.domains)
-    by_test false = plain_answered [] tt
-also_answered t row (Exhausts invoke) = grants_answered (lost_granted row.client (moment_of t) t.semaphores)
-also_answered t row Concludes = grants_answered (lost_granted row.client (moment_of t) t.semaphores)
-also_answered t row (Cancels invoke) = plain_answered [] tt
-also_answered t row Aborts = grants_answered (lost_granted row.client (moment_of t) t.semaphores)
+also_answered t row v =
+    by_also t row AreAnswered (plain_answered [] tt) (grants_answered (lost_granted row.client (moment_of t) t.semaphores)) (effect_answered t row)
+    (λ number came. plain_answered _ (reply_plain row.client number came (asked_of number row.asked) t.domains)) v
 
 loss_answered : (client : ℕ) (a : Association) → AreAnswered (tell client (loss_told a))
 loss_answered client Idle = plain_answered [] tt

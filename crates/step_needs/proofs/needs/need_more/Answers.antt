@@ -6,10 +6,10 @@ use Rattle.mms_types.specs.declared.event.CellEvent.TheVariants.{Heard, Lost, Dr
 use Rattle.parted_state.specs.Cut.{missing}
 use Rattle.parted_state.specs.Sets.{IsSetOf}
 use Rattle.part_table.specs.Held.{held_at}
-use Rattle.step_parts.specs.Needs.{footprint, heard_need, lost_need, need, time_need}
+use Rattle.step_parts.specs.Needs.{footprint, heard_need, need}
 use Rattle.step_parts.specs.Partition.{clock_in}
 use Rattle.step_parts.specs.Step.{IsInTime}
-use Rattle.step_parts.proofs.Words.{client_by_words, own_held, own_is_held}
+use Rattle.step_parts.proofs.Words.{client_by_words, few_held, own_held, own_is_held}
 use Rattle.step_parts.proofs.Needed.{need_heard, need_lost, need_ticked, need_ended, drain_needs_none}
 use Rattle.step_parts.specs.Found.{IsFoundOf}
 use Rattle.step_parts.proofs.Found.{found_by_part, found_heard}
@@ -27,55 +27,67 @@ client_held-part-requires-in-Lost-clause-held c =
     (subst (λ (e : CellEvent). IsAmong c.args.clients e) c.in-Lost.is c.requires.among) refl
     (subst (λ (e : CellEvent). missing c.args.held.now (footprint c.args.clients e) ≡ []) c.in-Lost.is c.requires.words)
 
-pub returns-in-Heard : goal.returns-in-Heard
-returns-in-Heard c =
-    let among = subst (λ (e : CellEvent). IsAmong c.args.clients e) c.in-Heard.is c.requires.among in
-    let same : heard_need c.args.clients c.args.held.now c.client_held-part.result.now.row c.as_slice.result.now ≡ need c.args.event.now c.args.held.now =
-    ap (λ (o : List ℕ). heard_need c.args.clients c.args.held.now c.client_held-part.result.now.row o) c.as_slice.ensures
-    ∙ sym (need_heard c.args.held.now c.in-Heard.client c.in-Heard.octets c.args.clients c.client_held-part.result.now c.requires.clients
-    (subst (λ (e : CellEvent). missing c.args.held.now (footprint c.args.clients e) ≡ []) c.in-Heard.is c.requires.words) among.0 among.1 c.client_held-part.ensures)
-    ∙ ap (λ (e : CellEvent). need e c.args.held.now) (sym c.in-Heard.is) in
-    IfOk-weaker c.need_heard.result (λ parts. IsSetOf parts (heard_need c.args.clients c.args.held.now c.client_held-part.result.now.row c.as_slice.result.now))
-    (λ parts. IsSetOf parts (need c.args.event.now c.args.held.now))
-    (λ parts is. subst (IsSetOf parts) same is)
-    c.need_heard.ensures
+pub heard_need-requires-clause-sight : goal.heard_need-requires-clause-sight
+heard_need-requires-clause-sight c =
+    let among = subst (λ (e : CellEvent). IsAmong c.args.clients e) c.in-Heard.is c.requires.among in record {
+      many = c.requires.clients;
+      few = few_held c.args.held.now c.args.clients c.requires.of c.requires.clients;
+      own = own_held c.args.held.now c.in-Heard.client c.args.clients c.client_held-part.result.now c.requires.of c.requires.clients among.0 among.1 c.client_held-part.ensures;
+    }
 
-pub need_heard-requires-clause-found : goal.need_heard-requires-clause-found
-need_heard-requires-clause-found c =
+pub heard_need-requires-clause-found : goal.heard_need-requires-clause-found
+heard_need-requires-clause-found c =
     found_by_part c.args.found.now c.args.held.now c.in-Heard.client c.client_held-part.result.now c.as_slice.result.now c.client_held-part.ensures
     (found_heard c.args.found.now c.args.held.now c.in-Heard.client c.in-Heard.octets c.as_slice.result.now
     (subst (λ (e : CellEvent). IsFoundOf c.args.found.now e c.args.held.now) c.in-Heard.is c.requires.found) c.as_slice.ensures)
 
-pub need_heard-requires-clause-own : goal.need_heard-requires-clause-own
-need_heard-requires-clause-own c =
+pub returns-in-Heard : goal.returns-in-Heard
+returns-in-Heard c =
+    let hand = c.args.held.now in
     let among = subst (λ (e : CellEvent). IsAmong c.args.clients e) c.in-Heard.is c.requires.among in
-    own_held c.args.held.now c.in-Heard.client c.args.clients c.client_held-part.result.now c.requires.of c.requires.clients among.0 among.1 c.client_held-part.ensures
+    IfOk-weaker c.heard_need.result _ _
+    (λ parts is.
+    subst (IsSetOf parts)
+    (ap (λ (o : List ℕ). heard_need c.args.clients hand c.client_held-part.result.now.row o) c.as_slice.ensures
+    ∙ sym (need_heard hand c.in-Heard.client c.in-Heard.octets c.args.clients c.client_held-part.result.now c.requires.clients
+    (subst (λ (e : CellEvent). missing hand (footprint c.args.clients e) ≡ []) c.in-Heard.is c.requires.words) among.0 among.1 c.client_held-part.ensures)
+    ∙ ap (λ (e : CellEvent). need e hand) (sym c.in-Heard.is)) is)
+    c.heard_need.ensures
+
+pub lost_need-requires : goal.lost_need-requires
+lost_need-requires c =
+    let among = subst (λ (e : CellEvent). IsAmong c.args.clients e) c.in-Lost.is c.requires.among in record {
+      sight = record {
+        many = c.requires.clients;
+        few = few_held c.args.held.now c.args.clients c.requires.of c.requires.clients;
+        own = own_held c.args.held.now c.in-Lost.client c.args.clients c.client_held-part-in-Lost.result.now c.requires.of c.requires.clients among.0 among.1 c.client_held-part-in-Lost.ensures;
+      };
+    }
 
 pub returns-in-Lost : goal.returns-in-Lost
 returns-in-Lost c =
+    let hand = c.args.held.now in
     let among = subst (λ (e : CellEvent). IsAmong c.args.clients e) c.in-Lost.is c.requires.among in
-    let same : lost_need c.args.clients c.args.held.now c.client_held-part-in-Lost.result.now.row ≡ need c.args.event.now c.args.held.now =
-    sym (need_lost c.args.held.now c.in-Lost.client c.args.clients c.client_held-part-in-Lost.result.now c.requires.clients
-    (subst (λ (e : CellEvent). missing c.args.held.now (footprint c.args.clients e) ≡ []) c.in-Lost.is c.requires.words) among.0 among.1 c.client_held-part-in-Lost.ensures)
-    ∙ ap (λ (e : CellEvent). need e c.args.held.now) (sym c.in-Lost.is) in
-    IfOk-weaker c.need_lost.result (λ parts. IsSetOf parts (lost_need c.args.clients c.args.held.now c.client_held-part-in-Lost.result.now.row))
-    (λ parts. IsSetOf parts (need c.args.event.now c.args.held.now))
-    (λ parts is. subst (IsSetOf parts) same is)
-    c.need_lost.ensures
+    IfOk-weaker c.lost_need.result _ _
+    (λ parts is.
+    subst (IsSetOf parts)
+    (sym (need_lost hand c.in-Lost.client c.args.clients c.client_held-part-in-Lost.result.now c.requires.clients
+    (subst (λ (e : CellEvent). missing hand (footprint c.args.clients e) ≡ []) c.in-Lost.is c.requires.words) among.0 among.1 c.client_held-part-in-Lost.ensures)
+    ∙ ap (λ (e : CellEvent). need e hand) (sym c.in-Lost.is)) is)
+    c.lost_need.ensures
 
 pub need_time-requires-clause-time : goal.need_time-requires-clause-time
-need_time-requires-clause-time c =
-    subst (λ (e : CellEvent). IsInTime (clock_in (held_at c.args.held.now 0)) e) c.in-Tick.is c.requires.time
+need_time-requires-clause-time c = subst (λ (e : CellEvent). IsInTime (clock_in (held_at c.args.held.now 0)) e) c.in-Tick.is c.requires.time
 
 pub returns-in-Tick : goal.returns-in-Tick
 returns-in-Tick c =
-    let same : time_need c.args.clients c.args.held.now c.in-Tick.ms ≡ need c.args.event.now c.args.held.now =
-    sym (need_ticked c.args.held.now c.in-Tick.ms c.args.clients c.requires.clients
-    (subst (λ (e : CellEvent). missing c.args.held.now (footprint c.args.clients e) ≡ []) c.in-Tick.is c.requires.words))
-    ∙ ap (λ (e : CellEvent). need e c.args.held.now) (sym c.in-Tick.is) in
-    IfOk-weaker c.need_time.result (λ parts. IsSetOf parts (time_need c.args.clients c.args.held.now c.in-Tick.ms))
-    (λ parts. IsSetOf parts (need c.args.event.now c.args.held.now))
-    (λ parts is. subst (IsSetOf parts) same is)
+    let hand = c.args.held.now in
+    IfOk-weaker c.need_time.result _ _
+    (λ parts is.
+    subst (IsSetOf parts)
+    (sym (need_ticked hand c.in-Tick.ms c.args.clients c.requires.clients
+    (subst (λ (e : CellEvent). missing hand (footprint c.args.clients e) ≡ []) c.in-Tick.is c.requires.words))
+    ∙ ap (λ (e : CellEvent). need e hand) (sym c.in-Tick.is)) is)
     c.need_time.ensures
 
 pub returns-in-Ends : goal.returns-in-Ends

@@ -1,0 +1,18 @@
+use Rattle.std.proofs.Common.{◌≡◌, ◌==◌, ◌∙◌, sym, ℕ}
+use Rattle.std.specs.List.{flat_map, list_any}
+use Rattle.std.proofs.lemmas.Result.{IfOk-weaker}
+use Rattle.part_table.specs.Held.{held_at}
+use Rattle.parted_state.specs.Served.{is_told}
+use Rattle.cell_services.specs.Serving.{happening_told, saying}
+use Rattle.step_parts.specs.Partition.{variables_in}
+use Rattle.step_needs.proofs.TimeNeeds.{told_alone}
+use Rattle.step_needs.proofs.time.Coming.told.Goals as goal
+
+pub returns-else-is_due : goal.returns-else-is_due
+returns-else-is_due c =
+    let s = c.args.self in
+    IfOk-weaker c.happened_to.result (λ clients. (k : ℕ) → is_told (flat_map happening_told c.args.happened.now) k ≡ list_any (λ x. x == k) clients.items) _
+    (λ clients is k.
+    told_alone (saying (variables_in (held_at s.held.now 1))) s.until s.semaphores.now s.events.now c.args.happened.now
+    (sym c.requires.due ∙ c.if-is_due.false) c.requires.happened k ∙ is k)
+    c.happened_to.ensures.told
