@@ -61,9 +61,6 @@ serves count hand new event all sound may stepped same =
 pub none_needed : (hand : List (Option Part)) (event : CellEvent) → HoldsAll hand → IsAmong (length (state_in hand).clients) event → need event hand ≡ []
 none_needed hand event all among = ap (λ (h : List (Option Part)). need event h) all ∙ nothing_needed (state_in hand) event among
 
-pub among_hand : (hand : List (Option Part)) (event : CellEvent) → HoldsAll hand → IsAmong (length (state_in hand).clients) event → IsAmong (clients_among (length hand)) event
-among_hand hand event all among = subst (λ (n : ℕ). IsAmong n event) (sym (clients_counted (state_in hand) hand (is_of_its_state hand all))) among
-
 -- a client's part is held, with the row of the state
 pub client_of_all : (hand : List (Option Part)) (client : ℕ) → HoldsAll hand → 1 ≤ client → client ≤ length (state_in hand).clients
     → IsClient (held_at hand (client_place client)) × (outbox_held (held_at hand (client_place client)) ≡ outbox_of (state_in hand) client)

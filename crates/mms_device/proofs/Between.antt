@@ -18,7 +18,7 @@ use Rattle.mms_device.specs.Shared.{Caller, IsOf, IsTimely, all_events, led_to}
 use Rattle.mms_device.specs.Taken.{IsTaking}
 use Rattle.mms_device.proofs.Steps.{replay_sound}
 use Rattle.mms_device.proofs.Leading.{leads, same_own, in_time}
-use Rattle.mms_device.proofs.Outcomes.{SeesState, state_shown, among_shown, actor_among, opening_many}
+use Rattle.mms_device.proofs.Outcomes.{SeesState, sees, state_shown, among_shown, actor_among}
 
 -- a pass holds all that an event wants of the state to which the history leads that it knows
 module _ (config : Config) (is_config : IsConfig config) (event : CellEvent) (old p : Caller) (taking : IsTaking event old p) (of_table : IsOf old.table config)
@@ -27,13 +27,7 @@ module _ (config : Config) (is_config : IsConfig config) (event : CellEvent) (ol
   p_of = subst (λ t. IsOf t config) (sym (ap (λ (x : Caller). x.table) taking.pass)) of_table
 
   state : SeesState config p
-  state = record {
-    sound = replay_sound config (all_events p.seen) is_config;
-    hand = of;
-    clients = (leads config p.seen).1;
-    same = taking.hand;
-    opening = opening_many config p.table p.seen p_of;
-  }
+  state = sees config p is_config p_of of taking.hand
 
   pub state_held : (hand : List (Option Part)) → hand ≡ p.hand → (s : State) × ((count : ℕ) × IsSound count s) × IsHandOf hand (parts_of s)
   state_held hand is = state_shown config p state hand is

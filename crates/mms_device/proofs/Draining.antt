@@ -18,7 +18,7 @@ use Rattle.step_parts.specs.After.{after, parts_after}
 use Rattle.mms_device.specs.Making.{MayMake}
 use Rattle.mms_device.specs.Shared.{Caller, History, IsServed, IsBusy, IsOf, all_events, led_to}
 use Rattle.mms_device.specs.Taken.{AreHeld, HasLost, IsTaking}
-use Rattle.mms_device.proofs.Steps.{client_held, client_told, drain_enough, outputs_held}
+use Rattle.mms_device.proofs.Steps.{client_told, drain_needs_none, held_client, outputs_held}
 use Rattle.mms_device.proofs.Leading.{leads}
 use Rattle.mms_device.proofs.Outcomes.{SeesState, sees, hand_led, looked, taken_on, served, is_busy}
 
@@ -46,7 +46,7 @@ module _ (config : Config) (is_config : IsConfig config) (old p saw : Caller) (c
   saw_of = subst (λ t. IsOf t config) (sym (ap (λ (x : Caller). x.table) seeing.pass)) of_table
 
   state : SeesState config saw
-  state = sees config p saw is_config saw_of of is_s taking.hand
+  state = sees config saw is_config saw_of (hand_led config saw saw_of of) seeing.hand
 
   there : (history : History) → client ≤ length (led_to config history).clients
   there history = let n = (leads config history).1 in let le = few in omega (arith, n, le)
@@ -69,10 +69,10 @@ module _ (config : Config) (is_config : IsConfig config) (old p saw : Caller) (c
     pub drain_client : (hand : List (Option Part)) → hand ≡ saw.hand → IsClient (held_at hand (client_place client))
     drain_client hand is =
         subst (λ (h : List (Option Part)). IsClient (held_at h (client_place client))) (sym (is ∙ state.same))
-        (client_held (led_to config saw.seen) saw.taken client state.hand is_client (there saw.seen) saw_held)
+        (held_client (led_to config saw.seen) saw.taken client state.hand is_client (there saw.seen) saw_held)
 
     pub drain_need : need (Drain client) saw.taken ≡ []
-    drain_need = drain_enough saw.taken client is_client saw_held
+    drain_need = drain_needs_none saw.taken client is_client saw_held
 
     pub drain_step : (hand new : List (Option Part)) → hand ≡ saw.hand
         → ((s : State) → IsHandOf hand (parts_of s) → IsAmong (length s.clients) (Drain client) → new ≡ after (Drain client) hand) → new ≡ after (Drain client) saw.taken

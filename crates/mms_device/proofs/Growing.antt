@@ -43,21 +43,6 @@ grown_more asked part a b c is first next = record {
     from i (inl held) = first.only i held
     from i (inr one) = inr (subst (λ (j : ℕ). Contains asked j) (sym (the_one part i one)) is)
 
-pub grown_one : (hand : List (Option Part)) (part : ℕ) (x : Part) → held_at hand part ≡ None → HasGrown (part ∷ []) hand (slice_set hand part (Some x))
-grown_one hand part x free = record {
-  places = Rattle.std.proofs.Common.length-set hand part (Some x);
-  kept = λ i y e. kept i y e (ℕ_discrete i part);
-  only = λ i held. only i held (ℕ_discrete i part);
-}
-  where
-    kept : (i : ℕ) (y : Part) → held_at hand i ≡ Some y → Dec (i ≡ part) → held_at (slice_set hand part (Some x)) i ≡ Some y
-    kept i y e (yes same) = absurd (cc (sym (ap (λ (j : ℕ). held_at hand j) same ∙ free) ∙ e))
-    kept i y e (no other) = held_set_else hand part i (Some x) other ∙ e
-
-    only : (i : ℕ) → is_held (slice_set hand part (Some x)) i ≡ true → Dec (i ≡ part) → (is_held hand i ≡ true) ⊎ Contains (part ∷ []) i
-    only i held (yes same) = inr (0, omega arith, sym same)
-    only i held (no other) = inl (sym (ap is_some (held_set_else hand part i (Some x) other)) ∙ held)
-
 pub sub_hand : (asked : List ℕ) (before after : List (Option Part)) (parts : List Part) → HasGrown asked before after → IsHandOf after parts → IsHandOf before parts
 sub_hand asked before after parts grown of = hand_of before parts (sym grown.places ∙ of.places) (λ i x e. held_of_list after parts i x of (grown.kept i x e))
 

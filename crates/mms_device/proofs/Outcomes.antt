@@ -1,6 +1,8 @@
 -- What a call makes of a pass, step by step.
 use Rattle.std.specs.Prelude.{◌≡◌, ◌≢◌, ℕ, ◌+◌, ◌-◌, ◌<◌, true, not, Option, None, Some, List, [], ◌∷◌, ◌++◌, map, length, Contains, refl}
 use Rattle.std.proofs.Common.{ap, sym, ◌∙◌, subst, arith, get_or, append-nil, length-append}
+use Rattle.std.specs.Prelude.{Result, Ok, Err, IfOk, OnOk}
+use Rattle.std.proofs.lemmas.List.{nil_from_length}
 use Rattle.std.proofs.lemmas.List.Elements.{Contains-get_or}
 use Rattle.mms_types.specs.Actors.{IsAmong, actor_of}
 use Rattle.mms_types.specs.declared.event.CellEvent.{CellEvent}
@@ -20,11 +22,12 @@ use Rattle.step_parts.specs.Partition.{parts_of, clients_among, clock_in}
 use Rattle.step_parts.specs.Step.{IsInTime}
 use Rattle.step_parts.specs.Needs.{footprint, shown, need, wanted, is_held}
 use Rattle.step_parts.specs.After.{parts_after}
+use Rattle.mms_device.specs.declared.answers.Busy.{Busy}
 use Rattle.mms_device.specs.declared.answers.Refused.{Refused}
 use Rattle.mms_device.specs.declared.answers.Refused.TheVariants as refused
 use Rattle.mms_device.specs.Making.{MayMake}
 use Rattle.mms_device.specs.Shared.{Shared, Caller, History, IsServed, IsAsBefore, IsBusy, IsOf, IsTimely, all_events, led_to}
-use Rattle.mms_device.specs.Taken.{CanTake, HasGrown, HasTaken, HoldsWanted, HasLost, IsStopped, IsTaking, Wants, free_count}
+use Rattle.mms_device.specs.Taken.{AreHeld, CanTake, HasGrown, HasTaken, HoldsWanted, HasLost, IsStopped, IsTaking, Wants, free_count}
 use Rattle.mms_device.specs.Refusals.{IsRefused}
 use Rattle.mms_device.proofs.Steps.{clients_counted, parts_many, replay_sound, words_wanted, shown_wanted, wanted_within, length-start}
 use Rattle.mms_device.proofs.Growing.{taken_none, found_seen, found_taken, of_the_list, is_missing, one_fewer_free, still_held}
@@ -66,14 +69,14 @@ pub record SeesState (config : Config) (pass : Caller) : Type 0 where
   pub same : pass.hand ≡ pass.taken
   pub opening : length pass.table.opening ≡ length (parts_of (led_to config pass.seen))
 
-pub sees : (config : Config) (old saw : Caller) → IsConfig config → IsOf saw.table config → IsHandOf saw.taken (replayed parts_after saw.table.opening saw.seen)
-    → saw ≡ record old { seen = saw.seen } → old.hand ≡ old.taken → SeesState config saw
-sees config old saw is_config is of is_s same = record {
-  sound = replay_sound config (all_events saw.seen) is_config;
-  hand = hand_led config saw is of;
-  clients = (leads config saw.seen).1;
-  same = ap (λ (p : Caller). p.hand) is_s ∙ same ∙ sym (ap (λ (p : Caller). p.taken) is_s);
-  opening = opening_many config saw.table saw.seen is;
+pub sees : (config : Config) (pass : Caller) → IsConfig config → IsOf pass.table config → IsHandOf pass.taken (parts_of (led_to config pass.seen)) → pass.hand ≡ pass.taken
+    → SeesState config pass
+sees config pass is_config is of same = record {
+  sound = replay_sound config (all_events pass.seen) is_config;
+  hand = of;
+  clients = (leads config pass.seen).1;
+  same = same;
+  opening = opening_many config pass.table pass.seen is;
 }
 
 module _ (config : Config) (pass : Caller) (state : SeesState config pass) where
@@ -104,15 +107,19 @@ module _ (config : Config) (pass : Caller) (state : SeesState config pass) where
         let same = state.opening in
         omega (arith, lt, same)
 
-    pub fewer : (old new : Caller) → length missing ≢ 0 → pass ≡ record old { seen = pass.seen } → HasTaken missing pass new → ((i : ℕ) → Contains missing i → is_held new.taken i ≡ true)
-        → free_count new.taken < free_count old.taken
-    fewer old new some is_s took held =
-        let lt : 0 < length missing = omega (arith, some) in
+    fewer : (new : Caller) → missing ≢ [] → HasTaken missing pass new → ((i : ℕ) → Contains missing i → is_held new.taken i ≡ true) → free_count new.taken < free_count pass.taken
+    fewer new some took held =
+        let apart : length missing ≢ 0 = λ none. some (nil_from_length missing none) in
+        let lt : 0 < length missing = omega (arith, apart) in
         let first = get_or missing 0 0 in
         let there = Contains-get_or missing 0 0 lt in
         let free = is_missing pass.taken (shown event pass.taken) first (needed first there) in
-        subst (λ (h : List (Option Part)). free_count new.taken < free_count h) (ap (λ (p : Caller). p.taken) is_s)
-        (one_fewer_free pass.taken new.taken first took.grown.places (λ j h. still_held missing pass.taken new.taken j took.grown h) free (held first there))
+        one_fewer_free pass.taken new.taken first took.grown.places (λ j h. still_held missing pass.taken new.taken j took.grown h) free (held first there)
+
+    pub fewer_on : (new : Caller) (result : Result Unit Busy) → HasTaken missing pass new → IfOk result (λ _. AreHeld new.taken missing × (new.lost ≡ pass.lost))
+        → OnOk result (missing ≢ [] → free_count new.taken < free_count pass.taken)
+    fewer_on new (Ok x) took held = λ some. fewer new some took held.0
+    fewer_on new (Err e) took held = tt
 
 -- ---- taking
 
@@ -318,10 +325,3 @@ module _ (event : CellEvent) (old p : Caller) (taking : IsTaking event old p) (i
   kept q g knows lost is_q is_g =
       let same = is_g ∙ ap {A = Caller} {B = Caller} (λ x. record x { taken = nothing (length x.table.opening); hand = nothing (length x.table.opening); order = [] }) is_q in
       without_memory p g refl ([], sym (append-nil p.seen)) knows same lost
-
--- an event in time is in time by the clock that is held
-pub time_shown : (config : Config) (event : CellEvent) (saw : Caller) (hand : List (Option Part)) → SeesState config saw → hand ≡ saw.hand → actor_of event ≡ saw.by → IsTrueOf MayMake saw
-    → IsTimely config saw event → IsInTime (clock_in (held_at hand 0)) event
-time_shown config event saw hand state is actor knows time =
-    subst (λ (h : List (Option Part)). IsInTime (clock_in (held_at h 0)) event) (sym (is ∙ state.same))
-    (in_time config saw.table.callers saw.by saw.seen saw.seen saw.taken event knows.made state.hand actor refl time)

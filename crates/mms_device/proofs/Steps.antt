@@ -5,8 +5,6 @@ use Rattle.std.proofs.Common.{ap, sym, ◌∙◌, subst, arith}
 use Rattle.std.proofs.lemmas.List.{length-map}
 use Rattle.std.proofs.lemmas.List.Elements.{Contains-append_left}
 use Rattle.mms_types.specs.Actors.{IsAmong}
-use Rattle.association.specs.declared.negotiation.Association.{Association}
-use Rattle.association.specs.declared.negotiation.Association.TheVariants.{Idle, Open}
 use Rattle.mms_types.specs.declared.event.CellEvent.{CellEvent}
 use Rattle.mms_types.specs.declared.event.CellEvent.TheVariants.{Heard, Lost, Tick, Ends, Drain}
 use Rattle.cell_config.specs.declared.config.Config.{Config}
@@ -24,13 +22,15 @@ use Rattle.step_parts.specs.Partition.{cell, parts_of, state_in, client_part, cl
 use Rattle.step_parts.specs.Needs.{footprint, need, shown, wanted, wants, is_held}
 use Rattle.step_parts.specs.After.{parts_after}
 use Rattle.step_parts.specs.AfterLaws.{is_device, each_framed}
-use Rattle.cell_services.specs.Serving.{services, tables_lost}
-use Rattle.cell_services.specs.Tables.{Tables}
+use Rattle.cell_services.specs.Serving.{services}
 use Rattle.step_sound.proofs.AllParts.{nothing_needed}
 use Rattle.step_parts.proofs.Holding as holding
+pub use Rattle.step_parts.proofs.Holding.{clients_counted, held_client, parts_step}
 use Rattle.step_parts.proofs.Needed as needed
+pub use Rattle.step_parts.proofs.Needed.{drain_needs_none}
 use Rattle.step_parts.proofs.PartsAfter as after
-use Rattle.step_sound.proofs.Sound as sound
+pub use Rattle.step_parts.proofs.PartsAfter.{length-start, step_sized}
+pub use Rattle.step_sound.proofs.Sound.{replay_sound}
 use Rattle.mms_device.specs.Shared.{goes_by}
 
 pub the_held : (hand : List (Option Part)) (i : ℕ) → is_held hand i ≡ true → (x : Part) × (held_at hand i ≡ Some x)
@@ -42,13 +42,6 @@ the_held hand i held = by_value (held_at hand i) refl held
 
 -- ---- states
 
--- how many parts there are is told by the number of clients
-pub clients_counted : (s : State) (hand : List (Option Part)) → IsHandOf hand (parts_of s) → clients_among (length hand) ≡ length s.clients
-clients_counted s hand of = holding.clients_counted s hand of
-
-pub length-start : (config : Config) → length (start config).clients ≡ config.clients
-length-start config = after.length-start config
-
 pub parts_many : (s t : State) → length s.clients ≡ length t.clients → length (parts_of s) ≡ length (parts_of t)
 parts_many s t same = let a = after.length-parts s in let b = after.length-parts t in omega (arith, a, b, same)
 
@@ -59,22 +52,8 @@ parts_few config is =
     let few = is.few_clients in
     (omega (arith, long, n), omega (arith, long, n, few))
 
-pub step_sized : (s : State) (event : CellEvent) → length (step s event).clients ≡ length s.clients
-step_sized s event = after.step_sized s event
-
-pub parts_step : (s : State) (event : CellEvent) → parts_of (step s event) ≡ parts_after event (parts_of s)
-parts_step s event = holding.parts_step s event
-
-pub replay_sound : (config : Config) (history : List CellEvent) → IsConfig config → IsSound (length history) (replay config history)
-replay_sound config history is = sound.replay_sound config history is
-
--- the loss of a client doesn't move the clock
-now_lost : (a : Association) (client : ℕ) (t : Tables) → (tables_lost a client t).now ≡ t.now
-now_lost Idle client t = refl
-now_lost (Open values) client t = refl
-
 lost_still : (s : State) (client : ℕ) → (step s (Lost client)).now ≡ s.now
-lost_still s client = let row = parted.row_of cell services s (Lost client) in now_lost row.association row.client (cell.tables_of s)
+lost_still s client = let row = parted.row_of cell services s (Lost client) in after.now_lost row.association row.client (cell.tables_of s)
 
 -- the moment moves by ticks alone
 pub now_step : (s : State) (event : CellEvent) → (step s event).now ≡ s.now + goes_by event
@@ -131,10 +110,6 @@ clock_below s hand of = by_value (held_at hand clock_place) refl
 
 -- ---- the part of a client
 
-pub client_held : (s : State) (hand : List (Option Part)) (client : ℕ) → IsHandOf hand (parts_of s) → 1 ≤ client → client ≤ length s.clients
-    → is_held hand (client_place client) ≡ true → IsClient (held_at hand (client_place client))
-client_held s hand client of some there held = holding.held_client s hand client of some there held
-
 -- what it has to send is what its client has to send
 pub outputs_held : (s : State) (hand : List (Option Part)) (client : ℕ) → IsHandOf hand (parts_of s) → 1 ≤ client → client ≤ length s.clients
     → is_held hand (client_place client) ≡ true → outbox_held (held_at hand (client_place client)) ≡ outbox_of s client
@@ -146,6 +121,3 @@ outputs_held s hand client of some there held =
 -- to drain it, it is what is told to be wanted, and all that is needed
 pub client_told : (n client : ℕ) → 1 ≤ client → Contains (footprint n (Drain client)) (client_place client)
 client_told n client some = subst (λ (l : List ℕ). Contains l (client_place client)) (sym (needed.own_footprint n client some)) (0, omega arith, refl)
-
-pub drain_enough : (hand : List (Option Part)) (client : ℕ) → 1 ≤ client → is_held hand (client_place client) ≡ true → need (Drain client) hand ≡ []
-drain_enough hand client some held = needed.drain_needs_none hand client some held

@@ -9,9 +9,6 @@ use Rattle.step_parts.specs.Step.{IsInTime}
 use Rattle.mms_device.specs.Making.{MayMake}
 use Rattle.mms_device.specs.Shared.{Shared, Caller, History, IsServed, IsAsBefore, IsBusy, IsTimely, HasTried, MayMakeNow, ticks_in}
 
-pub not_tried : (pass : Caller) → HasTried pass pass
-not_tried pass = record { pass = refl; seen = starts_refl pass.seen; own = refl; lost = starts_refl pass.lost }
-
 module _ (old p : Caller) (tried : HasTried old p) where
   same_by : p.by ≡ old.by
   same_by = ap (λ (x : Caller). x.by) tried.pass
@@ -40,19 +37,6 @@ module _ (old p : Caller) (tried : HasTried old p) where
           lost = starts_trans new.lost p.lost old.lost (lost, same) tried.lost;
         }
 
-  pub tried_busy : (config : Config) (event : CellEvent) (new : Caller) (part by : ℕ) → IsBusy config event p new part by → HasTried old new
-  unfolding tried_more
-  tried_busy config event new part by busy = tried_more new busy.own busy.seen ((part, by) ∷ []) busy.pass
-
-  pub tried_memory : (new : Caller) → IsAsBefore p new → HasTried old new
-  tried_memory new before = record {
-    pass = before.pass ∙ ap {A = Caller} {B = Caller} (λ x. record x { seen = new.seen }) tried.pass
-        ∙ ap {A = List (ℕ × ℕ)} {B = Caller} (λ l. record old { seen = new.seen; lost = l }) (sym (ap (λ (x : Caller). x.lost) before.pass));
-    seen = starts_trans new.seen p.seen old.seen before.seen tried.seen;
-    own = subst (λ (b : ℕ). events_of b new.seen ≡ events_of b p.seen) same_by before.own ∙ tried.own;
-    lost = subst (λ (l : List (ℕ × ℕ)). StartsWith l old.lost) (sym (ap (λ (x : Caller). x.lost) before.pass)) tried.lost;
-  }
-
   -- and was served at last
   pub tried_served : (event : CellEvent) (new : Caller) (ticket : ℕ) (h : History) → IsServed event p new ticket h → IsServed event (record old { lost = new.lost }) new ticket h
   tried_served event new ticket h served = record {
@@ -63,6 +47,3 @@ module _ (old p : Caller) (tried : HasTried old p) where
     place = served.place;
     own = subst (λ (b : ℕ). events_of b new.seen ≡ events_of b p.seen ++ event ∷ []) same_by served.own ∙ ap (λ (l : List CellEvent). l ++ event ∷ []) tried.own;
   }
-
-  pub lost_served : (event : CellEvent) (new : Caller) (ticket : ℕ) (h : History) → IsServed event p new ticket h → StartsWith new.lost old.lost
-  lost_served event new ticket h served = subst (λ (l : List (ℕ × ℕ)). StartsWith l old.lost) (sym (ap (λ (x : Caller). x.lost) served.pass)) tried.lost

@@ -1,10 +1,9 @@
--- When the step of an event may be done on held parts, and what becomes of them.
+-- When the step of an event may be done on held parts.
 use Rattle.std.specs.Prelude.{◌≡◌, ℕ, Option, List, [], length}
 use Rattle.mms_types.specs.Actors.{IsAmong}
 use Rattle.mms_types.specs.declared.event.CellEvent.{CellEvent}
 use Rattle.part_table.specs.Held.{held_at, IsHandOf}
 use Rattle.step_parts.specs.declared.part.Part.{Part}
-use Rattle.step_parts.specs.After.{after}
 use Rattle.step_parts.specs.Needs.{need}
 use Rattle.step_parts.specs.Partition.{parts_of, clients_among, clock_in}
 use Rattle.cell_client.specs.declared.verdict.Found.{Found}
@@ -20,7 +19,3 @@ pub record MayStep (event : CellEvent) (found : Option Found) (hand : List (Opti
   pub among : IsAmong (clients_among (length hand)) event
   pub held : need event hand ≡ []
   pub time : IsInTime (clock_in (held_at hand 0)) event
-
--- they are as the event makes them
-abbrev pub HasStepped : CellEvent → List (Option Part) → List (Option Part) → Type 0
-HasStepped event old new = new ≡ after event old

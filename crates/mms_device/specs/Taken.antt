@@ -3,6 +3,7 @@ use Rattle.std.specs.Prelude.{◌≡◌, ◌≢◌, ◌⊎◌, ◌+◌, ℕ, tru
 use Rattle.mms_types.specs.declared.event.CellEvent.{CellEvent}
 use Rattle.part_table.specs.Held.{held_at, IsHandOf}
 use Rattle.part_table.specs.History.{StartsWith}
+use Rattle.parted_state.specs.Sets.{IsSetOf}
 use Rattle.step_parts.specs.declared.part.Part.{Part}
 use Rattle.step_parts.specs.State.{State}
 use Rattle.step_parts.specs.Partition.{parts_of}
@@ -44,6 +45,17 @@ pub record CanTake (device : Shared) (event : CellEvent) (found : Option Found) 
   pub hand : pass.hand ≡ pass.taken
   pub wanted : HoldsWanted event pass.taken
   pub found_of : IsFoundOf found event pass.taken
+
+-- a pass saw the history
+pub record HasSeen (old new : Caller) : Type 0 where
+  pub pass : new ≡ record old { seen = new.seen }
+  pub seen : StartsWith new.seen old.seen
+
+-- these are the parts that an event needs besides what a pass holds, by the state to which the history leads that it
+-- knows
+pub record IsNeeded (device : Shared) (event : CellEvent) (pass : Caller) (parts : List ℕ) : Type 0 where
+  pub set : IsSetOf parts (need event pass.taken)
+  pub of : IsHandOf pass.taken (parts_of (led_to device.config pass.seen))
 
 -- a pass holds all that the event needs, and these are parts of the state to which the history leads that it knows
 pub record HoldsAll (device : Shared) (event : CellEvent) (pass : Caller) : Type 0 where

@@ -18,10 +18,10 @@
 #![tactic(auto)]
 
 mod answers;
-mod calls;
 mod giving;
 mod many;
 mod serving;
+mod stepping;
 mod taking;
 mod turns;
 mod whole;

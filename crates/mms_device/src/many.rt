@@ -15,7 +15,6 @@ ghost use Rattle.mms_device.specs.Making.{MayMake};
 ghost use Rattle.mms_device.specs.Shared.{IsOf, led_to};
 
 use crate::answers::Unclosed;
-use crate::calls;
 use cell_config::Config;
 use mms_step::{Cell, Part, start_parts};
 use mms_types::{Edition, Memory};
@@ -67,7 +66,7 @@ impl Device {
             ≡ map (newcomer made.0.table) (range_with_len 0 (config.now.clients + 1))) }
     {
         let parts = start_parts(alloc, config)?;
-        let Ok((table, passes)) = calls::new(alloc, parts, config.clients + 1, QUOTA) else {
+        let Ok((table, passes)) = PartTable::new(alloc, parts, config.clients + 1, QUOTA) else {
             return Err(Memory::wanting());
         };
         let device = Device {

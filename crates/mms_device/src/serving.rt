@@ -1,31 +1,76 @@
 //! Serving an event on the parts that it wants.
 
-ghost use Rattle.std.specs.Prelude.{◌≡◌, ◌<◌, ◌≤◌, ℕ, true, false, List, IfOk, IfErr, OnOk, OnErr};
+ghost use Rattle.std.specs.Prelude.{◌≡◌, ◌≢◌, ◌<◌, ◌≤◌, ◌++◌, ◌∷◌, [], ℕ, true, false, List, Contains, IfOk, IfErr, OnOk, OnErr};
 ghost use Rattle.mms_types.specs.declared.event.CellEvent.{CellEvent};
 ghost use Rattle.mms_types.specs.declared.event.CellEvent.TheVariants.{Drain};
 ghost use Rattle.part_table.specs.History.{StartsWith};
 ghost use Rattle.part_table.specs.Known.{HoldsNothing};
-ghost use Rattle.step_parts.specs.Needs.{footprint};
+ghost use Rattle.step_parts.specs.Needs.{footprint, shown};
 ghost use Rattle.cell_client.specs.Reads.{IsReadingOf};
 ghost use Rattle.step_parts.specs.Step.{said};
 ghost use Rattle.step_parts.specs.Found.{IsFoundOf};
 ghost use Rattle.mms_device.specs.Making.{MayMake};
 ghost use Rattle.mms_device.specs.Refusals.{IsRefused};
 ghost use Rattle.mms_device.specs.Shared.{HasTried, IsBusy, IsServed, IsTimely, MayMakeNow, all_events};
-ghost use Rattle.mms_device.specs.Taken.{AreHeld, CanTake, HasLost, HoldsAll, IsStopped, IsTaking, free_count};
+ghost use Rattle.mms_device.specs.Taken.{AreHeld, CanTake, HasLost, HasSeen, HasTaken, HoldsAll, IsNeeded, IsStopped, IsTaking, free_count};
 
 use crate::answers::{Busy, Refused, Served};
 use crate::giving::give_all;
+use crate::stepping::{drain, on_hand};
 use crate::taking::take_each;
-use crate::{Device, Drained, calls};
+use crate::{Device, Drained};
 use cell_io::{Gate, Point};
-use mms_step::{Cell, Found, Reading, footprint, need_by, read_event, verdict};
+use mms_step::{Cell, Found, Parts, Reading, footprint, need_by, read_event, verdict};
 use mms_types::{CellEvent, Memory};
-use part_table::Pass;
+use part_table::{Pass, a_pass_knows_its_own_places};
 use std::alloc::Global;
 use std::sync::Wait;
 
 impl Device {
+    /// Sees the history, and finds what is then shown to be needed.
+    fn find_needed(
+        &self,
+        alloc: Global,
+        pass: &mut Pass<Cell>,
+        event: &CellEvent,
+        found: &Option<Found<'_>>,
+    ) -> Result<Parts, Memory>
+        requires can { CanTake self.now event.now found.now pass.old }
+        ensures seen { HasSeen pass.old pass.new }
+        ensures can { CanTake self.now event.now found.now pass.new }
+        ensures needed { IfOk result (λ parts. IsNeeded self.now event.now pass.new parts) }
+    {
+        a_pass_knows_its_own_places(pass);
+        self.table.see(pass);
+        a_pass_knows_its_own_places(pass);
+        need_by(alloc, event, found, pass.hand())
+    }
+
+    /// Takes what is needed.
+    fn take_needed<G: Gate>(
+        &self,
+        pass: &mut Pass<Cell>,
+        event: &CellEvent,
+        needed: &Parts,
+        gate: &G,
+    ) -> Result<(), Busy>
+        requires may { MayMakeNow self.now event.now pass.old }
+        requires hand { pass.old.hand ≡ pass.old.taken }
+        requires needed { IsNeeded self.now event.now pass.old needed.now }
+        ensures taken { HasTaken needed.now pass.old pass.new }
+        ensures shown { (i : ℕ) → Contains needed.now i
+            → Contains (shown event.now pass.old.taken) i }
+        ensures fewer { OnOk result (needed.now ≢ []
+            → free_count pass.new.taken < free_count pass.old.taken) }
+        ensures kept { OnOk result (pass.new.lost ≡ pass.old.lost) }
+        ensures lost { IfErr result (λ busy. Contains needed.now busy.part
+            × (busy.by ≢ pass.old.by)
+            × (pass.new.lost ≡ pass.old.lost ++ (busy.part, busy.by) ∷ [])) }
+    {
+        a_pass_knows_its_own_places(pass);
+        take_each(&self.table, pass, needed, gate)
+    }
+
     /// Sees the history, and takes what is then shown to be needed. Whether nothing was.
     fn take_more<G: Gate>(
         &self,
@@ -44,16 +89,13 @@ impl Device {
         ensures lost { OnOk result (pass.new.lost ≡ pass.old.lost) }
         ensures stopped { IfErr result (IsStopped event.now pass.old pass.new) }
     {
-        calls::a_pass_knows_its_own_places(pass);
-        calls::see(&self.table, pass);
-        calls::a_pass_knows_its_own_places(pass);
-        let Ok(missing) = need_by(alloc, event, found, calls::hand(pass)) else {
+        let Ok(needed) = self.find_needed(alloc, pass, event, found) else {
             return Err(Refused::Memory);
         };
-        if missing.is_empty() {
+        if needed.is_empty() {
             return Ok(true);
         }
-        match take_each(&self.table, pass, &missing, gate) {
+        match self.take_needed(pass, event, &needed, gate) {
             Ok(()) => Ok(false),
             Err(busy) => Err(Refused::Busy(busy)),
         }
@@ -76,9 +118,29 @@ impl Device {
         ensures stopped { IfErr result
             (λ busy. HasLost event.now pass.old pass.new busy.part busy.by) }
     {
-        calls::a_pass_knows_its_own_places(pass);
+        a_pass_knows_its_own_places(pass);
         let parts = footprint(event, self.clients);
         take_each(&self.table, pass, &parts, gate)
+    }
+
+    /// Takes what is then shown to be needed until nothing is.
+    fn take_rest<G: Gate>(
+        &self,
+        alloc: Global,
+        pass: &mut Pass<Cell>,
+        event: &CellEvent,
+        found: &Option<Found<'_>>,
+        gate: &G,
+    ) -> Result<(), Refused>
+        requires can { CanTake self.now event.now found.now pass.old }
+        ensures taking { IsTaking event.now pass.old pass.new }
+        ensures can { CanTake self.now event.now found.now pass.new }
+        ensures all { IfOk result (λ _. HoldsAll self.now event.now pass.new
+            × (pass.new.lost ≡ pass.old.lost)) }
+        ensures stopped { IfErr result (IsStopped event.now pass.old pass.new) }
+    {
+        while !self.take_more(alloc, pass, event, found, gate)? {}
+        Ok(())
     }
 
     /// Takes all parts that the event wants, by a pass that holds nothing, and answers what its octets come to. That is
@@ -101,14 +163,14 @@ impl Device {
         ensures stopped { IfErr result (IsStopped event.now pass.old pass.new) }
     {
         let _clients = self.clients;
-        calls::a_pass_knows_its_own_places(pass);
+        a_pass_knows_its_own_places(pass);
         if let Err(busy) = self.take_told(pass, event, gate) {
             return Err(Refused::Busy(busy));
         }
-        let Ok(found) = verdict(event, reading, calls::hand(pass)) else {
+        let Ok(found) = verdict(event, reading, pass.hand()) else {
             return Err(Refused::Memory);
         };
-        while !self.take_more(alloc, pass, event, &found, gate)? {}
+        self.take_rest(alloc, pass, event, &found, gate)?;
         Ok(found)
     }
 
@@ -129,24 +191,24 @@ impl Device {
             × IsServed event.now pass.old pass.new served.ticket h) }
         ensures refused { IfErr result (IsRefused self.now.config event.now pass.old pass.new) }
     {
-        calls::a_pass_knows_its_own_places(pass);
+        a_pass_knows_its_own_places(pass);
         let found = match self.take_wanted(alloc, pass, event, reading, gate) {
             Ok(found) => found,
             Err(refused) => {
-                calls::see(&self.table, pass);
-                calls::a_pass_knows_its_own_places(pass);
+                self.table.see(pass);
+                a_pass_knows_its_own_places(pass);
                 give_all(&self.table, pass);
-                tell(gate, calls::by(pass), refused);
+                tell(gate, pass.by(), refused);
                 return Err(refused);
             }
         };
-        calls::a_pass_knows_its_own_places(pass);
-        let Ok(()) = calls::on_hand(alloc, pass, &calls::StepOf { event, found }) else {
+        a_pass_knows_its_own_places(pass);
+        let Ok(()) = on_hand(alloc, pass, event, &found) else {
             give_all(&self.table, pass);
             return Err(Refused::Memory);
         };
-        let ticket = calls::commit(&self.table, pass, event);
-        gate.pass(calls::by(pass), Point::Committed);
+        let ticket = self.table.commit(pass, event);
+        gate.pass(pass.by(), Point::Committed);
         give_all(&self.table, pass);
         Ok(Served { ticket })
     }
@@ -250,20 +312,20 @@ impl Device {
         ensures busy { IfErr result (λ busy.
             IsBusy self.now.config (Drain pass.old.by) pass.old pass.new busy.part busy.by) }
     {
-        calls::a_pass_knows_its_own_places(pass);
-        let client = calls::by(pass);
+        a_pass_knows_its_own_places(pass);
+        let client = pass.by();
         let event = CellEvent::Drain { client };
         if let Err(busy) = self.take_told(pass, &event, gate) {
-            calls::see(&self.table, pass);
-            calls::a_pass_knows_its_own_places(pass);
+            self.table.see(pass);
+            a_pass_knows_its_own_places(pass);
             give_all(&self.table, pass);
             gate.pass(client, Point::Busy(busy.part));
             return Err(busy);
         }
-        calls::see(&self.table, pass);
-        calls::a_pass_knows_its_own_places(pass);
-        let outputs = calls::drain(client, pass);
-        let ticket = calls::commit(&self.table, pass, &event);
+        self.table.see(pass);
+        a_pass_knows_its_own_places(pass);
+        let outputs = drain(client, pass);
+        let ticket = self.table.commit(pass, &event);
         gate.pass(client, Point::Committed);
         give_all(&self.table, pass);
         Ok(Drained { ticket, outputs })

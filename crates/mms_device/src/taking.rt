@@ -5,10 +5,9 @@ ghost use Rattle.step_parts.specs.Needs.{is_held};
 ghost use Rattle.mms_device.specs.Taken.{AreHeld, HasTaken};
 
 use crate::answers::Busy;
-use crate::calls;
 use cell_io::{Gate, Point};
 use mms_step::{Cell, Parts};
-use part_table::{PartTable, Pass};
+use part_table::{PartTable, Pass, a_pass_has_a_place_for_each_part};
 
 /// Takes a part, unless the pass holds it already.
 pub(crate) fn take<G: Gate>(
@@ -26,13 +25,13 @@ pub(crate) fn take<G: Gate>(
         × (pass.new.lost ≡ pass.old.lost ++ (part, busy.by) ∷ [])) }
     ensures taken { HasTaken (part ∷ []) pass.old pass.new }
 {
-    if calls::holds(pass, part) {
+    if pass.hand().holds(part) {
         return Ok(());
     }
-    calls::a_pass_has_a_place_for_each_part(pass);
-    match calls::try_take(table, pass, part) {
+    a_pass_has_a_place_for_each_part(pass);
+    match table.try_take(pass, part) {
         Ok(()) => {
-            gate.pass(calls::by(pass), Point::Took(part));
+            gate.pass(pass.by(), Point::Took(part));
             Ok(())
         }
         Err(held) => Err(Busy { part, by: held.by }),

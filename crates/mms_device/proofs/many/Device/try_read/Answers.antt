@@ -1,4 +1,4 @@
-use Rattle.std.proofs.Common.{List, Option, length, sym, ap, ◌∙◌, subst, refl}
+use Rattle.std.proofs.Common.{List, Option, sym, ap, ◌∙◌, subst, refl}
 use Rattle.part_table.specs.Held.{IsHandOf}
 use Rattle.step_parts.specs.declared.part.Part.{Part}
 use Rattle.step_parts.specs.Needs.{need}
@@ -6,7 +6,6 @@ use Rattle.step_parts.specs.Partition.{parts_of}
 use Rattle.step_parts.specs.Found.{IsFoundOf}
 use Rattle.mms_device.specs.Refusals.{IsRefused}
 use Rattle.mms_device.specs.Shared.{IsOf, IsTimely, Caller, Shared, led_to}
-use Rattle.mms_device.specs.Stepping.{MayStep}
 use Rattle.mms_device.proofs.Outcomes.{hand_led, served, refuses, kept}
 use Rattle.mms_device.proofs.Between.{state_held, among_held, time_held}
 use Rattle.mms_device.proofs.many.Device.try_read.Goals as goal
@@ -27,20 +26,19 @@ on_hand-requires g c =
     let config = c.self.inside.config.value in
     let p = c.take_wanted.new.pass in
     let taking = c.take_wanted.ensures.taking in
-    let table = c.requires.may.table ∙ sym (ap (λ (d : Shared). d.table) c.self.view_is) in
-    let of_table = subst (λ t. IsOf t config) (sym table) c.self.invariant.0 in
+    let of_table = subst (λ t. IsOf t config) (sym (c.requires.may.table ∙ sym (ap (λ (d : Shared). d.table) c.self.view_is))) c.self.invariant.0 in
     let knew = c.a_pass_knows_its_own_places.ensures in
     let knows = c.a_pass_knows_its_own_places-2.ensures in
     let of = subst (λ (d : Shared). IsHandOf p.taken (parts_of (led_to d.config p.seen))) (sym c.self.view_is) c.in-Ok.ensures.all.0.of in
-    let time = subst (λ (d : Shared). IsTimely d.config c.args.pass.now c.args.event.now) (sym c.self.view_is) c.requires.may.time in
-    let asked : MayStep c.args.event.now c.in-Ok.found p.hand = record {
-      of = state_held config c.self.invariant.1 c.args.event.now c.args.pass.now p taking of_table knew knows of p.hand refl;
-      found_of = subst (λ (h : List (Option Part)). IsFoundOf c.in-Ok.found c.args.event.now h) (sym taking.hand) c.in-Ok.ensures.found;
-      among = among_held config c.self.invariant.1 c.args.event.now c.args.pass.now p taking of_table knew knows of p.hand refl c.requires.may.actor;
-      held = ap (λ (h : List (Option Part)). need c.args.event.now h) taking.hand ∙ c.in-Ok.ensures.all.0.enough;
-      time = time_held config c.self.invariant.1 c.args.event.now c.args.pass.now p taking of_table knew knows of p.hand refl c.requires.may.actor.0 time;
-    } in
-    record { may = asked }
+    let time = subst (λ (d : Shared). IsTimely d.config c.args.pass.now c.args.event.now) (sym c.self.view_is) c.requires.may.time in record {
+      may = record {
+        of = state_held config c.self.invariant.1 c.args.event.now c.args.pass.now p taking of_table knew knows of p.hand refl;
+        found_of = subst (λ (h : List (Option Part)). IsFoundOf c.in-Ok.found c.args.event.now h) (sym taking.hand) c.in-Ok.ensures.found;
+        among = among_held config c.self.invariant.1 c.args.event.now c.args.pass.now p taking of_table knew knows of p.hand refl c.requires.may.actor;
+        held = ap (λ (h : List (Option Part)). need c.args.event.now h) taking.hand ∙ c.in-Ok.ensures.all.0.enough;
+        time = time_held config c.self.invariant.1 c.args.event.now c.args.pass.now p taking of_table knew knows of p.hand refl c.requires.may.actor.0 time;
+      };
+    }
 
 pub returns-in_default-clause-refused : goal.returns-in_default-clause-refused
 returns-in_default-clause-refused g c =

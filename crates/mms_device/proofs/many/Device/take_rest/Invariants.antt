@@ -1,6 +1,6 @@
 use Rattle.std.proofs.Common.{◌≡◌}
 use Rattle.mms_device.specs.Taken.{CanTake, IsTaking, free_count}
-use Rattle.mms_device.proofs.many.Device.take_wanted.Given as goal
+use Rattle.mms_device.proofs.many.Device.take_rest.Given as goal
 
 abbrev pub invariant-loop : goal.invariant-loop
 invariant-loop g l = record {
