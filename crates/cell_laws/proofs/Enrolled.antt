@@ -15,8 +15,6 @@ use Rattle.mms_types.specs.declared.key.Scope.TheVariants.{Association as OfClie
 use Rattle.mms_types.specs.declared.pdu.Answer.{Answer}
 use Rattle.mms_types.specs.declared.pdu.Request.{Request}
 use Rattle.mms_types.specs.declared.pdu.Request.TheVariants as request
-use Rattle.mms_types.specs.declared.semaphore.RelinquishControl.{RelinquishControl}
-use Rattle.mms_types.specs.declared.semaphore.TakeControl.{TakeControl}
 use Rattle.mms_types.specs.declared.service_error.ServiceError.{ServiceError}
 use Rattle.association.specs.declared.negotiation.Association.{Association}
 use Rattle.association.specs.declared.negotiation.Association.TheVariants.{Idle, Open}
@@ -108,7 +106,7 @@ lost-holds client t told rows ends are = record {
 abbrev seen : {X : Type 0} → X → Bor X
 seen x = record { ref_ptr = (0, 0); now = x }
 
-request-unclosing : (client size invoke : ℕ) (why : Option ServiceError) (told : Option Answer) → AreUnclosing (tell client (request_told size invoke why told))
+pub request-unclosing : (client size invoke : ℕ) (why : Option ServiceError) (told : Option Answer) → AreUnclosing (tell client (request_told size invoke why told))
 request-unclosing client size invoke (Some refusal) told = (tt, tt)
 request-unclosing client size invoke None None = tt
 request-unclosing client size invoke None (Some answer) = by_test (fits size invoke (Some answer))
@@ -121,7 +119,7 @@ none-refused : (size invoke : ℕ) (why : Option ServiceError) (told : Option An
 none-refused size invoke None told done = refl
 none-refused size invoke (Some refusal) told done = absurd (cc done)
 
-reply-unclosing : (client number : ℕ) (came : Came) (o : Option (Asked × List ℕ)) (d : DomainTables) → AreUnclosing (replied_to client number came o d).also
+pub reply-unclosing : (client number : ℕ) (came : Came) (o : Option (Asked × List ℕ)) (d : DomainTables) → AreUnclosing (replied_to client number came o d).also
 reply-unclosing client number came None d = tt
 reply-unclosing client number came (Some of) d = (tt, next (asked_next (reply_of came of) d.domains))
   where
@@ -130,7 +128,7 @@ reply-unclosing client number came (Some of) d = (tt, next (asked_next (reply_of
     next (Some kind) = (tt, tt)
 
 module _ (t : Tables) (row : ClientRow) (invoke : ℕ) where
-  also-unclosing : (asked : Request) → AreUnclosing (effect t row invoke asked).also
+  pub also-unclosing : (asked : Request) → AreUnclosing (effect t row invoke asked).also
   also-unclosing (request.TakeControl x) = by_done (take_told row.client x t.semaphores)
     where
       by_done : (o : Option TakeDone) → AreUnclosing (take_outcome t row.client invoke x o).also

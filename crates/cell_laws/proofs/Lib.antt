@@ -59,3 +59,10 @@ pub mod WorkedLoads
 pub mod Opened
 pub mod Enrolled
 pub mod WorkedEnrolled
+pub mod InTurn
+pub mod Unhung
+pub mod TheirsKept
+pub mod TheirsAlong
+pub mod Few
+pub mod FewKept
+pub mod FewAlong

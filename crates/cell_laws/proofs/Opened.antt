@@ -94,7 +94,7 @@ reached-open effect (suc k) c rows either is = by_test (c == suc k) refl
     by_test false e = (is.0, ap (λ (row : ClientRow). row.association) (row-other effect (suc k) c rows e) ∙ is.1)
 
 -- where it isn't that client's
-others-open : (client c : ℕ) (told : List (ℕ × Effect)) (rows : List ClientRow) → (c == client) ≡ false → EndsOnly client told → IsOpenAt c rows → IsOpenAt c (delivered cell told rows)
+pub others-open : (client c : ℕ) (told : List (ℕ × Effect)) (rows : List ClientRow) → (c == client) ≡ false → EndsOnly client told → IsOpenAt c rows → IsOpenAt c (delivered cell told rows)
 others-open client c [] rows other ends is = is
 others-open client c (t ∷ told) rows other ends is =
     others-open client c told (reached cell t.0 t.1 rows) other ends.1 (reached-open t.1 t.0 c rows (by_end ends.0) is)

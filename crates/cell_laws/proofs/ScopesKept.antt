@@ -109,7 +109,7 @@ pub record NamesAre (P : Key → Type 0) (v : VariableTables) (e : EventTables) 
   pub semaphores : Each P rows
 
 module _ (P Q : Key → Type 0) (v : VariableTables) (e : EventTables) (j : Books) (rows : Rows) where
-  names_weaker : ((key : Key) → P key → Q key) → NamesAre P v e j rows → NamesAre Q v e j rows
+  pub names_weaker : ((key : Key) → P key → Q key) → NamesAre P v e j rows → NamesAre Q v e j rows
   names_weaker weaker all = record {
     variables = each_weaker P Q weaker v.vars.variables all.variables;
     lists = each_weaker P Q weaker v.lists all.lists;
@@ -242,21 +242,21 @@ named_stay (Some number) f rows = refl
 written_stay : (client : ℕ) (x : Bool × (Spec × Datum)) (rows : cells.Rows) → (written client x rows).variables ≡ rows.variables
 written_stay client (owns, x) rows = named_stay (number_named client x.0 rows) (with_value owns x.1) rows
 
-writes_stay : (client : ℕ) (xs : List (Bool × (Spec × Datum))) (rows : cells.Rows) → (writes client xs rows).0.variables ≡ rows.variables
+pub writes_stay : (client : ℕ) (xs : List (Bool × (Spec × Datum))) (rows : cells.Rows) → (writes client xs rows).0.variables ≡ rows.variables
 writes_stay client [] rows = refl
 writes_stay client (x ∷ xs) rows = writes_stay client xs (written client x rows) ∙ written_stay client x rows
 
 -- ---- what is done to event conditions and enrollments
 
 module _ (P : Key → Type 0) where
-  each_condition : (key : Key) (f : Condition → Condition) (rows : Conditions) → Each P rows → Each P (changed_condition key f rows)
+  pub each_condition : (key : Key) (f : Condition → Condition) (rows : Conditions) → Each P rows → Each P (changed_condition key f rows)
   each_condition key f rows all = by_named (named_condition key rows)
     where
       by_named : (o : Option Condition) → Each P (option_map_or (λ c. set_value (key_eq key) rows (f c)) o rows)
       by_named None = all
       by_named (Some c) = each_set P (key_eq key) (f c) rows all
 
-  each_gone : (client : ℕ) (rows : enrol.Rows) → Each P rows → Each P (enrol.without_client client rows)
+  pub each_gone : (client : ℕ) (rows : enrol.Rows) → Each P rows → Each P (enrol.without_client client rows)
   each_gone client rows all = each_without P (OfClient client) (filter (λ (row : Key × Enrolment). not (enrol.is_of client row)) rows) (each_kept P _ rows all)
 
   conditions_gone : (clients : List ℕ) (rows : Conditions) → Each P rows → Each P (conditions_without clients rows)
@@ -282,7 +282,7 @@ module _ (P : Key → Type 0) where
 -- ---- what is done to journals
 
 module _ (P : Key → Type 0) where
-  each_journal : (key : Key) (f : Log → Log) (rows : Books) → Each P rows → Each P (changed_journal key f rows)
+  pub each_journal : (key : Key) (f : Log → Log) (rows : Books) → Each P rows → Each P (changed_journal key f rows)
   each_journal key f rows all = by_named (named_journal key rows)
     where
       by_named : (o : Option Log) → Each P (option_map_or (λ j. set_value (key_eq key) rows (f j)) o rows)
@@ -292,7 +292,7 @@ module _ (P : Key → Type 0) where
 -- ---- what is done to semaphores
 
 module _ (P : Key → Type 0) where
-  each_cancelled : (key : Key) (number : ℕ) (rows : Rows) → Each P rows → Each P (cancelled key number rows)
+  pub each_cancelled : (key : Key) (number : ℕ) (rows : Rows) → Each P rows → Each P (cancelled key number rows)
   each_cancelled key number rows all = by_test (entry_waits (entry_in key number rows))
     where
       by_test : (b : Bool) → Each P (if b then cancel_after key number rows else rows)
@@ -318,7 +318,7 @@ module _ (P : Key → Type 0) where
 -- ---- a request
 
 -- what is done isn't refused
-none_refused : (size invoke : ℕ) (why : Option ServiceError) (told : Option Answer) → is_done size invoke why told ≡ true → why ≡ None
+pub none_refused : (size invoke : ℕ) (why : Option ServiceError) (told : Option Answer) → is_done size invoke why told ≡ true → why ≡ None
 none_refused size invoke None told done = refl
 none_refused size invoke (Some refusal) told done = absurd (cc done)
 

@@ -1,5 +1,8 @@
+pub mod Associated
 pub mod Enrolled
 pub mod Freed
+pub mod InTurn
+pub mod Limits
 pub mod Linked
 pub mod Loads
 pub mod Lost

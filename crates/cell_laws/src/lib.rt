@@ -1,5 +1,5 @@
 //! What holds of the device over all histories, where that needs more than the soundness of a state. Nothing is built
-//! on it.
+//! on it but `stress_laws`.
 //!
 //! - Requests that wait are the queued entries: each has an entry of its client and its invokeID, and each queued entry
 //!   is such a request; no two of one client have one invokeID (`each_waiting_request_is_queued`).
@@ -25,13 +25,18 @@
 //! - The condition of each enrollment is there, the client that defined it has an association, and every evaluation
 //!   lies ahead (`each_enrollment_has_its_condition_and_client`). Two ticks with nothing between are one
 //!   (`time_may_be_cut_anywhere`).
+//! - A client that time aborts is lost as any client is, in all tables (`an_abort_by_time_is_a_loss`). Nothing is left of
+//!   an association that has ended but hung entries (`nothing_is_left_of_an_association`).
+//! - Each table keeps its limit, and no name stands twice in it (`each_table_keeps_its_limit`).
 #![tactic(auto)]
 
 mod conditions;
 mod laws;
 mod loads;
+mod losses;
 mod programs;
 mod scopes;
+mod tables;
 mod time;
 
 pub use conditions::each_enrollment_has_its_condition_and_client;
@@ -44,6 +49,8 @@ pub use loads::{
     each_domain_is_what_its_client_answered, no_client_is_asked_too_much,
     nothing_of_an_ended_load_stays,
 };
+pub use losses::{an_abort_by_time_is_a_loss, nothing_is_left_of_an_association};
 pub use programs::each_domain_knows_its_programs;
 pub use scopes::each_scope_is_live;
+pub use tables::each_table_keeps_its_limit;
 pub use time::time_may_be_cut_anywhere;
