@@ -10,7 +10,7 @@ UNENDED = "an indefinite length that does not end"
 UNFIT = "an indefinite length, which no primitive element has"
 
 
-@dataclass
+@dataclass(slots=True)
 class Element:
     """One element: where it stands in its octets, its tag, and its parts where it is constructed."""
 

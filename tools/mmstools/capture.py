@@ -12,6 +12,7 @@ from dataclasses import dataclass, field
 from typing import Dict, Iterator, List, Optional, Tuple
 
 from . import ber, grammar, texts
+from .configuration import broken
 from .learn import learned
 from .texts import ABORT, Event, Phase, Recording, Report
 
@@ -291,7 +292,8 @@ def _name(server) -> str:
 def _lacking(found: List[Packet]) -> str:
     """How many frames lack octets, and the first of them."""
     flaws = [p for p in found if p.flaw]
-    return f"; {len(flaws)} frames lack octets, such as frame {flaws[0].frame}: {flaws[0].flaw}" if flaws else ""
+    lack = "1 frame lacks" if len(flaws) == 1 else f"{len(flaws)} frames lack"
+    return f"; {lack} octets, such as frame {flaws[0].frame}: {flaws[0].flaw}" if flaws else ""
 
 
 def _is(end, server) -> bool:
@@ -366,10 +368,19 @@ class _Build:
             self.outputs.pop()
         edition = self.options.edition or edition_of(self.events, self.outputs)
         recording = Recording(edition, self.config(edition), self.events, self.notes)
+        self.given_is_sound(recording)
         if recording.clients() < len(self.names):
-            raise Unread(f"{len(self.names)} clients are in it, and the configuration has {recording.clients()}")
+            there = texts.count(len(self.names), "client")
+            raise Unread(f"the capture has {there}, and the configuration {recording.clients()}")
         seen = seen_report(self.events, self.outputs, recording.clients())
         return Captured(recording, seen, self.warnings, self.names, remarks(self.events, edition))
+
+    def given_is_sound(self, recording: Recording) -> None:
+        """Refuses a given configuration with a broken rule."""
+        text = "".join(f"{line}\n" for line in recording.config).encode().decode("latin-1")
+        found = broken(text, recording.edition)[0] if self.options.config is not None else None
+        if found is not None:
+            raise Unread(f"the configuration breaks rule {found.rule} (docs/RECORDING.md): {found.words()}")
 
     def config(self, edition: str) -> List[str]:
         """The lines of the configuration: the clients, the moment of the start, and what is given or learned."""
@@ -543,12 +554,14 @@ def remarks(events, edition: str) -> List[str]:
         domains = sorted({d for d, _ in missing})
         some = ", ".join(domains[:4]) + (" and %d more" % (len(domains) - 4) if len(domains) > 4 else "")
         out.append(
-            f"{len(missing)} objects of domains ({some}) are named that no client of the capture loads; mmscell has no"
+            f"{texts.count(len(missing), 'object')} of domains ({some}) {'is' if len(missing) == 1 else 'are'} named that no"
+            " client of the capture loads; mmscell has no"
             " domains but those that clients load, and answers object-non-existent"
         )
     if long:
         name = sorted(long)[0]
-        out.append(f"{len(long)} names have more than {most} octets, such as {name}; mmscell takes no such name")
+        have = "1 name has" if len(long) == 1 else f"{len(long)} names have"
+        out.append(f"{have} more than {most} octets, such as {name}; mmscell takes no such name")
     if edition != "1":
         out.append(f"the recording is of edition {edition}, which takes indefinite lengths and names of {most} octets")
     return out

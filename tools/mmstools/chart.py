@@ -78,6 +78,10 @@ def chosen(rows: list[Row], places: str = "", clients: str = "") -> list[Row]:
         if not re.fullmatch(r"\s*\d+\s*(,\s*\d+\s*)*", clients):
             raise BadText("--clients wants numbers of clients, such as 1,4")
         some = {int(number) for number in clients.split(",")}
+        there = sorted({c for row in rows for c in (row.event.client, *(o.client for o in row.outputs)) if c})
+        strange = sorted(some - set(there))
+        if strange:
+            raise BadText(f"nothing is of client {strange[0]}; there is of {', '.join(map(str, there)) or 'none'}")
         kept = [replace(row, outputs=[o for o in row.outputs if o.client in some]) for row in kept]
         kept = [row for row in kept if row.outputs or row.event.client in some or not row.event.client]
     if not kept:
@@ -95,8 +99,8 @@ def program(given: Optional[str] = None) -> list[str]:
     if os.access(built, os.X_OK):
         return [built]
     raise BadText(
-        "a recording is served before it is drawn, and there is no program for it: name one with --program PATH or by"
-        " the variable MMSCELL, or build crates/mmscell/out/mmscell; or draw its report"
+        "a recording is to be served, and there is no program for it: name one with --program PATH or by the variable"
+        " MMSCELL, or build crates/mmscell/out/mmscell; what is drawn may be a report, too, which needs none"
     )
 
 

@@ -1,6 +1,9 @@
 """How wide texts of a chart are, how they are cut into lines, and how numbers and times are spelled there."""
 
 import re
+from functools import lru_cache
+
+from .texts import count  # noqa: F401
 
 FONT = "'DejaVu Sans', Verdana, 'Segoe UI', Helvetica, Arial, sans-serif"
 SIZE, SMALL, TINY = 12, 10.5, 9  # sizes of letters
@@ -23,8 +26,14 @@ WIDEST = 100  # of a sign that is not in the tables, such as those of other scri
 
 def width(text: str, size: float = SIZE, bold: bool = False) -> float:
     """How wide a text is."""
+    return _units(text, bold) * size / 100
+
+
+@lru_cache(maxsize=1 << 16)
+def _units(text: str, bold: bool = False) -> int:
+    """How wide a text is in hundredths of its size."""
     table = WIDTHS[bold]
-    return sum(table[ord(c) - 32] if 32 <= ord(c) < 127 else WIDEST for c in text) * size / 100
+    return sum(table[ord(c) - 32] if 32 <= ord(c) < 127 else WIDEST for c in text)
 
 
 def fitting(text: str, room: float, size: float = SIZE, bold: bool = False) -> int:
@@ -51,7 +60,7 @@ def wrap(text: str, room: float, most: int, first: float = 0, size: float = SIZE
     """
     lines, line, at = [], "", room - first
     for word in re.findall(r"\S+|\s+", text[:LONGEST]):
-        while width(line + word, size) > at:
+        while (_units(line) + _units(word)) * size / 100 > at:
             if word.isspace():
                 word = ""
             elif line.strip() or at < room:
@@ -76,11 +85,6 @@ def _shortened(text: str, lines: list[str], room: float, size: float) -> list[st
     last = last[: fitting(last, room - width(f" .. {len(text)} more signs", size), size)].rstrip()
     shown = before + len(re.sub(r"\s", "", last))
     return [line.rstrip() for line in lines[:-1]] + [f"{last} .. {len(signs) - shown} more signs".lstrip()]
-
-
-def count(number: int, what: str) -> str:
-    """A number of things."""
-    return f"{number} {what}{'' if number == 1 else 's'}"
 
 
 def span(ms: int) -> str:

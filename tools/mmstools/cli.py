@@ -1,15 +1,23 @@
-"""The commands: capture, explain, chart, compare."""
+"""The commands: capture, explain, chart, compare, run, write, rows."""
 import argparse
+import gc
+import json
 import os
 import sys
 
+from . import as_json, comments, texts
 from . import capture as capturing
 from . import chart as drawing
-from . import comments
 from . import compare as comparing
 from . import explain as explaining
-from . import texts
+from . import rows as of_gate
+from . import run as running
+from . import spoken
+from . import write as writing
 from .history import history, served
+
+
+JSON = "as JSON, whose shape tools/mmstools/result.schema.json describes"
 
 
 def main(words=None) -> int:
@@ -18,9 +26,12 @@ def main(words=None) -> int:
         prog="mms", description="Tools beside mmscell: captures to recordings, reports in words and as pictures."
     )
     sub = ap.add_subparsers(dest="command", required=True, metavar="COMMAND")
-    for command in (_capture_words, _explain_words, _chart_words, _compare_words):
+    every = (_capture_words, _explain_words, _chart_words, _compare_words, _run_words, _write_words, _rows_words)
+    for command in every:
         command(sub)
     a = ap.parse_args(words)
+    collects = gc.isenabled()
+    gc.disable()  # a command ends soon: to look through 100,000 PDUs for garbage takes longer than all else
     try:
         return a.run(a)
     except (texts.BadText, capturing.Unread) as bad:
@@ -30,6 +41,9 @@ def main(words=None) -> int:
             sys.stderr.close()
             return 2
         print(f"mms {a.command}: {bad.filename or 'output'}: {bad.strerror}", file=sys.stderr)
+    finally:
+        if collects:
+            gc.enable()
     return 2
 
 
@@ -72,6 +86,7 @@ def _explain_words(sub) -> None:
     add("file", help="a recording or a report, - for standard input; or a PDU in hexadecimal digits")
     again = "the recording again, with the meaning of each element in comments above its PDU"
     add("--comments", action="store_true", help=again)
+    add("--json", action="store_true", help=JSON)
 
 
 def _chart_words(sub) -> None:
@@ -96,7 +111,38 @@ def _compare_words(sub) -> None:
     add("first", help="such as what `capture --seen` wrote")
     add("second", help="the report of mmscell")
     kinds = ", ".join(k for k in comparing.KINDS if k != "same")
+    add("--json", action="store_true", help=JSON)
     add("--ignore", default="", metavar="KIND,..", help=f"kinds of differences that do not count: {kinds} (none)")
+
+
+def _write_words(sub) -> None:
+    """The words of `mms write`."""
+    add = _command(sub, "write", _put_in_octets, "PDUs and recordings from words", writing.__doc__)
+    add("words", nargs="+", metavar="WORDS|FILE", help="a PDU in words; or a recording, - for standard input")
+    add("--invoke", type=int, metavar="N", help="the invokeID of the PDU (1)")
+    least = "1 or 2 (2): whose names the PDU may have; a recording says its own"
+    add("--edition", choices=("1", "2"), default="2", help=least)
+    add("--back", action="store_true", help="the other way: digits or a recording, in words")
+    add("-o", "--output", metavar="OUT", help="standard output where it is left out")
+
+
+def _rows_words(sub) -> None:
+    """The words of `mms rows`."""
+    add = _command(sub, "rows", _rows, "the rows of the gate in words, and their index", of_gate.__doc__)
+    add("words", nargs="*", metavar="WORD", help="rows in which each of these words stands; all where none is given")
+    add("--index", action="store_true", help="the page docs/ROWS-INDEX.md")
+
+
+def _run_words(sub) -> None:
+    """The words of `mms run`."""
+    add = _command(sub, "run", _run, "serve each recording of a folder, and compare", running.__doc__)
+    add("folder", help="a folder with recordings, NAME.mms, and their reports, NAME.report; also in folders below it")
+    add("--accept", action="store_true", help="store what comes in place of a report that is missing or differs")
+    add("--json", action="store_true", help=JSON)
+    add("--junit", metavar="FILE", help="also write the results as JUnit's XML")
+    program = "what serves a recording; MMSCELL's or the program that the gate left, where it is left out"
+    add("--program", metavar="PATH", help=program)
+    add("--jobs", type=int, metavar="N", help="how many at once; as many as there are processors, where it is left out")
 
 
 def _read(path: str) -> str:
@@ -151,7 +197,8 @@ def _capture(a) -> int:
         said.append(f"{len(got.warnings) - 20} more of these")
     pdus = sum(e.kind == "heard" for p in got.recording.phases for e in p)
     answers = sum(len(o) for p in got.seen.phases for o in p.outputs.values())
-    said += [*got.remarks, f"{pdus} PDUs of {len(got.clients)} clients, {answers} answers"]
+    sums = f"{texts.count(pdus, 'PDU')} of {texts.count(len(got.clients), 'client')}, {texts.count(answers, 'answer')}"
+    said += [*got.remarks, sums]
     for line in said + [got.broken] * bool(got.broken):
         print(f"mms capture: {line}", file=sys.stderr)
     return 2 if got.broken else 1 if got.warnings else 0
@@ -171,6 +218,10 @@ def _server(words):
 
 def _explain(a) -> int:
     """`mms explain`."""
+    if a.json:
+        said = as_json.of_text(a.file)
+        _write(None, said)
+        return json.loads(said)["status"]
     if not a.comments:
         return explaining.command(a)
     _write(None, comments.commented(_read(a.file)))
@@ -179,6 +230,7 @@ def _explain(a) -> int:
 
 def _chart(a) -> int:
     """`mms chart`."""
+    _drawable(a.output)
     text, names, note = _read(a.file), {}, ""
     if texts.kind_of(text) == "recording":
         recording = texts.read_recording(text)
@@ -186,6 +238,8 @@ def _chart(a) -> int:
         rows = served(recording, drawing.program(a.program))
     else:
         report = texts.read_report(text)
+        if report.end and not any(p.served for p in report.phases):
+            raise texts.BadText(f"{a.file} has no event, and ends with `{report.end}`: `mms explain` tells why")
         if any(len(p.served) > 1 for p in report.phases):
             note = "the events of late answers worked out from the report alone"
         rows = history(report)
@@ -202,6 +256,47 @@ def _chart(a) -> int:
     return 0
 
 
+def _put_in_octets(a) -> int:
+    """`mms write`."""
+    said = " ".join(a.words)
+    text = _read(said) if said == "-" or os.path.exists(said) else None
+    out = spoken.command(said, text) if a.back else writing.command(said, text, a.invoke, a.edition)
+    _write_octets(a.output, out)
+    return 0
+
+
+def _write_octets(path, text: str) -> None:
+    """Writes a text of which each sign is an octet."""
+    if path in (None, "-"):
+        sys.stdout.flush()
+        out = getattr(sys.stdout, "buffer", None)
+        out.write(text.encode("latin-1")) if out else sys.stdout.write(text)
+        sys.stdout.flush()
+    else:
+        with open(path, "wb") as f:
+            f.write(text.encode("latin-1"))
+
+
+def _rows(a) -> int:
+    """`mms rows`."""
+    if a.index:
+        _write(None, of_gate.index())
+        return 0
+    count = 0
+    for text in of_gate.said(a.words):
+        print(text.encode("ascii", "backslashreplace").decode("ascii"))
+        count += 1
+    if not count:
+        print(f"mms rows: no row has {' and '.join(a.words)}", file=sys.stderr)
+    return 0 if count else 1
+
+
+def _drawable(output) -> None:
+    """Refuses a name of a file that tells of no kind of picture."""
+    if output not in (None, "-") and not output.endswith((".svg", ".png", ".md")):
+        raise texts.BadText(f"{output}: a picture's name ends in .svg, .png or .md")
+
+
 def _names(recording) -> dict:
     """Who the clients are, by the comments that `capture` writes."""
     out = {}
@@ -211,6 +306,24 @@ def _names(recording) -> dict:
             if len(words) > 2 and words[0] == "client" and words[1].isdigit():
                 out.setdefault(int(words[1]), words[2])
     return out
+
+
+def _run(a) -> int:
+    """`mms run`."""
+    names, device = running.recordings(a.folder), drawing.program(a.program)
+    jobs = a.jobs if a.jobs is not None else os.cpu_count() or 1
+    if jobs < 1:
+        raise texts.BadText("--jobs wants a number from 1 on")
+    results, bar, bad = [], running.Bar(len(names)), 0
+    for one in running.run_all(names, device, a.accept, jobs):
+        results.append(one)
+        bad += one.kind not in ("same", "accepted")
+        bar.step(bad)
+    if a.junit:
+        _write(a.junit, running.junit(results, a.folder))
+    status = running.status(results)
+    _write(None, as_json.of_results(status, results) if a.json else running.words(results, a.folder))
+    return status
 
 
 def _compare(a) -> int:
@@ -223,5 +336,7 @@ def _compare(a) -> int:
     names = [os.path.basename(f) for f in (a.first, a.second)]
     if names[0] == names[1]:
         names = [a.first, a.second]
-    _write(None, comparing.words(found, tuple(names), ignored))
-    return 1 if any(d.kind != "same" and d.kind not in ignored for d in found) else 0
+    status = 1 if any(d.kind != "same" and d.kind not in ignored for d in found) else 0
+    said = as_json.of_differences(status, found) if a.json else comparing.words(found, tuple(names), ignored)
+    _write(None, said)
+    return status

@@ -1,9 +1,10 @@
 """Two reports of one recording, answer by answer: what a captured server answered, and what mmscell answers."""
+from collections import Counter
 from dataclasses import dataclass
 from typing import Dict, List, Optional, Tuple
 
 from .history import Output, Row, history
-from .texts import BadText, Report
+from .texts import BadText, Report, count
 from .words import Said, say
 
 KINDS = {
@@ -41,7 +42,7 @@ def compare(first: Report, second: Optional[Report], rows: Optional[List[Row]] =
     ends_a, ends_b = _unasked(a), _unasked(b)
     for client in sorted(set(ends_a) | set(ends_b)):
         found += _pairs(ends_a.get(client, []), ends_b.get(client, []))
-    found = _moved(found)
+    found = _malformed(_moved(found))
     _orders(a, b, found)
     found.sort(key=lambda d: d.row.place)
     return found
@@ -93,6 +94,20 @@ def _moved(found: List[Difference]) -> List[Difference]:
         else:
             out[at] = Difference(lone.row, "order", out[at].first, lone.second)
     return out
+
+
+def _malformed(found: List[Difference]) -> List[Difference]:
+    """A malformed answer of the first, which by itself answers nothing, is the one to a request that has none: to that of
+    its invokeID, where it tells one, else to the client's first."""
+    lone = [d for d in found if d.kind == "more" and d.first.asked is None and not d.first.said.pdu]
+    for d in lone:
+        unanswered = [x for x in found if x.kind == "missing" and x.second.client == d.first.client]
+        invoke = d.first.said.invoke
+        at = next((x for x in unanswered if invoke is None or x.second.said.invoke == invoke), None)
+        if at is not None:
+            found.remove(d)
+            found[found.index(at)] = Difference(at.row, "answer", d.first, at.second)
+    return found
 
 
 def _orders(a: List[Row], b: List[Row], found: List[Difference]) -> None:
@@ -164,9 +179,9 @@ def words(found: List[Difference], names: Tuple[str, str], quiet: frozenset = fr
     for d in found:
         if d.kind != "same" and d.kind not in quiet:
             out += [*_heading(d), *_sides(d, names), *("  " + line for line in _apart(d)), ""]
-    count = {k: sum(d.kind == k for d in found) for k in KINDS}
-    told = ", ".join(f"{n} {KINDS[k]}" for k, n in count.items() if n)
-    out.append(f"{len(found)} answers: {told or 'none'}")
+    kinds = Counter(d.kind for d in found)
+    told = ", ".join(f"{kinds[k]} {KINDS[k]}" for k in KINDS if kinds[k])
+    out.append(f"{count(len(found), 'answer')}: {told or 'none'}")
     first = next((d for d in found if d.kind not in ALIKE and not _negotiated(d)), None)
     if first is not None:
         out.append(f"The first that differs is at place {first.row.place}; later ones may come of it.")

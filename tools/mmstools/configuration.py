@@ -1,6 +1,6 @@
 """The rules of a configuration (docs/RECORDING.md): which is broken, in which row and key.
 
-TOML is read by Python's tomllib, which knows TOML 1.0; the device reads 1.1.
+TOML 1.1 is read, as the device does, by Python's tomllib.
 """
 
 import re
@@ -11,6 +11,7 @@ from typing import Any, Dict, Iterator, List, Optional, Tuple
 
 from . import types_of_cells
 from .texts import is_name
+from .toml_1_1 import as_1_0
 
 NUMBERS = {"clients": (1, 64), "day": (0, 65535), "ms": (0, 86399999)}
 TEXTS = ("vendor", "model", "revision")
@@ -62,9 +63,9 @@ def line_of(found: Broken, lines: List[str]) -> Optional[int]:
 def broken(text: str, edition: str = "1") -> Tuple[Optional[Broken], Dict[str, Any]]:
     """The first breach of the least rule that is broken in that edition, None where all are kept, and the document."""
     try:
-        document = tomllib.loads(text.encode("latin-1").decode("utf-8-sig"))
+        document = _document(text.encode("latin-1").decode("utf-8-sig"))
     except (ValueError, RecursionError) as bad:
-        return Broken(0, f"no TOML document, as TOML 1.0 has it: {str(bad) or 'nests too deep'}"), {}
+        return Broken(0, f"no TOML document: {str(bad) or 'nests too deep'}"), {}
     for rule in (_integers, _keys):
         found = next(rule(document), None)
         if found is not None:
@@ -75,6 +76,14 @@ def broken(text: str, edition: str = "1") -> Tuple[Optional[Broken], Dict[str, A
         if found is not None:
             return found, document
     return None, document
+
+
+def _document(text: str) -> Dict[str, Any]:
+    """The document of TOML 1.1, which Python's tomllib, of TOML 1.0, reads where nothing newer stands in it."""
+    try:
+        return tomllib.loads(text)
+    except (ValueError, RecursionError):
+        return tomllib.loads(as_1_0(text))
 
 
 def _integers(value: Any, key: str = "") -> Iterator[Broken]:

@@ -1,8 +1,9 @@
 """A recording, a report or one PDU in words: each PDU cut by element, with tag, length, contents, name and value, and
 for what is refused the rule that is broken, the line itself, and of a configuration the row and the key.
 
-    mms explain FILE    a recording, a report, or a PDU in hexadecimal digits; - for standard input
-    mms explain DIGITS  one PDU
+    mms explain FILE    a recording, a report, a file of rows, or PDUs as below; - for standard input
+    mms explain DIGITS  a PDU: pairs of digits, a line of a recording or a report (`1 A0..`, `> A1..`), `a0:06`, `0xA006`,
+                        a C array, `\\xA0\\x06`, or a hexdump
 
 Beside a report NAME.report the recording NAME.mms is looked at for the line that was refused, where it is there. The
 status is 2 where a recording is refused, a report is cut off or a PDU is malformed; a sentence then says why.
@@ -15,7 +16,7 @@ import textwrap
 from dataclasses import dataclass
 from typing import Iterable, Iterator, List, Optional, Tuple
 
-from . import ber, grammar, refusals
+from . import at_hand, ber, grammar, refusals, row_files
 from .grammar import Node
 from .history import Row, history
 from .refusals import Refusal
@@ -38,6 +39,7 @@ UNIVERSAL = {
     25: "GraphicString",
     26: "VisibleString",
 }
+ROWS = re.compile(r"(?m)^= (?:replay|run|steps)\b")  # a file of rows has such a line
 END = "end of contents"  # of indefinite length
 SPOKEN_AS = {
     "confirmed-Request": "request",
@@ -151,6 +153,40 @@ def _of_pdu(octets: bytes) -> Iterator[str]:
         raise BadText(f"these {len(octets)} octets are no PDU: {said.detail.partition('malformed: ')[2] or said.title}")
 
 
+def _of_pdus(found: List[bytes]) -> Iterator[str]:
+    """One PDU after the other; raises BadText behind the last where one is malformed."""
+    wrong: List[BadText] = []
+    for i, octets in enumerate(found):
+        yield from [""] * bool(i)
+        try:
+            yield from _of_pdu(octets)
+        except BadText as bad:
+            wrong.append(bad)
+    if wrong:
+        raise wrong[0]
+
+
+def _of_rows(text: str) -> Iterator[str]:
+    """Each row of a file of rows: its recording, and what has to be written or sent."""
+    for row in row_files.read(text):
+        yield f"line {row.line}: = {row.words}"
+        if not row.recording.startswith("mms-recording"):
+            yield from row.report.split("\n")
+            continue
+        try:
+            yield from _of_recording_text(row.recording, f"the recording of line {row.line}")
+        except BadText as bad:
+            yield f"{bad}"
+        for step in row.steps:
+            for client, octets in step.outputs:
+                yield f"{step.event.line()} -> client {client}: {heading(say(octets))}"
+        try:
+            yield from of_report(read_report(row.report)) if row.report else ()
+        except BadText as bad:
+            yield f"{bad}"
+        yield ""
+
+
 def _hinted(octets: bytes, indent: str) -> Iterator[str]:
     """The note for whoever typed these octets, where there is one."""
     if hint(octets):
@@ -254,6 +290,7 @@ def _ended(r: Report, recording: str, name: str) -> Iterator[str]:
         yield from refusals.explained(told)
         if recording:
             yield f"The line itself is not shown: {name} is not refused so."
+    raise BadText(f"the report ends with `{r.end}`: its recording was refused")
 
 
 def _event(head: str, one: Event, edition: str = "") -> Iterator[str]:
@@ -277,23 +314,31 @@ def _event(head: str, one: Event, edition: str = "") -> Iterator[str]:
 # ---------------------------------------------------------------- the command
 
 
+def source(argument: str) -> Tuple[str, List[bytes]]:
+    """The text of a file or of standard input, and the PDUs that it or the argument itself holds, where it holds some."""
+    if argument != "-" and not os.path.exists(argument):
+        found = at_hand.pdus(argument)
+        if found:
+            return "", found
+    text = _read(argument)
+    known = kind_of(text) or "mms-recording" in text.split("\n", 1)[0].lower() or ROWS.search(text)
+    return text, [] if known else at_hand.pdus(text)
+
+
 def explained(argument: str) -> Iterable[str]:
     """The lines for a file, for standard input or for a PDU in digits. Raises BadText, also behind lines."""
-    if argument != "-" and not os.path.exists(argument):
-        octets = _digits(argument)
-        if octets is not None:
-            return _of_pdu(octets)
-    text = _read(argument)
-    octets = _digits(text)
-    if octets is not None:
-        return _of_pdu(octets)
+    text, found = source(argument)
+    if found:
+        return _of_pdus(found)
     if "mms-recording" in text.split("\n", 1)[0].lower():
         return _of_recording_text(text, argument)
     if kind_of(text) == "report":
         beside = re.sub(r"\.report$", "", argument) + ".mms"
         there = argument != "-" and os.path.exists(beside)
         return of_report(_report(text, argument), _read(beside) if there else "", beside)
-    raise BadText(f"{argument} is neither a recording nor a report, and no PDU in hexadecimal digits")
+    if ROWS.search(text):
+        return _of_rows(text)
+    raise BadText(f"{argument} is neither a recording nor a report or a file of rows, and no PDU in hexadecimal digits")
 
 
 def _report(text: str, name: str) -> Report:
@@ -302,12 +347,6 @@ def _report(text: str, name: str) -> Report:
         return read_report(text)
     except BadText as bad:
         raise BadText(f"{name}, {bad}") from None
-
-
-def _digits(text: str) -> Optional[bytes]:
-    """The octets that a text of pairs of hexadecimal digits says, blanks between them or not; None where it is none."""
-    digits = re.sub(r"\s+", "", text)
-    return bytes.fromhex(digits) if re.fullmatch(r"(?:[0-9A-Fa-f]{2})+", digits) else None
 
 
 def _read(path: str) -> str:

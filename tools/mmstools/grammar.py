@@ -11,6 +11,7 @@ import re
 import struct
 import time
 from dataclasses import dataclass, field
+from functools import cached_property, lru_cache
 from typing import Dict, Iterator, List, Optional, Tuple, Union
 
 from .ber import Element, elements, integer
@@ -287,6 +288,13 @@ class Form:
     kind: str
     components: List["Component"] = field(default_factory=list)
 
+    @cached_property
+    def by_number(self) -> Optional[Dict[int, "Component"]]:
+        """The components by their context tags, the first of each, where each has one."""
+        if any(c.number is None for c in self.components):
+            return None
+        return {c.number: c for c in reversed(self.components)}
+
 
 @dataclass
 class Component:
@@ -402,7 +410,7 @@ def _resolved(form: Union[str, Form]) -> Union[str, Form]:
 # ---------------------------------------------------------------- a PDU by the table
 
 
-@dataclass
+@dataclass(slots=True)
 class Node:
     """One element with what it is: its component's name, its type in words, and its value where it has one."""
 
@@ -425,13 +433,17 @@ class Node:
 
     def walk(self) -> Iterator["Node"]:
         """This node and all below it, in the order of their octets."""
-        yield self
-        for p in self.parts:
-            yield from p.walk()
+        left = [self]
+        while left:
+            node = left.pop()
+            yield node
+            left += reversed(node.parts)
 
 
+@lru_cache(maxsize=1 << 18)
 def decode(octets: bytes) -> List[Node]:
-    """The elements of a PDU by the table: one node, or more where more stands there than one element."""
+    """The elements of a PDU by the table: one node, or more where more stands there than one element. They are kept for
+    who asks again, and nobody changes them."""
     return [_choose(e, _PDU_CHOICE) for e in elements(octets)]
 
 
@@ -464,7 +476,13 @@ def _component(e: Element, c: Component) -> Node:
 
 def _choose(e: Element, form: Form) -> Node:
     """The element as the alternative that its tag says."""
-    return next((_component(e, c) for c in form.components if _fits(e, c)), None) or _unknown(e)
+    if form.by_number is not None:
+        c = form.by_number.get(e.number) if e.cls == 2 else None
+        return _unknown(e) if c is None else _component(e, c)
+    for c in form.components:
+        if _fits(e, c):
+            return _component(e, c)
+    return _unknown(e)
 
 
 def _content(e: Element, form: Union[str, Form], label: str, name: str) -> Node:
@@ -484,11 +502,15 @@ def _content(e: Element, form: Union[str, Form], label: str, name: str) -> Node:
 
 def _in_order(parts: List[Element], components: List[Component]) -> List[Node]:
     """The parts as components of a sequence, each once and in their order; any other part is unknown."""
-    out, rest = [], components
+    out, first = [], 0
     for p in parts:
-        at = next((i for i, c in enumerate(rest) if _fits(p, c)), None)
-        out.append(_unknown(p) if at is None else _component(p, rest[at]))
-        rest = rest if at is None else rest[at + 1 :]
+        for i in range(first, len(components)):
+            if _fits(p, components[i]):
+                out.append(_component(p, components[i]))
+                first = i + 1
+                break
+        else:
+            out.append(_unknown(p))
     return out
 
 

@@ -7,10 +7,11 @@ which one that was is worked out from the answers themselves. Reports with a pha
 import subprocess
 from collections import Counter, deque
 from dataclasses import dataclass, field
+from functools import lru_cache
 from typing import Deque, Dict, Iterator, List, Optional, Set, Tuple
 
 from . import grammar
-from .texts import BadText, Event, Recording, Report, read_report, write_recording
+from .texts import BadText, Event, Phase, Recording, Report, read_report, write_recording
 from .words import Said, say
 
 
@@ -70,7 +71,14 @@ ANSWERS = {
     "confirmed-Request": ("confirmed-Response", "confirmed-Error", "reject"),
     "cancel-Request": ("cancel-Response", "cancel-Error", "reject"),
 }
+NOTIFYING = ("triggerEvent", "alterEventConditionMonitoring", "deleteEventCondition")
 ASKING = (b"\xa0", b"\x85", b"\xa8", b"\x8b")  # the first octets of what a client sends to be answered
+
+
+@lru_cache(maxsize=1 << 17)
+def _heard(octets: bytes) -> Said:
+    """What a client says; it is heard again in the other one of two reports."""
+    return say(octets)
 
 
 def history(report: Report) -> List[Row]:
@@ -146,17 +154,21 @@ class _History:
         self.asked: Dict[int, set] = {}  # invokeIDs of the server's requests, by client
         known = _Known()
         for phase in report.phases:
-            self.queue = {c: _Queue([Output(c, o, say(o)) for o in os]) for c, os in phase.outputs.items()}
+            told = {c: [Output(c, o, say(o)) for o in os] for c, os in phase.outputs.items()}
+            aside = _set_aside(phase, told)
+            self.queue = {c: _Queue([o for o in os if o not in aside]) for c, os in told.items()}
             first = len(self.rows)
             for place, event in phase.served:
                 if event.kind == "tick":
                     self.now += event.ms
-                row = Row(place, phase.number, event, say(event.octets) if event.kind == "heard" else None, self.now)
+                said = _heard(event.octets) if event.kind == "heard" else None
+                row = Row(place, phase.number, event, said, self.now)
                 self.rows.append(row)
                 self.serve(row)
             self.left_over(self.rows[first:])
             known.take(self.rows[first:])
-            _place(self.rows[first:], known)
+            aside |= _place(self.rows[first:], known)
+            _beside(self.rows[first:], told, aside)
 
     # ---- one event
     def serve(self, row: Row) -> None:
@@ -470,19 +482,26 @@ class _History:
 # ---------------------------------------------------------------- which event an output may have come of
 
 
-def _place(rows: List[Row], known: "_Known") -> None:
+def _place(rows: List[Row], known: "_Known") -> Set[Output]:
     """Marks what outputs of a phase may have come of more than one of its events, and moves what stands where it can't.
 
     An event answers its own request first, then come grants and ends of waits. What an event may send says `_Ways`; an
-    output is sure where all ways to cut the client's outputs into those of the events give it to the same event."""
+    output is sure where all ways to cut the client's outputs into those of the events give it to the same event. Where
+    there is no way, notifications are left out, and told."""
     by_client: Dict[int, List[Tuple[Row, Output]]] = {}
     at = {id(row): i for i, row in enumerate(rows)}
     for row in rows:
         for out in row.outputs:
             by_client.setdefault(out.client, []).append((row, out))
         row.outputs = []
+    aside: Set[Output] = set()
     for client, placed in by_client.items():
         may = _Ways(client, [out for _, out in placed], known).of(rows)
+        notices = {out for _, out in placed if out.said.pdu == "unconfirmed"}
+        if notices and not may.some:
+            aside |= notices
+            placed = [(row, out) for row, out in placed if out not in notices]
+            may = _Ways(client, [out for _, out in placed], known).of(rows)
         least = 0
         for j, (row, out) in enumerate(placed):
             own = at[id(row)]
@@ -494,6 +513,33 @@ def _place(rows: List[Row], known: "_Known") -> None:
                 out.asked.answered = rows[least]
     for row in rows:
         row.outputs.sort(key=lambda o: o.client != row.event.client)
+    return aside
+
+
+def _set_aside(phase: Phase, told: Dict[int, List[Output]]) -> Set[Output]:
+    """What is sent unasked and comes of no event of the phase, such as an InformationReport, which mmscell never sends."""
+    unasked = [o for os in told.values() for o in os if o.said.pdu == "unconfirmed"]
+    notified = bool(unasked) and any(_may_notify(event) for _, event in phase.served)
+    return {o for o in unasked if o.said.service != "eventNotification" or not notified}
+
+
+def _may_notify(event: Event) -> bool:
+    """Whether event conditions may come to another state in that event."""
+    return event.kind == "tick" or event.kind == "heard" and _heard(event.octets).service in NOTIFYING
+
+
+def _beside(rows: List[Row], told: Dict[int, List[Output]], aside: Set[Output]) -> None:
+    """Puts what was set aside behind the output that its client was sent before it, as a guess."""
+    at = {o: row for row in rows for o in row.outputs}
+    for client, outs in told.items() if rows and aside else ():
+        own = next((row for row in rows if row.event.client == client), rows[0])
+        before = None
+        for o in outs:
+            if o in aside:
+                row = at[before] if before in at else own
+                row.outputs.insert(row.outputs.index(before) + 1 if before in at else len(row.outputs), o)
+                at[o], o.sure = row, len(rows) == 1
+            before = o
 
 
 class _Senders:
@@ -685,8 +731,7 @@ def _members(bits: int) -> Iterator[int]:
 
 def _notifies(row: Row) -> bool:
     """Whether event conditions may come to another state in that event."""
-    by_request = ("triggerEvent", "alterEventConditionMonitoring", "deleteEventCondition")
-    return row.event.kind == "tick" or row.said is not None and row.said.service in by_request
+    return row.event.kind == "tick" or row.said is not None and row.said.service in NOTIFYING
 
 
 def _token(asks: Said, says: Optional[Said]) -> str:

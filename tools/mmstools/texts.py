@@ -12,6 +12,11 @@ LONGEST = {"1": 32, "2": 64}  # octets of a name, by edition
 MADE = "#:"  # a comment that `explain --comments` made begins so
 
 
+def count(number: int, what: str) -> str:
+    """A number of things."""
+    return f"{number} {what}{'' if number == 1 else 's'}"
+
+
 class BadText(Exception):
     """A text that is no recording or no report; says the line."""
 

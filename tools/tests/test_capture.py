@@ -165,8 +165,8 @@ class Capture(unittest.TestCase):
             self.assertEqual("the recording is of edition 2" in " ".join(got.remarks), edition == "2")
             self.assertTrue(texts.write_recording(got.recording).startswith(f"mms-recording {edition}\n"))
             self.assertEqual(self.of(wire, capture.Options(learn=False, edition="1")).recording.edition, "1")
-        self.assertIn("1 names have more than 32 octets", " ".join(self.remarks_of(status[65])))
-        self.assertIn("1 names have more than 64 octets", " ".join(self.remarks_of(status[64], status[65])))
+        self.assertIn("1 name has more than 32 octets", " ".join(self.remarks_of(status[65])))
+        self.assertIn("1 name has more than 64 octets", " ".join(self.remarks_of(status[64], status[65])))
         self.assertEqual(len(self.remarks_of(status[64])), 1)
 
     def remarks_of(self, *pdus):

@@ -82,6 +82,46 @@ class Commands(Running):
                 self.assertEqual(f.read(4), b"\x89PNG")
 
 
+class Wrong(Refusing):
+    """What can't be meant is refused by a sentence that says it."""
+
+    def test_chart(self):
+        report = os.path.join(EXAMPLES, "semaphores.report")
+        with tempfile.TemporaryDirectory() as d:
+            path = os.path.join(d, "x.pdf")
+            self.assertIn(".svg, .png or .md", self.refused("chart", report, "-o", path))
+            self.assertFalse(os.path.exists(path))
+        self.assertIn("nothing is of client 9", self.refused("chart", report, "--clients", "9"))
+        self.assertIn("nothing is of client 9", self.refused("chart", report, "--clients", "1,9"))
+
+    def test_chart_of_a_refused_report(self):
+        for text in (b"bad config 3\n", b"bad 1 header\n", b"phase 1\nbad 4 hex\n"):
+            self.assertIn(text.decode().split("\n")[-2], self.refused("chart", self.file(text)))
+
+    def test_malformed_answer(self):
+        """One that is malformed counts once, as another answer to its request."""
+        report = text_of(os.path.join(EXAMPLES, "variables.report"))
+        changed = report.replace("> A1050201048700\n", "> A1FF\n")
+        self.assertNotEqual(report, changed)
+        found = compare.compare(texts.read_report(changed), texts.read_report(report))
+        self.assertEqual([(d.row.place, d.kind) for d in found if d.kind != "same"], [(5, "answer")])
+        whole = compare.compare(texts.read_report(report), texts.read_report(report))
+        self.assertEqual(len(found), len(whole))
+
+    def test_one_is_one(self):
+        report = self.file(b"phase 1\n1 1 8B00\nclient 1\n> 8C00\n")
+        self.assertIn("1 answer: 1 the same octets\n", self.run_("compare", report, report)[1])
+
+    def test_old_python(self):
+        """The tool tells which Python is needed, in place of a traceback."""
+        with open(os.path.join(TOP, "tools", "mms"), encoding="utf-8") as f:
+            text = f.read()
+        code = text.replace("sys.version_info", "(3, 10)")
+        self.assertNotEqual(code, text)
+        got = subprocess.run([sys.executable, "-c", code], capture_output=True, text=True)
+        self.assertEqual((got.returncode, got.stderr), (2, "mms: Python 3.11 or later is needed, and this one is 3.10\n"))
+
+
 class Unreadable(Refusing):
     """Whatever the file is, the tools end with a sentence and status 2."""
 
@@ -201,6 +241,18 @@ class Press(Running):
             status, out, _ = self.run_("capture", self.data("pcap"), *words)
             self.assertEqual((status, out), (0, text_of(self.data("mms"))))
             self.assertEqual(text_of(seen), text_of(self.data("seen")))
+
+    @unittest.skipUnless(shutil.which("tshark"), "tshark is missing")
+    def test_given_configuration(self):
+        """A given configuration with a broken rule is refused."""
+        with tempfile.TemporaryDirectory() as d:
+            path = os.path.join(d, "bad.toml")
+            for text, said in (("clients = 65\n", "rule 2"), ("vendor = x\n", "rule 0"), ("cell = 1\n", "rule 1")):
+                with open(path, "w", encoding="utf-8") as f:
+                    f.write(text)
+                status, out, err = self.run_("capture", self.data("pcap"), "--config", path)
+                self.assertEqual((status, out), (2, ""))
+                self.assertIn(said, err)
 
     def test_planted_differences(self):
         status, out, err = self.run_("compare", self.data("seen"), self.data("report"))

@@ -81,6 +81,46 @@ class Told(unittest.TestCase):
             self.assertEqual(found and found.told(), last if got.returncode else None, text)
 
 
+NEWER = [
+    'vendor = "\\x41"',
+    'vendor = "a\\\\x4"',
+    'vendor = """\\x41"""',
+    'cell = [{ number = 0, type = "8300", value = "83\\x301\\x300" }]',
+    'cell = [\n  {\n    number = 0, # the first\n    type = "8300",\n    value = "830100",\n  },\n]',
+    'cell = [{ number = 0, type = "8300", value = "830100", }]',
+]  # of TOML 1.1
+NO_TOML = ['vendor = "\\x4"', "cell = [{ , }]", "cell = [{ number = 0,, }]", "cell = [{\nnumber = 0\ntype = 1\n}]"]
+
+
+class Newer(Files):
+    """What TOML 1.1 has and TOML 1.0 hasn't is read as the device reads it."""
+
+    def told(self, config):
+        found = refusals.first_refusal(with_config(config + "\n"))
+        return found and found.told()
+
+    def test_read(self):
+        for config in NEWER:
+            self.assertNotEqual(self.told(config), "bad config 0", config)
+        for config in NO_TOML:
+            self.assertEqual(self.told(config), "bad config 0", config)
+        self.assertEqual(self.told('vendor = "\\e"'), "bad config 3")
+        self.assertEqual(self.told("day = 12:30"), "bad config 1")
+        self.assertEqual(self.explained(with_config(NEWER[0] + "\n"))[0], 0)
+
+    def test_lines_stay(self):
+        text = 'cell = [\n  {\n    number = 0, type = "8300",\n    value = "830100",\n  },\n]\nday = x\n'
+        self.assertIn("Line 9: `day = x`", self.explained(with_config(text))[1])
+
+    @unittest.skipUnless(os.access(PROGRAM, os.X_OK), "the program is missing")
+    def test_program(self):
+        for config in [*NEWER, *NO_TOML, 'vendor = "\\e"', "day = 12:30"]:
+            text = with_config(config + "\n")
+            got = subprocess.run([PROGRAM, "replay"], input=text.encode("latin-1"), stdout=subprocess.PIPE)
+            last = got.stdout.decode("latin-1").rstrip("\n").split("\n")[-1]
+            self.assertEqual(self.told(config), last if got.returncode else None, config)
+
+
 class Explained(Files):
     def test_lines(self):
         """The word's rule, what to look at, and the line itself, behind the events before it; status 2."""
@@ -162,7 +202,7 @@ class Explained(Files):
         """A report's last line is explained, with the line of the recording where that is refused so."""
         report = "phase 1\n1 1 8B00\nclient 1\n> abort\nbad 6 hex\n"
         status, out, err = self.explained(report, "a.report")
-        self.assertEqual((status, err), (0, ""))
+        self.assertEqual((status, err), (2, "mms explain: the report ends with `bad 6 hex`: its recording was refused\n"))
         self.assertIn(refusals.WORDS["hex"].look, out)
         self.assertNotIn("Line 6:", out)
         self.explained(HEAD + "1 8B00\nphase\n1 8B0\n", "a.mms")

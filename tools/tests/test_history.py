@@ -17,6 +17,26 @@ class History(unittest.TestCase):
             )
             self.assertTrue(all(o.sure for r in rows for o in r.outputs), f)
 
+    def test_reports_that_nobody_asked_for(self):
+        """An InformationReport is set aside, and every other answer keeps its event; so is a notification without cause."""
+        unasked = {
+            "report": "A30DA00BA10480025250A003830101",
+            "notice": "A31BA219A0058003454E31A1058003454331820140830102A403810101",
+        }
+        for kind, what in unasked.items():
+            octets = bytes.fromhex(what)
+            for name in ("variables", "two-clients", "open-status-conclude"):
+                text = text_of(os.path.join(EXAMPLES, name + ".report"))
+                alone = history(texts.read_report(text))
+                lines = [x for line in text.split("\n") for x in (line, *[f"> {what}"] * line.startswith("> "))]
+                rows = history(texts.read_report("\n".join(lines)))
+                for one, other in zip(rows, alone):
+                    kept = [(o.client, o.octets) for o in one.outputs if o.sure and o.octets != octets]
+                    self.assertEqual(kept, [(o.client, o.octets) for o in other.outputs], (name, one.place))
+                aside = [o for row in rows for o in row.outputs if o.octets == octets]
+                self.assertEqual(len(aside), text.count("\n> "))
+                self.assertFalse(kind == "report" and any(o.sure and len(rows) > 1 for o in aside))
+
     def test_grants_of_other_events(self):
         rows = {r.place: r for r in self.rows("semaphores")}
         self.assertEqual(rows[7].answered.place, 12)  # the tick
