@@ -1,5 +1,5 @@
 -- What is of a form stays so where the elements of other octets are the same, one for one.
-use Rattle.std.proofs.Common.{◌≡◌, ℕ, ◌+◌, Bool, true, false, ◌&&◌, List, [], ◌∷◌, ◌++◌, refl, sym, ap, subst, ◌∙◌}
+use Rattle.std.proofs.Common.{◌≡◌, ℕ, Bool, true, false, ◌&&◌, List, [], ◌∷◌, ◌++◌, refl, sym, ap, subst, ◌∙◌}
 use Rattle.std.specs.Prelude.{IsTrue, MatchBool, ◌==◌}
 use Rattle.std.proofs.lemmas.List.{append-nil}
 use Rattle.ber_core.specs.declared.element.Tag.{Tag}

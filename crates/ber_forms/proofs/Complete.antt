@@ -1,5 +1,5 @@
 -- What is of the form is read.
-use Rattle.std.proofs.Common.{◌≡◌, ◌≢◌, ℕ, suc, ◌+◌, ◌-◌, ◌≤◌, ℤ, ◌≤ℤ◌, Bool, true, false, cond, ltb, eqb, ◌&&◌, List, [], ◌∷◌, ◌++◌, length, Some, Result, Ok, Err, refl, sym, ap, subst, ◌∙◌, arith}
+use Rattle.std.proofs.Common.{◌≡◌, ◌≢◌, ℕ, suc, ◌+◌, ◌-◌, ◌≤◌, ℤ, ◌≤ℤ◌, Bool, true, false, cond, ltb, eqb, ◌&&◌, List, [], ◌∷◌, ◌++◌, length, Some, Result, Ok, Err, refl, sym, ap, ◌∙◌, arith}
 use Rattle.ber_core.specs.declared.element.Lengths.{Lengths}
 use Rattle.std.specs.Prelude.{MatchBool, int_le}
 use Rattle.std.proofs.lemmas.List.{length-append, append-nil}
@@ -16,10 +16,11 @@ use Rattle.ber_forms.specs.Fault.{Fault}
 use Rattle.ber_forms.specs.Fault as fault
 use Rattle.ber_forms.specs.Value.{Value, Slot, Slots, nothing, truth, number, bits, text, chosen, parts, missing, given, done, slot, all_of}
 use Rattle.ber_forms.specs.Form.{Form, Member, Alternatives, Components, null, boolean, integer, bit_string, named_bits, octet_string, sequence, choice, list_of, such_that, opaque, elements, too_deep, tagged, one_of, no_other, or, no_more, any_more, required, optional, defaulted, skipped}
-use Rattle.ber_forms.specs.Reading.{◌>>=◌, well, is_constructed, is_tag, has_tag, next_at, part_at, required_part, optional_part, integer_in, at_end, or_else, required_by, chosen_by, optional_by, defaulting, members_by, elements_at, counted, bits_in, reading, alternatives, required_at, optional_at, components}
+use Rattle.ber_forms.specs.Reading.{◌>>=◌, well, is_constructed, is_tag, has_tag, next_at, part_at, required_part, is_ahead, optional_part, integer_in, at_end, or_else, required_by, chosen_by, optional_by, defaulting, members_by, elements_at, counted, bits_in, reading, alternatives, required_at, optional_at, components}
 use Rattle.ber_forms.specs.Bits.{cleared, first_bits, unused_for}
 use Rattle.ber_forms.specs.InForm.{begins, AreMembers, InForm, IsMember, IsAlternative, AreComponents}
 use Rattle.ber_forms.proofs.Loop.{step, nothing_left}
+use Rattle.ber_forms.proofs.InFront.{none_ahead, ahead_is}
 
 pub then_ok : {A B : Type 0} (r : Result A Fault) (f : A → Result B Fault) (x : A) (y : B) → r ≡ Ok x → f x ≡ Ok y → (r >>= f) ≡ Ok y
 then_ok r f x y first second = ap (λ (s : Result _ Fault). s >>= f) first ∙ second
@@ -90,24 +91,23 @@ module _ (lengths : Lengths) where
   chosen_again read c p rest v e r = rw (e, r) refl
 
   pub given_ok : (test : Tag → Bool) (read : Part → Result Value Fault) (c : List ℕ) (p : Part) (rest : List ℕ) (v : Value) → next_at lengths c ≡ Ok (Some (p, rest)) → test p.tag ≡ true → read p ≡ Ok v → optional_by lengths test read c ≡ Ok (given v, rest)
-  unfolding optional_by optional_part
-  given_ok test read c p rest v e t r = rw (e, t, r) refl
+  unfolding optional_by optional_part part_at
+  given_ok test read c p rest v e t r = rw (ahead_is lengths test c p rest e ∙ t, e, r) refl
 
-  missing_ok : (test : Tag → Bool) (read : Part → Result Value Fault) (c : List ℕ) (p : Part) (rest : List ℕ) → next_at lengths c ≡ Ok (Some (p, rest)) → test p.tag ≡ false → optional_by lengths test read c ≡ Ok (missing, c)
+  missing_ok : (test : Tag → Bool) (read : Part → Result Value Fault) (c : List ℕ) → is_ahead test c ≡ false → optional_by lengths test read c ≡ Ok (missing, c)
   unfolding optional_by optional_part
-  missing_ok test read c p rest e t = rw (e, t) refl
+  missing_ok test read c t = rw t refl
 
-  missing_end : (test : Tag → Bool) (read : Part → Result Value Fault) (c : List ℕ) → c ≡ [] → optional_by lengths test read c ≡ Ok (missing, c)
-  unfolding optional_by optional_part next_at
-  missing_end test read c none = subst (λ (o : List ℕ). optional_by lengths test read o ≡ Ok (missing, o)) (sym none) refl
+  -- No such tag is in front, whatever follows.
+  pub not_ahead : (m : Member) (c : List ℕ) → is_ahead (begins m) c ≡ false → optional_at lengths m c ≡ Ok (missing, c)
+  not_ahead (tagged class n f) c t = missing_ok (is_tag class (is_constructed f) n) (λ p. reading lengths f p.contents) c t
+  not_ahead (one_of others) c t = missing_ok (has_tag others) (alternatives lengths others) c t
 
   optional_missing_end : (m : Member) (c : List ℕ) → c ≡ [] → optional_at lengths m c ≡ Ok (missing, c)
-  optional_missing_end (tagged class n f) c none = missing_end (is_tag class (is_constructed f) n) (λ p. reading lengths f p.contents) c none
-  optional_missing_end (one_of others) c none = missing_end (has_tag others) (alternatives lengths others) c none
+  optional_missing_end m c none = not_ahead m c (ap (is_ahead (begins m)) none ∙ none_ahead (begins m))
 
   pub optional_missing : (m : Member) (c : List ℕ) (p : Part) (rest : List ℕ) → next_at lengths c ≡ Ok (Some (p, rest)) → begins m p.tag ≡ false → optional_at lengths m c ≡ Ok (missing, c)
-  optional_missing (tagged class n f) c p rest e t = missing_ok (is_tag class (is_constructed f) n) (λ p. reading lengths f p.contents) c p rest e t
-  optional_missing (one_of others) c p rest e t = missing_ok (has_tag others) (alternatives lengths others) c p rest e t
+  optional_missing m c p rest e t = not_ahead m c (ahead_is lengths (begins m) c p rest e ∙ t)
 
   members_complete : (R : Part → Value → Type 0) (take : List ℕ → Result (Value × List ℕ) Fault)
       → ((c first rest : List ℕ) (p : Part) (v : Value) → IsElement lengths first p → c ≡ first ++ rest → R p v → take c ≡ Ok (v, rest))

@@ -7,16 +7,16 @@ use Rattle.ber_core.specs.declared.fault.BerError.{BerError}
 use Rattle.ber_core.specs.Part.{Part}
 use Rattle.ber_core.specs.Leaf.{integer_at, boolean_at, bits_at}
 use Rattle.ber_core.specs.Reading.{element_at}
-use Rattle.ber_core.proofs.Definites.{IsBytes}
+use Rattle.ber_core.proofs.Definites.{IsBytes, chosen as which}
 use Rattle.ber_forms.specs.Fault.{Fault}
 use Rattle.ber_forms.specs.Fault as fault
 use Rattle.ber_forms.specs.Value.{Value, Slot, nothing, truth, number, bits, text, chosen, parts, missing, given, done, slot, all_of}
 use Rattle.ber_forms.specs.Form.{Form, Member, Alternatives, Components, null, boolean, integer, bit_string, named_bits, octet_string, sequence, choice, list_of, such_that, opaque, elements, too_deep, tagged, one_of, no_other, or, no_more, any_more, required, optional, defaulted, skipped}
-use Rattle.ber_forms.specs.Reading.{◌>>=◌, well, is_constructed, is_tag, has_tag, next_at, part_at, must, required_part, if_tag, optional_part, integer_in, at_end, read_slot, or_else, required_by, chosen_by, optional_by, defaulting, members_by, elements_at, counted, bits_in, reading, alternatives, required_at, optional_at, components}
+use Rattle.ber_forms.specs.Reading.{◌>>=◌, well, is_constructed, is_tag, has_tag, next_at, part_at, must, required_part, is_ahead, optional_part, integer_in, at_end, read_slot, or_else, required_by, chosen_by, optional_by, defaulting, members_by, elements_at, counted, bits_in, reading, alternatives, required_at, optional_at, components}
 use Rattle.ber_forms.specs.Bits.{cleared, first_bits, unused_for}
 use Rattle.ber_forms.specs.InForm.{begins, IsMember}
-use Rattle.ber_forms.specs.TooDeep.{BeginsWith, BeginsOtherwise, IsTooDeep, IsMemberTooDeep, IsAlternativeTooDeep, IsPartTooDeep}
-use Rattle.ber_forms.proofs.Sound.{fine, fine_is, wrong, bound, Cut, Taken, OptionalSound, next_sound, part_sound, required_sound, member_sound, optional_sound, optional_fits, stays_false, defaulting_is}
+use Rattle.ber_forms.specs.TooDeep.{BeginsWith, IsTooDeep, IsMemberTooDeep, IsAlternativeTooDeep, IsPartTooDeep}
+use Rattle.ber_forms.proofs.Sound.{fine, wrong, Cut, Taken, OptionalSound, part_sound, required_sound, member_sound, optional_found, optional_sound, optional_fits, defaulting_is}
 
 abbrev deep : {A : Type 0} → Result A Fault
 deep = Err fault.too_deep
@@ -96,6 +96,14 @@ module _ (lengths : Lengths) where
   unfolding required_part
   required_not test c e = elim (bound_deep (part_at lengths c) (λ x. cond (test x.0.tag) (fine x) (wrong fault.malformed)) e) [ inl h ↦ part_not c h | inr h ↦ guard_not (test h.0.0.tag) h.0 h.2 ]
 
+  optional_not : {P : Type 0} (test : Tag → Bool) (c : List ℕ) → optional_part lengths test c ≡ deep → P
+  unfolding optional_part
+  optional_not test c e =
+      elim (which (is_ahead test c) (part_at lengths c >>= λ x. fine (Some x.0, x.1)) (fine (None, c)) deep e) [
+        | inl w ↦ elim (bound_deep (part_at lengths c) (λ x. fine (Some x.0, x.1)) w.1) [ inl h ↦ part_not c h | inr h ↦ fine_not (Some h.0.0, h.0.1) h.2 ]
+        | inr w ↦ fine_not (None, c) w.1
+      ]
+
   begins_with : (octets : List ℕ) (p : Part) (rest : List ℕ) → Cut lengths octets p rest → BeginsWith lengths octets p rest
   begins_with octets p rest cut = (cut.first, cut.is, cut.parts)
 
@@ -124,25 +132,21 @@ module _ (lengths : Lengths) where
 
   optional_deep : (test : Tag → Bool) (read : Part → Result Value Fault) (c : List ℕ) → IsBytes c → optional_by lengths test read c ≡ deep
       → (p : Part) × (rest : List ℕ) × Cut lengths c p rest × (test p.tag ≡ true) × (read p ≡ deep)
-  unfolding optional_by optional_part
+  unfolding optional_by
   optional_deep test read c fits e =
-      elim (bound_deep (next_at lengths c >>= λ n. fine (if_tag test c n)) (λ y. read_slot read y.0 >>= λ v. fine (v, y.1)) e) [
-        | inl h ↦ elim (bound_deep (next_at lengths c) (λ n. fine (if_tag test c n)) h) [ inl k ↦ next_not c k | inr k ↦ fine_not (if_tag test c k.0) k.2 ]
+      elim (bound_deep (optional_part lengths test c) (λ y. read_slot read y.0 >>= λ v. fine (v, y.1)) e) [
+        | inl h ↦ optional_not test c h
         | inr h ↦ elim (bound_deep (read_slot read h.0.0) (λ v. fine (v, h.0.1)) h.2) [
-          | inl k ↦
-              let n = bound (next_at lengths c) (λ n. fine (if_tag test c n)) h.0 h.1 in
-              by_next n.0 n.1 (subst (λ (y : Option Part × List ℕ). read_slot read y.0 ≡ deep) (sym (fine_is (if_tag test c n.0) h.0 n.2)) k)
+          | inl k ↦ by_found (optional_found lengths test c h.0 fits h.1) k
           | inr k ↦ fine_not (k.0, h.0.1) k.2
         ]
       ]
     where
-      by_next : (n : Option (Part × List ℕ)) → next_at lengths c ≡ Ok n → read_slot read (if_tag test c n).0 ≡ deep → (p : Part) × (rest : List ℕ) × Cut lengths c p rest × (test p.tag ≡ true) × (read p ≡ deep)
-      by_next None got e = fine_not missing e
-      by_next (Some q) got e = by_test (test q.0.tag) refl e
-        where
-          by_test : (b : Bool) → test q.0.tag ≡ b → read_slot read (cond {A = Option Part × List ℕ} b (Some q.0, q.1) (None, c)).0 ≡ deep → (p : Part) × (rest : List ℕ) × Cut lengths c p rest × (test p.tag ≡ true) × (read p ≡ deep)
-          by_test true t e = elim (bound_deep (read q.0) (λ v. fine (given v)) e) [ inl h ↦ (q.0, q.1, next_sound lengths c q.0 q.1 fits got, t, h) | inr h ↦ fine_not (given h.0) h.2 ]
-          by_test false t e = fine_not missing e
+      by_found : {y : Option Part × List ℕ} → ((y ≡ (None, c)) × (is_ahead test c ≡ false)) ⊎ ((q : Part) × (rest : List ℕ) × Cut lengths c q rest × (test q.tag ≡ true) × (y ≡ (Some q, rest)))
+          → read_slot read y.0 ≡ deep → (p : Part) × (rest : List ℕ) × Cut lengths c p rest × (test p.tag ≡ true) × (read p ≡ deep)
+      by_found (inl (is, t)) e = fine_not missing (ap (λ (z : Option Part × List ℕ). read_slot read z.0) (sym is) ∙ e)
+      by_found (inr (q, rest, cut, t, is)) e =
+          elim (bound_deep (read q) (λ v. fine (given v)) (ap (λ (z : Option Part × List ℕ). read_slot read z.0) (sym is) ∙ e)) [ inl h ↦ (q, rest, cut, t, h) | inr h ↦ fine_not (given h.0) h.2 ]
 
   members_deep : (m : Member) (take : List ℕ → Result (Value × List ℕ) Fault) → ((c : List ℕ) (x : Value × List ℕ) → IsBytes c → take c ≡ Ok x → Taken lengths (IsMember lengths m) c x)
       → ((c : List ℕ) → IsBytes c → take c ≡ deep → (p : Part) × (rest : List ℕ) × Cut lengths c p rest × IsMemberTooDeep lengths m p)
@@ -175,12 +179,9 @@ module _ (lengths : Lengths) where
             ]
       ]
 
-  otherwise : (m : Member) (c : List ℕ) (rest : List ℕ) → OptionalSound lengths m c (missing, rest) → BeginsOtherwise lengths m c
-  otherwise m c rest found = λ p after b. stays_false lengths m c b.0 after p b.1 b.2 found.1
-
   optional_goes_on : (m : Member) (cs : Components) (c : List ℕ) (s : Slot) (rest : List ℕ) → OptionalSound lengths m c (s, rest) → IsPartTooDeep lengths cs rest → IsPartTooDeep lengths (optional m cs) c
   optional_goes_on m cs c (given v) rest found after = inl (found.0, rest, begins_with c found.0 rest found.1, found.2, inr (v, found.3, after))
-  optional_goes_on m cs c missing rest found after = inr (otherwise m c rest found, subst (λ (o : List ℕ). IsPartTooDeep lengths cs o) found.0 after)
+  optional_goes_on m cs c missing rest found after = inr (found.1, subst (λ (o : List ℕ). IsPartTooDeep lengths cs o) found.0 after)
 
   elements_not : {P : Type 0} (c : List ℕ) → elements_at lengths c ≡ deep → P
   unfolding elements_at chosen_by

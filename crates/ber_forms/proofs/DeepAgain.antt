@@ -15,6 +15,7 @@ use Rattle.ber_forms.specs.Reading.{◌>>=◌, is_constructed, is_tag, has_tag, 
 use Rattle.ber_forms.specs.InForm.{begins, AreMembers, IsMember}
 use Rattle.ber_forms.specs.TooDeep.{BeginsWith, BeginsOtherwise, IsTooDeep, IsMemberTooDeep, IsAlternativeTooDeep, IsPartTooDeep}
 use Rattle.ber_forms.proofs.Loop.{step}
+use Rattle.ber_forms.proofs.InFront.{ahead_is}
 use Rattle.ber_forms.proofs.Complete.{next_again, part_again, optional_missing, default_ok, member_complete, given_complete}
 
 abbrev deep : {A : Type 0} → Result A Fault
@@ -44,8 +45,8 @@ module _ (lengths : Lengths) where
   chosen_ends read c p rest e r = rw (e, r) refl
 
   given_ends : (test : Tag → Bool) (read : Part → Result Value Fault) (c : List ℕ) (p : Part) (rest : List ℕ) → next_at lengths c ≡ Ok (Some (p, rest)) → test p.tag ≡ true → read p ≡ deep → optional_by lengths test read c ≡ deep
-  unfolding optional_by optional_part
-  given_ends test read c p rest e t r = rw (e, t, r) refl
+  unfolding optional_by optional_part part_at
+  given_ends test read c p rest e t r = rw (ahead_is lengths test c p rest e ∙ t, e, r) refl
 
   -- some element stands in front
   part_begins : (cs : Components) (c : List ℕ) → IsPartTooDeep lengths cs c → (p : Part) × (rest : List ℕ) × BeginsWith lengths c p rest

@@ -1,10 +1,12 @@
 pub mod Joined
 pub mod Loop
+pub mod InFront
 pub mod Sound
 pub mod Complete
 pub mod Spelled
 pub mod Deep
 pub mod DeepAgain
+pub mod NotWhole
 pub mod Answered
 pub mod Again
 pub mod Numbered

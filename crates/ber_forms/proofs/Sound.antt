@@ -3,7 +3,7 @@ use Rattle.std.proofs.Common.{◌≡◌, ℕ, zero, suc, ◌+◌, ◌<◌, ℤ, 
 use Rattle.ber_core.specs.declared.element.Lengths.{Lengths}
 use Rattle.ber_core.specs.declared.element.Lengths.TheVariants.{Definite, Either}
 use Rattle.std.specs.Prelude.{IsTrue, MatchBool, int_le}
-use Rattle.std.proofs.lemmas.List.{get_or_append_left, get_or-append_right, get_or_past, length-append, append-nil}
+use Rattle.std.proofs.lemmas.List.{get_or_append_left, get_or-append_right, get_or_past, append-nil}
 use Rattle.std.proofs.lemmas.Bool.{cases_lt, ltb-false, eqb-true}
 use Rattle.ber_core.specs.declared.element.Tag.{Tag}
 use Rattle.ber_core.specs.declared.fault.BerError.{BerError}
@@ -13,15 +13,18 @@ use Rattle.ber_core.specs.Element.{IsElement, IsCut}
 use Rattle.ber_core.specs.Leaf.{integer_at, boolean_at, bits_at, IsInteger, IsBoolean, IsBits}
 use Rattle.ber_core.specs.Reading.{element_at}
 use Rattle.ber_core.proofs.Definites.{IsBytes, chosen as which}
-use Rattle.ber_core.proofs.Elements.{element_takes, one_element, element_long}
+use Rattle.ber_core.proofs.Elements.{element_takes}
 use Rattle.ber_core.proofs.Respelled.{is_part}
 use Rattle.ber_core.proofs.Leaves.{integer_takes}
 use Rattle.ber_forms.specs.Fault.{Fault}
 use Rattle.ber_forms.specs.Fault as fault
 use Rattle.ber_forms.specs.Value.{Value, Slot, Slots, nothing, truth, number, bits, text, chosen, parts, missing, given, done, slot, all_of}
 use Rattle.ber_forms.specs.Form.{Form, Member, Alternatives, Components, AtDefault, null, boolean, integer, bit_string, named_bits, octet_string, sequence, choice, list_of, such_that, opaque, elements, too_deep, tagged, one_of, no_other, or, no_more, any_more, required, optional, defaulted, skipped}
-use Rattle.ber_forms.specs.Reading.{◌>>=◌, well, is_constructed, is_tag, next_at, part_at, must, required_part, if_tag, optional_part, integer_in, at_end, read_slot, or_else, required_by, chosen_by, optional_by, defaulting, members_by, elements_at, counted, bits_in, reading, alternatives, required_at, optional_at, components}
+use Rattle.ber_forms.specs.Reading.{◌>>=◌, well, is_constructed, is_tag, next_at, part_at, must, required_part, is_ahead, optional_part, integer_in, at_end, read_slot, or_else, required_by, chosen_by, optional_by, defaulting, members_by, elements_at, counted, bits_in, reading, alternatives, required_at, optional_at, components}
 use Rattle.ber_forms.specs.Bits.{cleared, first_bits, unused_for}
+use Rattle.ber_forms.specs.TooDeep.{BeginsWith, BeginsOtherwise}
+use Rattle.ber_forms.proofs.InFront.{ahead_is}
+use Rattle.ber_forms.proofs.Complete.{next_again}
 use Rattle.ber_forms.specs.InForm.{begins, AreMembers, InForm, IsMember, IsAlternative, AreComponents}
 
 abbrev pub fine : {A : Type 0} → A → Result A Fault
@@ -152,12 +155,6 @@ module _ (lengths : Lengths) where
         rest_fits = bytes_right f.taken rest (subst IsBytes f.parts fits);
       }
 
-  pub end_sound : (octets : List ℕ) (x : Option (Part × List ℕ)) → next_at lengths octets ≡ Ok x → x ≡ None → octets ≡ []
-  unfolding next_at
-  end_sound [] x e none = refl
-  end_sound (a ∷ more) x e none =
-      let y = bound (well (element_at lengths (a ∷ more))) (λ x. Ok (Some x)) x e in absurd (cc (y.2, none))
-
   pub part_sound : (octets : List ℕ) (x : Part × List ℕ) → IsBytes octets → part_at lengths octets ≡ Ok x → Cut octets x.0 x.1
   unfolding part_at
   part_sound octets x fits e =
@@ -207,51 +204,46 @@ module _ (lengths : Lengths) where
   -- what stands where a component may be missing
   abbrev pub OptionalSound : (m : Member) → List ℕ → Slot × List ℕ → Type 0
   OptionalSound m octets (given v, rest) = (p : Part) × Cut octets p rest × (begins m p.tag ≡ true) × IsMember lengths m p v
-  OptionalSound m octets (missing, rest) = (rest ≡ octets) × ((octets ≡ []) ⊎ ((p : Part) × (after : List ℕ) × Cut octets p after × (begins m p.tag ≡ false)))
+  OptionalSound m octets (missing, rest) = (rest ≡ octets) × BeginsOtherwise lengths m octets
+
+  -- the tag in front is that of any element in front
+  ahead_of : (test : Tag → Bool) (octets : List ℕ) (p : Part) (rest : List ℕ) → BeginsWith lengths octets p rest → is_ahead test octets ≡ test p.tag
+  ahead_of test octets p rest b = ahead_is lengths test octets p rest (next_again lengths octets b.0 rest p b.1 b.2)
+
+  pub optional_found : (test : Tag → Bool) (octets : List ℕ) (y : Option Part × List ℕ) → IsBytes octets → optional_part lengths test octets ≡ Ok y
+      → ((y ≡ (None, octets)) × (is_ahead test octets ≡ false)) ⊎ ((q : Part) × (rest : List ℕ) × Cut octets q rest × (test q.tag ≡ true) × (y ≡ (Some q, rest)))
+  unfolding optional_part
+  optional_found test octets y fits e =
+      elim (which (is_ahead test octets) (part_at lengths octets >>= λ x. fine (Some x.0, x.1)) (fine (None, octets)) (fine y) e) [
+        | inl w ↦
+            let x = bound (part_at lengths octets) (λ x. fine (Some x.0, x.1)) y w.1 in
+            let cut = part_sound octets x.0 fits x.1 in
+            inr (x.0.0, x.0.1, cut, sym (ahead_of test octets x.0.0 x.0.1 (cut.first, cut.is, cut.parts)) ∙ w.0, sym (fine_is (Some x.0.0, x.0.1) y x.2))
+        | inr w ↦ inl (sym (fine_is (None, octets) y w.1), w.0)
+      ]
 
   optional_sound_by : (m : Member) (read : Part → Result Value Fault) (octets : List ℕ) (x : Slot × List ℕ) → IsBytes octets
       → ((p : Part) (v : Value) → IsBytes p.contents → begins m p.tag ≡ true → read p ≡ Ok v → IsMember lengths m p v)
       → optional_by lengths (begins m) read octets ≡ Ok x → OptionalSound m octets x
-  unfolding optional_by optional_part
+  unfolding optional_by
   optional_sound_by m read octets x fits each e =
-      let y = bound (next_at lengths octets >>= λ n. fine (if_tag (begins m) octets n)) (λ y. read_slot read y.0 >>= λ v. fine (v, y.1)) x e in
-      let n = bound (next_at lengths octets) (λ n. fine (if_tag (begins m) octets n)) y.0 y.1 in
+      let y = bound (optional_part lengths (begins m) octets) (λ y. read_slot read y.0 >>= λ v. fine (v, y.1)) x e in
       let s = bound (read_slot read y.0.0) (λ v. fine (v, y.0.1)) x y.2 in
-      let from : if_tag (begins m) octets n.0 ≡ y.0 = fine_is (if_tag (begins m) octets n.0) y.0 n.2 in
-      subst (λ (z : Slot × List ℕ). OptionalSound m octets z) (fine_is (s.0, y.0.1) x s.2) (by_next n.0 n.1 y.0 from s.0 s.1)
+      subst (λ (z : Slot × List ℕ). OptionalSound m octets z) (fine_is (s.0, y.0.1) x s.2) (by_found (optional_found (begins m) octets y.0 fits y.1) s.0 s.1)
     where
-      by_next : (n : Option (Part × List ℕ)) → next_at lengths octets ≡ Ok n → (y : Option Part × List ℕ) → if_tag (begins m) octets n ≡ y → (s : Slot) → read_slot read y.0 ≡ Ok s → OptionalSound m octets (s, y.1)
-      by_next None got y from s reads =
-          subst (λ (z : Option Part × List ℕ). read_slot read z.0 ≡ Ok s → OptionalSound m octets (s, z.1)) from
-          (λ h. subst (λ (t : Slot). OptionalSound m octets (t, octets)) (fine_is missing s h) (refl, inl (end_sound octets None got refl))) reads
-      by_next (Some q) got y from s reads =
-          let cut = next_sound octets q.0 q.1 fits got in
-          elim (which (begins m q.0.tag) (Some q.0, q.1) (None, octets) y from) [
-            | inl w ↦ subst (λ (z : Option Part × List ℕ). read_slot read z.0 ≡ Ok s → OptionalSound m octets (s, z.1)) w.1
-                (λ h. let r = bound (read q.0) (λ v. fine (given v)) s h in
-                subst (λ (t : Slot). OptionalSound m octets (t, q.1)) (fine_is (given r.0) s r.2) (q.0, cut, w.0, each q.0 r.0 cut.inner_fits w.0 r.1)) reads
-            | inr w ↦ subst (λ (z : Option Part × List ℕ). read_slot read z.0 ≡ Ok s → OptionalSound m octets (s, z.1)) w.1
-                (λ h. subst (λ (t : Slot). OptionalSound m octets (t, octets)) (fine_is missing s h) (refl, inr (q.0, q.1, cut, w.0))) reads
-          ]
+      by_found : {y : Option Part × List ℕ} → ((y ≡ (None, octets)) × (is_ahead (begins m) octets ≡ false)) ⊎ ((q : Part) × (rest : List ℕ) × Cut octets q rest × (begins m q.tag ≡ true) × (y ≡ (Some q, rest)))
+          → (s : Slot) → read_slot read y.0 ≡ Ok s → OptionalSound m octets (s, y.1)
+      by_found (inl (is, t)) s reads =
+          subst (λ (z : Option Part × List ℕ). read_slot read z.0 ≡ Ok s → OptionalSound m octets (s, z.1)) (sym is)
+          (λ h. subst (λ (u : Slot). OptionalSound m octets (u, octets)) (fine_is missing s h) (refl, λ p rest b. sym (ahead_of (begins m) octets p rest b) ∙ t)) reads
+      by_found (inr (q, rest, cut, t, is)) s reads =
+          subst (λ (z : Option Part × List ℕ). read_slot read z.0 ≡ Ok s → OptionalSound m octets (s, z.1)) (sym is)
+          (λ h. let r = bound (read q) (λ v. fine (given v)) s h in
+          subst (λ (u : Slot). OptionalSound m octets (u, rest)) (fine_is (given r.0) s r.2) (q, cut, t, each q r.0 cut.inner_fits t r.1)) reads
 
   -- some parts that the octets are cut into, and that are the components
   abbrev pub CutAs : Components → List ℕ → Slots → Type 0
   CutAs cs octets vs = (ps : List Part) × IsCut lengths octets ps × AreComponents lengths cs ps vs
-
-  -- the first of the elements is the one in front
-  pub same_front : (octets first rest after : List ℕ) (p q : Part) → IsElement lengths first p → octets ≡ first ++ rest → Cut octets q after → p ≡ q
-  same_front octets first rest after p q is split cut =
-      (one_element lengths first cut.first rest after p q is cut.is (sym split ∙ cut.parts)).1
-
-  pub not_empty : {P : Type 0} (first rest : List ℕ) (p : Part) → IsElement lengths first p → [] ≡ first ++ rest → P
-  not_empty first rest p is e = absurd (omega (arith, element_long lengths first p is, ap length e, length-append first rest))
-
-  -- where the first of the parts has no such tag
-  pub stays_false : (m : Member) (octets : List ℕ) (first rest : List ℕ) (p : Part) → IsElement lengths first p → octets ≡ first ++ rest
-      → (octets ≡ []) ⊎ ((q : Part) × (after : List ℕ) × Cut octets q after × (begins m q.tag ≡ false)) → begins m p.tag ≡ false
-  stays_false m octets first rest p is split (inl none) = not_empty first rest p is (sym none ∙ split)
-  stays_false m octets first rest p is split (inr other) =
-      ap (λ (r : Part). begins m r.tag) (same_front octets first rest other.1 p other.0 is split other.2) ∙ other.3
 
   optional_join : (m : Member) (cs : Components) (octets : List ℕ) (s : Slot) (rest : List ℕ) (ws : Slots) → OptionalSound m octets (s, rest) → CutAs cs rest ws → CutAs (optional m cs) octets (slot s ws)
   optional_join m cs octets (given v) rest ws found others =
@@ -261,7 +253,7 @@ module _ (lengths : Lengths) where
     where
       by_parts : (ps : List Part) → IsCut lengths octets ps → AreComponents lengths cs ps ws → CutAs (optional m cs) octets (slot missing ws)
       by_parts [] cut are = ([], cut, are)
-      by_parts (p ∷ ps) cut are = (p ∷ ps, cut, (stays_false m octets cut.0 cut.1 p cut.2 cut.3 found.1, are))
+      by_parts (p ∷ ps) cut are = (p ∷ ps, cut, (found.1 p cut.1 (cut.0, cut.2, cut.3), are))
 
   defaulted_join : (w : AtDefault) (m : Member) (d : Value) (cs : Components) (octets : List ℕ) (s : Slot) (rest : List ℕ) (ws : Slots) → OptionalSound m octets (s, rest) → CutAs cs rest ws → CutAs (defaulted w m d cs) octets (slot (or_else d s) ws)
   defaulted_join w m d cs octets (given v) rest ws found others =
@@ -271,7 +263,7 @@ module _ (lengths : Lengths) where
     where
       by_parts : (ps : List Part) → IsCut lengths octets ps → AreComponents lengths cs ps ws → CutAs (defaulted w m d cs) octets (slot (given d) ws)
       by_parts [] cut are = ([], cut, (refl, are))
-      by_parts (p ∷ ps) cut are = (p ∷ ps, cut, at_false _ _ (begins m p.tag) (stays_false m octets cut.0 cut.1 p cut.2 cut.3 found.1) (refl, are))
+      by_parts (p ∷ ps) cut are = (p ∷ ps, cut, at_false _ _ (begins m p.tag) (found.1 p cut.1 (cut.0, cut.2, cut.3)) (refl, are))
 
   skipped_join : (m : Member) (cs : Components) (octets : List ℕ) (s : Slot) (rest : List ℕ) (ws : Slots) → OptionalSound m octets (s, rest) → CutAs cs rest ws → CutAs (skipped m cs) octets ws
   skipped_join m cs octets (given v) rest ws found others =
@@ -281,7 +273,7 @@ module _ (lengths : Lengths) where
     where
       by_parts : (ps : List Part) → IsCut lengths octets ps → AreComponents lengths cs ps ws → CutAs (skipped m cs) octets ws
       by_parts [] cut are = ([], cut, are)
-      by_parts (p ∷ ps) cut are = (p ∷ ps, cut, at_false _ _ (begins m p.tag) (stays_false m octets cut.0 cut.1 p cut.2 cut.3 found.1) are)
+      by_parts (p ∷ ps) cut are = (p ∷ ps, cut, at_false _ _ (begins m p.tag) (found.1 p cut.1 (cut.0, cut.2, cut.3)) are)
 
   pub optional_fits : (m : Member) (c : List ℕ) (x : Slot × List ℕ) → IsBytes c → OptionalSound m c x → IsBytes x.1
   optional_fits m c (given v, rest) fits o = o.1.rest_fits

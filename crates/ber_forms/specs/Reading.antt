@@ -4,7 +4,7 @@ use Rattle.ber_core.specs.declared.element.Tag.{Tag}
 use Rattle.ber_core.specs.declared.element.Lengths.{Lengths}
 use Rattle.ber_core.specs.declared.fault.BerError.{BerError}
 use Rattle.ber_core.specs.Part.{Part}
-use Rattle.ber_core.specs.Reading.{element_at}
+use Rattle.ber_core.specs.Reading.{identifier_at, element_at}
 use Rattle.ber_core.specs.Leaf.{integer_at, boolean_at, bits_at}
 use Rattle.ber_forms.specs.declared.unread.Unread.{Unread}
 use Rattle.ber_forms.specs.declared.unread.Unread.TheVariants as unread
@@ -96,9 +96,13 @@ abbrev pub must : Option (Part × List ℕ) → Result (Part × List ℕ) Fault
 must None = Err fault.malformed
 must (Some x) = Ok x
 
-abbrev pub if_tag : (Tag → Bool) → List ℕ → Option (Part × List ℕ) → Option Part × List ℕ
-if_tag test octets None = (None, octets)
-if_tag test octets (Some x) = if test x.0.tag then (Some x.0, x.1) else (None, octets)
+abbrev pub passes : (Tag → Bool) → Result (Tag × List ℕ) BerError → Bool
+passes test (Ok x) = test x.0
+passes test (Err e) = false
+
+-- an identifier is in front, and its tag passes the test
+abbrev pub is_ahead : (Tag → Bool) → List ℕ → Bool
+is_ahead test octets = passes test (identifier_at octets)
 
 abbrev pub read_slot : (Part → Result Value Fault) → Option Part → Result Slot Fault
 read_slot f None = Ok missing
@@ -137,9 +141,9 @@ module _ (lengths : Lengths) where
   unfoldable pub required_part : (Tag → Bool) → List ℕ → Result (Part × List ℕ) Fault
   required_part test octets = part_at octets >>= λ x. if test x.0.tag then Ok x else Err fault.malformed
 
-  -- the next element where its tag passes the test, and what is left
+  -- the next element where such a tag is in front, and what is left; where none is, nothing, and no element is looked for
   unfoldable pub optional_part : (Tag → Bool) → List ℕ → Result (Option Part × List ℕ) Fault
-  optional_part test octets = next_at octets >>= λ x. Ok (if_tag test octets x)
+  optional_part test octets = if is_ahead test octets then (part_at octets >>= λ x. Ok (Some x.0, x.1)) else Ok (None, octets)
 
   -- the next element, of such a tag and with contents that are read so, and what is left
   unfoldable pub required_by : (Tag → Bool) → (List ℕ → Result Value Fault) → List ℕ → Result (Value × List ℕ) Fault

@@ -2,8 +2,9 @@
 
 ghost use Rattle.std.specs.Prelude.{◌≡◌, ◌↔◌, ℕ, List, [], Ok, Err, Some, None, option_map, IsTrue, OnOk, IfOk, IfSome, ◌<◌, length};
 ghost use Rattle.ber_core.specs.Part.{part};
+ghost use Rattle.ber_core.specs.Reading.{tag_at, identifier_at, second_at};
 ghost use Rattle.ber_forms.specs.Ahead.{ahead};
-ghost use Rattle.ber_forms.specs.Reading.{Gives, is_tag, next_at, part_at, at_end, optional_part, required_part, elements_at};
+ghost use Rattle.ber_forms.specs.Reading.{Gives, is_tag, passes, is_ahead, next_at, part_at, at_end, optional_part, required_part, elements_at};
 ghost use Rattle.ber_forms.specs.Reads.{NeedsNoMemory};
 
 use crate::unread::Unread;
@@ -50,6 +51,61 @@ fn next(lengths: Lengths, octets: &[u8]) -> Result<Option<(Element<'_>, &[u8])>,
     Ok(Some(found))
 }
 
+/// The tag of that number whose first identifier octet is given (ITU-T X.690, 8.1.2.2 and 8.1.2.5).
+fn tag_of(first: u8, number: u32) -> Tag
+    ensures { result ≡ tag_at first number }
+{
+    Tag {
+        class: first / 64,
+        constructed: (first / 32) % 2 == 1,
+        number,
+    }
+}
+
+/// An identifier of the tag that is wanted is in front, of more than one octet (ITU-T X.690, 8.1.2.4).
+#[tactic(auto, unfolding(ber_core::specs::Reading::second_at, ber_core::specs::Reading::third_at))]
+fn is_long_tag(first: u8, rest: &[u8], want: Tag) -> bool
+    ensures { result ≡ passes (is_tag want.class want.constructed want.number)
+        (second_at first rest.now) }
+{
+    match rest {
+        [] => false,
+        [b, rest @ ..] => {
+            if *b < 31 || *b == 128 {
+                false
+            } else if *b < 128 {
+                has_tag(tag_of(first, u32::from(*b)), want)
+            } else {
+                match rest {
+                    [] => false,
+                    [c, ..] => {
+                        let number = 128 * u32::from(*b - 128) + u32::from(*c);
+                        *c < 128 && has_tag(tag_of(first, number), want)
+                    }
+                }
+            }
+        }
+    }
+}
+
+/// An identifier of the tag that is wanted is in front.
+#[tactic(auto, unfolding(ber_core::specs::Reading::identifier_at))]
+fn is_ahead(octets: &[u8], want: Tag) -> bool
+    ensures { result ≡ is_ahead (is_tag want.class want.constructed want.number) octets.now }
+{
+    match octets {
+        [] => false,
+        [first, rest @ ..] => {
+            let low = *first % 32;
+            if low < 31 {
+                has_tag(tag_of(*first, u32::from(low)), want)
+            } else {
+                is_long_tag(*first, rest, want)
+            }
+        }
+    }
+}
+
 impl<'a> Cursor<'a> {
     /// Before all of the contents.
     pub fn new(lengths: Lengths, contents: &'a [u8]) -> Cursor<'a>
@@ -93,8 +149,8 @@ impl<'a> Cursor<'a> {
         }
     }
 
-    /// The next element where it has this tag, and None, with nothing taken, where it has another or there is none.
-    /// Malformed where something is left that no whole element begins.
+    /// The next element where this tag is in front. None where it isn't: nothing is taken, and what stands there
+    /// needn't be whole. Malformed where the tag is in front and no whole element.
     #[tactic(auto, unfolding(crate::specs::Reading::optional_part))]
     pub fn optional(&mut self, want: Tag) -> Result<Option<Element<'a>>, Unread>
         ensures exact { Gives (λ o. (option_map part o, self.new.octets)) result
@@ -103,16 +159,10 @@ impl<'a> Cursor<'a> {
         ensures kept { self.new.lengths ≡ self.old.lengths }
         ensures no_memory { NeedsNoMemory result }
     {
-        match next(self.lengths, self.rest)? {
-            None => Ok(None),
-            Some((element, rest)) => {
-                if has_tag(element.tag, want) {
-                    self.rest = rest;
-                    Ok(Some(element))
-                } else {
-                    Ok(None)
-                }
-            }
+        if is_ahead(self.rest, want) {
+            Ok(Some(self.part()?))
+        } else {
+            Ok(None)
         }
     }
 

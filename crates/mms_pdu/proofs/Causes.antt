@@ -13,11 +13,12 @@ use Rattle.ber_forms.specs.Fault.{Fault}
 use Rattle.ber_forms.specs.Fault as fault
 use Rattle.ber_forms.specs.Value.{Value, number}
 use Rattle.ber_forms.specs.Form.{Alternatives, choice, universal, unsigned32}
-use Rattle.ber_forms.specs.Reading.{◌>>=◌, is_tag, next_at, part_at, if_tag, optional_part, at_end, chosen_by, reading, alternatives, required_at}
+use Rattle.ber_forms.specs.Reading.{◌>>=◌, is_tag, next_at, part_at, optional_part, at_end, chosen_by, reading, alternatives, required_at}
 use Rattle.ber_forms.specs.InForm.{IsMember, IsAlternative}
 use Rattle.ber_forms.specs.TooDeep.{IsAlternativeTooDeep}
-use Rattle.ber_forms.proofs.Sound.{fine_is, bound, end_is, Cut, part_sound, next_sound, member_sound}
+use Rattle.ber_forms.proofs.Sound.{fine_is, bound, end_is, Cut, part_sound, optional_found, member_sound}
 use Rattle.ber_forms.proofs.Complete.{next_again, part_again, end_again, member_complete, reading_complete}
+use Rattle.ber_forms.proofs.NotWhole.{as_cut}
 use Rattle.ber_forms.proofs.Deep.{reading_deep}
 use Rattle.ber_forms.proofs.DeepAgain.{deep_again}
 use Rattle.pdu_names.specs.Said.{natural_of}
@@ -86,20 +87,7 @@ module _ (lengths : Lengths) where
   -- the list of modifiers, where there is one
   modifiers_are : (test : Tag → Bool) (c : List ℕ) (m : Option Part × List ℕ) → IsBytes c → optional_part lengths test c ≡ Ok m
       → (m ≡ (None, c)) ⊎ ((q : Part) × (rest : List ℕ) × Cut lengths c q rest × (test q.tag ≡ true) × (m ≡ (Some q, rest)))
-  unfolding optional_part
-  modifiers_are test c m fits e =
-      let b = bound (next_at lengths c) (λ n. Ok (if_tag test c n)) m e in
-      by_next b.0 b.1 (fine_is (if_tag test c b.0) m b.2)
-    where
-      by_next : (n : Option (Part × List ℕ)) → next_at lengths c ≡ Ok n → if_tag test c n ≡ m
-          → (m ≡ (None, c)) ⊎ ((q : Part) × (rest : List ℕ) × Cut lengths c q rest × (test q.tag ≡ true) × (m ≡ (Some q, rest)))
-      by_next None got is = inl (sym is)
-      by_next (Some x) got is = by_test (test x.0.tag) refl is
-        where
-          by_test : (b : Bool) → test x.0.tag ≡ b → cond {A = Option Part × List ℕ} b (Some x.0, x.1) (None, c) ≡ m
-              → (m ≡ (None, c)) ⊎ ((q : Part) × (rest : List ℕ) × Cut lengths c q rest × (test q.tag ≡ true) × (m ≡ (Some q, rest)))
-          by_test true t k = inr (x.0, x.1, next_sound lengths c x.0 x.1 fits got, t, sym k)
-          by_test false t k = inl (sym k)
+  modifiers_are test c m fits e = elim (optional_found lengths test c m fits e) [ inl w ↦ inl w.0 | inr w ↦ inr w ]
 
   -- what a confirmed-Request is, and the octets of its service
   pub record AskedSo (c : List ℕ) (a : Asked) : Type 0 where
@@ -160,14 +148,14 @@ module _ (lengths : Lengths) where
   not_modifiers t k = rw k refl
 
   plain_read : (c rest : List ℕ) (n : ℕ) (s : Part) → required_at lengths (universal 2 unsigned32) c ≡ Ok (number (pos n), rest) → IsElement lengths rest s → s.tag.class ≡ 2 → asked_at lengths c ≡ Ok (asking n false s)
-  unfolding asked_at optional_part
+  unfolding asked_at
   plain_read c rest n s e is class =
-      rw (e, next_again lengths rest rest [] s is (sym (append-nil rest)), not_modifiers s.tag class, sole_only rest s is, eq-eqb s.tag.class 2 class) refl
+      rw (e, as_cut lengths (is_tag 0 true 16) rest (Some (s, [])) (next_again lengths rest rest [] s is (sym (append-nil rest))), not_modifiers s.tag class, sole_only rest s is, eq-eqb s.tag.class 2 class) refl
 
   modified_read : (c rest after : List ℕ) (n : ℕ) (m s : Part) → required_at lengths (universal 2 unsigned32) c ≡ Ok (number (pos n), rest) → next_at lengths rest ≡ Ok (Some (m, after))
       → is_tag 0 true 16 m.tag ≡ true → IsElement lengths after s → s.tag.class ≡ 2 → asked_at lengths c ≡ Ok (asking n true s)
-  unfolding asked_at optional_part
-  modified_read c rest after n m s e got t is class = rw (e, got, t, sole_only after s is, eq-eqb s.tag.class 2 class) refl
+  unfolding asked_at
+  modified_read c rest after n m s e got t is class = rw (e, as_cut lengths (is_tag 0 true 16) rest (Some (m, after)) got, t, sole_only after s is, eq-eqb s.tag.class 2 class) refl
 
   asked_only : (ps : List Part) (c : List ℕ) (a : Asked) → IsCut lengths c ps → AreAsked lengths ps a → asked_at lengths c ≡ Ok a
   asked_only [] c a cut are = absurd are

@@ -1,15 +1,15 @@
 -- What is heard as a PDU that is kept whole is of its form.
-use Rattle.std.proofs.Common.{◌≡◌, ℕ, pos, Bool, true, false, cond, eqb, List, Option, Some, None, Result, Ok, Err, refl, sym, ap, subst, ◌∙◌}
+use Rattle.std.proofs.Common.{◌≡◌, ℕ, pos, inl, inr, Bool, true, false, cond, eqb, List, Option, Some, None, Result, Ok, Err, refl, sym, ap, subst, ◌∙◌}
 use Rattle.std.specs.Prelude.{is_some}
 use Rattle.ber_core.specs.declared.element.Tag.{Tag}
 use Rattle.ber_core.specs.declared.element.Lengths.{Lengths}
 use Rattle.ber_core.specs.Part.{Part}
-use Rattle.ber_core.proofs.Definites.{IsBytes}
+use Rattle.ber_core.proofs.Definites.{IsBytes, chosen as which}
 use Rattle.ber_forms.specs.Fault.{Fault}
 use Rattle.ber_forms.specs.Fault as fault
 use Rattle.ber_forms.specs.Value.{Value, nothing, number, chosen, parts, given, done, slot}
 use Rattle.ber_forms.specs.Form.{Form, Alternatives, choice, universal, unsigned32}
-use Rattle.ber_forms.specs.Reading.{◌>>=◌, is_tag, has_tag, next_at, part_at, if_tag, optional_part, at_end, chosen_by, reading, alternatives, required_at}
+use Rattle.ber_forms.specs.Reading.{◌>>=◌, is_tag, has_tag, is_ahead, part_at, optional_part, at_end, chosen_by, reading, alternatives, required_at}
 use Rattle.ber_forms.specs.InForm.{InForm}
 use Rattle.ber_forms.proofs.Sound.{fine_is, bound, reading_sound}
 use Rattle.pdu_names.specs.Said.{natural_of}
@@ -56,24 +56,17 @@ served_is : (lengths : Lengths) (invoke : ℕ) (p : Part) (o : Option Form) (v :
 served_is lengths invoke p None v e = absurd cc
 served_is lengths invoke p (Some f) v e = argued_is invoke (read_as lengths p (Some f)) v e
 
--- nothing is taken where no modifiers are found
-not_taken : (test : Tag → Bool) (octets : List ℕ) (o : Option (Part × List ℕ)) → is_some (if_tag test octets o).0 ≡ false → (if_tag test octets o).1 ≡ octets
-not_taken test octets None e = refl
-not_taken test octets (Some x) e = by_tag (test x.0.tag) refl
-  where
-    by_tag : (b : Bool) → test x.0.tag ≡ b → (if_tag test octets (Some x)).1 ≡ octets
-    by_tag false t = rw t refl
-    by_tag true t =
-        let taken : is_some (if_tag test octets (Some x)).0 ≡ true = rw t refl in
-        absurd (cc (e, taken))
-
 module _ (lengths : Lengths) where
+  -- nothing is taken where no modifiers are found
   untouched : (test : Tag → Bool) (octets : List ℕ) (m : Option Part × List ℕ) → optional_part lengths test octets ≡ Ok m → is_some m.0 ≡ false → m.1 ≡ octets
   unfolding optional_part
   untouched test octets m e none =
-      let b = bound (next_at lengths octets) (λ x. Ok (if_tag test octets x)) m e in
-      let is : if_tag test octets b.0 ≡ m = fine_is (if_tag test octets b.0) m b.2 in
-      sym (ap (λ (y : Option Part × List ℕ). y.1) is) ∙ not_taken test octets b.0 (ap (λ (y : Option Part × List ℕ). is_some y.0) is ∙ none)
+      elim (which (is_ahead test octets) (part_at lengths octets >>= λ x. Ok (Some x.0, x.1)) (Ok (None, octets)) (Ok m) e) [
+        | inl w ↦
+            let x = bound (part_at lengths octets) (λ x. Ok (Some x.0, x.1)) m w.1 in
+            absurd (cc (none, ap (λ (y : Option Part × List ℕ). is_some y.0) (fine_is (Some x.0.0, x.0.1) m x.2)))
+        | inr w ↦ ap (λ (y : Option Part × List ℕ). y.1) (sym (fine_is (None, octets) m w.1))
+      ]
 
   pub record Alone (c : List ℕ) (p : Part) : Type 0 where
     pub rest : List ℕ

@@ -13,6 +13,7 @@ use Rattle.ber_forms.specs.Reading.{◌>>=◌, integer_in, is_tag, is_constructe
 use Rattle.ber_forms.specs.InForm.{InForm}
 use Rattle.ber_forms.proofs.Sound.{fine_is, bound, integer_within}
 use Rattle.ber_forms.proofs.Complete.{reading_complete}
+use Rattle.ber_forms.proofs.NotWhole.{as_cut}
 use Rattle.pdu_names.specs.Said.{natural_of}
 use Rattle.mms_types.specs.declared.identifier.Edition.{Edition}
 use Rattle.mms_pdu.specs.Services.{requests, requests_sound}
@@ -109,8 +110,7 @@ module _ (lengths : Lengths) where
       by_next (Some y) h = ap (λ (z : Part × List ℕ). Some z) (fine_is y x h)
 
   unmodified : (c : List ℕ) (p : Part) (rest : List ℕ) → part_at lengths c ≡ Ok (p, rest) → p.tag.class ≡ 2 → optional_part lengths (is_tag 0 true 16) c ≡ Ok (None, c)
-  unfolding optional_part
-  unmodified c p rest e k = rw (next_of c (p, rest) e, k) refl
+  unmodified c p rest e k = rw (as_cut lengths (is_tag 0 true 16) c (Some (p, rest)) (next_of c (p, rest) e), k) refl
 
   natural : (n : ℤ) → pos 0 ≤ℤ n → number n ≡ number (pos (natural_of (number n)))
   natural (pos k) h = refl

@@ -43,7 +43,7 @@ impl Formed for TakeControlRequest {
         true
     }
 
-    #[tactic(auto, unfolding(ber_forms::specs::Reading::optional_part, ber_forms::specs::Reading::optional_by, ber_forms::specs::Reading::next_at, ber_forms::specs::Reading::defaulting, ber_forms::specs::Reading::at_end))]
+    #[tactic(auto, unfolding(ber_forms::specs::Reading::optional_part, ber_forms::specs::Reading::optional_by, ber_core::specs::Reading::identifier_at, ber_forms::specs::Reading::defaulting, ber_forms::specs::Reading::at_end))]
     fn read(alloc: Global, contents: &[u8], edition: Edition) -> Result<TakeControl, Unread> {
         let mut parts = cursor(edition, contents);
         let name = required::<Name>(alloc, &mut parts, edition, 0)?;
