@@ -192,7 +192,7 @@ fn tell_happened(
     match happened {
         cell_ticks::Happening::Semaphores(happening) => tell_happening(alloc, told, happening),
         cell_ticks::Happening::Turns(TurnTold { turned, notices }) => {
-            tell_notices(alloc, out, told, &turned, notices.as_slice())
+            tell_notices(alloc, out, told, &turned, notices)
         }
     }
 }

@@ -225,6 +225,20 @@ pub struct Notice {
     pub condition: ObjectName,
 }
 
+impl Notice {
+    /// The client, the event enrollment and the event condition. Nothing is copied.
+    pub fn into_parts(self) -> (u32, ObjectName, ObjectName)
+        ensures { result ≡ (self.client, self.enrolment, self.condition) }
+    {
+        let Notice {
+            client,
+            enrolment,
+            condition,
+        } = self;
+        (client, enrolment, condition)
+    }
+}
+
 /// Notices in order. Contracts see the list of them.
 pub type Notices = Listed<Notice>;
 

@@ -10,7 +10,8 @@ use cell_client::{ClientTold, notification};
 use event_enrol::Enrolments;
 use mms_pdu::Writer;
 use mms_types::{
-    ConditionState, EventNotification, EventTime, Memory, Moment, Notice, TimeOfDay, Turned,
+    ConditionState, EventNotification, EventTime, Memory, Moment, Notice, Notices, TimeOfDay,
+    Turned,
 };
 use std::alloc::Global;
 
@@ -55,18 +56,19 @@ fn told_of(
     alloc: Global,
     out: &mut Writer,
     turned: &Turned,
-    notice: &Notice,
+    notice: Notice,
 ) -> Result<(u32, ClientTold), Memory>
-    ensures { IfOk result (λ told. (told.0, effect_of told.1) ≡ notice_told turned.now notice.now) }
+    ensures { IfOk result (λ told. (told.0, effect_of told.1) ≡ notice_told turned.now notice) }
 {
+    let (client, enrolment, condition) = notice.into_parts();
     let told = EventNotification {
-        enrolment: notice.enrolment.copy(alloc)?,
-        condition: notice.condition.copy(alloc)?,
+        enrolment,
+        condition,
         severity: turned.severity,
         state: state_of(turned.state),
         time: EventTime::TimeOfDay(time_of_day(turned.at)?),
     };
-    Ok((notice.client, notification(alloc, out, &told)?))
+    Ok((client, notification(alloc, out, &told)?))
 }
 
 /// Tells the clients of these notices of a transition, in order, after what is told before. What is told is spelled into
@@ -76,15 +78,13 @@ pub fn tell_notices(
     out: &mut Writer,
     told: &mut Vec<(u32, ClientTold)>,
     turned: &Turned,
-    notices: &[Notice],
+    notices: Notices,
 ) -> Result<(), Memory>
     ensures { OnOk result (effects_told told.new.items
-        ≡ effects_told told.old.items ++ notices_told turned.now notices.now) }
+        ≡ effects_told told.old.items ++ notices_told turned.now notices) }
 {
-    let mut rest = notices;
-    while let Some((notice, later)) = rest.split_first() {
+    for notice in notices.into_vec() {
         told.push(told_of(alloc, out, turned, notice)?)?;
-        rest = later;
     }
     Ok(())
 }
@@ -104,7 +104,7 @@ pub fn tell_turns(
     let mut rest = turns;
     while let Some((turned, later)) = rest.split_first() {
         let notices = enrolments.notices(alloc, turned)?;
-        tell_notices(alloc, &mut out, told, turned, notices.as_slice())?;
+        tell_notices(alloc, &mut out, told, turned, notices)?;
         rest = later;
     }
     Ok(())

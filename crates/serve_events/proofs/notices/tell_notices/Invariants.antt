@@ -1,11 +1,9 @@
-use Rattle.std.proofs.Common.{◌≡◌, ◌++◌, length}
+use Rattle.std.proofs.Common.{◌≡◌, ◌++◌}
 use Rattle.cell_client.specs.Telling.{effects_told}
 use Rattle.serve_events.specs.Told.{notices_told}
 use Rattle.serve_events.proofs.notices.tell_notices.Given as goal
 
 -- what is told so far, and then of those that are left
 abbrev pub invariant-loop-notice : goal.invariant-loop-notice
-invariant-loop-notice l = effects_told l.told.items ++ notices_told l.turned l.rest ≡ effects_told l.initial.told.items ++ notices_told l.fn.turned l.fn.notices
-
-abbrev pub decreases-loop-notice : goal.decreases-loop-notice
-decreases-loop-notice l = length l.rest
+invariant-loop-notice l =
+    effects_told l.told.items ++ notices_told l.turned l.notice-iterator.rest.items ≡ effects_told l.initial.told.items ++ notices_told l.fn.turned l.fn.notices
