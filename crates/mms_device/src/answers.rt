@@ -1,8 +1,8 @@
 //! What the calls of a device that many callers share answer.
 
 use crate::Device;
-use mms_step::Cell;
 use part_table::Pass;
+use step_parts::Cell;
 
 /// An event was served.
 #[derive(Clone, Copy, Drop)]

@@ -3,8 +3,8 @@
 ghost use Rattle.std.specs.Prelude.{◌≡◌, [], length};
 ghost use Rattle.part_table.specs.Known.{nothing};
 
-use mms_step::Cell;
 use part_table::{PartTable, Pass, a_pass_has_a_place_for_each_part};
+use step_parts::Cell;
 
 /// Gives back all parts that the pass holds, the last taken first. Nothing else of the pass changes.
 pub(crate) fn give_all(table: &PartTable<Cell>, pass: &mut Pass<Cell>)

@@ -16,12 +16,13 @@ ghost use Rattle.mms_device.specs.Shared.{IsOf, led_to};
 
 use crate::answers::Unclosed;
 use cell_config::Config;
-use mms_step::{Cell, Part, start_parts};
 use mms_types::{Edition, Memory};
 use part_table::{PartTable, Pass};
 use std::alloc::Global;
 use std::marker::Model;
 use std::snapshot::Snapshot;
+use step_apply::start_parts;
+use step_parts::{Cell, Part};
 
 /// The device, which many callers share, each with a pass of its own: events are served on the parts that they want, at
 /// once with others, and all of them have one history. Contracts see the table of its parts, and its configuration.

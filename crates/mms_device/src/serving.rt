@@ -19,12 +19,15 @@ use crate::giving::give_all;
 use crate::stepping::{drain, on_hand};
 use crate::taking::take_each;
 use crate::{Device, Drained};
+use cell_client::{Found, Reading, read_event};
 use cell_io::{Gate, Point};
-use mms_step::{Cell, Found, Parts, Reading, footprint, need_by, read_event, verdict};
 use mms_types::{CellEvent, Memory};
 use part_table::{Pass, a_pass_knows_its_own_places};
+use parted_state::Parts;
 use std::alloc::Global;
 use std::sync::Wait;
+use step_needs::{footprint, need_by, verdict};
+use step_parts::Cell;
 
 impl Device {
     /// Sees the history, and finds what is then shown to be needed.

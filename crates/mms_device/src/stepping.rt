@@ -9,10 +9,12 @@ ghost use Rattle.step_parts.specs.Partition.{client_place, outbox_held, parts_of
 ghost use Rattle.step_parts.specs.State.{State};
 ghost use Rattle.mms_device.specs.Stepping.{MayStep};
 
-use mms_step::{Cell, Found, apply_by};
+use cell_client::Found;
 use mms_types::{CellEvent, Memory, What};
 use part_table::Pass;
 use std::alloc::Global;
+use step_apply::apply_by;
+use step_parts::Cell;
 
 /// Does the step of an event, whose octets come to that, on the parts that the caller holds.
 pub(crate) fn on_hand(
@@ -39,5 +41,5 @@ pub(crate) fn drain(client: u32, pass: &mut Pass<Cell>) -> Vec<What>
         → IsAmong (length s.clients) (Drain client)
         → pass.new.hand ≡ after (Drain client) pass.old.hand }
 {
-    mms_step::drain(client, pass.hand_mut())
+    step_apply::drain(client, pass.hand_mut())
 }

@@ -6,8 +6,9 @@ ghost use Rattle.mms_device.specs.Taken.{AreHeld, HasTaken};
 
 use crate::answers::Busy;
 use cell_io::{Gate, Point};
-use mms_step::{Cell, Parts};
 use part_table::{PartTable, Pass, a_pass_has_a_place_for_each_part};
+use parted_state::Parts;
+use step_parts::Cell;
 
 /// Takes a part, unless the pass holds it already.
 pub(crate) fn take<G: Gate>(

@@ -7,10 +7,10 @@ ghost use Rattle.cell_pool.specs.declared.turn.Step.TheVariants as step;
 use crate::{Device, Refused};
 use cell_io::Gate;
 use cell_pool::{Step, Turn};
-use mms_step::Cell;
 use mms_types::{CellEvent, Events};
 use part_table::Pass;
 use std::alloc::Global;
+use step_parts::Cell;
 
 /// The places of events that were served, each with its event, in rising order.
 pub type Tickets = Vec<(u64, CellEvent)>;

@@ -10,11 +10,12 @@ ghost use Rattle.step_parts.specs.Partition.{parts_of, state_in};
 ghost use Rattle.mms_device.specs.Served.{served};
 
 use cell_config::Config;
-use mms_step::{Cell, Part, apply, clients_of, drain, start_parts};
 use mms_types::{CellEvent, Memory, Moment, What};
 use part_table::Hand;
 use std::alloc::{AllocError, Global};
 use std::marker::Model;
+use step_apply::{apply, drain, start_parts};
+use step_parts::{Cell, Part, clients_of};
 
 /// What a client took, and the place of that event in the history.
 #[derive(Drop)]

@@ -199,6 +199,7 @@ impl OnParts for Cancel {
         Ok(())
     }
 
+    #[tactic(auto, using(cell_services::proofs::AreaLaws::cancel_done))]
     fn serve(
         &self,
         who: Serving,

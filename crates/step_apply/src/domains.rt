@@ -120,6 +120,7 @@ impl OnParts for DomainRequest<'_> {
         )
     }
 
+    #[tactic(auto, using(cell_services::proofs::AreaLaws::domains_served))]
     fn serve(
         &self,
         who: Serving,

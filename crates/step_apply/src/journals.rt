@@ -47,6 +47,7 @@ impl OnParts for JournalRequest<'_> {
         Ok(live_held(held, serve_journals::domain_asked(*self)))
     }
 
+    #[tactic(auto, using(cell_services::proofs::AreaLaws::journals_served))]
     fn serve(
         &self,
         who: Serving,

@@ -116,6 +116,7 @@ impl OnParts for ProgramRequest<'_> {
         Ok(())
     }
 
+    #[tactic(auto, using(cell_services::proofs::AreaLaws::programs_served))]
     fn serve(
         &self,
         who: Serving,

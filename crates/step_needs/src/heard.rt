@@ -181,7 +181,8 @@ impl Sight<'_> {
     fn also_need(self, found: &Found<'_>) -> Result<Parts, Memory>
         requires sight { IsSight self }
         ensures { IfOk result (λ parts. IsSetOf parts (missing self.entry.held.now
-            (also_parts self.entry.clients self.entry.held.now (row self.entry) (meant found.now)))) }
+            (also_parts self.entry.clients self.entry.held.now (row self.entry)
+            (meant found.now)))) }
     {
         let told = self.told_beside(found)?;
         Ok(untold(&told, self.clients, self.held))

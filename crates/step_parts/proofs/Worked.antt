@@ -31,13 +31,13 @@ use Rattle.step_parts.specs.Partition.{no_device, parts_of}
 use Rattle.step_parts.specs.Needs.{footprint, verdict_need, wanted}
 
 -- a function answers each row of a table with its second column
-abbrev Answers : {A B : Type 0} → (A → B) → List (A × B) → Type 0
+abbrev pub Answers : {A B : Type 0} → (A → B) → List (A × B) → Type 0
 Answers f rows = map (λ row. f row.0) rows ≡ map (λ row. row.1) rows
 
-abbrev open_row : ℕ → ClientRow
+abbrev pub open_row : ℕ → ClientRow
 open_row client = opened_row (new_row client no_device) (record { size = 65000; calling = 10; called = 10; nesting = 5 })
 
-abbrev entry : ℕ → SemState → Option Moment → SemEntry
+abbrev pub entry : ℕ → SemState → Option Moment → SemEntry
 entry client state deadline = record {
   number = client;
   client = client;
@@ -53,7 +53,7 @@ entry client state deadline = record {
 
 -- Both clients are in an association. Client 1 owns the one token of the semaphore S until moment 3, and client 2 waits
 -- for it.
-abbrev device : State
+abbrev pub device : State
 device = record {
   now = 0;
   variables = no_variables;
@@ -72,7 +72,7 @@ device = record {
 }
 
 -- its parts, of which those at these places are held
-abbrev hold : List ℕ → ℕ → List Part → List (Option Part)
+abbrev pub hold : List ℕ → ℕ → List Part → List (Option Part)
 hold places place [] = []
 hold places place (part ∷ parts) = (if list_any (nat_eq place) places then Some part else None) ∷ hold places (suc place) parts
 
@@ -87,7 +87,7 @@ words_tell : Answers (footprint 2) (
 words_tell = refl
 
 -- those of the nine parts that are among these
-abbrev among : List ℕ → List ℕ
+abbrev pub among : List ℕ → List ℕ
 among places = filter (λ part. list_any (nat_eq part) places) (range_with_len 0 9)
 
 -- all that an event wants: client 2 is granted the token that client 1 had until it was lost, or until moment 3, and is
@@ -103,7 +103,7 @@ events_want : Answers (λ event. among (wanted event device)) (
 events_want = refl
 
 -- The condition M is active and is evaluated at moment 10, where its cell isn't TRUE; client 1 is enrolled on it.
-abbrev watching : State
+abbrev pub watching : State
 watching = record device {
   semaphores = [];
   events = record {

@@ -24,14 +24,15 @@ use Rattle.sem_ticks.specs.declared.granted.Granted.{Granted}
 use Rattle.mms_time.specs.declared.taking.TakeDone.{TakeDone}
 use Rattle.mms_time.specs.declared.taking.TakeDone.TheVariants as taken
 use Rattle.parted_state.specs.Served.{row_at}
-use Rattle.cell_client.specs.Association.{Verdict, Tells, Takes, Concludes, Cancels, Aborts, verdict, Came, Replies, Exhausts, keeps_open}
-use Rattle.cell_services.specs.Services.{effect, relinquish_outcome, take_outcome, area_of, effect_of, lacks_number, reply_in}
-use Rattle.cell_services.specs.Serving.{is_served, lost_in, meanwhile, tables_cancelled, tables_heard, tables_lost, waiting_of, without_clients, is_served_in, keeps_upload, resolved}
+use Rattle.cell_client.specs.Association.{Verdict, Tells, Takes, Concludes, Cancels, Aborts, verdict, Came, Replies, Exhausts}
+use Rattle.cell_services.specs.Services.{effect, relinquish_outcome, take_outcome, effect_of, reply_in}
+use Rattle.cell_services.specs.Serving.{is_served, lost_in, meanwhile, tables_cancelled, tables_heard, tables_lost, waiting_of, without_clients, is_served_in, resolved}
 use Rattle.cell_services.specs.Tables.{Tables}
 use Rattle.step_sound.specs.Guarded.{IsWrittenByOwner}
 use Rattle.step_parts.specs.Partition.{cell}
 use Rattle.step_parts.specs.State.{State}
 use Rattle.step_parts.specs.Step.{step}
+use Rattle.step_sound.proofs.Walked.{by_tables}
 
 abbrev pub cells_of : VariableTables → List (ℕ × StoredCell)
 cells_of v = v.vars.cells
@@ -128,22 +129,8 @@ module _ (t : Tables) (row : ClientRow) (number : ℕ) (was : StoredCell) (guard
 
 -- a request that is taken was one before
 pub taken_before : (t : Tables) (row : ClientRow) (v : Verdict) (invoke : ℕ) (asked : Request) → resolved t row v ≡ Takes invoke asked → v ≡ Takes invoke asked
-taken_before t row (Takes i a) invoke asked is = by_test (lacks_number t row i (area_of a)) is
-  where
-    by_test : (b : Bool) → (if b then Exhausts i else Takes i a) ≡ Takes invoke asked → Takes i a ≡ Takes invoke asked
-    by_test true e = absurd (cc e)
-    by_test false e = e
-taken_before t row (Replies number came) invoke asked is = by_test (lacks_number t row number (reply_in number came)) is
-  where
-    by_test : (b : Bool) → (if b then Aborts else Replies number came) ≡ Takes invoke asked → Replies number came ≡ Takes invoke asked
-    by_test true e = absurd (cc e)
-    by_test false e = e
-taken_before t row Concludes invoke asked is = by_test (keeps_upload t row) is
-  where
-    by_test : (b : Bool) → (if b then Tells keeps_open else Concludes) ≡ Takes invoke asked → Concludes ≡ Takes invoke asked
-    by_test true e = absurd (cc e)
-    by_test false e = e
-taken_before t row v invoke asked is = is
+taken_before t row v invoke asked is =
+    by_tables t row (λ w. w ≡ Takes invoke asked → v ≡ Takes invoke asked) (λ i e. absurd (cc e)) (λ e. absurd (cc e)) (λ e. absurd (cc e)) v (λ e. e) is
 
 -- ---- each event
 

@@ -1,4 +1,4 @@
-use Rattle.std.proofs.Common.{◌≡◌, ℕ, List, [], ◌∷◌, None, slice_get, sym, ◌∙◌, ap, subst, refl, length, ◌+◌, ◌<◌, arith}
+use Rattle.std.proofs.Common.{◌≡◌, ℕ, List, [], ◌∷◌, None, slice_get, ◌∙◌, ap, refl, length, arith}
 use Rattle.part_table.proofs.Callers.{all_given}
 use Rattle.part_table.proofs.Hands.{all_free, count_taken}
 use Rattle.part_table.specs.Passes.{held_count}

@@ -1,4 +1,4 @@
-use Rattle.std.proofs.Common.{◌≡◌, ◌<◌, ◌++◌, ◌∷◌, ℕ, [], List, length, ap, arith, subst, sym, ◌∙◌, append_assoc}
+use Rattle.std.proofs.Common.{◌≡◌, ◌<◌, ◌++◌, ◌∷◌, ℕ, [], List, length, ap, subst, sym, ◌∙◌, append_assoc}
 use Rattle.step_parts.specs.Needs.{is_held}
 use Rattle.mms_device.specs.Taken.{HasTaken}
 use Rattle.mms_device.proofs.Growing.{taken_more, is_next, held_next}

@@ -1,4 +1,4 @@
-use Rattle.std.proofs.Common.{◌≡◌, ◌≢◌, ◌<◌, [], ℕ, length, sym, ap, refl, ◌∙◌, subst}
+use Rattle.std.proofs.Common.{◌<◌, ℕ, length, sym, ap, ◌∙◌, subst}
 use Rattle.std.specs.Prelude.{Contains}
 use Rattle.part_table.specs.Held.{IsHandOf}
 use Rattle.step_parts.specs.Partition.{parts_of}
