@@ -1,10 +1,9 @@
 //! The recordings that `replay` serves are served by workers too. What they write is another history of the same
 //! phases, and as a recording it is replayed with the same report.
 
-use crate::history::{by_actors, recorded, refusal};
-use crate::row::{Limits, Row};
 use crate::running::{Difference, Outcome, line_apart, outcome_of, status_apart};
 use anyhow::Result;
+use row_files::{Limits, Row, by_actors, recorded, refusal};
 use std::alloc::Global;
 use std::sync::Wait;
 use std::thread::Threads;

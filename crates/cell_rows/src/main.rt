@@ -3,20 +3,12 @@
 #![tactic(auto)]
 
 mod by_workers;
-mod history;
-mod number;
-mod row;
-mod row_file;
 mod running;
-mod shorthand;
-mod steps;
 
 use anyhow::{Context, Result};
 use by_workers::{WORKERS, is_replayed, run_apart};
-use row::Row;
-use row_file::rows_of;
+use row_files::{Row, Shorthands, rows_of};
 use running::{Difference, first_difference};
-use shorthand::Shorthands;
 use std::alloc::{AllocError, Global};
 use std::fmt::Write;
 use std::process::ExitCode;

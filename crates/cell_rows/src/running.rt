@@ -1,9 +1,9 @@
 //! What is run, and where what comes of it differs from what is wanted.
 
-use crate::row::{Limits, Row};
 use anyhow::Result;
 use cell_io::{MemorySink, MemorySource, Open};
 use cell_run::run_cell;
+use row_files::{Limits, Row};
 use std::alloc::Global;
 use std::fmt;
 use std::sync::Wait;

@@ -56,7 +56,7 @@ fn actor_of(event: &str) -> Result<u32> {
 
 /// A recording of the events in the order in which a report tells that they were served, phase by phase. Its
 /// configuration ends behind the head.
-pub(crate) fn recorded(alloc: Global, head: &str, report: &str) -> Result<String, AllocError> {
+pub fn recorded(alloc: Global, head: &str, report: &str) -> Result<String, AllocError> {
     let mut text = String::from_str(alloc, head)?;
     text.push_str("\nend\n")?;
     let mut is_begun = false;
@@ -80,7 +80,7 @@ pub(crate) fn recorded(alloc: Global, head: &str, report: &str) -> Result<String
 
 /// The events of a report, those of each actor in the order in which they were served, behind the number of their
 /// phase.
-pub(crate) fn by_actors(alloc: Global, report: &str) -> Result<String> {
+pub fn by_actors(alloc: Global, report: &str) -> Result<String> {
     let mut events = Vec::new(alloc);
     let mut phase = 0u32;
     for line in report.lines() {
@@ -107,7 +107,7 @@ pub(crate) fn by_actors(alloc: Global, report: &str) -> Result<String> {
 }
 
 /// The line of a report that tells why no more was served; empty where there is none.
-pub(crate) fn refusal(report: &str) -> &str {
+pub fn refusal(report: &str) -> &str {
     for line in report.split_inclusive('\n') {
         if line.starts_with("bad ") || line.starts_with("too much ") {
             return line;

@@ -7,7 +7,7 @@ use std::alloc::{AllocError, Global};
 /// Texts under names, which rows cite as `<NAME>`: each is what stands between its line `= NAME` and the next such
 /// line.
 #[derive(Clone, Copy)]
-pub(crate) struct Shorthands<'a> {
+pub struct Shorthands<'a> {
     content: &'a str,
 }
 
@@ -57,7 +57,7 @@ fn parts_of(piece: &str) -> (&str, &str) {
 
 impl<'a> Shorthands<'a> {
     /// The texts of a file.
-    pub(crate) fn of(content: &'a str) -> Shorthands<'a> {
+    pub fn of(content: &'a str) -> Shorthands<'a> {
         Shorthands { content }
     }
 

@@ -27,7 +27,7 @@ struct Reading<'a> {
 }
 
 /// Puts the rows of a file's text behind `rows`.
-pub(crate) fn rows_of(
+pub fn rows_of(
     alloc: Global,
     file: &str,
     content: &str,

@@ -5,7 +5,7 @@ use anyhow::{Result, bail};
 use std::alloc::{AllocError, Global};
 
 /// What the source and the sink refuse.
-pub(crate) struct Limits {
+pub struct Limits {
     /// The reads and the writes that fail, by their numbers from 1.
     pub failing_reads: Vec<u64>,
     pub failing_writes: Vec<u64>,
@@ -14,7 +14,7 @@ pub(crate) struct Limits {
 }
 
 /// A run of the command, and the status and the report that it must have.
-pub(crate) struct Row {
+pub struct Row {
     /// The file that it stands in, and the line on which it begins, from 1.
     pub file: String,
     pub line: usize,
@@ -58,7 +58,7 @@ const ROOM: usize = 16_777_216;
 
 impl Row {
     /// A row on a line of a file, without words, which ends with status 0.
-    pub(crate) fn new(alloc: Global, file: String, line: usize) -> Row {
+    pub fn new(alloc: Global, file: String, line: usize) -> Row {
         Row {
             file,
             line,
@@ -71,7 +71,7 @@ impl Row {
     }
 
     /// Puts a word behind those of the command.
-    pub(crate) fn put_word(&mut self, alloc: Global, word: &str) -> Result<(), AllocError> {
+    pub fn put_word(&mut self, alloc: Global, word: &str) -> Result<(), AllocError> {
         self.words.push(String::from_str(alloc, word)?)?;
         Ok(())
     }
@@ -92,7 +92,7 @@ impl Row {
 
 impl Limits {
     /// No call fails, and the sink has room for so many octets.
-    pub(crate) fn room(alloc: Global, room: usize) -> Limits {
+    pub fn room(alloc: Global, room: usize) -> Limits {
         Limits {
             failing_reads: Vec::new(alloc),
             failing_writes: Vec::new(alloc),
