@@ -26,7 +26,8 @@ impl Crew {
     pub(crate) fn new(alloc: Global, config: &Config, workers: u32) -> Result<Crew, Memory>
         requires config { IsConfig config.now }
         requires workers { (1 ≤ workers) × (workers ≤ 16) }
-        ensures { IfOk result (λ crew. HasRun crew config.now [] []) }
+        ensures run { IfOk result (λ crew. HasRun crew config.now [] []) }
+        ensures workers { IfOk result (λ crew. crew.workers ≡ workers) }
     {
         let (device, passes) = Device::new(alloc, config)?;
         Ok(Crew {

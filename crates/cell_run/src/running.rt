@@ -109,6 +109,7 @@ impl Crew {
     ) -> Result<Told, Memory>
         requires next { MayRun self.old phase.events }
         ensures told { TellsPhase (HasRun self.old) phase result (HasRun self.new) }
+        ensures workers { self.new.workers ≡ self.old.workers }
     {
         let passes = mem::replace(&mut self.passes, Vec::new(alloc));
         know_all(&passes);

@@ -1,5 +1,6 @@
-//! A gate that holds the first caller of a trial that has taken a part until another one has: only where two are at
-//! work at once does the trial go on. It counts the commits too, so that a trial that serves nothing is told.
+//! A gate that holds callers of a trial that have taken a part, until so many have: only where as many are at work at
+//! once does the trial go on before a limit of turns. It counts the commits too, so that a trial that serves nothing is
+//! told.
 
 use cell_io::{Gate, MemorySink, MemorySource, Point};
 use cell_run::run_cell;
@@ -10,46 +11,90 @@ use std::test::Fail;
 use std::thread::{Threads, yield_now};
 
 /// What is written.
-const LINES: &str = "phases 5\nevents 13\nrequests 7\nreplies 9\n";
+const LINES: &str = "phases 5\nevents 17\nrequests 10\nreplies 13\n";
 
-/// The gate, with a limit of turns.
+/// A number of workers, and what is tried with it.
+#[derive(Clone, Copy)]
+struct Case {
+    workers: &'static str,
+    /// For how many callers the gate waits, and for how many turns.
+    wanted: u32,
+    turns: u32,
+    /// How many callers come while it waits.
+    came: u32,
+}
+
+/// As many callers as there are workers meet, and no other one comes as long as these are held.
+const CASES: [Case; 5] = [
+    Case {
+        workers: "1",
+        wanted: 2,
+        turns: 500_000,
+        came: 1,
+    },
+    Case {
+        workers: "2",
+        wanted: 2,
+        turns: 10_000_000,
+        came: 2,
+    },
+    Case {
+        workers: "2",
+        wanted: 3,
+        turns: 500_000,
+        came: 2,
+    },
+    Case {
+        workers: "3",
+        wanted: 3,
+        turns: 10_000_000,
+        came: 3,
+    },
+    Case {
+        workers: "16",
+        wanted: 3,
+        turns: 10_000_000,
+        came: 3,
+    },
+];
+
+/// The gate of a case.
 #[derive(Drop)]
 struct Meeting {
-    /// The first caller that came with a part, its number and one more: 0 where none has come.
-    first: AtomicU64,
-    /// Whether another one came.
-    met: AtomicU64,
-    /// Whether the limit was reached.
-    late: AtomicU64,
+    case: Case,
+    /// The callers that came with a part while others were waited for, a bit for each.
+    came: AtomicU64,
+    /// Whether nobody is waited for any more.
+    over: AtomicU64,
     /// How many events are committed.
     commits: AtomicU64,
 }
 
 impl Meeting {
-    /// Waits until another caller has come, or the limit is reached.
+    /// How many callers came while others were waited for.
+    fn count(&self) -> u32 {
+        self.came.load(Ordering::SeqCst).count_ones()
+    }
+
+    /// Waits until so many callers have come, or the limit is reached.
     fn hold(&self) {
-        for _turn in 0..10_000_000u32 {
-            if self.met.load(Ordering::SeqCst) != 0 {
-                return;
+        for _turn in 0..self.case.turns {
+            if self.count() >= self.case.wanted {
+                break;
             }
             yield_now();
         }
-        self.late.store(1, Ordering::SeqCst);
+        self.over.store(1, Ordering::SeqCst);
     }
 
     /// A caller comes with a part.
     fn come(&self, caller: u32) {
-        let mark = u64::from(caller) + 1;
-        let first = self
-            .first
-            .compare_exchange(0, mark, Ordering::SeqCst, Ordering::SeqCst);
-        match first {
-            Ok(_) => self.hold(),
-            Err(first) => {
-                if first != mark {
-                    self.met.store(1, Ordering::SeqCst);
-                }
-            }
+        if self.over.load(Ordering::SeqCst) != 0 {
+            return;
+        }
+        let bit = 1u64.rotate_left(caller);
+        if self.came.fetch_or(bit, Ordering::SeqCst) & bit == 0 {
+            self.hold();
         }
     }
 }
@@ -71,47 +116,54 @@ impl Gate for Meeting {
 struct Outcome {
     status: u8,
     lines: String,
-    met: u64,
-    late: u64,
+    came: u32,
     commits: u64,
 }
 
-/// Has the device try itself by two workers. A read of the source would fail.
-fn outcome_of<R: Threads + Wait + Sync>(rt: &R, alloc: Global) -> Option<Outcome> {
+/// Has the device try itself. A read of the source would fail.
+fn outcome_of<R: Threads + Wait + Sync>(rt: &R, alloc: Global, case: Case) -> Option<Outcome> {
     let mut words = Vec::new(alloc);
-    for word in "stress --seed 1 --clients 2 --rounds 3 --workers 2".split(' ') {
+    for word in "stress --seed 1 --clients 3 --rounds 3 --workers".split(' ') {
         words.push(String::from_str(alloc, word).ok()?).ok()?;
     }
+    words
+        .push(String::from_str(alloc, case.workers).ok()?)
+        .ok()?;
     let mut failing = Vec::new(alloc);
     failing.push(1).ok()?;
     let mut source = MemorySource::new(Vec::new(alloc), failing);
     let mut sink = MemorySink::new(alloc, 4096, Vec::new(alloc)).ok()?;
     let gate = Meeting {
-        first: AtomicU64::new(0),
-        met: AtomicU64::new(0),
-        late: AtomicU64::new(0),
+        case,
+        came: AtomicU64::new(0),
+        over: AtomicU64::new(0),
         commits: AtomicU64::new(0),
     };
     let status = run_cell(rt, alloc, &words, &mut source, &mut sink, &gate);
     Some(Outcome {
         status,
         lines: String::from_utf8(Vec::from_slice(alloc, sink.holds()).ok()?).ok()?,
-        met: gate.met.load(Ordering::SeqCst),
-        late: gate.late.load(Ordering::SeqCst),
+        came: gate.count(),
         commits: gate.commits.load(Ordering::SeqCst),
     })
 }
 
-/// Thirteen events, and ten drains: those of two clients behind each of five phases.
+/// Seventeen events, and fifteen drains: those of three clients behind each of five phases.
 #[test]
-fn a_trial_is_served_by_two_at_once(rt: HostRuntime) -> Result<(), Fail> {
-    let wanted = Outcome {
-        status: 0,
-        lines: String::from_str(rt.alloc(), LINES)?,
-        met: 1,
-        late: 0,
-        commits: 23,
-    };
-    assert_eq!(rt; outcome_of(&rt, rt.alloc()), Some(wanted));
+fn a_trial_is_served_by_so_many_at_once(rt: HostRuntime) -> Result<(), Fail> {
+    for case in CASES {
+        let wanted = Outcome {
+            status: 0,
+            lines: String::from_str(rt.alloc(), LINES)?,
+            came: case.came,
+            commits: 32,
+        };
+        assert_eq!(rt;
+            outcome_of(&rt, rt.alloc(), case),
+            Some(wanted),
+            "{} workers",
+            case.workers
+        );
+    }
     Ok(())
 }

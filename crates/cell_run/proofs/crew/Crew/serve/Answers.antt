@@ -196,4 +196,5 @@ returns g c = record {
       let body = crew_body self config phases bodies es h recorded passes items true_of after logs c.in_ok-passes.ensures true_after gathered c.gather-count.result now g1 in
       crew_serves self config phases bodies es h recorded passes items true_of after logs c.in_ok-passes.ensures true_after gathered c.gather-count.result now g1 f.0 f.1 f.2 passed c.in_ok-outputs.outputs d again c.gather-self.result later g2 c.args.phase.number c.in_ok-served.served _
       (c.in_ok-served.ensures body.0 body.1 body.2) refl w3 refl refl;
+  workers = refl;
 }
