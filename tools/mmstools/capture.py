@@ -5,15 +5,17 @@ presentation PDU is read, of which ACSE's user information and the MMS PDUs are 
 What the capture lacks is told with the frame's number. Nothing is known of a PDU whose presentation data is itself
 broken, cut, encrypted or in another encoding than BER: its frame is told, and the PDU is left out.
 """
-import enum
 import subprocess
 import xml.etree.ElementTree as ET
 from dataclasses import dataclass, field
-from typing import Dict, Iterator, List, Optional, Tuple
+from typing import Dict, Iterator, List, Optional, Set, Tuple
 
 from . import ber, grammar, texts
 from .configuration import broken
 from .learn import learned
+from .stack import Kind, acse, presentation
+from .stack.elements import cut, first
+from .stack.presentation import BROKEN, EMPTY
 from .texts import ABORT, Event, Phase, Recording, Report
 
 SHOWN = (
@@ -43,8 +45,7 @@ WANTED = {
 ENDS = {"tcp.flags.reset", "tcp.flags.fin"}
 CUT = "the frame was cut when it was captured"
 GAP = "octets before it are not in the capture"
-BROKEN = "presentation data that is not whole: what is in it is left out"
-EMPTY = "presentation data without a PDU"
+ASSOCIATION = b"AARQ"  # of an OPEN that asks for an association too
 FULLY, SIMPLY = 1, 0  # the alternatives of presentation's user data
 UNANSWERED = (b"\xa0", b"\x85", b"\xa8", b"\x8b")  # what a client sends to be answered
 ANSWERS = (b"\xa1", b"\xa2", b"\xa4")  # what a client sends to answer a request of the server
@@ -52,16 +53,6 @@ ANSWERS = (b"\xa1", b"\xa2", b"\xa4")  # what a client sends to answer a request
 
 class Unread(Exception):
     """The capture gives no recording; says why."""
-
-
-class Kind(enum.Enum):
-    """What a frame brings to completion."""
-
-    PDU = "an MMS PDU"
-    ABORT = "an abort of the session"
-    RELEASE = "a release without a conclude PDU in it"
-    OPEN = "the request for a transport connection"
-    GONE = "the end of the transport connection"
 
 
 @dataclass
@@ -181,30 +172,14 @@ def _user_data(f, contexts: Dict[int, str]) -> Tuple[List[Tuple[Kind, bytes]], s
     if len(octets) < int(f.get("size") or 0):
         return [], CUT
     if f.get("show") == str(SIMPLY):
-        return _value(octets, "mms"), "" if octets else EMPTY
-    if f.get("show") == str(FULLY):
-        return _values(ber.elements(octets), contexts)
-    whole = ber.elements(octets)
-    if len(whole) == 1 and not whole[0].flaw and whole[0].tag == (1, SIMPLY):
-        return _value(whole[0].contents, "mms"), "" if whole[0].contents else EMPTY
-    if len(whole) == 1 and not whole[0].flaw and whole[0].tag == (1, FULLY):
-        return _values(whole[0].parts, contexts)
-    return [], BROKEN
-
-
-def _values(lists: List[ber.Element], contexts: Dict[int, str]) -> Tuple[List[Tuple[Kind, bytes]], str]:
-    """The PDUs of PDV-lists: { transfer-syntax-name OPTIONAL, INTEGER context, values [0], [1] or [2] }."""
+        found, flaw = ([(None, octets)], "") if octets else ([], EMPTY)
+    elif f.get("show") == str(FULLY):
+        found, flaw = presentation.lists(octets)
+    else:
+        found, flaw = presentation.values(octets)
     items: List[Tuple[Kind, bytes]] = []
-    flaw = "" if lists else EMPTY
-    for pdv in lists:
-        number = pdv.find(2, 0)
-        values = next((p for p in pdv.parts if p.cls == 2 and p.number < 2), None)
-        if pdv.flaw or pdv.tag != (0, 16) or number is None or values is None or values.flaw:
-            flaw = flaw or BROKEN
-        elif not values.contents:
-            flaw = flaw or EMPTY
-        else:
-            items += _value(values.contents, contexts.get(ber.integer(number.contents), ""))
+    for context, value in found:
+        items += _value(value, "mms" if context is None else contexts.get(context, ""))
     return items, flaw
 
 
@@ -212,18 +187,15 @@ def _value(octets: bytes, context: str) -> List[Tuple[Kind, bytes]]:
     """What a presentation data value is: an APDU of ACSE, whose user information may hold an MMS PDU, or an MMS PDU.
 
     Where the capture lacks the definition of the context, its first tag decides."""
-    first = ber.elements(octets)[:1]
-    if not first or first[0].cls != 1 or not first[0].constructed or first[0].number > 4 or "mms" in context:
-        return [(Kind.PDU, octets)] if octets else []
-    acse = first[0]
-    if acse.number == 4:  # ABRT: the session's abort says it
+    if not acse.AARQ <= octets[0] <= acse.ABRT or "mms" in context:
+        return [(Kind.PDU, octets)]
+    whole = cut(octets)[0]
+    if not whole or whole[0].tag == acse.ABRT:  # the session's abort says it
         return []
-    information = acse.find(30)  # of AARQ, AARE, RLRQ and RLRE
-    external = information.parts[0] if information is not None and information.parts else None
-    inside = external and (external.find(0) or external.find(1))
+    inside = acse.information(first(cut(whole[0].contents)[0], acse.INFORMATION))
     if inside:
-        return [(Kind.PDU, inside.contents)] if inside.contents else []
-    return [(Kind.RELEASE, b"")] if acse.number == 2 else []
+        return [(Kind.OPEN, ASSOCIATION)] * (whole[0].tag == acse.AARQ) + [(Kind.PDU, inside)]
+    return [(Kind.RELEASE, b"")] if whole[0].tag == acse.RLRQ else []
 
 
 # ---------------------------------------------------------------- packets to events
@@ -345,6 +317,7 @@ class _Build:
         self.found, self.server, self.options = found, server, options
         self.talks: Dict[int, _Talk] = {}
         self.names: List[str] = []
+        self.asked: Set[int] = set()  # streams in which an association is asked for, whatever the PDU in that
         self.events: List[List[Event]] = [[]]
         self.outputs: List[Dict[int, List[Optional[bytes]]]] = [{}]
         self.notes: Dict[Tuple[int, int], List[str]] = {}
@@ -361,6 +334,8 @@ class _Build:
             for kind, octets in p.items:
                 if kind is not Kind.OPEN:
                     self.item(p, from_client, kind, octets)
+                elif octets == ASSOCIATION:
+                    self.asked.add(p.stream)
         if any(self.outputs[-1].values()):  # an answer that a deadline made needs the time up to it
             self.tick_to(self.last)
         while len(self.events) > 1 and not self.events[-1] and not self.outputs[-1]:
@@ -442,7 +417,7 @@ class _Build:
             self.warn(p, f"a PDU of {len(octets)} octets, left out")
             return
         initiate = octets[:1] == INITIATE[:1]
-        if not talk.open and not initiate:
+        if not talk.open and not initiate and p.stream not in self.asked:
             self.warn(p, "the capture lacks the beginning of an association; an initiate-Request stands for it")
             note = f"not in the capture: the association of {talk.host} was open before it"
             self.add(p.time, Event("heard", talk.client, INITIATE), note)
