@@ -75,18 +75,21 @@ def of_text(argument: str) -> str:
         events = [_row(row) for row in history(report)]
         return text("explain", 2 if report.end else 0, of="report", events=events, refusal=_refusal(told))
     if "mms-recording" in text_of.split("\n", 1)[0].lower():
-        return _of_recording(text_of)
+        return _of_recording(text_of, argument)
     if explain.ROWS.search(text_of):
         raise BadText(f"{argument} is a file of rows, which is told in words alone")
     raise BadText(f"{argument} is neither a recording nor a report, and no PDU in hexadecimal digits")
 
 
-def _of_recording(text_of: str) -> str:
-    """A recording: its events, none where it is refused, and why it is refused."""
-    refusal = refusals.first_refusal(text_of)
+def _of_recording(text_of: str, name: str) -> str:
+    """A recording: its events, none where it is refused, why it is refused, and why that is mmscell's to decide."""
+    refusal = refusals.first_refusal(text_of) or explain.told_beside(text_of, name)
+    doubt = refusals.doubt(text_of) if refusal is None else None
     phases = read_recording(text_of).phases if refusal is None else []
     events = [{"place": None, "phase": k, **_event(e, None), "sent": []} for k, p in enumerate(phases, 1) for e in p]
-    return text("explain", 0 if refusal is None else 2, of="recording", events=events, refusal=_refusal(refusal))
+    parts = {"undecided": " ".join(refusals.undecided(doubt, ""))} if doubt is not None else {}
+    status = 0 if refusal is None else 2
+    return text("explain", status, of="recording", events=events, refusal=_refusal(refusal), **parts)
 
 
 def _row(row: Row) -> Dict[str, Any]:

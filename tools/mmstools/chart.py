@@ -5,6 +5,9 @@ lane to the dot, and each answer from the rail to the lane of the client that ge
 shows how long a request waits: a full one for a client's, a dashed one for a request of the cell that a client has yet
 to answer. Octets are told where the pointer rests on a line. A picture has at most 2,000 events: of a report with more
 --places or --clients chooses a part.
+
+Status 0: it is drawn. 1: it is drawn, and the report ends with why its recording is refused, or is cut off, which the
+picture tells, too. 2: nothing can be drawn.
 """
 
 import os
@@ -19,7 +22,7 @@ from .chart_mermaid import mermaid  # noqa: F401
 from .chart_svg import FAINT, INK, SOFT, WHITE, Drawing, document, write_png  # noqa: F401
 from .chart_text import SIZE, SMALL, TINY, count, cut, hexadecimal, span, width, wrap
 from .history import Row
-from .texts import BadText
+from .texts import BadText, Report
 
 TOP = os.path.dirname(os.path.dirname(os.path.dirname(os.path.abspath(__file__))))
 LINE, GAP, LEFT, BAND = 17, 9, 24, 18  # heights of a line, behind a row, the margin, and the height of a phase's band
@@ -85,9 +88,17 @@ def chosen(rows: list[Row], places: str = "", clients: str = "") -> list[Row]:
         kept = [replace(row, outputs=[o for o in row.outputs if o.client in some]) for row in kept]
         kept = [row for row in kept if row.outputs or row.event.client in some or not row.event.client]
     if not kept:
-        there = f"; places go from {rows[0].place} to {rows[-1].place}" if rows else ""
-        raise BadText("no event is to be drawn" + there)
+        if not rows:
+            raise BadText("there is no event")
+        raise BadText(f"none of the events is asked for; their places go from {rows[0].place} to {rows[-1].place}")
     return kept
+
+
+def ended(report: Report) -> str:
+    """What has to be said of a report that isn't one of a whole recording; empty of any other."""
+    if not report.end:
+        return ""
+    return report.end if report.is_cut else f"the recording is refused behind these events: `{report.end}`"
 
 
 def program(given: Optional[str] = None) -> list[str]:

@@ -1,17 +1,19 @@
-"""The commands: capture, explain, chart, compare, run, write, rows."""
+"""The commands: capture, explain, chart, compare, run, write, rows, serve, drive."""
 import argparse
 import gc
 import json
 import os
 import sys
 
-from . import as_json, comments, texts
+from . import as_json, comments, configuration, texts
 from . import capture as capturing
 from . import chart as drawing
 from . import compare as comparing
+from . import drive as driving
 from . import explain as explaining
 from . import rows as of_gate
 from . import run as running
+from . import serve as serving
 from . import spoken
 from . import write as writing
 from .history import history, served
@@ -27,6 +29,7 @@ def main(words=None) -> int:
     )
     sub = ap.add_subparsers(dest="command", required=True, metavar="COMMAND")
     every = (_capture_words, _explain_words, _chart_words, _compare_words, _run_words, _write_words, _rows_words)
+    every += (_serve_words, _drive_words)
     for command in every:
         command(sub)
     a = ap.parse_args(words)
@@ -145,6 +148,41 @@ def _run_words(sub) -> None:
     add("--jobs", type=int, metavar="N", help="how many at once; as many as there are processors, where it is left out")
 
 
+def _serve_words(sub) -> None:
+    """The words of `mms serve`."""
+    add = _command(sub, "serve", serving.command, "a device to connect to, over TCP", serving.__doc__)
+    add("--config", metavar="FILE", help="a configuration in TOML, or a recording, whose configuration is taken")
+    add("--edition", choices=("1", "2"), help="1 or 2; the recording's, or else 1")
+    add("--host", default="127.0.0.1", help="the address to listen at (127.0.0.1)")
+    add("--port", type=int, default=102, help="the port (102); 0 for any that is free, which is told")
+    add("--keep", metavar="FILE", help="the recording of all that came, which replays to what was sent")
+    add("--log", metavar="FILE", help="what happens in words, with its time, is written behind what is there")
+    add("--pcap", metavar="FILE", help="a capture of the traffic")
+    add("--idle", type=float, default=60.0, metavar="S", help="seconds of nothing or of half a message (60)")
+    add("--still", action="store_true", help="no time goes by but what is asked for on standard input")
+    add("--now", action="store_true", help="the device's clock begins now, in place of the configuration's moment")
+    add("--usr1", default="tick 1000", metavar="LINE", help="what SIGUSR1 does: a line of standard input (tick 1000)")
+    program = "the program; MMSCELL's or that which the gate left, where it is left out"
+    add("--program", metavar="PATH", help=program)
+
+
+def _drive_words(sub) -> None:
+    """The words of `mms drive`."""
+    text = "play a recording's clients against a device that listens"
+    add = _command(sub, "drive", driving.command, text, driving.__doc__)
+    add("recording", help="whose clients are played")
+    add("--host", default="127.0.0.1", help="where the device listens (127.0.0.1)")
+    add("--port", type=int, default=102, help="and at which port (102)")
+    add("-o", "--output", metavar="SEEN", help="the report of what came back; standard output where it is left out")
+    add("--wait", type=float, default=0.2, metavar="S", help="seconds of silence after which nothing more comes (0.2)")
+    cell = "where ticks and ends are written, such as the named pipe that a server with --still has on standard input"
+    add("--cell", metavar="FILE", help=cell)
+    add("--late", action="store_true", help="open each connection when its client first sends")
+    add("--check", action="store_true", help="also replay the recording, and compare")
+    program = "what replays it; MMSCELL's or the program that the gate left, where it is left out"
+    add("--program", metavar="PATH", help=program)
+
+
 def _read(path: str) -> str:
     """A text, each octet as one letter, so that none is refused."""
     if path == "-":
@@ -169,9 +207,13 @@ def _config(path: str):
         return None
     try:
         with open(path, encoding="utf-8") as f:
-            return f.read().rstrip("\n").split("\n")
+            text = f.read().rstrip("\n")
     except UnicodeDecodeError:
         raise texts.BadText(f"{path} isn't UTF-8") from None
+    found = configuration.unread(text.encode().decode("latin-1"))
+    if found is not None:
+        print(f"mms capture: {path} is {found.what}; whether it is a configuration, mmscell decides", file=sys.stderr)
+    return text.split("\n")
 
 
 def _report(path: str) -> texts.Report:
@@ -231,7 +273,7 @@ def _explain(a) -> int:
 def _chart(a) -> int:
     """`mms chart`."""
     _drawable(a.output)
-    text, names, note = _read(a.file), {}, ""
+    text, names, note, end = _read(a.file), {}, "", ""
     if texts.kind_of(text) == "recording":
         recording = texts.read_recording(text)
         names = _names(recording)
@@ -242,18 +284,27 @@ def _chart(a) -> int:
             raise texts.BadText(f"{a.file} has no event, and ends with `{report.end}`: `mms explain` tells why")
         if any(len(p.served) > 1 for p in report.phases):
             note = "the events of late answers worked out from the report alone"
+        end = drawing.ended(report)
+        note = "; ".join(x for x in (note, end) if x)
         rows = history(report)
     seen = comparing.by_place(comparing.compare(_report(a.seen), None, rows)) if a.seen else {}
     rows = drawing.chosen(rows, a.places or "", a.clients or "")
     if a.output and a.output.endswith(".md"):
-        _write(a.output, f"```mermaid\n{drawing.mermaid(rows)}```\n")
-        return 0
+        _write(a.output, f"```mermaid\n{drawing.mermaid(rows)}```\n" + f"\n{end}\n" * bool(end))
+        return _drawn(a.file, end)
     svg = drawing.chart(rows, a.title or os.path.basename(a.file), note, names, seen)
     if a.output and a.output.endswith(".png"):
         drawing.write_png(svg, a.output)
     else:
         _write(a.output, svg)
-    return 0
+    return _drawn(a.file, end)
+
+
+def _drawn(name: str, end: str) -> int:
+    """The status of a picture; one that is drawn to its report's end alone is told."""
+    if end:
+        print(f"mms chart: {name}: {end}", file=sys.stderr)
+    return 1 if end else 0
 
 
 def _put_in_octets(a) -> int:

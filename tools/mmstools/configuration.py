@@ -1,6 +1,6 @@
 """The rules of a configuration (docs/RECORDING.md): which is broken, in which row and key.
 
-TOML 1.1 is read, as the device does, by Python's tomllib.
+TOML 1.1 is read, as the device does, by Python's tomllib, as far as that reads it: of what it refuses mmscell decides.
 """
 
 import re
@@ -61,11 +61,14 @@ def line_of(found: Broken, lines: List[str]) -> Optional[int]:
 
 
 def broken(text: str, edition: str = "1") -> Tuple[Optional[Broken], Dict[str, Any]]:
-    """The first breach of the least rule that is broken in that edition, None where all are kept, and the document."""
+    """The first breach of the least rule that is broken in that edition, None where all are kept, and the document. None,
+    too, where the text can't be read here: `unread` says so."""
     try:
         document = _document(text.encode("latin-1").decode("utf-8-sig"))
-    except (ValueError, RecursionError) as bad:
-        return Broken(0, f"no TOML document: {str(bad) or 'nests too deep'}"), {}
+    except UnicodeDecodeError as bad:
+        return Broken(0, f"no TOML document: {bad}"), {}
+    except (ValueError, RecursionError):
+        return None, {}
     for rule in (_integers, _keys):
         found = next(rule(document), None)
         if found is not None:
@@ -76,6 +79,17 @@ def broken(text: str, edition: str = "1") -> Tuple[Optional[Broken], Dict[str, A
         if found is not None:
             return found, document
     return None, document
+
+
+def unread(text: str) -> Optional[Broken]:
+    """Why a text of UTF-8 can't be read here as TOML, None where it can: then rule 0 may be broken, and mmscell decides."""
+    try:
+        _document(text.encode("latin-1").decode("utf-8-sig"))
+    except UnicodeDecodeError:
+        return None
+    except (ValueError, RecursionError) as bad:
+        return Broken(0, f"no TOML that this tool reads: {str(bad) or 'nests too deep'}")
+    return None
 
 
 def _document(text: str) -> Dict[str, Any]:

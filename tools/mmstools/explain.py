@@ -5,7 +5,8 @@ for what is refused the rule that is broken, the line itself, and of a configura
     mms explain DIGITS  a PDU: pairs of digits, a line of a recording or a report (`1 A0..`, `> A1..`), `a0:06`, `0xA006`,
                         a C array, `\\xA0\\x06`, or a hexdump
 
-Beside a report NAME.report the recording NAME.mms is looked at for the line that was refused, where it is there. The
+Beside a report NAME.report the recording NAME.mms is looked at for the line that was refused, where it is there. Of a
+configuration that Python doesn't read as TOML mmscell decides: it is refused where NAME.report beside it says so. The
 status is 2 where a recording is refused, a report is cut off or a PDU is malformed; a sentence then says why.
 """
 
@@ -14,6 +15,7 @@ import re
 import sys
 import textwrap
 from dataclasses import dataclass
+from functools import lru_cache
 from typing import Iterable, Iterator, List, Optional, Tuple
 
 from . import at_hand, ber, grammar, refusals, row_files
@@ -25,6 +27,7 @@ from .words import Said, hint, say
 
 CLASSES = ("universal", "application", "", "private")
 CONTENTS = 12  # octets of contents that are shown
+AT_ONCE = 500  # lines that are written at once
 MOST_SIGNS = 1200  # of a value; an unknown element is shown as far as these
 WIDE, LEAST_WIDE = 150, 40
 WIDTHS = (26, 40, 34, 30)  # of the columns, at most
@@ -121,7 +124,28 @@ def _cut(b: bytes) -> str:
 
 def pdu(octets: Optional[bytes], indent: str = "    ") -> List[str]:
     """The lines of one PDU; none of an abort."""
-    lines = table(octets or b"")
+    at = grammar.numbered(octets) if octets else None
+    if at is None:
+        return _laid_out(table(octets or b""), indent)
+    start, end = at
+    named, above, below = _around(octets[: start - 1], end - start, octets[end:], indent)
+    contents = octets[start:end]
+    return [*above, f"{named[0]}{_hex(contents)}{named[1]}{int.from_bytes(contents, 'big', signed=True)}", *below]
+
+
+@lru_cache(maxsize=1 << 14)
+def _around(head: bytes, size: int, behind: bytes, indent: str) -> Tuple[Tuple[str, str], List[str], List[str]]:
+    """Of PDUs that begin so, and differ in an invokeID of so many octets alone: what stands around that one in its line,
+    and the lines above and below."""
+    shown = "00" + " 00" * (size - 1)
+    above, line, *below = _laid_out(table(head + bytes([size]) + bytes(size) + behind), indent)
+    front, _, back = line.partition(f"{head[-1]:02X} {size:02X}")
+    first, _, last = back.partition(shown)
+    return (f"{front}{head[-1]:02X} {size:02X}{first}", last.removesuffix("0")), [above], below
+
+
+def _laid_out(lines: List[Line], indent: str) -> List[str]:
+    """These elements in columns."""
     if not lines:
         return []
     columns = [line.columns() for line in lines]
@@ -218,14 +242,26 @@ def _phases(count: int) -> str:
 
 def _of_recording_text(text: str, name: str) -> Iterator[str]:
     """A recording, and where it is refused what stands before the line, and why; BadText is raised behind that."""
-    refusal = refusals.first_refusal(text)
+    refusal = refusals.first_refusal(text) or told_beside(text, name)
     if refusal is None:
+        doubt = refusals.doubt(text)
+        if doubt is not None:
+            yield from [*refusals.undecided(doubt, text), ""]
         yield from of_recording(read_recording(text))
         return
     if refusal.line and refusal.word not in ("header", "config"):
         yield from _before(text, refusal)
     yield from refusals.explained(refusal, text)
     raise BadText(f"{name} is refused, `{refusal.told()}`: {_here(refusal)}")
+
+
+def told_beside(text: str, name: str) -> Optional[Refusal]:
+    """Of a recording NAME.mms whose configuration can't be read here the refusal that NAME.report ends with."""
+    doubt, beside = refusals.doubt(text), re.sub(r"\.mms$", "", name) + ".report"
+    if doubt is None or not name.endswith(".mms") or not os.path.exists(beside):
+        return None
+    told = refusals.read_told(_read(beside).rstrip("\r\n").rpartition("\n")[2])
+    return doubt if told is not None and told.rule == 0 else told
 
 
 def _here(refusal: Refusal) -> str:
@@ -283,9 +319,11 @@ def _ended(r: Report, recording: str, name: str) -> Iterator[str]:
     if told is None:
         yield r.end
         raise BadText(r.end if r.is_cut else f"`{r.end}` is no word that a report ends with")
-    found = refusals.first_refusal(recording) if recording else None
+    found = refusals.first_refusal(recording) or refusals.doubt(recording) if recording else None
     if found is not None and found.told() == told.told():
         yield from refusals.explained(found, recording)
+    elif found is not None and found.broken is not None and told.line and refusals.doubt(recording):
+        yield from refusals.explained(told, recording)
     else:
         yield from refusals.explained(told)
         if recording:
@@ -359,6 +397,14 @@ def _read(path: str) -> str:
 
 def command(asked) -> int:
     """The command `mms explain`, whose argument is `file`."""
-    for line in explained(asked.file):
-        print(line)
+    some: List[str] = []
+    try:
+        for line in explained(asked.file):
+            some.append(line)
+            if len(some) == AT_ONCE:
+                print("\n".join(some))
+                some.clear()
+    finally:
+        if some:
+            print("\n".join(some))
     return 0

@@ -440,10 +440,50 @@ class Node:
             left += reversed(node.parts)
 
 
-@lru_cache(maxsize=1 << 18)
+NUMBERED = {0xA0: 0x02, 0xA1: 0x02, 0xA2: 0x80}  # tags of PDUs that begin with an invokeID, and that one's tag
+
+
+def numbered(octets: bytes) -> Optional[Tuple[int, int]]:
+    """Where the invokeID's contents begin and end in a whole PDU that begins with one and goes on; None of any other."""
+    if len(octets) < 6 or octets[0] not in NUMBERED or octets[1] == 0x80 or octets[1] > 0x88:
+        return None
+    at = 2 if octets[1] < 0x80 else 2 + (octets[1] & 0x7F)
+    size = octets[1] if at == 2 else int.from_bytes(octets[2:at], "big")
+    if at + size != len(octets) or size < 4 or octets[at] != NUMBERED[octets[0]] or not 1 <= octets[at + 1] <= 8:
+        return None
+    end = at + 2 + octets[at + 1]
+    return (at + 2, end) if end < len(octets) else None
+
+
 def decode(octets: bytes) -> List[Node]:
-    """The elements of a PDU by the table: one node, or more where more stands there than one element. They are kept for
-    who asks again, and nobody changes them."""
+    """The elements of a PDU by the table: one node, or more where more stands there than one element. Nodes are shared
+    with PDUs that are alike, so nobody changes them; octets are counted within those that an element has."""
+    at = numbered(octets)
+    if at is None:
+        return _decoded(octets)
+    start, end = at
+    named = Element(octets, start - 2, start - 1, start, end, *_class_and_number(octets[start - 2]))
+    name, (form,) = PDU[octets[0] & 0x1F]
+    parts = [_component(named, form.components[0]), *_behind(octets[0], octets[end:])]
+    whole = Element(octets, 0, 1, start - 2, len(octets), 2, True, octets[0] & 0x1F, [p.element for p in parts])
+    return [Node(whole, name, SPOKEN[form.kind], "", parts, True, form.kind)]
+
+
+def _class_and_number(tag: int) -> Tuple[int, bool, int]:
+    """What a tag of one octet says."""
+    return tag >> 6, bool(tag & 0x20), tag & 0x1F
+
+
+@lru_cache(maxsize=1 << 14)
+def _behind(tag: int, octets: bytes) -> List[Node]:
+    """What stands behind the invokeID of a PDU of that tag; most PDUs of a report differ in their invokeID alone."""
+    _, (form,) = PDU[tag & 0x1F]
+    return _in_order(elements(octets, depth=1), form.components[1:])
+
+
+@lru_cache(maxsize=1 << 14)
+def _decoded(octets: bytes) -> List[Node]:
+    """The same of any octets."""
     return [_choose(e, _PDU_CHOICE) for e in elements(octets)]
 
 

@@ -7,7 +7,7 @@ which one that was is worked out from the answers themselves. Reports with a pha
 import subprocess
 from collections import Counter, deque
 from dataclasses import dataclass, field
-from functools import lru_cache
+from functools import cached_property, lru_cache
 from typing import Deque, Dict, Iterator, List, Optional, Set, Tuple
 
 from . import grammar
@@ -39,6 +39,17 @@ class Row:
     outputs: List[Output] = field(default_factory=list)
     answer: Optional[Output] = None  # to its own request, wherever that came
     answered: Optional["Row"] = None  # the event in which that came
+
+    @cached_property
+    def semaphore(self) -> str:
+        """The semaphore that a request names; names of an association are the client's own."""
+        return _semaphore(self.said, self.event.client)
+
+    @cached_property
+    def token(self) -> str:
+        """The token that a request names; empty where it names none."""
+        named = self.said.first("namedToken")
+        return named.value if named is not None else ""
 
 
 @dataclass(eq=False)
@@ -281,18 +292,17 @@ class _History:
     # ---- semaphores
     def wait(self, row: Row) -> _Wait:
         """What a TakeControl says of its wait and of its control."""
-        n = row.said.node
-        token, delay, control = (n.find(k) for k in ("namedToken", "acceptableDelay", "controlTimeOut"))
-        stays = n.find("relinquishIfConnectionLost")
+        first = row.said.first
+        delay, control, stays = (first(k) for k in ("acceptableDelay", "controlTimeOut", "relinquishIfConnectionLost"))
         number = grammar.integer(delay.element.contents) if delay is not None else None
         return _Wait(
             row,
-            _semaphore(n, row.event.client),
-            token.value if token is not None else "",
+            row.semaphore,
+            row.token,
             None if number is None else self.now + number,
             (grammar.integer(control.element.contents) or 0) if control is not None else 0,
             stays is not None and stays.value == "FALSE",
-            _number(n.find("priority"), 64),
+            _number(first("priority"), 64),
         )
 
     def at_once(self, wait: _Wait, says: Said) -> bool:
@@ -305,7 +315,7 @@ class _History:
             )
             return not late
         owners = self.owners.get(wait.semaphore, [])
-        if _preempted(wait.row.said.node, owners) is not None:
+        if _preempted(wait.row.said, owners) is not None:
             return True
         if wait.token or says.detail.startswith("granted token"):
             token = wait.token or says.detail.split()[-1]
@@ -424,7 +434,7 @@ class _History:
 
     def account(self, asked: Row, out: Output, row: Row) -> None:
         """What the answer to a request tells of associations, semaphores and what is pending."""
-        c, n = out.client, asked.said.node
+        c = out.client
         if out.said.pdu == "initiate-Response":
             self.open[c] = True
         if self.pending.get(c, {}).get(out.said.invoke) is asked:
@@ -433,24 +443,26 @@ class _History:
         if wait is not None and wait.row is asked:
             del self.waits[c][out.said.invoke]
             if out.said.pdu == "confirmed-Response":
-                hung = _preempted(n, self.owners.get(wait.semaphore, []))
+                hung = _preempted(asked.said, self.owners.get(wait.semaphore, []))
                 if hung is not None:
                     self.owners[wait.semaphore].remove(hung)
                 self.granted(wait, out.said, self.now)
         if out.said.pdu != "confirmed-Response":
             return
-        if asked.said.service == "defineSemaphore" and n.find("numberOfTokens") is not None:
-            self.tokens[_semaphore(n, c)] = grammar.integer(n.find("numberOfTokens").element.contents) or 0
+        if asked.said.service == "defineSemaphore":
+            number = asked.said.first("numberOfTokens")
+            if number is not None:
+                self.tokens[asked.semaphore] = grammar.integer(number.element.contents) or 0
         elif asked.said.service == "relinquishControl":
-            token = n.find("namedToken")
+            is_named = asked.said.first("namedToken") is not None
             mine = [
                 o
-                for o in self.owners.get(_semaphore(n, c), [])
-                if o.client == c and not o.hung and (token is None or o.token == token.value)
+                for o in self.owners.get(asked.semaphore, [])
+                if o.client == c and not o.hung and (not is_named or o.token == asked.token)
             ]
             if mine:
-                self.owners[_semaphore(n, c)].remove(mine[0])
-            self.freed(row, _semaphore(n, c), token.value if token is not None else "", self.now)
+                self.owners[asked.semaphore].remove(mine[0])
+            self.freed(row, asked.semaphore, asked.token, self.now)
 
     def notices(self, row: Row) -> None:
         """Event notifications come of ticks, and of what changes an event condition."""
@@ -495,13 +507,14 @@ def _place(rows: List[Row], known: "_Known") -> Set[Output]:
             by_client.setdefault(out.client, []).append((row, out))
         row.outputs = []
     aside: Set[Output] = set()
+    others = [i for i, row in enumerate(rows) if _may_free(row) or _notifies(row)]
     for client, placed in by_client.items():
-        may = _Ways(client, [out for _, out in placed], known).of(rows)
+        may = _Ways(client, [out for _, out in placed], known).of(rows, others)
         notices = {out for _, out in placed if out.said.pdu == "unconfirmed"}
         if notices and not may.some:
             aside |= notices
             placed = [(row, out) for row, out in placed if out not in notices]
-            may = _Ways(client, [out for _, out in placed], known).of(rows)
+            may = _Ways(client, [out for _, out in placed], known).of(rows, others)
         least = 0
         for j, (row, out) in enumerate(placed):
             own = at[id(row)]
@@ -555,10 +568,11 @@ class _Senders:
             self.some |= outs
         self.last: Dict[int, int] = {}  # of each output the last event that may have sent it
         left = self.some
-        for i in reversed(range(len(sent))):
+        for i in reversed([i for i, outs in enumerate(sent) if outs]):
             for j in _members(left & sent[i]):
                 self.last[j] = i
             left &= ~sent[i]
+        self.of_one = f"{self.some & ~self.several:b}"[::-1]
 
     def may_send(self, event: int, output: int) -> bool:
         """Whether the event may have sent the output."""
@@ -566,7 +580,7 @@ class _Senders:
 
     def is_of_one(self, output: int) -> bool:
         """Whether exactly one event may have sent the output."""
-        return (self.some & ~self.several) >> output & 1 == 1
+        return self.of_one[output : output + 1] == "1"
 
     def next(self, least: int, output: int) -> int:
         """The first event from that one on that may have sent the output; where there is none, that one."""
@@ -626,23 +640,24 @@ class _Ways:
             if out.asked is None or self.known.used[self.client, says.invoke] > 1:
                 self.late |= bit
             else:
-                tokens = self.grants.setdefault(_semaphore(out.asked.said.node, self.client), {})
-                token = _token(out.asked.said, says)
+                tokens = self.grants.setdefault(out.asked.semaphore, {})
+                token = _token(out.asked, says)
                 tokens[token] = tokens.get(token, 0) | bit
 
-    def of(self, rows: List[Row]) -> _Senders:
-        """Which outputs each event may have sent."""
-        steps = [self._steps(row) for row in rows]
+    def of(self, rows: List[Row], others: List[int]) -> _Senders:
+        """Which outputs each event may have sent; beside the client's own events those others alone may send it any that
+        not any event may."""
+        own = {i for i, row in enumerate(rows) if row.event.client == self.client}
+        steps = [(i, self._steps(rows[i])) for i in (range(len(rows)) if self.late else sorted(own.union(others)))]
         ahead = [1]  # the cuts that the events so far may lead to
-        for none, one, two, late in steps:
+        for _, (none, one, two, late) in steps:
             firsts = (ahead[-1] if none else 0) | (ahead[-1] & one) << 1 | (ahead[-1] & two) << 2
             ahead.append(_along(firsts, late))
         sent = [0] * len(rows)
-        back = 1 << self.count  # the cuts from which the events left may send all that is left
-        for i in reversed(range(len(rows))):
-            none, one, two, late = steps[i]
+        back = ahead[-1] & 1 << self.count  # the cuts from which the events left may send all that is left
+        for before, (i, (none, one, two, late)) in zip(ahead[-2::-1], reversed(steps)):
             ends = _back_along(back, late, self.count)
-            none, one, two = ahead[i] & ends if none else 0, ahead[i] & one & ends >> 1, ahead[i] & two & ends >> 2
+            none, one, two = before & ends if none else 0, before & one & ends >> 1, before & two & ends >> 2
             behind = _along(none | one << 1 | two << 2, late) & late & ends >> 1
             sent[i] = one | two | two << 1 | behind
             back = none | one | two
@@ -652,7 +667,7 @@ class _Ways:
         """Whether an event may send no answer of its own; which outputs may be its one answer, and which the first of
         two; and what may come behind."""
         late = self.late | (self.by_tick if row.event.kind == "tick" else 0) | (self._freed(row) if self.grants else 0)
-        late |= self.notices if _notifies(row) else 0
+        late |= self.notices if self.notices and _notifies(row) else 0
         if row.event.client != self.client or row.event.kind != "heard":
             return True, 0, 0, late
         asks, answers = row.said, self._answering(row)
@@ -693,7 +708,7 @@ class _Ways:
             one = known.used[c, said.invoke] == 1  # else it isn't known which answer is this request's
             if one and row.answer is not None and row.answer.said.pdu != "confirmed-Response":
                 return 0
-            token, tokens = _token(said, None), self.grants.get(_semaphore(said.node, c), {})
+            token, tokens = row.token, self.grants.get(row.semaphore, {})
             return sum(bits for other, bits in tokens.items() if not token or not other or token == other)
         if row.event.kind == "lost" or row.event.octets[:1] in (b"\x8b", b"\xa8"):
             return sum(self._of(s) for s in self.grants if c != self.client and c in known.takers.get(s, ()))
@@ -729,17 +744,23 @@ def _members(bits: int) -> Iterator[int]:
         bits &= bits - 1
 
 
+def _may_free(row: Row) -> bool:
+    """Whether tokens may be freed, or waits end, in that event."""
+    if row.event.kind == "heard":
+        return row.said.service == "relinquishControl" or row.event.octets[:1] in (b"\x8b", b"\xa8")
+    return True
+
+
 def _notifies(row: Row) -> bool:
     """Whether event conditions may come to another state in that event."""
     return row.event.kind == "tick" or row.said is not None and row.said.service in NOTIFYING
 
 
-def _token(asks: Said, says: Optional[Said]) -> str:
+def _token(asks: Row, says: Said) -> str:
     """The token that a request names, or that it was granted; empty where neither says one."""
-    token = asks.node.find("namedToken")
-    if token is not None:
-        return token.value
-    return says.detail.split()[-1] if says is not None and says.detail.startswith("granted token") else ""
+    if asks.said.first("namedToken") is not None:
+        return asks.token
+    return says.detail.split()[-1] if says.detail.startswith("granted token") else ""
 
 
 def _domain(said: Said) -> str:
@@ -764,9 +785,9 @@ class _Known:
         self.aborts = any(o.octets is None for r in rows for o in r.outputs)
         for r in rows:
             if r.said is not None and r.said.service == "takeControl":
-                semaphore = _semaphore(r.said.node, r.event.client)
+                semaphore = r.semaphore
                 self.takers.setdefault(semaphore, set()).add(r.event.client)
-                if r.said.node.find("controlTimeOut") is not None:
+                if r.said.first("controlTimeOut") is not None:
                     self.timed.add(semaphore)
             for o in r.outputs:
                 if o.said.pdu == "confirmed-Request":
@@ -782,9 +803,9 @@ class _Known:
         said = self.loads.get(row.event.client, {}).get(row.said.invoke)
         return row.said.pdu == "confirmed-Response" and said is not None and said.service == "downloadSegment"
 
-def _preempted(n, owners) -> Optional[_Owner]:
+def _preempted(said: Said, owners) -> Optional[_Owner]:
     """The hung entry of the client that a TakeControl names."""
-    client = n.find("applicationToPreempt")
+    client = said.first("applicationToPreempt")
     number = (
         next((grammar.integer(x.element.contents) for x in client.walk() if x.kind == "INTEGER"), None)
         if client is not None
@@ -813,9 +834,9 @@ def _number(n, default: int) -> int:
     return default if found is None else found
 
 
-def _semaphore(n, client: int) -> str:
+def _semaphore(said: Said, client: int) -> str:
     """The semaphore that a request names; names of an association are the client's own."""
-    name = n.find("semaphoreName")
+    name = said.first("semaphoreName")
     for kind in ("vmd-specific", "domain-specific", "aa-specific"):
         found = name.find(kind) if name is not None else None
         if found is not None:

@@ -5,7 +5,7 @@ import re
 from dataclasses import dataclass
 from typing import Iterator, List, Optional, Tuple
 
-from .configuration import Broken, broken, line_of
+from .configuration import Broken, broken, line_of, unread
 from .texts import CLIENTS, MOST_EVENTS, MOST_OCTETS, MOST_PDU, MOST_TICK, is_name
 
 LINE, CONFIG_TEXT = 196608, 1048576  # octets
@@ -143,7 +143,8 @@ def lines_of(text: str) -> List[Tuple[str, int]]:
 
 
 def first_refusal(text: str) -> Optional[Refusal]:
-    """The first rule that a recording breaks; its octets are the signs of the text. None where it keeps them all."""
+    """The first rule that a recording breaks; its octets are the signs of the text. None where it keeps them all, and
+    where mmscell has to decide (`doubt`)."""
     lines = lines_of(text)
     edition = HEADERS.get(lines[0][0], "") if lines else ""
     if not edition:
@@ -153,11 +154,36 @@ def first_refusal(text: str) -> Optional[Refusal]:
     end, refusal = _end(lines)
     if refusal is not None:
         return refusal
-    found, document = broken("".join(line + "\n" for line, _ in lines[2:end]), edition)
+    config = _config(lines, end)
+    found, document = broken(config, edition)
     if found is not None:
         return Refusal("config", rule=found.rule, broken=found)
+    if unread(config) is not None:
+        return None
     start = document.get("day", 0) * DAY + document.get("ms", 0)
     return _events(lines[end + 1 :], end + 2, document.get("clients", CLIENTS), start, edition)
+
+
+def _config(lines: List[Tuple[str, int]], end: int) -> str:
+    """The configuration's text."""
+    return "".join(line + "\n" for line, _ in lines[2:end])
+
+
+def doubt(text: str) -> Optional[Refusal]:
+    """The refusal of a recording whose configuration can't be read here, and of which mmscell decides whether it is TOML;
+    None of any other text."""
+    lines = lines_of(text)
+    if len(lines) < 2 or lines[0][0] not in HEADERS or lines[1][0] != "config":
+        return None
+    end, refusal = _end(lines)
+    found = unread(_config(lines, end)) if refusal is None else None
+    return Refusal("config", rule=0, broken=found) if found is not None else None
+
+
+def undecided(found: Refusal, text: str) -> Iterator[str]:
+    """The sentences on a recording of which mmscell has to decide, with the line at which this tool reads no further."""
+    yield f"Note: the configuration is {found.broken.words()}. Whether it is one, mmscell decides, and its report tells."
+    yield from _line_shown(found, text)
 
 
 def _end(lines: List[Tuple[str, int]]) -> Tuple[int, Optional[Refusal]]:
@@ -226,6 +252,11 @@ def explained(refusal: Refusal, text: str = "") -> Iterator[str]:
     yield f"Look at: {meaning.look}"
     if refusal.broken is not None:
         yield f"Here: {refusal.broken.words()}"
+    yield from _line_shown(refusal, text)
+
+
+def _line_shown(refusal: Refusal, text: str) -> Iterator[str]:
+    """The line that is refused, or that of the key."""
     lines = [line for line, _ in lines_of(text)]
     number = refusal.line
     if refusal.broken is not None and "end" in lines:

@@ -24,6 +24,8 @@ MOST_PLACES = 6  # of one file, in a cell of the index
 Fact = Tuple[str, ...]  # such as ("refused", "read", "access: object-non-existent")
 LINE = re.compile(r"(?:\d+ )?(\d+)[ \t]+((?:[0-9A-Fa-f]{2} *)+)")
 FURTHER = {
+    "clients of a recording": ["configured.~how many clients", "limits.~."],
+    "cells, which": ["configuration_rules~that break a rule", "~beyond 4,095"],
     "octets of a name": ["~Identifier|names? of (33|64|65)|long(er)? name|33 octets|64 octets"],
     "named variables": ["defineNamedVariable!capability", "defineNamedVariableList!capability"],
     "domains; open": [

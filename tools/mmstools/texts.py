@@ -2,7 +2,7 @@
 
 import re
 from dataclasses import dataclass, field
-from typing import Dict, List, Optional, Tuple
+from typing import Dict, List, NamedTuple, Optional, Tuple
 
 ABORT = None  # an output that is no PDU
 MOST_EVENTS, MOST_OCTETS = 16384, 67108864  # of a phase
@@ -21,8 +21,7 @@ class BadText(Exception):
     """A text that is no recording or no report; says the line."""
 
 
-@dataclass(frozen=True)
-class Event:
+class Event(NamedTuple):
     """One event of the history: "heard" octets of a client, "lost", "tick" or "ends"."""
 
     kind: str
@@ -81,15 +80,20 @@ def is_name(text: str, edition: str = "2") -> bool:
     return len(text) <= LONGEST[edition] and re.fullmatch(r"[A-Za-z_$][A-Za-z0-9_$]*", text) is not None
 
 
+HEARD = re.compile(r"(\d{1,9})[ \t]+((?:[0-9A-Fa-f]{2} *)+)", re.ASCII)
+OTHERS = re.compile(r"(lost|tick)[ \t]+(\d{1,9})", re.ASCII)
+ENDS = re.compile(r"ends[ \t]+([A-Za-z0-9_$]+)")
+
+
 def event(words: str, edition: str = "2") -> Optional[Event]:
     """The event that a line without blanks at its ends says in that edition, or None."""
-    m = re.fullmatch(r"(\d{1,9})[ \t]+((?:[0-9A-Fa-f]{2} *)+)", words, re.ASCII)
+    m = HEARD.fullmatch(words)
     if m:
         return Event("heard", int(m[1]), bytes.fromhex(m[2]))
-    m = re.fullmatch(r"(lost|tick)[ \t]+(\d{1,9})", words, re.ASCII)
+    m = OTHERS.fullmatch(words)
     if m:
         return Event("lost", client=int(m[2])) if m[1] == "lost" else Event("tick", ms=int(m[2]))
-    m = re.fullmatch(r"ends[ \t]+([A-Za-z0-9_$]+)", words)
+    m = ENDS.fullmatch(words)
     return Event("ends", name=m[1]) if m and is_name(m[1], edition) else None
 
 
@@ -132,6 +136,9 @@ def write_recording(r: Recording) -> str:
     return "\n".join(out) + "\n"
 
 
+NUMBER, PAIRS = re.compile(r"[0-9]+"), re.compile(r"(?:[0-9A-Fa-f]{2})+")
+
+
 def read_report(text: str) -> Report:
     """The report that a text is, also one that is cut off; raises BadText at the first line that has no form."""
     out, client = Report(), 0
@@ -155,23 +162,24 @@ def read_report(text: str) -> Report:
 def _read_line(out: Report, client: int, line: str) -> int:
     """Takes a line into the report; says whose outputs come next."""
     word, _, rest = line.partition(" ")
+    if word == ">" and client and (rest == "abort" or PAIRS.fullmatch(rest)):
+        out.phases[-1].outputs.setdefault(client, []).append(ABORT if rest == "abort" else bytes.fromhex(rest))
+        return client
+    one = event(rest) if out.phases and NUMBER.fullmatch(word) else None
+    if one is not None:
+        out.phases[-1].served.append((int(word), one))
+        return 0
     if re.fullmatch(r"bad .+|too much .+", line):
         out.end = line
-    elif re.fullmatch(r"phase [0-9]+", line):
+        return client
+    if word == "phase" and NUMBER.fullmatch(rest):
         out.phases.append(Phase(int(rest)))
         return 0
-    elif not out.phases:
+    if not out.phases:
         raise BadText("no report, which begins with `phase 1`")
-    elif word == "client" and re.fullmatch(r"[0-9]+", rest):
+    if word == "client" and NUMBER.fullmatch(rest):
         return int(rest)
-    elif word == ">" and client and (rest == "abort" or re.fullmatch(r"(?:[0-9A-Fa-f]{2})+", rest)):
-        out.phases[-1].outputs.setdefault(client, []).append(ABORT if rest == "abort" else bytes.fromhex(rest))
-    elif re.fullmatch(r"[0-9]+", word) and event(rest) is not None:
-        out.phases[-1].served.append((int(word), event(rest)))
-        return 0
-    else:
-        raise BadText(line[:60])
-    return client
+    raise BadText(line[:60])
 
 
 def write_report(r: Report) -> str:

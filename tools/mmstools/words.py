@@ -1,7 +1,8 @@
 """A PDU in a line of words: what it is, whose invokeID, what it asks or answers."""
 
 from dataclasses import dataclass
-from typing import List, Optional
+from functools import cached_property, lru_cache
+from typing import Dict, List, Optional
 
 from . import grammar
 from .grammar import Node
@@ -65,20 +66,62 @@ class Said:
     invoke: Optional[int] = None
     service: str = ""
     tone: str = "other"
-    node: Optional[Node] = None
+    octets: bytes = b""
+    whole: Optional[Node] = None
+    like: Optional["Said"] = None  # what a PDU says that differs in the invokeID alone, where there is one
+
+    def first(self, label: str) -> Optional[Node]:
+        """The first element with that name below the PDU's own, whose name isn't the invokeID's."""
+        return self._labelled.get(label)
+
+    @cached_property
+    def _labelled(self) -> Dict[str, Node]:
+        """The first element of each name."""
+        if self.like is not None:
+            return self.like._labelled
+        found: Dict[str, Node] = {}
+        for n in self.node.walk() if self.node is not None else ():
+            if n is not self.node:
+                found.setdefault(n.label, n)
+        return found
+
+    @property
+    def node(self) -> Optional[Node]:
+        """Its elements; None of an abort, and of no octets."""
+        if self.whole is None and self.octets:
+            self.whole = grammar.decode(self.octets)[0]
+        return self.whole
 
 
 def say(octets: Optional[bytes]) -> Said:
     """What these octets say; None is an abort."""
     if octets is None:
         return Said("abort", "abort", "the association is gone", tone="abort")
+    at = grammar.numbered(octets)
+    if at is None:
+        return _said(octets)
+    like = _like(octets[0], octets[at[1] :])
+    invoke = grammar.integer(octets[at[0] : at[1]])
+    return Said(like.pdu, like.title, like.detail, invoke, like.service, like.tone, octets, None, like)
+
+
+@lru_cache(maxsize=1 << 14)
+def _like(tag: int, octets: bytes) -> Said:
+    """What a PDU of that tag says that has these octets behind its invokeID, whichever that is."""
+    body = bytes([grammar.NUMBERED[tag], 1, 0]) + octets
+    size = len(body).to_bytes(8, "big")
+    return _said(bytes([tag, 0x88]) + size + body)
+
+
+def _said(octets: bytes) -> Said:
+    """What these octets say."""
     nodes = grammar.decode(octets)
     if not nodes:
         return Said("", "no octets", tone="bad")
     why = _flaw(octets, nodes)
     said = _say(nodes[0]) if nodes[0].known and (nodes[0].parts or not why) else Said("", _first(octets))
     if why:
-        return Said("", said.title, "malformed: " + why, said.invoke, said.service, "bad", nodes[0])
+        return Said("", said.title, "malformed: " + why, said.invoke, said.service, "bad", octets)
     if any(n.value in (grammar.NO_OCTET, grammar.NO_BITS) for n in nodes[0].walk()):
         kept = said.detail + ": " if said.detail and "(no" not in said.detail else ""
         said.detail = kept + "malformed: a value has no octets"
@@ -121,7 +164,7 @@ def _say(n: Node) -> Said:
     """What a PDU of the table says."""
     pdu = n.label
     named = next((p for p in n.parts if p.label in ("invokeID", "originalInvokeID")), None)
-    s = Said(pdu, pdu, invoke=_number(n if pdu in ("cancel-Request", "cancel-Response") else named), node=n)
+    s = Said(pdu, pdu, invoke=_number(n if pdu in ("cancel-Request", "cancel-Response") else named), whole=n)
     if pdu in ("confirmed-Request", "confirmed-Response", "unconfirmed"):
         _say_service(s, n)
     elif pdu in ERRORS:

@@ -6,7 +6,8 @@
 
 A PDU is a service with what it asks (`Read Speed`), `answer` and a service with what it is answered (`answer
 DownloadSegment 0102 moreFollows=FALSE`), `Initiate`, `Conclude`, `Cancel N`, `Error CLASS:CODE`, `Reject PDU=WORD`, or
-the name that `explain` has for it. A component is `name=value`; those that may not be missing need no name where they
+the name that `explain` has for it; or a whole line of `explain`, `TakeControl T, delay 5 ms, request, invokeID 2`, of
+which what it doesn't say stands as mmscell spells it. A component is `name=value`; those that may not be missing need no name where they
 come in their order, and `name=-` leaves out what would be there by itself. Blanks and commas part values:
 
     T, D/T, @T          a name of the VMD, of the domain D, of the association
@@ -576,7 +577,13 @@ def _unescaped(t: Token) -> bytes:
 
 
 def written(said: str, request: int = 1, answer: int = 1, edition: str = "2") -> Written:
-    """The PDU that these words say; the invokeID, where they have none, is the one of requests or of answers."""
+    """The PDU that these words say; the invokeID, where they have none, is the one of requests or of answers. A line of
+    `explain` says its own."""
+    from . import told
+
+    line = told.pdu(said, edition)
+    if line is not None:
+        return line
     tokens, invoke = _without_invoke(_tokens(said), len(said) + 1)
     if not tokens:
         raise BadWords(1, "no words: a PDU is a service, Initiate, Conclude, Cancel, Error, Reject or answer")

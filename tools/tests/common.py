@@ -9,6 +9,7 @@ import shutil
 import subprocess
 import sys
 import tempfile
+import time
 import unittest
 import xml.etree.ElementTree as ET
 
@@ -23,12 +24,22 @@ from mmstools.history import history, served  # noqa: E402
 DATA = os.path.join(TOP, "crates", "cell_rows", "data")
 EXAMPLES = os.environ.get("MMS_EXAMPLES") or os.path.join(DATA, "examples")
 REPORTS = sorted(glob.glob(os.path.join(EXAMPLES, "*.report")))
-PROGRAM = os.environ.get("MMSCELL") or os.path.join(TOP, "crates", "mmscell", "out", "mmscell")
 ASK = bytes.fromhex("A826800300FDE881010A82010A830105A416800101810305F100820C03EE1C00000408000079EF18")
 YES = bytes.fromhex("A926800300FDE881010A82010A830105A416800101810305E100820C03EF3C1FFF0FFDB8607E0098")
 IDENTIFY, NAMED = bytes.fromhex("A0050201018200"), bytes.fromhex("A113020101A20E8003564D44810443454C4C820131")
 
-needs_program = unittest.skipUnless(os.access(PROGRAM, os.X_OK), "no program: neither MMSCELL nor crates/mmscell/out")
+
+def _device():
+    """The words that begin the program, as the tools find them: MMSCELL's, split as a shell does, or the gate's program."""
+    with contextlib.suppress(texts.BadText):
+        words_ = chart.program()
+        if shutil.which(words_[0]):
+            return words_
+    return []
+
+
+DEVICE = _device()
+needs_program = unittest.skipUnless(DEVICE, "no program: neither MMSCELL nor crates/mmscell/out")
 
 
 def text_of(path):
@@ -39,7 +50,7 @@ def text_of(path):
 def replayed(recording):
     """The report of the program, as text."""
     text = texts.write_recording(recording).encode("latin-1")
-    return subprocess.run([PROGRAM, "replay"], input=text, stdout=subprocess.PIPE).stdout.decode("latin-1")
+    return subprocess.run([*DEVICE, "replay"], input=text, stdout=subprocess.PIPE).stdout.decode("latin-1")
 
 
 def recordings_of_rows():

@@ -357,7 +357,7 @@ class Parts(unittest.TestCase):
         for words in ("a-b", "-", "3-x", "1-2-3"):
             with self.assertRaisesRegex(texts.BadText, "--places wants two places"):
                 chart.chosen(rows, words)
-        with self.assertRaisesRegex(texts.BadText, "no event is to be drawn; places go from 1 to 22"):
+        with self.assertRaisesRegex(texts.BadText, "none of the events is asked for; their places go from 1 to 22"):
             chart.chosen(rows, "4-5")
 
     def test_clients(self):

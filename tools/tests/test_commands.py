@@ -98,6 +98,22 @@ class Wrong(Refusing):
         for text in (b"bad config 3\n", b"bad 1 header\n", b"phase 1\nbad 4 hex\n"):
             self.assertIn(text.decode().split("\n")[-2], self.refused("chart", self.file(text)))
 
+    @staticmethod
+    def texts(svg):
+        """The words of a picture, one after the other."""
+        return " ".join(text.text or "" for text in ET.fromstring(svg).iter("{http://www.w3.org/2000/svg}text"))
+
+    def test_chart_of_events_and_a_refusal(self):
+        """The events are drawn, and the refusal is told; so is a report that is cut off."""
+        for end, told in (("bad 9 hex\n", "refused behind these events: `bad 9 hex`"), ("2 8B", "cut off in line 5")):
+            path = self.file(b"phase 1\n1 1 8B00\nclient 1\n> abort\n" + end.encode())
+            status, out, err = self.run_("chart", path)
+            self.assertEqual((status, told in err, out.count("<circle"), told in self.texts(out)), (1, True, 1, True))
+            with tempfile.TemporaryDirectory() as d:
+                self.assertEqual(self.run_("chart", path, "-o", d + "/x.md")[0], 1)
+                self.assertIn(told, text_of(d + "/x.md"))
+            self.assertIn("none of the events is asked for", self.refused("chart", path, "--places", "7-"))
+
     def test_malformed_answer(self):
         """One that is malformed counts once, as another answer to its request."""
         report = text_of(os.path.join(EXAMPLES, "variables.report"))
@@ -247,7 +263,7 @@ class Press(Running):
         """A given configuration with a broken rule is refused."""
         with tempfile.TemporaryDirectory() as d:
             path = os.path.join(d, "bad.toml")
-            for text, said in (("clients = 65\n", "rule 2"), ("vendor = x\n", "rule 0"), ("cell = 1\n", "rule 1")):
+            for text, said in (("clients = 65\n", "rule 2"), ("day = 9223372036854775808\n", "rule 0"), ("cell = 1\n", "rule 1")):
                 with open(path, "w", encoding="utf-8") as f:
                     f.write(text)
                 status, out, err = self.run_("capture", self.data("pcap"), "--config", path)

@@ -3,17 +3,16 @@
 import os
 import random
 import re
+import shutil
 import subprocess
 import unittest
 
-import common  # noqa: F401  (finds the tools)
+from common import DEVICE, needs_program
 from mmstools import refusals
 from row_files import HERE, rows
-from test_explain import HEAD, Files
+from test_explain import HEAD, Files, run
 
 RECORDING = os.path.join(HERE, "..", "..", "docs", "RECORDING.md")
-OWN = os.path.join(HERE, "..", "..", "crates", "mmscell", "out", "mmscell")
-PROGRAM = os.environ.get("MMSCELL") or OWN
 CELLS = '''[[cell]]
 number = 0
 type = "850120"
@@ -37,7 +36,7 @@ class Told(unittest.TestCase):
         count = 0
         for row in rows():
             if row.words == "replay" and row.status in (0, 2, 6, 7):
-                found = refusals.first_refusal(row.recording)
+                found = refusals.first_refusal(row.recording) or refusals.doubt(row.recording)
                 told = row.report.rstrip("\n").split("\n")[-1] if row.status else None
                 self.assertEqual((found and found.told(), found.status if found else 0), (told, row.status), row.place)
                 count += 1
@@ -65,7 +64,7 @@ class Told(unittest.TestCase):
         for line in ("bad 4 word", "bad config 10", "bad 0 hex", "too much", "bad", "bad x hex"):
             self.assertIsNone(refusals.read_told(line), line)
 
-    @unittest.skipUnless(os.access(PROGRAM, os.X_OK), "the program is missing")
+    @needs_program
     def test_program(self):
         """Recordings with a sign that is changed, dropped or put in are refused as the program refuses them."""
         rng = random.Random(7)
@@ -75,10 +74,13 @@ class Told(unittest.TestCase):
             at = rng.randrange(len(whole))
             signs = rng.choice(["", rng.choice('0159AFx \n\t#"=[]'), whole[at] * 2])
             text = whole[:at] + signs + whole[at + 1 :]
-            got = subprocess.run([PROGRAM, "replay"], input=text.encode("latin-1"), stdout=subprocess.PIPE)
+            got = subprocess.run([*DEVICE, "replay"], input=text.encode("latin-1"), stdout=subprocess.PIPE)
             last = got.stdout.decode("latin-1").rstrip("\n").split("\n")[-1]
             found = refusals.first_refusal(text)
-            self.assertEqual(found and found.told(), last if got.returncode else None, text)
+            if refusals.doubt(text) is None:
+                self.assertEqual(found and found.told(), last if got.returncode else None, text)
+            else:
+                self.assertIsNone(found, text)
 
 
 NEWER = [
@@ -102,8 +104,10 @@ class Newer(Files):
     def test_read(self):
         for config in NEWER:
             self.assertNotEqual(self.told(config), "bad config 0", config)
+            self.assertIsNone(refusals.doubt(with_config(config + "\n")), config)
         for config in NO_TOML:
-            self.assertEqual(self.told(config), "bad config 0", config)
+            self.assertIsNone(self.told(config), config)
+            self.assertEqual(refusals.doubt(with_config(config + "\n")).told(), "bad config 0", config)
         self.assertEqual(self.told('vendor = "\\e"'), "bad config 3")
         self.assertEqual(self.told("day = 12:30"), "bad config 1")
         self.assertEqual(self.explained(with_config(NEWER[0] + "\n"))[0], 0)
@@ -112,13 +116,76 @@ class Newer(Files):
         text = 'cell = [\n  {\n    number = 0, type = "8300",\n    value = "830100",\n  },\n]\nday = x\n'
         self.assertIn("Line 9: `day = x`", self.explained(with_config(text))[1])
 
-    @unittest.skipUnless(os.access(PROGRAM, os.X_OK), "the program is missing")
+    @needs_program
     def test_program(self):
         for config in [*NEWER, *NO_TOML, 'vendor = "\\e"', "day = 12:30"]:
             text = with_config(config + "\n")
-            got = subprocess.run([PROGRAM, "replay"], input=text.encode("latin-1"), stdout=subprocess.PIPE)
+            got = subprocess.run([*DEVICE, "replay"], input=text.encode("latin-1"), stdout=subprocess.PIPE)
             last = got.stdout.decode("latin-1").rstrip("\n").split("\n")[-1]
-            self.assertEqual(self.told(config), last if got.returncode else None, config)
+            told = last if got.returncode else None
+            doubt = refusals.doubt(with_config(config + "\n"))
+            self.assertEqual(doubt.told() if doubt is not None else self.told(config), told, config)
+
+
+class Undecided(Files):
+    """Of a configuration that Python doesn't read as TOML mmscell decides, and a refusal is claimed where a report has one."""
+
+    TEXT = with_config('vendor = "\\x4"\n', "1 8B00\n")
+
+    def test_alone(self):
+        status, out, err = self.explained(self.TEXT, "a.mms")
+        self.assertEqual((status, err), (0, ""))
+        self.assertRegex(out, r"\ANote: the configuration is no TOML that this tool reads: .*mmscell decides")
+        self.assertIn('\nLine 3: `vendor = "\\x4"`\n', out)
+        self.assertIn("client 1 sends: conclude-Request", out)
+        self.assertNotIn("refused", out)
+
+    def test_report_beside(self):
+        """One that is served claims nothing; one that is refused for rule 0, or for another reason, is told so."""
+        for report, told in (
+            ("phase 1\n1 1 8B00\nclient 1\n> abort\n", ""),
+            ("bad config 0\n", "`bad config 0`: no TOML that this tool reads"),
+            ("bad config 3\n", "`bad config 3`: `vendor`"),
+            ("bad 5 hex\n", "`bad 5 hex`: an event line begins"),
+        ):
+            self.explained(report, "a.report")
+            status, out, err = self.explained(self.TEXT, "a.mms")
+            self.assertEqual((status, told in err), (2 if told else 0, True), report)
+            self.assertEqual("Note: " in out, not told)
+
+    def test_the_report_s_line(self):
+        """The report of such a recording is explained with the line that it tells."""
+        self.explained(self.TEXT, "a.mms")
+        self.assertIn("Line 5: `1 8B00`", self.explained("phase 1\nbad 5 hex\n", "a.report")[1])
+        self.assertIn("Line 3: `vendor", self.explained("bad config 0\n", "a.report")[1])
+
+    def test_what_is_sure(self):
+        """What Python reads, and what is no UTF-8, is refused without a report."""
+        for config in ("day = 9223372036854775808", "vendor = '\xff'", "x = 1"):
+            self.assertIsNone(refusals.doubt(with_config(config + "\n")), config)
+            self.assertRegex(refusals.first_refusal(with_config(config + "\n")).told(), "bad config [01]", config)
+
+
+class Given(Files):
+    """A configuration for `capture`: a broken rule is refused, and of what Python doesn't read it is said."""
+
+    PRESS = os.path.join(HERE, "data", "press.pcap")
+
+    def capture(self, config):
+        path = os.path.join(self.folder, "given.toml")
+        with open(path, "w", encoding="utf-8") as f:
+            f.write(config)
+        return run("capture", self.PRESS, "--config", path)
+
+    @unittest.skipUnless(shutil.which("tshark"), "tshark is missing")
+    def test_capture(self):
+        status, out, err = self.capture('vendor = "\\x4"\n')
+        self.assertNotEqual(status, 2)
+        self.assertIn('\nvendor = "\\x4"\nend\n', out)
+        self.assertRegex(err, r"given.toml is no TOML that this tool reads: .*; whether it is a configuration, mmscell decides")
+        status, out, err = self.capture('vendor = ""\n')
+        self.assertEqual((status, out, "breaks rule 3" in err, "decides" in err), (2, "", True, False))
+        self.assertNotIn("decides", self.capture('vendor = "\\x41"\n')[2])
 
 
 class Explained(Files):
@@ -171,7 +238,6 @@ class Explained(Files):
             ("number = 0", "num = 0", 1, "row 1 of [[cell]], key `num`: no key of a row of [[cell]]"),
             ("[[cell]]", "clients = 65\n[[cell]]", 2, "key `clients`: 65 is not from 1 to 64"),
             ("[[cell]]", 'vendor = ""\n[[cell]]', 3, "key `vendor`: '' is not 1 to 32 octets"),
-            ("[[cell]]", "[[cell", 0, "no TOML document"),
         ]:
             status, out, err = self.explained(with_config(CELLS.replace(old, new, 1)))
             self.assertEqual(status, 2, new)
@@ -185,6 +251,7 @@ class Explained(Files):
         for old, new, line in [
             ('"850100"', '"830100"', 'Line 6: `value = "830100"`'),
             ("cell = 0", "cell = 9", "Line 9: `cell = 9`"),
+            ("[[cell]]", "[[cell", "Line 3: `[[cell`"),
             ('["A", "B"]', '["A", "A"]', 'Line 12: `tokens = ["A", "A"]`'),
             ('value = "850100"', "value = 850100x", "Line 6: `value = 850100x`"),
         ]:

@@ -110,7 +110,7 @@ class History(unittest.TestCase):
                 report = texts.read_report(replayed(one))
                 if report.end:
                     continue
-                told, true = placed(history(report)), placed(served(one, [PROGRAM]))
+                told, true = placed(history(report)), placed(served(one, DEVICE))
                 self.assertEqual([o.octets for _, o in told], [o.octets for _, o in true], name)
                 for (at, out), (where, _) in zip(told, true):
                     self.assertTrue(at == where or not out.sure, f"{name}: {out.said.title} at {at}, not {where}")

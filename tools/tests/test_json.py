@@ -94,6 +94,12 @@ class Json(Refusing):
             found = self.document("explain", self.file(text))
             self.assertEqual((found["status"], found["refusal"]["told"]), (2, told))
 
+    def test_undecided(self):
+        """A configuration that Python doesn't read as TOML is no refusal."""
+        found = self.document("explain", self.file(b'mms-recording 1\nconfig\nvendor = "\\x4"\nend\n1 8B00\n'))
+        self.assertEqual((found["status"], found["refusal"], len(found["events"])), (0, None, 1))
+        self.assertIn("mmscell decides", found["undecided"])
+
     def test_compare(self):
         report = os.path.join(EXAMPLES, "loss.report")
         self.assertEqual({a["kind"] for a in self.document("compare", report, report)["answers"]}, {"same"})

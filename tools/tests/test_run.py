@@ -110,7 +110,7 @@ class Run(Running):
 
     @needs_program
     def test_examples(self):
-        status, out, err = self.run_("run", EXAMPLES, "--program", PROGRAM)
+        status, out, err = self.run_("run", EXAMPLES, "--program", " ".join(DEVICE))
         self.assertEqual((status, out, err), (0, f"{len(REPORTS)} recordings: {len(REPORTS)} same\n", ""))
 
 

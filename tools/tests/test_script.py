@@ -140,5 +140,24 @@ class Ends(Script):
             self.assertEqual(self.run_(words)[:2], (1, ""), words)
 
 
+class Device(unittest.TestCase):
+    """MMSCELL is words, which the tests split as a shell and the tools do."""
+
+    def said(self, words):
+        code = "import sys; sys.path.insert(0, %r); import common; print(common.DEVICE); " % HERE
+        code += "print(common.replayed(common.texts.Recording('1', [], [])) if common.DEVICE else '')"
+        env = {**os.environ, "MMSCELL": words}
+        done = subprocess.run([sys.executable, "-c", code], capture_output=True, text=True, env=env, check=True)
+        return done.stdout
+
+    def test_words(self):
+        with tempfile.TemporaryDirectory() as d:
+            path = os.path.join(d, "a b.sh")
+            with open(path, "w", encoding="utf-8") as f:
+                f.write('echo "phase 1: $*"\n')
+            self.assertEqual(self.said(f"sh '{path}' --unproved"), f"{['sh', path, '--unproved']}\nphase 1: --unproved replay\n\n")
+            self.assertEqual(self.said(f"{d}/none --unproved"), "[]\n\n")
+
+
 if __name__ == "__main__":
     unittest.main()

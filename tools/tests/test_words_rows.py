@@ -138,7 +138,7 @@ class Table(unittest.TestCase):
         try:
             for step in steps():
                 for octets in [step.event.octets, *(o for _, o in step.outputs if o)]:
-                    grammar.decode.__wrapped__(octets)  # not what was kept of it
+                    grammar._decoded.__wrapped__(octets)  # not what was kept of it
         finally:
             grammar._component = whole
         unmet = {label for k in PROFILE for form in grammar.SERVICE[k][1] for label in self.unmet(form, "", met, 0)}

@@ -104,7 +104,7 @@ class Dissected(unittest.TestCase):
             at: Dict[Tuple[int, int], List[ET.Element]] = {}
             for f in fields:
                 at.setdefault((int(f.get("pos")), int(f.get("size"))), []).append(f)
-            for n in grammar.decode(octets)[0].walk():
+            for n in grammar._decoded(octets)[0].walk():
                 e = n.element
                 if not n.parts and e.contents and n.label not in NOT_SHOWN:
                     bits = at.get((e.start + 1, e.end - e.start - 1), []) if n.element.contents[0] < 8 else []

@@ -9,7 +9,7 @@ import tempfile
 import unittest
 from typing import Tuple
 
-from common import ASK, EXAMPLES, PROGRAM, needs_program, text_of
+from common import ASK, DEVICE, EXAMPLES, needs_program, text_of
 from fuzz_write import tried
 from mmstools import cli, grammar, spoken, texts, words, write
 from pdus_of_rows import of_rows
@@ -191,7 +191,7 @@ class Recordings(unittest.TestCase):
     @needs_program
     def test_it_is_served(self):
         _, out, _ = self.written(HEAD + "1: Initiate\n1: DefineSemaphore T 1\n1: TakeControl T\n1: Conclude\n")
-        got = subprocess.run([PROGRAM, "replay"], input=out.encode(), stdout=subprocess.PIPE, check=True).stdout
+        got = subprocess.run([*DEVICE, "replay"], input=out.encode(), stdout=subprocess.PIPE, check=True).stdout
         outputs = texts.read_report(got.decode()).phases[0].outputs[1]
         said = [spoken.say(o, 0, 0) for o in outputs]
         answers = ["answer DefineSemaphore invoke=1", "answer TakeControl noResult invoke=2", "conclude-Response"]
