@@ -170,6 +170,7 @@ fn is_end(octets: &[u8]) -> bool
 }
 
 /// The octet 80 stands in front: the tag, and the octets after it.
+#[inline(always)]
 fn after_tag(tag: Tag, octets: &[u8]) -> Option<(Tag, &[u8])>
     ensures exact { option_map (λ x. (x.0, x.1.now)) result ≡ opening_of tag octets.now }
     ensures shorter { IfSome result (λ x. length x.1.now < length octets.now) }
@@ -182,6 +183,7 @@ fn after_tag(tag: Tag, octets: &[u8]) -> Option<(Tag, &[u8])>
 
 /// An identifier with the octet 80 in the place of a length: its tag, and the octets after them.
 #[tactic(auto, unfolding(crate::specs::Reading::opening_at))]
+#[inline(always)]
 fn opening(octets: &[u8]) -> Option<(Tag, &[u8])>
     ensures exact { option_map (λ x. (x.0, x.1.now)) result ≡ opening_at octets.now }
     ensures shorter { IfSome result (λ x. 1 + length x.1.now < length octets.now) }

@@ -132,6 +132,7 @@ impl<'a> Cursor<'a> {
     }
 
     /// The next element. Malformed where none is whole there.
+    #[inline(always)]
     #[tactic(auto, unfolding(crate::specs::Reading::part_at))]
     pub fn part(&mut self) -> Result<Element<'a>, Unread>
         ensures exact { Gives (λ p. (part p, self.new.octets)) result
@@ -151,6 +152,7 @@ impl<'a> Cursor<'a> {
 
     /// The next element where this tag is in front. None where it isn't: nothing is taken, and what stands there
     /// needn't be whole. Malformed where the tag is in front and no whole element.
+    #[inline(always)]
     #[tactic(auto, unfolding(crate::specs::Reading::optional_part))]
     pub fn optional(&mut self, want: Tag) -> Result<Option<Element<'a>>, Unread>
         ensures exact { Gives (λ o. (option_map part o, self.new.octets)) result

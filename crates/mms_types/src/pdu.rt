@@ -345,6 +345,7 @@ impl Drop for Request {
 }
 
 impl Drop for Answer {
+    #[inline(always)]
     fn drop(self) {
         match self {
             Answer::Status(_x) => {}
