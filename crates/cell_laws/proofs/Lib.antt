@@ -66,3 +66,7 @@ pub mod TheirsAlong
 pub mod Few
 pub mod FewKept
 pub mod FewAlong
+pub mod Recorded
+pub mod SegmentsStay
+pub mod Uploaded
+pub mod ReadOn

@@ -7,5 +7,8 @@ pub mod Linked
 pub mod Loads
 pub mod Lost
 pub mod Programs
+pub mod ReadOn
+pub mod Recorded
 pub mod Scopes
 pub mod Tally
+pub mod Uploaded

@@ -28,9 +28,13 @@
 //! - A client that time aborts is lost as any client is, in all tables (`an_abort_by_time_is_a_loss`). Nothing is left of
 //!   an association that has ended but hung entries (`nothing_is_left_of_an_association`).
 //! - Each table keeps its limit, and no name stands twice in it (`each_table_keeps_its_limit`).
+//! - An entry of a journal stays as it was written until it goes for a cause (`an_entry_stays_as_it_was_written`); read
+//!   on after an entry, a journal tells what comes behind it (`a_journal_is_read_on_from_an_entry`).
+//! - What the segments of an upload told is a front of its domain's octets (`an_upload_tells_a_front_of_its_domain`).
 #![tactic(auto)]
 
 mod conditions;
+mod journals;
 mod laws;
 mod loads;
 mod losses;
@@ -38,8 +42,10 @@ mod programs;
 mod scopes;
 mod tables;
 mod time;
+mod uploads;
 
 pub use conditions::each_enrollment_has_its_condition_and_client;
+pub use journals::{a_journal_is_read_on_from_an_entry, an_entry_stays_as_it_was_written};
 pub use laws::{
     a_freed_token_is_passed_on, a_token_is_lost_for_a_cause, each_request_is_answered_once,
     each_waiting_request_is_queued, no_deadline_is_far, tokens_of_a_pool_are_passed_on_in_order,
@@ -54,3 +60,4 @@ pub use programs::each_domain_knows_its_programs;
 pub use scopes::each_scope_is_live;
 pub use tables::each_table_keeps_its_limit;
 pub use time::time_may_be_cut_anywhere;
+pub use uploads::an_upload_tells_a_front_of_its_domain;
