@@ -224,7 +224,8 @@ def _events(row: Row) -> Iterator[Tuple[str, int, Optional[bytes]]]:
         yield step.event.kind, step.event.client, step.event.octets
         yield from (("sent", client, octets) for client, octets in step.outputs)
     client, seen = 0, set()
-    for line in row.report.split("\n") if len(row.report) < 4000000 else []:
+    whole = row.report[: row.report.rfind("\n") + 1]  # where the sink was full, a part of a line may come behind
+    for line in whole.split("\n") if len(whole) < 4000000 else []:
         if line.startswith("client "):
             client = int(line[7:])
         elif line.startswith("> "):

@@ -28,7 +28,8 @@ def _of_examples() -> Iterator[Step]:
 def _of_reports() -> Iterator[Step]:
     for row in rows():
         if row.report.startswith("phase "):
-            for phase in texts.read_report(row.report).phases:
+            whole = row.report[: row.report.rfind("\n") + 1]  # where the sink was full, a part of a line may come behind
+            for phase in texts.read_report(whole).phases:
                 yield Step(texts.Event("tick"), [(c, o) for c, many in phase.outputs.items() for o in many])
 
 
