@@ -18,7 +18,7 @@ use Rattle.step_parts.specs.declared.part.Part.{Part}
 use Rattle.step_parts.specs.declared.part.Part.TheVariants.{Clock}
 use Rattle.step_parts.specs.State.{State, start, IsSound}
 use Rattle.step_parts.specs.Step.{step, replay, outbox_in, outbox_of}
-use Rattle.step_parts.specs.Partition.{cell, parts_of, state_in, client_part, client_place, clients_among, clock_in, clock_place, outbox_held, IsClient}
+use Rattle.step_parts.specs.Partition.{IsInOrder, cell, parts_of, state_in, client_part, client_place, clients_among, clock_in, clock_place, outbox_held, IsClient}
 use Rattle.step_parts.specs.Needs.{footprint, need, shown, wanted, wants, is_held}
 use Rattle.step_parts.specs.After.{parts_after}
 use Rattle.step_parts.specs.AfterLaws.{is_device, each_framed}
@@ -65,8 +65,8 @@ now_step s (Drain client) = omega arith
 
 -- ---- what is wanted
 
-shows : (s : State) (hand : List (Option Part)) → IsHandOf hand (parts_of s) → laws.Shows parts_of state_in hand s
-shows s hand of = laws.shows_state parts_of state_in (device.cut cell is_device) hand s of
+shows : (s : State) (hand : List (Option Part)) → IsHandOf hand (parts_of s) → laws.Shows parts_of IsInOrder state_in hand s
+shows s hand of = laws.shows_state parts_of IsInOrder state_in (device.cut cell is_device) hand s of
 
 -- the words of an event tell what it wants
 pub words_wanted : (s : State) (event : CellEvent) (i : ℕ) → Contains (footprint (length s.clients) event) i → Contains (wanted event s) i
@@ -76,14 +76,14 @@ words_wanted s event i is = Contains-append_left (footprint (length s.clients) e
 pub shown_wanted : (s : State) (hand : List (Option Part)) (event : CellEvent) (i : ℕ) → IsHandOf hand (parts_of s) → Contains (shown event hand) i → Contains (wanted event s) i
 shown_wanted s hand event i of is =
     laws.in_contains (wanted event s) i
-    (laws.shown_wanted parts_of state_in (wants event) s hand [] (shows s hand of) (each_framed event s).stages_told refl i (laws.contains_in (shown event hand) i is))
+    (laws.shown_wanted parts_of IsInOrder state_in (wants event) s hand [] (shows s hand of) (each_framed event s).stages_told refl i (laws.contains_in (shown event hand) i is))
 
 -- where nothing is needed, all that is wanted is held
 pub wanted_held : (s : State) (hand : List (Option Part)) (event : CellEvent) (i : ℕ) → IsHandOf hand (parts_of s) → need event hand ≡ [] → Contains (wanted event s) i
     → is_held hand i ≡ true
 wanted_held s hand event i of enough is =
     laws.held_in hand (wanted event s) i
-    (laws.wanted_shown parts_of state_in (wants event) s hand [] (shows s hand of) (each_framed event s).stages_told refl (laws.none_missing hand (shown event hand) enough)).0
+    (laws.wanted_shown parts_of IsInOrder state_in (wants event) s hand [] (shows s hand of) (each_framed event s).stages_told refl (laws.none_missing hand (shown event hand) enough)).0
     (laws.contains_in (wanted event s) i is)
 
 -- what is wanted is a part

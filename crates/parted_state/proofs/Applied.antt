@@ -38,14 +38,14 @@ module _ (hand : List (Option ShopPart)) (asked : Asked) (s : State) (of : IsHan
   held_row : (client : ℕ) → 1 ≤ client → client ≤ clients_among (length hand) → is_held hand client ≡ true → (words : List Word) × (held_at hand client ≡ Some (part.Client (settled words)))
   held_row zero some few held = absurd (omega (arith, some))
   held_row (suc i) some few held =
-      let there = lifted.client_held shop is_device services asked (each_served asked) s hand of i (omega (arith, few))
+      let there = lifted.client_held shop is_device services asked (each_served asked) s tt hand of i (omega (arith, few))
       (ap (λ (m : ℕ). is_held hand m) (at_place (suc i)) ∙ held) in
       (there.0, ap (λ (m : ℕ). held_at hand m) (sym (at_place (suc i))) ∙ there.1)
 
   own_held : (client : ℕ) → asked.client ≡ client → 1 ≤ client → is_held hand client ≡ true
   own_held zero own some = absurd (omega (arith, some))
   own_held (suc i) own some =
-      ap (λ (m : ℕ). is_held hand m) (sym (at_place (suc i))) ∙ lifted.own_held shop is_device services asked (each_served asked) s hand of enough i own
+      ap (λ (m : ℕ). is_held hand m) (sym (at_place (suc i))) ∙ lifted.own_held shop is_device services asked (each_served asked) s tt hand of enough i own
 
   own_row : (words : List Word) × (held_at hand asked.client ≡ Some (part.Client (settled words)))
   own_row = held_row asked.client some few (own_held asked.client refl some)
@@ -84,7 +84,7 @@ module _ (hand : List (Option ShopPart)) (asked : Asked) (s : State) (of : IsHan
       held zero some few on = absurd (omega (arith, some))
       held (suc i) some few on =
           ap (λ (m : ℕ). is_held hand m) (sym (at_place (suc i)))
-          ∙ lifted.told_held shop is_device services asked (each_served asked) s hand of enough i (omega (arith, few)) on
+          ∙ lifted.told_held shop is_device services asked (each_served asked) s tt hand of enough i (omega (arith, few)) on
 
   -- ---- what is put in place
 
@@ -99,7 +99,7 @@ module _ (hand : List (Option ShopPart)) (asked : Asked) (s : State) (of : IsHan
         ∙ ap (λ (t : Tables). put_in_place shop (serve t asked.client asked.ask) hand) shows
 
     pub is_after : new ≡ after asked hand
-    is_after = in_place ∙ lifted.in_place shop is_device services asked (each_served asked) s hand of enough few
+    is_after = in_place ∙ lifted.in_place shop is_device services asked (each_served asked) s tt hand of enough few
 
     pub of_state : IsHandOf new (parts_of (step s asked))
-    of_state = subst (λ (l : List (Option ShopPart)). IsHandOf l (parts_of (step s asked))) (sym in_place) (lifted.of_state shop is_device services asked (each_served asked) s hand of enough few)
+    of_state = subst (λ (l : List (Option ShopPart)). IsHandOf l (parts_of (step s asked))) (sym in_place) (lifted.of_state shop is_device services asked (each_served asked) s tt hand of enough few)

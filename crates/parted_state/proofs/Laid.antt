@@ -177,7 +177,7 @@ module _ {S T R F P : Type 0} (d : Device S T R F P) (is : IsDevice d) (s : S) (
       let own = part_of l y held in
       let shown = is.by_place (around (front d) n hand) (map Some (d.table_parts (d.tables_of s))) l
       (ap (λ (o : Option (Option P)). unwrap_or o None) (around_at d is n hand l) ∙ held ∙ sym own ∙ held_of_all (d.table_parts (d.tables_of s)) l) in
-      let both : Some x ≡ Some y = sym there ∙ shown ∙ ap (λ (t : T). slice_get (d.table_parts t) l) (is.whole (d.tables_of s)) ∙ own in
+      let both : Some x ≡ Some y = sym there ∙ shown ∙ ap (λ (parts : List P). slice_get parts l) (is.shown (d.tables_of s)) ∙ own in
       cc both
 
   -- held parts of a state are as their own tables are put back

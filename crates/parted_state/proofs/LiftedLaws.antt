@@ -11,7 +11,7 @@ use Rattle.parted_state.specs.CutLaws as laws
 use Rattle.parted_state.specs.DeviceLaws.{as_many, client_at, shown_many, shown_row, shown_rows, spot, cut}
 use Rattle.parted_state.specs.Lifted.{tables_shown, row_shown, put_from, with_tables, part_told, told_to, told_all, put_in_place}
 use Rattle.parted_state.specs.ListsLaws.{get_change, get_changed}
-use Rattle.parted_state.specs.Served.{Done, Device, Services, change, front, client_place, table_place, clients_among, parts_of, state_in, row_at, delivered, is_told, done_of, step, wants, need, after, IsServed, IsDevice}
+use Rattle.parted_state.specs.Served.{Done, Device, Services, change, front, client_place, table_place, clients_among, parts_of, state_in, row_at, delivered, is_told, done_of, step, wants, need, after, IsInOrder, IsServed, IsDevice}
 use Rattle.parted_state.specs.ServedLaws as served
 
 -- ---- one place is changed
@@ -194,7 +194,7 @@ module _ {S T R F P : Type 0} (d : Device S T R F P) (is : IsDevice d) {E : Type
   done_same hand few =
       ap₂ (λ (t : T) (r : R). v.serves t r event) (sym (is.tables_back (tables_shown d hand) (shown_rows d is hand))) (sym (row_same hand (v.own event) few))
 
-  module _ (s : S) (hand : List (Option P)) (of : IsHandOf hand (parts_of d s)) where
+  module _ (s : S) (ordered : IsInOrder d s) (hand : List (Option P)) (of : IsHandOf hand (parts_of d s)) where
     abbrev st : S
     st = state_in d hand
 
@@ -280,11 +280,14 @@ module _ {S T R F P : Type 0} (d : Device S T R F P) (is : IsDevice d) {E : Type
             (row.0, e ∙ sym (held_of_list hand (parts_of d s) (client_place d (suc j)) y of e) ∙ client_at d is s j (omega (arith, few, many_there)) ∙ ap (option_map d.client_part) row.1)
 
     module _ (enough : need d v event hand ≡ []) where
+      shown_ordered : IsInOrder d st
+      shown_ordered = (cut d is).in_order hand
+
       -- all that is wanted is held, so the part of the event's client, and of each that is told something
       wanted_held : are_held hand (wanted_of (wants d v event) st) ≡ true
       wanted_held =
-          (laws.wanted_shown (parts_of d) (state_in d) (wants d v event) st hand [] (record { as_many = refl; same = λ i held. refl })
-          (served.framed d is v event sv st).stages_told refl (laws.none_missing hand _ enough)).0
+          (laws.wanted_shown (parts_of d) (IsInOrder d) (state_in d) (wants d v event) st hand [] (record { as_many = refl; in_order = shown_ordered; same = λ i held. refl })
+          (served.framed d is v event sv st shown_ordered).stages_told refl (laws.none_missing hand _ enough)).0
 
       pub own_held : (i : ℕ) → v.own event ≡ suc i → is_held hand (client_place d (suc i)) ≡ true
       own_held i own = laws.held_in hand (wanted_of (wants d v event) st) (client_place d (suc i)) wanted_held (served.own_in d is v event sv (length (d.clients_of st)) i _ own)
@@ -296,20 +299,20 @@ module _ {S T R F P : Type 0} (d : Device S T R F P) (is : IsDevice d) {E : Type
       hand_now : IsHandOf now (parts_of d (step d v s event))
       hand_now =
           let framed = served.framed d is v event sv in
-          let shows = laws.shows_state (parts_of d) (state_in d) (cut d is) hand s of in
+          let shows = laws.shows_state (parts_of d) (IsInOrder d) (state_in d) (cut d is) hand s of in
           let same = length-by_places now hand places_same in
-          let kept = (framed s).touches.as_many in
+          let kept = (framed s ordered).touches.as_many in
           hand_of now (parts_of d (step d v s event)) (omega (arith, same, of.places, kept))
           (λ i x held.
           let before = held_before i x held in
-          laws.held_told (parts_of d) (state_in d) (wants d v event) (λ u. step d v u event) s hand shows (framed s) enough (framed st) i (ap is_some before.1)
+          laws.held_told (parts_of d) (IsInOrder d) (state_in d) (wants d v event) (λ u. step d v u event) s hand shows (framed s ordered) enough (framed st shown_ordered) i (ap is_some before.1)
           ∙ part_now i before.0 before.1 ∙ held)
 
       -- held parts of a state, in whose places all is put that is done, are what the event makes of them
       pub in_place : v.own event ≤ clients_among d (length hand) → put_in_place d (done_shown hand) hand ≡ after d v event hand
       in_place few =
           ap (λ (x : Done T F). put_in_place d x hand) (done_same hand few)
-          ∙ laws.is_after (parts_of d) (state_in d) (wants d v event) (λ u. step d v u event) (cut d is) s hand now (served.framed d is v event sv) of enough hand_now places_same
+          ∙ laws.is_after (parts_of d) (IsInOrder d) (state_in d) (wants d v event) (λ u. step d v u event) (cut d is) s hand now ordered (served.framed d is v event sv) of enough hand_now places_same
 
       -- and so they are held parts of the state after it
       pub of_state : v.own event ≤ clients_among d (length hand) → IsHandOf (put_in_place d (done_shown hand) hand) (parts_of d (step d v s event))

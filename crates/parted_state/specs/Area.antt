@@ -88,6 +88,7 @@ module _ {S T R F P : Type 0} (d : Device S T R F P) where
   -- what becomes of all tables is told by these, and the others stay
   pub record Within (us : List ℕ) (becomes : T → T) (t : T) : Type 0 where
     pub alone : becomes (masked d us t) ≡ masked d us (becomes t)
+    pub in_order : d.InOrder (becomes t)
     pub others : (k : ℕ) → is_in us k ≡ false → slice_get (d.table_parts (becomes t)) k ≡ slice_get (d.table_parts t) k
 
   abbrev pub AllIn : List ℕ → List ℕ → Type 0
@@ -95,8 +96,8 @@ module _ {S T R F P : Type 0} (d : Device S T R F P) where
 
   -- an area's tables are told by those with their numbers, and put among them
   pub record IsOwn {A : Type 0} (own : Own T A) : Type 0 where
-    pub same : (us : List ℕ) (t : T) → AllIn own.numbers us → own.of (masked d us t) ≡ own.of t
-    pub within : (new : A) (us : List ℕ) (t : T) → AllIn own.numbers us → Within us (own.put new) t
+    pub same : (us : List ℕ) (t : T) → d.InOrder t → AllIn own.numbers us → own.of (masked d us t) ≡ own.of t
+    pub within : (new : A) (us : List ℕ) (t : T) → d.InOrder t → AllIn own.numbers us → Within us (own.put new) t
 
   -- so it is with one table that has a part, by computing
   pub record IsTable {A : Type 0} (own : Own T A) : Type 0 where
@@ -105,14 +106,15 @@ module _ {S T R F P : Type 0} (d : Device S T R F P) where
     pub part_in : Option P → A
     pub one : own.numbers ≡ number ∷ []
     pub shown : (hand : List (Option P)) → own.of (d.tables_in hand) ≡ part_in (held_at hand number)
+    pub keeps : (new : A) (t : T) → d.InOrder t → d.InOrder (own.put new t)
     pub puts : (new : A) (t : T) → d.table_parts (own.put new t) ≡ change (λ old. part new) (d.table_parts t) number
 
   -- a question is answered by the tables that it is for
   pub record AreTold {K X : Type 0} (tells : Tells T K X) : Type 0 where
-    pub same : (k : K) (facts : X) (us : List ℕ) (t : T) → AllIn (tells.tables k) us → tells.noted k (masked d us t) facts ≡ tells.noted k t facts
+    pub same : (k : K) (facts : X) (us : List ℕ) (t : T) → d.InOrder t → AllIn (tells.tables k) us → tells.noted k (masked d us t) facts ≡ tells.noted k t facts
 
   -- ---- and what follows for every request in it: it reads and changes the tables that it uses alone
 
   pub record IsPlan (p : Plan T F) : Type 0 where
-    pub more_same : (t : T) → p.more (masked d p.asks t) ≡ p.more t
-    pub within : (t : T) → p.does t ≡ done_within d (p.asks ++ (p.more t ++ [])) t (p.does (masked d (p.asks ++ (p.more t ++ [])) t))
+    pub more_same : (t : T) → d.InOrder t → p.more (masked d p.asks t) ≡ p.more t
+    pub within : (t : T) → d.InOrder t → p.does t ≡ done_within d (p.asks ++ (p.more t ++ [])) t (p.does (masked d (p.asks ++ (p.more t ++ [])) t))

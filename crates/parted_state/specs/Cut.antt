@@ -50,28 +50,33 @@ module _ {S P : Type 0} (parts_of : S → List P) (state_in : List (Option P) �
   abbrev pub all_after_of : List (S → List ℕ) → (S → S) → List P → List P
   all_after_of stages step parts = with_places (as_in (wanted_of stages (state_in (map Some parts))) (parts_of (step (state_in (map Some parts))))) parts
 
-  -- Any list of places with parts in some of them shows a state. What it has at a place is told by the part that is held there.
+module _ {S P : Type 0} (parts_of : S → List P) (InOrder : S → Type 0) (state_in : List (Option P) → S) where
+  -- Any list of places with parts in some of them shows a state, which is in order. What it has at a place is told by the part that is held there.
   pub record IsCut : Type 0 where
     pub as_many : (one other : List (Option P)) → length one ≡ length other → length (parts_of (state_in one)) ≡ length (parts_of (state_in other))
     pub by_place : (one other : List (Option P)) (place : ℕ) → length one ≡ length other → held_at one place ≡ held_at other place
         → slice_get (parts_of (state_in one)) place ≡ slice_get (parts_of (state_in other)) place
-    -- all parts of a state show the state
-    pub whole : (s : S) → state_in (map Some (parts_of s)) ≡ s
+    pub in_order : (hand : List (Option P)) → InOrder (state_in hand)
+    -- all parts of a state show a state with these parts, and where it is in order, the state
+    pub shown : (s : S) → parts_of (state_in (map Some (parts_of s))) ≡ parts_of s
+    pub whole : (s : S) → InOrder s → state_in (map Some (parts_of s)) ≡ s
 
 module _ {S P : Type 0} (parts_of : S → List P) where
   -- the part of a place is the same in both states
   abbrev pub SameAt : ℕ → S → S → Type 0
   SameAt place s t = slice_get (parts_of s) place ≡ slice_get (parts_of t) place
 
-  -- two states of as many parts have the same parts in these places
+module _ {S P : Type 0} (parts_of : S → List P) (InOrder : S → Type 0) where
+  -- two states of as many parts have the same parts in these places, and the second is in order
   pub record Agree (places : List ℕ) (s t : S) : Type 0 where
     pub as_many : length (parts_of t) ≡ length (parts_of s)
-    pub same : (place : ℕ) → is_in places place ≡ true → SameAt place s t
+    pub in_order : InOrder t
+    pub same : (place : ℕ) → is_in places place ≡ true → SameAt parts_of place s t
 
   -- what is done to a state touches these places alone: the other parts stay, and what becomes of these is told by them
   pub record Touches (places : List ℕ) (step : S → S) (s : S) : Type 0 where
     pub as_many : length (parts_of (step s)) ≡ length (parts_of s)
-    pub others : (place : ℕ) → is_in places place ≡ false → SameAt place (step s) s
+    pub others : (place : ℕ) → is_in places place ≡ false → SameAt parts_of place (step s) s
     pub told : (t : S) → Agree places s t → Agree places (step s) (step t)
 
   -- each stage is told by the parts of the places before it

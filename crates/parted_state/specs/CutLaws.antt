@@ -232,16 +232,17 @@ module _ {P : Type 0} where
 
 -- ---- a state that held parts show
 
-module _ {S P : Type 0} (parts_of : S → List P) (state_in : List (Option P) → S) where
+module _ {S P : Type 0} (parts_of : S → List P) (InOrder : S → Type 0) (state_in : List (Option P) → S) where
   -- what is held is what the state has
   pub record Shows (hand : List (Option P)) (s : S) : Type 0 where
     pub as_many : length (parts_of (state_in hand)) ≡ length (parts_of s)
+    pub in_order : InOrder (state_in hand)
     pub same : (place : ℕ) → is_held hand place ≡ true → SameAt parts_of place s (state_in hand)
 
-  module _ (cut : IsCut parts_of state_in) where
+  module _ (cut : IsCut parts_of InOrder state_in) where
     -- held parts of a list show what all parts of the list show
     pub shows_parts : (hand : List (Option P)) (parts : List P) → IsHandOf hand parts → Shows hand (state_in (map Some parts))
-    shows_parts hand parts of = record { as_many = cut.as_many hand (map Some parts) many; same = λ place held. by_value place (held_at hand place) refl held }
+    shows_parts hand parts of = record { as_many = cut.as_many hand (map Some parts) many; in_order = cut.in_order hand; same = λ place held. by_value place (held_at hand place) refl held }
       where
         many : length hand ≡ length (map Some parts)
         many = of.places ∙ sym (length-map parts Some)
@@ -252,13 +253,19 @@ module _ {S P : Type 0} (parts_of : S → List P) (state_in : List (Option P) �
             cut.by_place (map Some parts) hand place (sym many) (all_held_at parts place x (held_of_list hand parts place x of e) ∙ sym e)
 
     pub shows_state : (hand : List (Option P)) (s : S) → IsHandOf hand (parts_of s) → Shows hand s
-    shows_state hand s of = subst (λ (t : S). Shows hand t) (cut.whole s) (shows_parts hand (parts_of s) of)
+    shows_state hand s of =
+        let shows = shows_parts hand (parts_of s) of in
+        record {
+          as_many = shows.as_many ∙ ap (λ (l : List P). length l) (cut.shown s);
+          in_order = shows.in_order;
+          same = λ place held. ap (λ (l : List P). slice_get l place) (sym (cut.shown s)) ∙ shows.same place held;
+        }
 
-  agrees : (hand : List (Option P)) (s : S) (places : List ℕ) → Shows hand s → are_held hand places ≡ true → Agree parts_of places s (state_in hand)
-  agrees hand s places shows all = record { as_many = shows.as_many; same = λ i is. shows.same i (held_in hand places i all is) }
+  agrees : (hand : List (Option P)) (s : S) (places : List ℕ) → Shows hand s → are_held hand places ≡ true → Agree parts_of InOrder places s (state_in hand)
+  agrees hand s places shows all = record { as_many = shows.as_many; in_order = shows.in_order; same = λ i is. shows.same i (held_in hand places i all is) }
 
   -- where all that is shown is held, it is all that is wanted, in the state and in the one that is shown
-  pub wanted_shown : (ws : List (S → List ℕ)) (s : S) (hand : List (Option P)) (before : List ℕ) → Shows hand s → AreTold parts_of s before ws
+  pub wanted_shown : (ws : List (S → List ℕ)) (s : S) (hand : List (Option P)) (before : List ℕ) → Shows hand s → AreTold parts_of InOrder s before ws
       → are_held hand before ≡ true → are_held hand (shown_of parts_of state_in ws hand) ≡ true → (are_held hand (wanted_of ws s) ≡ true) × (wanted_of ws (state_in hand) ≡ wanted_of ws s)
   wanted_shown [] s hand before shows told front all = (refl, refl)
   wanted_shown (w ∷ ws) s hand before shows told front all =
@@ -271,7 +278,7 @@ module _ {S P : Type 0} (parts_of : S → List P) (state_in : List (Option P) �
       (all_held_both hand (w s) (wanted_of ws s) here rest.0, ap₂ (λ (a b : List ℕ). a ++ b) same rest.1)
 
   -- what is shown is wanted
-  pub shown_wanted : (ws : List (S → List ℕ)) (s : S) (hand : List (Option P)) (before : List ℕ) → Shows hand s → AreTold parts_of s before ws
+  pub shown_wanted : (ws : List (S → List ℕ)) (s : S) (hand : List (Option P)) (before : List ℕ) → Shows hand s → AreTold parts_of InOrder s before ws
       → are_held hand before ≡ true → (i : ℕ) → is_in (shown_of parts_of state_in ws hand) i ≡ true → is_in (wanted_of ws s) i ≡ true
   shown_wanted [] s hand before shows told front i is = is
   shown_wanted (w ∷ ws) s hand before shows told front i is =
@@ -290,7 +297,7 @@ module _ {S P : Type 0} (parts_of : S → List P) (state_in : List (Option P) �
 
   -- with parts of one state, more held parts show at least as much
   pub shown_grows : (ws : List (S → List ℕ)) (s : S) (hand larger : List (Option P)) (before : List ℕ) → Shows hand s → Shows larger s
-      → AreTold parts_of s before ws → are_held hand before ≡ true → ((i : ℕ) → is_held hand i ≡ true → is_held larger i ≡ true)
+      → AreTold parts_of InOrder s before ws → are_held hand before ≡ true → ((i : ℕ) → is_held hand i ≡ true → is_held larger i ≡ true)
       → (i : ℕ) → is_in (shown_of parts_of state_in ws hand) i ≡ true → is_in (shown_of parts_of state_in ws larger) i ≡ true
   shown_grows [] s hand larger before shows shows_more told front more i is = is
   shown_grows (w ∷ ws) s hand larger before shows shows_more told front more i is =
@@ -317,7 +324,7 @@ module _ {S P : Type 0} (parts_of : S → List P) (state_in : List (Option P) �
   -- ---- a step on held parts
 
   module _ (stages : List (S → List ℕ)) (step : S → S) where
-    module _ (s : S) (hand : List (Option P)) (shows : Shows hand s) (framed : IsFramed parts_of stages step s) (enough : missing hand (shown_of parts_of state_in stages hand) ≡ []) where
+    module _ (s : S) (hand : List (Option P)) (shows : Shows hand s) (framed : IsFramed parts_of InOrder stages step s) (enough : missing hand (shown_of parts_of state_in stages hand) ≡ []) where
       all_shown : (are_held hand (wanted_of stages s) ≡ true) × (wanted_of stages (state_in hand) ≡ wanted_of stages s)
       all_shown = wanted_shown stages s hand [] shows framed.stages_told refl (none_missing hand (shown_of parts_of state_in stages hand) enough)
 
@@ -344,7 +351,7 @@ module _ {S P : Type 0} (parts_of : S → List P) (state_in : List (Option P) �
               let no : is_held hand i ≡ false = ap is_some free in absurd (cc (sym no ∙ held))
 
       -- what becomes of a part that is held is told by those that are held
-      pub held_told : IsFramed parts_of stages step (state_in hand) → (i : ℕ) → is_held hand i ≡ true → SameAt parts_of i (step s) (step (state_in hand))
+      pub held_told : IsFramed parts_of InOrder stages step (state_in hand) → (i : ℕ) → is_held hand i ≡ true → SameAt parts_of i (step s) (step (state_in hand))
       held_told framed_shown i held = by_test (is_in (wanted_of stages s) i) refl
         where
           by_test : (b : Bool) → is_in (wanted_of stages s) i ≡ b → SameAt parts_of i (step s) (step (state_in hand))
@@ -363,9 +370,9 @@ module _ {S P : Type 0} (parts_of : S → List P) (state_in : List (Option P) �
     pub after_holds_the_same : (hand : List (Option P)) → places_held (after_of parts_of state_in stages step hand) ≡ places_held hand
     after_holds_the_same hand = places_kept (as_in (wanted_of stages (state_in hand)) (parts_of (step (state_in hand)))) hand
 
-    module _ (cut : IsCut parts_of state_in) where
+    module _ (cut : IsCut parts_of InOrder state_in) where
       -- where enough is held, the step on all parts is the step on those that are held, laid over the others
-      pub after_is_laid_over : (hand : List (Option P)) (parts : List P) → IsFramed parts_of stages step (state_in (map Some parts)) → IsHandOf hand parts
+      pub after_is_laid_over : (hand : List (Option P)) (parts : List P) → IsFramed parts_of InOrder stages step (state_in (map Some parts)) → IsHandOf hand parts
           → missing hand (shown_of parts_of state_in stages hand) ≡ []
           → all_after_of parts_of state_in stages step parts ≡ laid_over (after_of parts_of state_in stages step hand) parts
       after_is_laid_over hand parts framed of enough =
@@ -376,9 +383,9 @@ module _ {S P : Type 0} (parts_of : S → List P) (state_in : List (Option P) �
           (λ i x free there. free_stay (state_in (map Some parts)) hand shows framed enough i x free)
 
       -- the step on a state is the step on its parts
-      pub parts_step : (s : S) → IsFramed parts_of stages step s → parts_of (step s) ≡ all_after_of parts_of state_in stages step (parts_of s)
-      parts_step s framed =
-          subst (λ (t : S). parts_of (step s) ≡ with_places (as_in (wanted_of stages t) (parts_of (step t))) (parts_of s)) (sym (cut.whole s))
+      pub parts_step : (s : S) → InOrder s → IsFramed parts_of InOrder stages step s → parts_of (step s) ≡ all_after_of parts_of state_in stages step (parts_of s)
+      parts_step s in_order framed =
+          subst (λ (t : S). parts_of (step s) ≡ with_places (as_in (wanted_of stages t) (parts_of (step t))) (parts_of s)) (sym (cut.whole s in_order))
           (placed_as (as_in (wanted_of stages s) (parts_of (step s))) (parts_of s) (parts_of (step s)) (sym framed.touches.as_many)
           (λ i x there. by_test i x there (is_in (wanted_of stages s) i) refl))
         where
@@ -394,23 +401,23 @@ module _ {S P : Type 0} (parts_of : S → List P) (state_in : List (Option P) �
               is_there (a ∷ old) (b ∷ new) (suc i) same there = let rest : length old ≡ length new = omega arith in is_there old new i rest there
 
       -- held parts become parts of the state after the step
-      pub hand_after : (s : S) (hand : List (Option P)) → ((t : S) → IsFramed parts_of stages step t) → IsHandOf hand (parts_of s)
+      pub hand_after : (s : S) (hand : List (Option P)) → InOrder s → ((t : S) → InOrder t → IsFramed parts_of InOrder stages step t) → IsHandOf hand (parts_of s)
           → missing hand (shown_of parts_of state_in stages hand) ≡ [] → IsHandOf (after_of parts_of state_in stages step hand) (parts_of (step s))
-      hand_after s hand framed of enough =
-          let over = parts_step s (framed s) ∙ after_is_laid_over hand (parts_of s) (framed (state_in (map Some (parts_of s)))) of enough in
+      hand_after s hand in_order framed of enough =
+          let over = parts_step s in_order (framed s in_order) ∙ after_is_laid_over hand (parts_of s) (framed (state_in (map Some (parts_of s))) (cut.in_order (map Some (parts_of s)))) of enough in
           let new = after_of parts_of state_in stages step hand in
           let many : length new ≡ length (parts_of s) = length-by_places new hand (after_holds_the_same hand) ∙ of.places in
           subst (λ (l : List P). IsHandOf new l) (sym over) (hand_laid new (parts_of s) many)
 
       -- and a hand of that state that holds the same is what they become
-      pub is_after : (s : S) (hand new : List (Option P)) → ((t : S) → IsFramed parts_of stages step t) → IsHandOf hand (parts_of s)
+      pub is_after : (s : S) (hand new : List (Option P)) → InOrder s → ((t : S) → InOrder t → IsFramed parts_of InOrder stages step t) → IsHandOf hand (parts_of s)
           → missing hand (shown_of parts_of state_in stages hand) ≡ [] → IsHandOf new (parts_of (step s)) → places_held new ≡ places_held hand
           → new ≡ after_of parts_of state_in stages step hand
-      is_after s hand new framed of enough after same =
-          same_hand new (after_of parts_of state_in stages step hand) (parts_of (step s)) after (hand_after s hand framed of enough) (same ∙ sym (after_holds_the_same hand))
+      is_after s hand new in_order framed of enough after same =
+          same_hand new (after_of parts_of state_in stages step hand) (parts_of (step s)) after (hand_after s hand in_order framed of enough) (same ∙ sym (after_holds_the_same hand))
 
       -- where all parts are held and all places that are wanted are among them, nothing is missing
-      pub all_are_enough : (s : S) → IsFramed parts_of stages step s → ((i : ℕ) → is_in (wanted_of stages s) i ≡ true → i < length (parts_of s))
+      pub all_are_enough : (s : S) → IsFramed parts_of InOrder stages step s → ((i : ℕ) → is_in (wanted_of stages s) i ≡ true → i < length (parts_of s))
           → missing (map Some (parts_of s)) (shown_of parts_of state_in stages (map Some (parts_of s))) ≡ []
       all_are_enough s framed within =
           missing_none (map Some (parts_of s)) (shown_of parts_of state_in stages (map Some (parts_of s)))

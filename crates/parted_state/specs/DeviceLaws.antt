@@ -1,12 +1,12 @@
 -- A device of tables and clients is a state that is cut into parts.
 use Rattle.std.specs.Prelude.{◌≡◌, ℕ, zero, suc, ◌+◌, ◌-◌, ◌<◌, ◌≤◌, Bool, true, false, Option, None, Some, List, [], ◌∷◌, ◌++◌, map, take, drop, length, slice_get, unwrap_or, nat_lt, if◌then◌else◌, refl}
 use Rattle.std.specs.Option.{option_map}
-use Rattle.std.proofs.Common.{ap, ap₂, sym, ◌∙◌, ◌⊎◌, inl, inr, arith, length-append, length-drop}
+use Rattle.std.proofs.Common.{ap, ap₂, sym, subst, ◌∙◌, ◌⊎◌, inl, inr, arith, length-append, length-drop}
 use Rattle.std.proofs.lemmas.Bool.Decides.{nat_tests}
 use Rattle.std.proofs.lemmas.List.{length-map, length-take}
 use Rattle.part_table.specs.Held.{held_at}
 use Rattle.parted_state.specs.Cut.{IsCut}
-use Rattle.parted_state.specs.Served.{Device, around, front, client_place, table_place, clients_among, parts_of, state_in, IsDevice}
+use Rattle.parted_state.specs.Served.{Device, around, front, client_place, table_place, clients_among, parts_of, state_in, IsInOrder, IsDevice}
 use Rattle.parted_state.specs.ListsLaws.{get_some, get_front, get_behind, get_past, get_take, get_drop, same_list, around_front, around_behind}
 
 module _ {S T R F P : Type 0} (d : Device S T R F P) (is : IsDevice d) where
@@ -169,47 +169,62 @@ module _ {S T R F P : Type 0} (d : Device S T R F P) (is : IsDevice d) where
       counted : clients_among d (length one) ≡ clients_among d (length other)
       counted = ap (λ (m : ℕ). clients_among d m) same
 
-  whole : (s : S) → state_in d (map Some (parts_of d s)) ≡ s
-  whole s =
-      ap₂ (λ (t : T) (rows : List R). d.state_of t rows) tables_same rows_same ∙ is.state_back s
-    where
-      counted : clients_among d (length (map Some (parts_of d s))) ≡ length (d.clients_of s)
-      counted = let a = length-map (parts_of d s) Some in let b = as_many s in omega (arith, a, b)
+  module _ (s : S) where
+    counted : clients_among d (length (map Some (parts_of d s))) ≡ length (d.clients_of s)
+    counted = let a = length-map (parts_of d s) Some in let b = as_many s in omega (arith, a, b)
 
-      seen : (k : ℕ) → slice_get (around (front d) (clients_among d (length (map Some (parts_of d s)))) (map Some (parts_of d s))) k ≡ slice_get (map Some (d.table_parts (d.tables_of s))) k
-      seen k =
-          around_at (clients_among d (length (map Some (parts_of d s)))) (map Some (parts_of d s)) k
-          ∙ ap (λ (n : ℕ). slice_get (map Some (parts_of d s)) (table_place d n k)) counted
-          ∙ get_some (parts_of d s) (table_place d (length (d.clients_of s)) k)
-          ∙ ap (option_map Some) (table_at s k)
-          ∙ sym (get_some (d.table_parts (d.tables_of s)) k)
+    seen : (k : ℕ) → slice_get (around (front d) (clients_among d (length (map Some (parts_of d s)))) (map Some (parts_of d s))) k ≡ slice_get (map Some (d.table_parts (d.tables_of s))) k
+    seen k =
+        around_at (clients_among d (length (map Some (parts_of d s)))) (map Some (parts_of d s)) k
+        ∙ ap (λ (n : ℕ). slice_get (map Some (parts_of d s)) (table_place d n k)) counted
+        ∙ get_some (parts_of d s) (table_place d (length (d.clients_of s)) k)
+        ∙ ap (option_map Some) (table_at s k)
+        ∙ sym (get_some (d.table_parts (d.tables_of s)) k)
 
-      tables_same : d.tables_in (around (front d) (clients_among d (length (map Some (parts_of d s)))) (map Some (parts_of d s))) ≡ d.tables_of s
-      tables_same = ap d.tables_in (same_list (around (front d) (clients_among d (length (map Some (parts_of d s)))) (map Some (parts_of d s))) (map Some (d.table_parts (d.tables_of s))) seen) ∙ is.whole (d.tables_of s)
+    tables_same : d.tables_in (around (front d) (clients_among d (length (map Some (parts_of d s)))) (map Some (parts_of d s))) ≡ d.tables_in (map Some (d.table_parts (d.tables_of s)))
+    tables_same = ap d.tables_in (same_list (around (front d) (clients_among d (length (map Some (parts_of d s)))) (map Some (parts_of d s))) (map Some (d.table_parts (d.tables_of s))) seen)
 
-      back : (o : Option R) → option_map d.row_in (option_map Some (option_map d.client_part o)) ≡ o
-      back None = refl
-      back (Some row) = ap Some (is.row_back row)
+    back : (o : Option R) → option_map d.row_in (option_map Some (option_map d.client_part o)) ≡ o
+    back None = refl
+    back (Some row) = ap Some (is.row_back row)
 
-      row : (j : ℕ) (b : Bool) → nat_lt j (clients_among d (length (map Some (parts_of d s)))) ≡ b → slice_get (shown_rows (map Some (parts_of d s))) j ≡ slice_get (d.clients_of s) j
-      row j true e =
-          let below : j < clients_among d (length (map Some (parts_of d s))) = grind (arith, nat_tests) in
-          let few : j < length (d.clients_of s) = omega (arith, below, counted) in
-          let more = is.behind in
-          get_shown (take (clients_among d (length (map Some (parts_of d s)))) (drop (front d) (map Some (parts_of d s)))) j
-          ∙ ap (option_map d.row_in) (get_take (clients_among d (length (map Some (parts_of d s)))) (drop (front d) (map Some (parts_of d s))) j below ∙ get_drop (front d) (map Some (parts_of d s)) (client_place d (suc j)) j (omega arith)
-          ∙ get_some (parts_of d s) (client_place d (suc j)) ∙ ap (option_map Some) (client_at s j few))
-          ∙ back (slice_get (d.clients_of s) j)
-      row j false e =
-          let past : clients_among d (length (map Some (parts_of d s))) ≤ j = grind (arith, nat_tests) in
-          let many = many_rows (map Some (parts_of d s)) in
-          get_past (shown_rows (map Some (parts_of d s))) j (omega (arith, many, past)) ∙ sym (get_past (d.clients_of s) j (omega (arith, past, counted)))
+    row : (j : ℕ) (b : Bool) → nat_lt j (clients_among d (length (map Some (parts_of d s)))) ≡ b → slice_get (shown_rows (map Some (parts_of d s))) j ≡ slice_get (d.clients_of s) j
+    row j true e =
+        let below : j < clients_among d (length (map Some (parts_of d s))) = grind (arith, nat_tests) in
+        let few : j < length (d.clients_of s) = omega (arith, below, counted) in
+        let more = is.behind in
+        get_shown (take (clients_among d (length (map Some (parts_of d s)))) (drop (front d) (map Some (parts_of d s)))) j
+        ∙ ap (option_map d.row_in) (get_take (clients_among d (length (map Some (parts_of d s)))) (drop (front d) (map Some (parts_of d s))) j below ∙ get_drop (front d) (map Some (parts_of d s)) (client_place d (suc j)) j (omega arith)
+        ∙ get_some (parts_of d s) (client_place d (suc j)) ∙ ap (option_map Some) (client_at s j few))
+        ∙ back (slice_get (d.clients_of s) j)
+    row j false e =
+        let past : clients_among d (length (map Some (parts_of d s))) ≤ j = grind (arith, nat_tests) in
+        let many = many_rows (map Some (parts_of d s)) in
+        get_past (shown_rows (map Some (parts_of d s))) j (omega (arith, many, past)) ∙ sym (get_past (d.clients_of s) j (omega (arith, past, counted)))
 
-      rows_same : shown_rows (map Some (parts_of d s)) ≡ d.clients_of s
-      rows_same = same_list (shown_rows (map Some (parts_of d s))) (d.clients_of s) (λ j. row j (nat_lt j (clients_among d (length (map Some (parts_of d s))))) refl)
+    rows_same : shown_rows (map Some (parts_of d s)) ≡ d.clients_of s
+    rows_same = same_list (shown_rows (map Some (parts_of d s))) (d.clients_of s) (λ j. row j (nat_lt j (clients_among d (length (map Some (parts_of d s))))) refl)
 
-  pub cut : IsCut (parts_of d) (state_in d)
-  cut = record { as_many = many; by_place = by_place; whole = whole }
+    seen_as : state_in d (map Some (parts_of d s)) ≡ d.state_of (d.tables_in (map Some (d.table_parts (d.tables_of s)))) (d.clients_of s)
+    seen_as = ap₂ (λ (t : T) (rows : List R). d.state_of t rows) tables_same rows_same
+
+  whole : (s : S) → IsInOrder d s → state_in d (map Some (parts_of d s)) ≡ s
+  whole s in_order = seen_as s ∙ ap (λ (t : T). d.state_of t (d.clients_of s)) (is.whole (d.tables_of s) in_order) ∙ is.state_back s
+
+  shown : (s : S) → parts_of d (state_in d (map Some (parts_of d s))) ≡ parts_of d s
+  shown s =
+      ap (parts_of d) (seen_as s)
+      ∙ ap₂ (λ (xs : List P) (rows : List R). take (front d) xs ++ (map d.client_part rows ++ drop (front d) xs))
+      (ap d.table_parts (is.tables_back (d.tables_in (map Some (d.table_parts (d.tables_of s)))) (d.clients_of s)) ∙ is.shown (d.tables_of s))
+      (is.clients_back (d.tables_in (map Some (d.table_parts (d.tables_of s)))) (d.clients_of s))
+
+  in_order : (hand : List (Option P)) → IsInOrder d (state_in d hand)
+  in_order hand =
+      subst d.InOrder (sym (is.tables_back (d.tables_in (around (front d) (clients_among d (length hand)) hand)) (shown_rows hand)))
+      (is.in_order (around (front d) (clients_among d (length hand)) hand))
+
+  pub cut : IsCut (parts_of d) (IsInOrder d) (state_in d)
+  cut = record { as_many = many; by_place = by_place; in_order = in_order; shown = shown; whole = whole }
     where
       many : (one other : List (Option P)) → length one ≡ length other → length (parts_of d (state_in d one)) ≡ length (parts_of d (state_in d other))
       many one other same =

@@ -3,6 +3,8 @@ pub mod AreaLaws
 pub mod Cut
 pub mod CutLaws
 pub mod DeviceLaws
+pub mod Gathered
+pub mod GatheredLaws
 pub mod Lifted
 pub mod ListsLaws
 pub mod Served
@@ -11,3 +13,5 @@ pub mod Sets
 pub mod Rows
 pub mod Shop
 pub mod ShopLaws
+pub mod Stores
+pub mod StoresLaws

@@ -11,7 +11,7 @@ pub record Done (T F : Type 0) : Type 0 where
   pub told : List (ℕ × F)
 
 -- A state S is tables T and the rows R of clients 1 to n; a client is told effects F; the parts are P.
-pub record Device (S T R F P : Type 0) : Type 0 where
+pub record Device (S T R F P : Type 0) : Type 1 where
   pub tables_of : S → T
   pub clients_of : S → List R
   pub state_of : T → List R → S
@@ -21,6 +21,8 @@ pub record Device (S T R F P : Type 0) : Type 0 where
   -- the last of them that stands in front of the clients' parts
   pub last : ℕ
   pub client_part : R → P
+  -- whatever parts show is in order, and what is in order is what its parts show
+  pub InOrder : T → Type 0
   -- what held parts show, and where a part isn't held, something in its place
   pub tables_in : List (Option P) → T
   pub row_in : Option P → R
@@ -89,6 +91,10 @@ module _ {S T R F P : Type 0} (d : Device S T R F P) where
   abbrev pub state_in : List (Option P) → S
   state_in hand =
       d.state_of (d.tables_in (around front (clients_among (length hand)) hand)) (map d.row_in (take (clients_among (length hand)) (drop front hand)))
+
+  -- the state's tables are in order
+  abbrev pub IsInOrder : S → Type 0
+  IsInOrder s = d.InOrder (d.tables_of s)
 
   -- ---- some of the tables
 
@@ -187,16 +193,18 @@ module _ {S T R F P : Type 0} (d : Device S T R F P) where
     AreAsked before [] t row = Unit {0}
     AreAsked before (stage ∷ stages) t row = (stage (masked before t) row ≡ stage t row) × AreAsked (before ++ stage t row) stages t row
 
-    -- an event is served by the tables that it uses alone, and leaves the others as they are
+    -- where tables are in order, an event is served by the tables that it uses alone, and leaves the others as they are
     pub record IsServed (event : E) : Type 0 where
-      pub stages : (t : T) (row : R) → AreAsked (v.words event) (v.asks event) t row
-      pub within : (t : T) (row : R) → v.serves t row event ≡ done_within (uses t row event) t (v.serves (masked (uses t row event) t) row event)
+      pub stages : (t : T) (row : R) → d.InOrder t → AreAsked (v.words event) (v.asks event) t row
+      pub within : (t : T) (row : R) → d.InOrder t → v.serves t row event ≡ done_within (uses t row event) t (v.serves (masked (uses t row event) t) row event)
 
   -- tables are cut into their parts, and a state into tables and clients
   pub record IsDevice : Type 0 where
     pub many : (t : T) → length (d.table_parts t) ≡ d.tables
     pub behind : d.last < d.tables
-    pub whole : (t : T) → d.tables_in (map Some (d.table_parts t)) ≡ t
+    pub in_order : (hand : List (Option P)) → d.InOrder (d.tables_in hand)
+    pub shown : (t : T) → d.table_parts (d.tables_in (map Some (d.table_parts t))) ≡ d.table_parts t
+    pub whole : (t : T) → d.InOrder t → d.tables_in (map Some (d.table_parts t)) ≡ t
     pub by_place : (one other : List (Option P)) (table : ℕ) → held_at one table ≡ held_at other table
         → slice_get (d.table_parts (d.tables_in one)) table ≡ slice_get (d.table_parts (d.tables_in other)) table
     pub row_back : (row : R) → d.row_in (Some (d.client_part row)) ≡ row

@@ -8,17 +8,17 @@ use Rattle.part_table.specs.Held.{held_at, places_held, laid_over, IsHandOf}
 use Rattle.parted_state.specs.CutLaws as laws
 use Rattle.parted_state.specs.Cut.{is_in, wanted_of, SameAt, Agree, AreTold, IsFramed}
 use Rattle.parted_state.specs.CutLaws.{in_front, in_back, in_either, same_itself, same_number}
-use Rattle.parted_state.specs.Served.{Done, Device, Services, change, veiled, chosen, is_told, front, client_place, table_place, parts_of, state_in, masked, merged, done_within, row_at, reached, delivered, told_if, told_places, asked, uses, row_of, done_of, step, own_place, places, footprint, table_stages, wants, need, after, parts_after, AreAsked, IsServed, IsDevice}
+use Rattle.parted_state.specs.Served.{Done, Device, Services, change, veiled, chosen, is_told, front, client_place, table_place, parts_of, state_in, masked, merged, done_within, row_at, reached, delivered, told_if, told_places, asked, uses, row_of, done_of, step, own_place, places, footprint, table_stages, wants, need, after, parts_after, AreAsked, IsInOrder, IsServed, IsDevice}
 use Rattle.parted_state.specs.ListsLaws.{get_some, get_veiled, chosen_same, held_of_all, get_past, length-change, get_changed, get_change, same_veiled, get_chosen, append_none, in_mapped, no_more}
 use Rattle.parted_state.specs.DeviceLaws.{as_many, table_at, client_at, spot, cut}
 
 module _ {S T R F P : Type 0} (d : Device S T R F P) (is : IsDevice d) where
   -- ---- what agreeing places tell
 
-  counted : (ws : List ℕ) (s t : S) → Agree (parts_of d) ws s t → length (d.clients_of t) ≡ length (d.clients_of s)
+  counted : (ws : List ℕ) (s t : S) → Agree (parts_of d) (IsInOrder d) ws s t → length (d.clients_of t) ≡ length (d.clients_of s)
   counted ws s t agree = let same = agree.as_many in let a = as_many d is s in let b = as_many d is t in omega (arith, same, a, b)
 
-  table_same : (ws : List ℕ) (s t : S) (k : ℕ) → Agree (parts_of d) ws s t → is_in ws (table_place d (length (d.clients_of s)) k) ≡ true
+  table_same : (ws : List ℕ) (s t : S) (k : ℕ) → Agree (parts_of d) (IsInOrder d) ws s t → is_in ws (table_place d (length (d.clients_of s)) k) ≡ true
       → slice_get (d.table_parts (d.tables_of s)) k ≡ slice_get (d.table_parts (d.tables_of t)) k
   table_same ws s t k agree inside =
       sym (table_at d is s k)
@@ -32,7 +32,7 @@ module _ {S T R F P : Type 0} (d : Device S T R F P) (is : IsDevice d) where
   same_row (Some x) None e = absurd (cc e)
   same_row (Some x) (Some y) e = ap Some (sym (is.row_back x) ∙ ap d.row_in e ∙ is.row_back y)
 
-  client_same : (ws : List ℕ) (s t : S) (j : ℕ) → Agree (parts_of d) ws s t → is_in ws (client_place d (suc j)) ≡ true → slice_get (d.clients_of s) j ≡ slice_get (d.clients_of t) j
+  client_same : (ws : List ℕ) (s t : S) (j : ℕ) → Agree (parts_of d) (IsInOrder d) ws s t → is_in ws (client_place d (suc j)) ≡ true → slice_get (d.clients_of s) j ≡ slice_get (d.clients_of t) j
   client_same ws s t j agree inside = by_test (nat_lt j (length (d.clients_of s))) refl
     where
       many : length (d.clients_of t) ≡ length (d.clients_of s)
@@ -47,7 +47,7 @@ module _ {S T R F P : Type 0} (d : Device S T R F P) (is : IsDevice d) where
           let past : length (d.clients_of s) ≤ j = grind (arith, nat_tests) in
           get_past (d.clients_of s) j past ∙ sym (get_past (d.clients_of t) j (omega (arith, past, many)))
 
-  row_at_same : (ws : List ℕ) (s t : S) (client : ℕ) → Agree (parts_of d) ws s t → ((i : ℕ) → client ≡ suc i → is_in ws (client_place d (suc i)) ≡ true)
+  row_at_same : (ws : List ℕ) (s t : S) (client : ℕ) → Agree (parts_of d) (IsInOrder d) ws s t → ((i : ℕ) → client ≡ suc i → is_in ws (client_place d (suc i)) ≡ true)
       → row_at d client (d.clients_of t) ≡ row_at d client (d.clients_of s)
   row_at_same ws s t zero agree own = refl
   row_at_same ws s t (suc i) agree own = ap (λ (o : Option R). unwrap_or o d.nobody) (sym (client_same ws s t i agree (own i refl)))
@@ -119,7 +119,7 @@ module _ {S T R F P : Type 0} (d : Device S T R F P) (is : IsDevice d) where
   merged_at us one other k =
       is.by_place (chosen (is_in us) (d.table_parts one) (d.table_parts other)) (map Some (d.table_parts (if is_in us k then one else other))) k
       (get_chosen (is_in us) (d.table_parts one) (d.table_parts other) k (is.many one ∙ sym (is.many other)) ∙ by_test (is_in us k))
-      ∙ ap (λ (t : T). slice_get (d.table_parts t) k) (is.whole (if is_in us k then one else other))
+      ∙ ap (λ (l : List P). slice_get l k) (is.shown (if is_in us k then one else other))
     where
       at_some : (xs : List P) → slice_get xs k ≡ held_at (map Some xs) k
       at_some xs = by_value (slice_get xs k) ∙ sym (ap (λ (o : Option (Option P)). unwrap_or o None) (get_some xs k))
@@ -137,17 +137,17 @@ module _ {S T R F P : Type 0} (d : Device S T R F P) (is : IsDevice d) where
   masked_at us t k on =
       is.by_place (veiled (is_in us) (d.table_parts t)) (map Some (d.table_parts t)) k
       (get_veiled (is_in us) (d.table_parts t) k on ∙ held_of_all (d.table_parts t) k)
-      ∙ ap (λ (x : T). slice_get (d.table_parts x) k) (is.whole t)
+      ∙ ap (λ (l : List P). slice_get l k) (is.shown t)
 
   -- and make all tables as they are
-  pub merged_masked : (us : List ℕ) (t : T) → merged d us (masked d us t) t ≡ t
-  merged_masked us t =
-      ap d.tables_in (chosen_same (is_in us) (d.table_parts (masked d us t)) (d.table_parts t) (is.many (masked d us t) ∙ sym (is.many t)) (masked_at us t)) ∙ is.whole t
+  pub merged_masked : (us : List ℕ) (t : T) → d.InOrder t → merged d us (masked d us t) t ≡ t
+  merged_masked us t in_order =
+      ap d.tables_in (chosen_same (is_in us) (d.table_parts (masked d us t)) (d.table_parts t) (is.many (masked d us t) ∙ sym (is.many t)) (masked_at us t)) ∙ is.whole t in_order
 
   -- where no table is changed
-  pub unchanged : (us : List ℕ) (t : T) (told : List (ℕ × F))
+  pub unchanged : (us : List ℕ) (t : T) (told : List (ℕ × F)) → d.InOrder t
       → record { tables = t; told = told } ≡ done_within d us t (record { tables = masked d us t; told = told })
-  unchanged us t told = ap (λ (x : T). at x) (sym (merged_masked us t))
+  unchanged us t told in_order = ap (λ (x : T). at x) (sym (merged_masked us t in_order))
     where
       at : T → Done T F
       at x = record { tables = x; told = told }
@@ -167,38 +167,38 @@ module _ {S T R F P : Type 0} (d : Device S T R F P) (is : IsDevice d) where
         (asked_same stages (before ++ stage t row) t u row a.1 (subst (λ (l : List ℕ). AreAsked d v (before ++ l) stages u row) here b.1)
         (λ k inside. same k (ap (λ (l : List ℕ). is_in l k) (sym (append_assoc before (stage t row) (asked d v stages t row))) ∙ inside)))
 
-    uses_same : (t u : T) (row : R) → SameOn (uses d v t row event) t u → uses d v u row event ≡ uses d v t row event
-    uses_same t u row same = ap (λ (l : List ℕ). v.words event ++ l) (asked_same (v.asks event) (v.words event) t u row (served.stages t row) (served.stages u row) same)
+    uses_same : (t u : T) (row : R) → d.InOrder t → d.InOrder u → SameOn (uses d v t row event) t u → uses d v u row event ≡ uses d v t row event
+    uses_same t u row ordered also same = ap (λ (l : List ℕ). v.words event ++ l) (asked_same (v.asks event) (v.words event) t u row (served.stages t row ordered) (served.stages u row also) same)
 
     abbrev alone : T → R → Done T F
     alone t row = v.serves (masked d (uses d v t row event) t) row event
 
-    alone_same : (t u : T) (row : R) → SameOn (uses d v t row event) t u → alone u row ≡ alone t row
-    alone_same t u row same =
-        ap (λ (l : List ℕ). v.serves (masked d l u) row event) (uses_same t u row same)
+    alone_same : (t u : T) (row : R) → d.InOrder t → d.InOrder u → SameOn (uses d v t row event) t u → alone u row ≡ alone t row
+    alone_same t u row ordered also same =
+        ap (λ (l : List ℕ). v.serves (masked d l u) row event) (uses_same t u row ordered also same)
         ∙ ap (λ (x : T). v.serves x row event) (sym (masked_same (uses d v t row event) t u same))
 
-    told_same : (t u : T) (row : R) → SameOn (uses d v t row event) t u → (v.serves u row event).told ≡ (v.serves t row event).told
-    told_same t u row same =
-        ap (λ (x : Done T F). x.told) (served.within u row) ∙ ap (λ (x : Done T F). x.told) (alone_same t u row same) ∙ sym (ap (λ (x : Done T F). x.told) (served.within t row))
+    told_same : (t u : T) (row : R) → d.InOrder t → d.InOrder u → SameOn (uses d v t row event) t u → (v.serves u row event).told ≡ (v.serves t row event).told
+    told_same t u row ordered also same =
+        ap (λ (x : Done T F). x.told) (served.within u row also) ∙ ap (λ (x : Done T F). x.told) (alone_same t u row ordered also same) ∙ sym (ap (λ (x : Done T F). x.told) (served.within t row ordered))
 
-    table_after : (t : T) (row : R) (k : ℕ)
+    table_after : (t : T) (row : R) (k : ℕ) → d.InOrder t
         → slice_get (d.table_parts (v.serves t row event).tables) k ≡ slice_get (d.table_parts (if is_in (uses d v t row event) k then (alone t row).tables else t)) k
-    table_after t row k =
-        ap (λ (x : Done T F). slice_get (d.table_parts x.tables) k) (served.within t row) ∙ merged_at (uses d v t row event) (alone t row).tables t k
+    table_after t row k ordered =
+        ap (λ (x : Done T F). slice_get (d.table_parts x.tables) k) (served.within t row ordered) ∙ merged_at (uses d v t row event) (alone t row).tables t k
 
     -- a table that isn't used stays
-    table_kept : (t : T) (row : R) (k : ℕ) → is_in (uses d v t row event) k ≡ false → slice_get (d.table_parts (v.serves t row event).tables) k ≡ slice_get (d.table_parts t) k
-    table_kept t row k off = table_after t row k ∙ ap (λ (b : Bool). slice_get (d.table_parts (if b then (alone t row).tables else t)) k) off
+    table_kept : (t : T) (row : R) (k : ℕ) → d.InOrder t → is_in (uses d v t row event) k ≡ false → slice_get (d.table_parts (v.serves t row event).tables) k ≡ slice_get (d.table_parts t) k
+    table_kept t row k ordered off = table_after t row k ordered ∙ ap (λ (b : Bool). slice_get (d.table_parts (if b then (alone t row).tables else t)) k) off
 
-    table_become : (t u : T) (row : R) (k : ℕ) → SameOn (uses d v t row event) t u → is_in (uses d v t row event) k ≡ true
+    table_become : (t u : T) (row : R) (k : ℕ) → d.InOrder t → d.InOrder u → SameOn (uses d v t row event) t u → is_in (uses d v t row event) k ≡ true
         → slice_get (d.table_parts (v.serves t row event).tables) k ≡ slice_get (d.table_parts (v.serves u row event).tables) k
-    table_become t u row k same on =
-        table_after t row k
+    table_become t u row k ordered also same on =
+        table_after t row k ordered
         ∙ ap (λ (b : Bool). slice_get (d.table_parts (if b then (alone t row).tables else t)) k) on
-        ∙ sym (ap (λ (x : Done T F). slice_get (d.table_parts x.tables) k) (alone_same t u row same))
-        ∙ sym (ap (λ (b : Bool). slice_get (d.table_parts (if b then (alone u row).tables else u)) k) (ap (λ (l : List ℕ). is_in l k) (uses_same t u row same) ∙ on))
-        ∙ sym (table_after u row k)
+        ∙ sym (ap (λ (x : Done T F). slice_get (d.table_parts x.tables) k) (alone_same t u row ordered also same))
+        ∙ sym (ap (λ (b : Bool). slice_get (d.table_parts (if b then (alone u row).tables else u)) k) (ap (λ (l : List ℕ). is_in l k) (uses_same t u row ordered also same) ∙ on))
+        ∙ sym (table_after u row k also)
 
     -- ---- what is wanted
 
@@ -249,30 +249,30 @@ module _ {S T R F P : Type 0} (d : Device S T R F P) (is : IsDevice d) where
 
     -- ---- each stage is told by those before it
 
-    fewer : (ws more : List ℕ) (s t : S) → Agree (parts_of d) (ws ++ more) s t → Agree (parts_of d) ws s t
-    fewer ws more s t agree = record { as_many = agree.as_many; same = λ i inside. agree.same i (in_front ws more i inside) }
+    fewer : (ws more : List ℕ) (s t : S) → Agree (parts_of d) (IsInOrder d) (ws ++ more) s t → Agree (parts_of d) (IsInOrder d) ws s t
+    fewer ws more s t agree = record { as_many = agree.as_many; in_order = agree.in_order; same = λ i inside. agree.same i (in_front ws more i inside) }
 
-    stages_told : (s : S) (stages : List (T → R → List ℕ)) (ws us : List ℕ)
+    stages_told : (s : S) (stages : List (T → R → List ℕ)) (ws us : List ℕ) → IsInOrder d s
         → ((i : ℕ) → v.own event ≡ suc i → is_in ws (client_place d (suc i)) ≡ true)
         → ((k : ℕ) → is_in us k ≡ true → is_in ws (table_place d (length (d.clients_of s)) k) ≡ true)
         → ((k : ℕ) → is_in (uses d v (d.tables_of s) (row_of d v s event) event) k ≡ true → is_in (us ++ asked d v stages (d.tables_of s) (row_of d v s event)) k ≡ true)
         → AreAsked d v us stages (d.tables_of s) (row_of d v s event)
-        → ((t : S) → Agree (parts_of d) ws s t → AreAsked d v us stages (d.tables_of t) (row_of d v s event))
-        → AreTold (parts_of d) s ws (table_stages d v event stages)
-    stages_told s [] ws us own inside all here there = (last, tt)
+        → ((t : S) → Agree (parts_of d) (IsInOrder d) ws s t → AreAsked d v us stages (d.tables_of t) (row_of d v s event))
+        → AreTold (parts_of d) (IsInOrder d) s ws (table_stages d v event stages)
+    stages_told s [] ws us ordered own inside all here there = (last, tt)
       where
-        last : (t : S) → Agree (parts_of d) ws s t
+        last : (t : S) → Agree (parts_of d) (IsInOrder d) ws s t
             → told_places d (done_of d v t event).told (length (d.clients_of t)) ≡ told_places d (done_of d v s event).told (length (d.clients_of s))
         last t agree =
             let row : row_of d v t event ≡ row_of d v s event = row_at_same ws s t (v.own event) agree own in
             let same : SameOn (uses d v (d.tables_of s) (row_of d v s event) event) (d.tables_of s) (d.tables_of t) =
             (λ k on. table_same ws s t k agree (inside k (subst (λ (l : List ℕ). is_in l k ≡ true) (append_none us) (all k on)))) in
             ap₂ (λ (l : List (ℕ × F)) (n : ℕ). told_places d l n)
-            (ap (λ (r : R). (v.serves (d.tables_of t) r event).told) row ∙ told_same (d.tables_of s) (d.tables_of t) (row_of d v s event) same)
+            (ap (λ (r : R). (v.serves (d.tables_of t) r event).told) row ∙ told_same (d.tables_of s) (d.tables_of t) (row_of d v s event) ordered agree.in_order same)
             (counted ws s t agree)
-    stages_told s (stage ∷ stages) ws us own inside all here there = (
+    stages_told s (stage ∷ stages) ws us ordered own inside all here there = (
       first,
-      stages_told s stages (ws ++ places d v (length (d.clients_of s)) (stage (d.tables_of s) (row_of d v s event))) (us ++ (stage (d.tables_of s) (row_of d v s event)))
+      stages_told s stages (ws ++ places d v (length (d.clients_of s)) (stage (d.tables_of s) (row_of d v s event))) (us ++ (stage (d.tables_of s) (row_of d v s event))) ordered
           (λ i e. in_front ws (places d v (length (d.clients_of s)) (stage (d.tables_of s) (row_of d v s event))) (client_place d (suc i)) (own i e))
           (λ k on. elim (in_either us (stage (d.tables_of s) (row_of d v s event)) k on) [
             | inl a ↦ in_front ws (places d v (length (d.clients_of s)) (stage (d.tables_of s) (row_of d v s event))) (table_place d (length (d.clients_of s)) k) (inside k a)
@@ -284,28 +284,28 @@ module _ {S T R F P : Type 0} (d : Device S T R F P) (is : IsDevice d) where
           (there t (fewer ws (places d v (length (d.clients_of s)) (stage (d.tables_of s) (row_of d v s event))) s t agree)).1),
     )
       where
-        same : (t : S) → Agree (parts_of d) ws s t → stage (d.tables_of t) (row_of d v s event) ≡ stage (d.tables_of s) (row_of d v s event)
+        same : (t : S) → Agree (parts_of d) (IsInOrder d) ws s t → stage (d.tables_of t) (row_of d v s event) ≡ stage (d.tables_of s) (row_of d v s event)
         same t agree =
             sym (there t agree).0
             ∙ ap (λ (x : T). stage x (row_of d v s event)) (sym (masked_same us (d.tables_of s) (d.tables_of t) (λ k on. table_same ws s t k agree (inside k on))))
             ∙ here.0
 
-        first : (t : S) → Agree (parts_of d) ws s t
+        first : (t : S) → Agree (parts_of d) (IsInOrder d) ws s t
             → places d v (length (d.clients_of t)) (stage (d.tables_of t) (row_of d v t event)) ≡ places d v (length (d.clients_of s)) (stage (d.tables_of s) (row_of d v s event))
         first t agree =
             ap₂ (λ (m : ℕ) (l : List ℕ). places d v m l) (counted ws s t agree)
             (ap (λ (r : R). stage (d.tables_of t) r) (row_at_same ws s t (v.own event) agree own) ∙ same t agree)
 
-    stage_within : (s : S) → AreTold (parts_of d) s [] (wants d v event)
-    stage_within s = (
+    stage_within : (s : S) → IsInOrder d s → AreTold (parts_of d) (IsInOrder d) s [] (wants d v event)
+    stage_within s ordered = (
       λ t agree. ap (λ (n : ℕ). footprint d v n event) (counted [] s t agree),
-      stages_told s (v.asks event) (footprint d v (length (d.clients_of s)) event) (v.words event)
+      stages_told s (v.asks event) (footprint d v (length (d.clients_of s)) event) (v.words event) ordered
           (λ i e. own_first (v.own event) i (places d v (length (d.clients_of s)) (v.words event)) e)
           (λ k on. in_back (own_place d v (v.own event)) (places d v (length (d.clients_of s)) (v.words event)) (table_place d (length (d.clients_of s)) k)
           (in_mapped (table_place d (length (d.clients_of s))) (v.words event) k on))
           (λ k on. on)
-          (served.stages (d.tables_of s) (row_of d v s event))
-          (λ t agree. served.stages (d.tables_of t) (row_of d v s event)),
+          (served.stages (d.tables_of s) (row_of d v s event) ordered)
+          (λ t agree. served.stages (d.tables_of t) (row_of d v s event) agree.in_order),
     )
 
     -- ---- what is wanted is all that is touched
@@ -347,16 +347,16 @@ module _ {S T R F P : Type 0} (d : Device S T R F P) (is : IsDevice d) where
         by_test false e = refl
         by_test true e = absurd (cc (sym out ∙ told_wanted s j below e))
 
-    table_stays : (s : S) (k : ℕ) → is_in (uses d v (d.tables_of s) (row_of d v s event) event) k ≡ false
+    table_stays : (s : S) (k : ℕ) → IsInOrder d s → is_in (uses d v (d.tables_of s) (row_of d v s event) event) k ≡ false
         → slice_get (parts_of d (step d v s event)) (table_place d (length (d.clients_of s)) k) ≡ slice_get (parts_of d s) (table_place d (length (d.clients_of s)) k)
-    table_stays s k off = step_table s k ∙ table_kept (d.tables_of s) (row_of d v s event) k off ∙ sym (table_at d is s k)
+    table_stays s k ordered off = step_table s k ∙ table_kept (d.tables_of s) (row_of d v s event) k ordered off ∙ sym (table_at d is s k)
 
-    others_stay : (s : S) (i : ℕ) → is_in (wanted_of (wants d v event) s) i ≡ false → SameAt (parts_of d) i (step d v s event) s
-    others_stay s i out =
+    others_stay : (s : S) (i : ℕ) → IsInOrder d s → is_in (wanted_of (wants d v event) s) i ≡ false → SameAt (parts_of d) i (step d v s event) s
+    others_stay s i ordered out =
         elim (spot d is (length (d.clients_of s)) i) [
           | inl (k, e) ↦
               subst (λ (m : ℕ). SameAt (parts_of d) m (step d v s event) s) (sym e)
-              (table_stays s k (not_used s k (ap (λ (m : ℕ). is_in (wanted_of (wants d v event) s) m) (sym e) ∙ out)))
+              (table_stays s k ordered (not_used s k (ap (λ (m : ℕ). is_in (wanted_of (wants d v event) s) m) (sym e) ∙ out)))
           | inr (j, below, e) ↦
               subst (λ (m : ℕ). SameAt (parts_of d) m (step d v s event) s) (sym e)
               (step_client s j below
@@ -365,7 +365,7 @@ module _ {S T R F P : Type 0} (d : Device S T R F P) (is : IsDevice d) where
               ∙ sym (client_at d is s j below))
         ]
 
-    module _ (s t : S) (agree : Agree (parts_of d) (wanted_of (wants d v event) s) s t) where
+    module _ (s t : S) (ordered : IsInOrder d s) (agree : Agree (parts_of d) (IsInOrder d) (wanted_of (wants d v event) s) s t) where
       row_told : row_of d v t event ≡ row_of d v s event
       row_told =
           row_at_same (wanted_of (wants d v event) s) s t (v.own event) agree
@@ -376,7 +376,7 @@ module _ {S T R F P : Type 0} (d : Device S T R F P) (is : IsDevice d) where
 
       effects_told : (done_of d v t event).told ≡ (done_of d v s event).told
       effects_told =
-          ap (λ (r : R). (v.serves (d.tables_of t) r event).told) row_told ∙ told_same (d.tables_of s) (d.tables_of t) (row_of d v s event) tables_told
+          ap (λ (r : R). (v.serves (d.tables_of t) r event).told) row_told ∙ told_same (d.tables_of s) (d.tables_of t) (row_of d v s event) ordered agree.in_order tables_told
 
       many_told : length (d.clients_of t) ≡ length (d.clients_of s)
       many_told = counted (wanted_of (wants d v event) s) s t agree
@@ -394,13 +394,13 @@ module _ {S T R F P : Type 0} (d : Device S T R F P) (is : IsDevice d) where
 
           by_test : (b : Bool) → is_in (uses d v (d.tables_of s) (row_of d v s event) event) k ≡ b
               → SameAt (parts_of d) (table_place d (length (d.clients_of s)) k) (step d v s event) (step d v t event)
-          by_test true e = step_table s k ∙ table_become (d.tables_of s) (d.tables_of t) (row_of d v s event) k tables_told e ∙ after_t
+          by_test true e = step_table s k ∙ table_become (d.tables_of s) (d.tables_of t) (row_of d v s event) k ordered agree.in_order tables_told e ∙ after_t
           by_test false e =
               step_table s k
-              ∙ table_kept (d.tables_of s) (row_of d v s event) k e
+              ∙ table_kept (d.tables_of s) (row_of d v s event) k ordered e
               ∙ table_same (wanted_of (wants d v event) s) s t k agree inside
-              ∙ sym (table_kept (d.tables_of t) (row_of d v s event) k
-              (ap (λ (l : List ℕ). is_in l k) (uses_same (d.tables_of s) (d.tables_of t) (row_of d v s event) tables_told) ∙ e))
+              ∙ sym (table_kept (d.tables_of t) (row_of d v s event) k agree.in_order
+              (ap (λ (l : List ℕ). is_in l k) (uses_same (d.tables_of s) (d.tables_of t) (row_of d v s event) ordered agree.in_order tables_told) ∙ e))
               ∙ after_t
 
       become : (i : ℕ) → is_in (wanted_of (wants d v event) s) i ≡ true → SameAt (parts_of d) i (step d v s event) (step d v t event)
@@ -419,16 +419,28 @@ module _ {S T R F P : Type 0} (d : Device S T R F P) (is : IsDevice d) where
                 ∙ sym (step_client t j (omega (arith, below, many_told))))
           ]
 
+    -- what an event makes of tables that are in order is in order
+    pub keeps_order : (t : T) (row : R) → d.InOrder t → d.InOrder (v.serves t row event).tables
+    keeps_order t row ordered =
+        subst (λ (x : Done T F). d.InOrder x.tables) (sym (served.within t row ordered))
+        (is.in_order (chosen (is_in (uses d v t row event)) (d.table_parts (alone t row).tables) (d.table_parts t)))
+
+    pub step_in_order : (s : S) → IsInOrder d s → IsInOrder d (step d v s event)
+    step_in_order s ordered =
+        subst d.InOrder (sym (is.tables_back (done_of d v s event).tables (delivered d (done_of d v s event).told (d.clients_of s))))
+        (keeps_order (d.tables_of s) (row_of d v s event) ordered)
+
     -- an event touches what it wants, and each stage of it is told by those before it
-    pub framed : (s : S) → IsFramed (parts_of d) (wants d v event) (λ u. step d v u event) s
-    framed s = record {
-      stages_told = stage_within s;
+    pub framed : (s : S) → IsInOrder d s → IsFramed (parts_of d) (IsInOrder d) (wants d v event) (λ u. step d v u event) s
+    framed s ordered = record {
+      stages_told = stage_within s ordered;
       touches = record {
         as_many = parts_many s;
-        others = others_stay s;
+        others = λ i out. others_stay s i ordered out;
         told = λ t agree. record {
           as_many = let a = agree.as_many in let b = parts_many s in let c = parts_many t in omega (arith, a, b, c);
-          same = become s t agree;
+          in_order = step_in_order t agree.in_order;
+          same = become s t ordered agree;
         };
       };
     }
@@ -436,21 +448,21 @@ module _ {S T R F P : Type 0} (d : Device S T R F P) (is : IsDevice d) where
     -- ---- so held parts, and all parts, become what the state's are
 
     pub after_holds_the_same : (hand : List (Option P)) → places_held (after d v event hand) ≡ places_held hand
-    after_holds_the_same hand = laws.after_holds_the_same (parts_of d) (state_in d) (wants d v event) (λ u. step d v u event) hand
+    after_holds_the_same hand = laws.after_holds_the_same (parts_of d) (IsInOrder d) (state_in d) (wants d v event) (λ u. step d v u event) hand
 
     pub after_is_laid_over : (hand : List (Option P)) (parts : List P) → IsHandOf hand parts → need d v event hand ≡ []
         → parts_after d v event parts ≡ laid_over (after d v event hand) parts
     after_is_laid_over hand parts of enough =
-        laws.after_is_laid_over (parts_of d) (state_in d) (wants d v event) (λ u. step d v u event) (cut d is) hand parts (framed (state_in d (map Some parts))) of enough
+        laws.after_is_laid_over (parts_of d) (IsInOrder d) (state_in d) (wants d v event) (λ u. step d v u event) (cut d is) hand parts (framed (state_in d (map Some parts)) ((cut d is).in_order (map Some parts))) of enough
 
-    pub parts_step : (s : S) → parts_of d (step d v s event) ≡ parts_after d v event (parts_of d s)
-    parts_step s = laws.parts_step (parts_of d) (state_in d) (wants d v event) (λ u. step d v u event) (cut d is) s (framed s)
+    pub parts_step : (s : S) → IsInOrder d s → parts_of d (step d v s event) ≡ parts_after d v event (parts_of d s)
+    parts_step s ordered = laws.parts_step (parts_of d) (IsInOrder d) (state_in d) (wants d v event) (λ u. step d v u event) (cut d is) s ordered (framed s ordered)
 
-    pub free_parts_stay : (s : S) (hand : List (Option P)) (place : ℕ) → IsHandOf hand (parts_of d s) → need d v event hand ≡ [] → held_at hand place ≡ None
+    pub free_parts_stay : (s : S) (hand : List (Option P)) (place : ℕ) → IsInOrder d s → IsHandOf hand (parts_of d s) → need d v event hand ≡ [] → held_at hand place ≡ None
         → slice_get (parts_of d (step d v s event)) place ≡ slice_get (parts_of d s) place
-    free_parts_stay s hand place of enough free =
-        laws.others_stay (parts_of d) (state_in d) (wants d v event) (λ u. step d v u event) s hand (laws.shows_state (parts_of d) (state_in d) (cut d is) hand s of)
-        (framed s) enough place (ap is_some free)
+    free_parts_stay s hand place ordered of enough free =
+        laws.others_stay (parts_of d) (IsInOrder d) (state_in d) (wants d v event) (λ u. step d v u event) s hand (laws.shows_state (parts_of d) (IsInOrder d) (state_in d) (cut d is) hand s of)
+        (framed s ordered) enough place (ap is_some free)
 
     -- ---- all that is wanted is among the parts
 

@@ -49,6 +49,7 @@ shop = record {
   tables = 2;
   last = 0;
   client_part = λ row. part.Client (settled row);
+  InOrder = λ t. Unit {0};
   tables_in = λ hand. record { shelf = shelf_in (held_at hand 0); tool = tool_in (held_at hand 1) };
   row_in = row_in;
   nobody = [];

@@ -28,7 +28,9 @@ pub is_device : IsDevice shop
 is_device = record {
   many = λ t. refl;
   behind = omega arith;
-  whole = λ t. refl;
+  in_order = λ hand. tt;
+  shown = λ t. refl;
+  whole = λ t ordered. refl;
   by_place = by_place;
   row_back = λ row. refl;
   tables_back = λ t rows. refl;
@@ -39,14 +41,14 @@ is_device = record {
 -- ---- each area, and each question
 
 abbrev pub is_shelf : IsTable shop shelf_table
-is_shelf = record { number = 0; part = part.Shelf; part_in = shelf_in; one = refl; shown = λ hand. refl; puts = λ new t. refl }
+is_shelf = record { number = 0; part = part.Shelf; part_in = shelf_in; one = refl; shown = λ hand. refl; keeps = λ new t ordered. tt; puts = λ new t. refl }
 
 abbrev pub is_tool : IsTable shop tool_table
-is_tool = record { number = 1; part = part.Tool; part_in = tool_in; one = refl; shown = λ hand. refl; puts = λ new t. refl }
+is_tool = record { number = 1; part = part.Tool; part_in = tool_in; one = refl; shown = λ hand. refl; keeps = λ new t ordered. tt; puts = λ new t. refl }
 
-told_same : (question : Question) (facts : Facts) (us : List ℕ) (t : Tables) → AllIn shop (tables_for question) us
+told_same : (question : Question) (facts : Facts) (us : List ℕ) (t : Tables) → shop.InOrder t → AllIn shop (tables_for question) us
     → noted question (masked shop us t) facts ≡ noted question t facts
-told_same (HasTool c) facts us t asked = ap (λ (x : Tool). record { has_tool = x.owner == c }) (table_same shop is_device tool_table is_tool us t (asked 1 refl))
+told_same (HasTool c) facts us t ordered asked = ap (λ (x : Tool). record { has_tool = x.owner == c }) (table_same shop is_device tool_table is_tool us t ordered (asked 1 refl))
 
 are_told : AreTold shop tells
 are_told = record { same = told_same }
@@ -68,8 +70,8 @@ pub after_is_laid_over : (asked : Asked) (hand : List (Option ShopPart)) (parts 
 after_is_laid_over asked = served.after_is_laid_over shop is_device services asked (each_served asked)
 
 pub parts_step : (s : State) (asked : Asked) → parts_of (step s asked) ≡ parts_after asked (parts_of s)
-parts_step s asked = served.parts_step shop is_device services asked (each_served asked) s
+parts_step s asked = served.parts_step shop is_device services asked (each_served asked) s tt
 
 pub others_stay : (s : State) (hand : List (Option ShopPart)) (asked : Asked) (place : ℕ) → IsHandOf hand (parts_of s) → need asked hand ≡ [] → held_at hand place ≡ None
     → slice_get (parts_of (step s asked)) place ≡ slice_get (parts_of s) place
-others_stay s hand asked = served.free_parts_stay shop is_device services asked (each_served asked) s hand
+others_stay s hand asked place = served.free_parts_stay shop is_device services asked (each_served asked) s hand place tt

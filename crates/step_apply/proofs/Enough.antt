@@ -97,10 +97,10 @@ drained_is_after hand new client s of among held is =
 pub served_becomes : (hand new : List (Option Part)) (event : CellEvent) → OfState hand → actor_of event ≤ clients_among (length hand) → need event hand ≡ []
     → new ≡ put_in_place cell (serves (tables_shown cell hand) (row_shown cell (actor_of event) hand) event) hand → Becomes hand new event
 served_becomes hand new event (s, sound, of) few enough put =
-    let is : new ≡ after event hand = put ∙ lifted.in_place cell is_device services event (each_served event) s hand of enough few in
+    let is : new ≡ after event hand = put ∙ lifted.in_place cell is_device services event (each_served event) s tt hand of enough few in
     record {
       step = λ u of_u. subst (λ (h : List (Option Part)). IsHandOf h (parts_of (step u event))) (sym put)
-          (lifted.of_state cell is_device services event (each_served event) u hand of_u enough few);
+          (lifted.of_state cell is_device services event (each_served event) u tt hand of_u enough few);
       parts = is;
       places = ap (λ (h : List (Option Part)). places_held h) is ∙ after_holds_the_same event hand;
     }

@@ -46,9 +46,9 @@ impl OnParts for VariableRequest<'_> {
 
     type Rest = ();
 
-    ghost own = { own_variables };
+    ghost own = { λ asked. own_variables };
 
-    ghost its = { is_variables };
+    ghost its = { λ asked. is_variables };
 
     ghost verdict = { λ asked invoke. Takes invoke (variable_request asked) };
 
@@ -89,7 +89,7 @@ impl OnParts for VariableRequest<'_> {
 
     fn finish(&self, _client: u32, _live: bool, _rest: &(), _table: &mut Part) {}
 
-    ghost stands = { λ t. refl };
+    ghost stands = { λ asked t. refl };
 
     ghost asks = { λ asked invoke. ap (λ a. is_in (asks_of a) 1) (in_variables asked) };
 }
@@ -115,9 +115,9 @@ impl OnParts for SemaphoreRequest<'_> {
 
     type Rest = ();
 
-    ghost own = { own_semaphores };
+    ghost own = { λ asked. own_semaphores };
 
-    ghost its = { is_semaphores };
+    ghost its = { λ asked. is_semaphores };
 
     ghost verdict = { λ asked invoke. Takes invoke (semaphore_request asked) };
 
@@ -165,7 +165,7 @@ impl OnParts for SemaphoreRequest<'_> {
         }
     }
 
-    ghost stands = { λ t. refl };
+    ghost stands = { λ asked t. refl };
 
     ghost asks = { λ asked invoke. ap (λ a. is_in (asks_of a) 6) (in_semaphores asked) };
 }
@@ -185,9 +185,9 @@ impl OnParts for Cancel {
 
     type Rest = ();
 
-    ghost own = { own_semaphores };
+    ghost own = { λ asked. own_semaphores };
 
-    ghost its = { is_semaphores };
+    ghost its = { λ asked. is_semaphores };
 
     ghost verdict = { λ asked invoke. Cancels invoke };
 
@@ -220,7 +220,7 @@ impl OnParts for Cancel {
 
     fn finish(&self, _client: u32, _facts: (), _rest: &(), _table: &mut Part) {}
 
-    ghost stands = { λ t. refl };
+    ghost stands = { λ asked t. refl };
 
     ghost asks = { λ asked invoke. refl };
 }

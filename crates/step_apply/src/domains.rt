@@ -85,9 +85,9 @@ impl OnParts for DomainRequest<'_> {
 
     type Rest = ();
 
-    ghost own = { own_domains };
+    ghost own = { λ asked. own_domains };
 
-    ghost its = { is_domains };
+    ghost its = { λ asked. is_domains };
 
     ghost verdict = { λ asked invoke. Takes invoke (domain_request asked) };
 
@@ -141,7 +141,7 @@ impl OnParts for DomainRequest<'_> {
 
     fn finish(&self, _client: u32, _scoped: bool, _rest: &(), _table: &mut Part) {}
 
-    ghost stands = { λ t. refl };
+    ghost stands = { λ asked t. refl };
 
     ghost asks = { λ asked invoke. ap (λ a. is_in (asks_of a) 2) (in_domains asked) };
 }
@@ -188,9 +188,9 @@ impl OnParts for Came<'_> {
 
     type Rest = ();
 
-    ghost own = { own_domains };
+    ghost own = { λ asked. own_domains };
 
-    ghost its = { is_domains };
+    ghost its = { λ asked. is_domains };
 
     ghost verdict = { λ answer number. Replies number (came answer) };
 
@@ -226,7 +226,7 @@ impl OnParts for Came<'_> {
 
     fn finish(&self, _client: u32, _facts: (), _rest: &(), _table: &mut Part) {}
 
-    ghost stands = { λ t. refl };
+    ghost stands = { λ asked t. refl };
 
     ghost asks = { λ answer number. refl };
 }

@@ -85,9 +85,9 @@ impl OnParts for EventRequest<'_> {
 
     type Rest = Listed<Turned>;
 
-    ghost own = { own_events };
+    ghost own = { λ asked. own_events };
 
-    ghost its = { is_events };
+    ghost its = { λ asked. is_events };
 
     ghost verdict = { λ asked invoke. Takes invoke (event_request asked) };
 
@@ -155,7 +155,7 @@ impl OnParts for EventRequest<'_> {
         }
     }
 
-    ghost stands = { λ t. refl };
+    ghost stands = { λ asked t. refl };
 
     ghost asks = { λ asked invoke. ap (λ a. is_in (asks_of a) 4) (in_events asked) };
 }

@@ -30,9 +30,9 @@ impl OnParts for JournalRequest<'_> {
 
     type Rest = ();
 
-    ghost own = { own_journals };
+    ghost own = { λ asked. own_journals };
 
-    ghost its = { is_journals };
+    ghost its = { λ asked. is_journals };
 
     ghost verdict = { λ asked invoke. Takes invoke (journal_request asked) };
 
@@ -68,7 +68,7 @@ impl OnParts for JournalRequest<'_> {
 
     fn finish(&self, _client: u32, _live: bool, _rest: &(), _table: &mut Part) {}
 
-    ghost stands = { λ t. refl };
+    ghost stands = { λ asked t. refl };
 
     ghost asks = { λ asked invoke. ap (λ a. is_in (asks_of a) 5) (in_journals asked) };
 }

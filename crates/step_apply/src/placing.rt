@@ -49,11 +49,11 @@ pub(crate) trait OnParts {
     /// What else is left to be done on the table where others are told something.
     type Rest: Drop;
 
-    /// The table of its area, among all.
-    ghost own: { Own Tables Self.Table };
+    /// The table that it is for, among all: that of its area, or one of these.
+    ghost own: { Self → Own Tables Self.Table };
 
     /// The part of that.
-    ghost its: { IsTable cell own };
+    ghost its: { (asked : Self) → IsTable cell (own asked) };
 
     /// What it comes to, by its number.
     ghost verdict: { Self → ℕ → Verdict };
@@ -80,7 +80,7 @@ pub(crate) trait OnParts {
     /// The place of its table, with so many clients.
     fn place(&self, clients: u32) -> u32
         requires { clients ≤ 64 }
-        ensures { result ≡ table_place cell clients its.number };
+        ensures { result ≡ table_place cell clients (its self.now).number };
 
     /// What other tables tell it, as they are held.
     fn facts(&self, who: Serving, held: &Hand<Cell>) -> Result<Self::Facts, Memory>
@@ -103,40 +103,46 @@ pub(crate) trait OnParts {
         requires few { who.clients ≤ 64 }
         requires many { who.clients ≡ clients_among (length held.now) }
         requires settled { client.old ≡ settled client.old.row }
-        requires table { IsPartOf its (Some table.old) }
-        requires may { may self.now number client.old.row (its.part_in (Some table.old)) }
+        requires table { IsPartOf (its self.now) (Some table.old) }
+        requires may { may self.now number client.old.row
+            ((its self.now).part_in (Some table.old)) }
         requires sound { sound facts }
-        ensures served { IfOk result (λ left. IfNone left ((t : Tables)
-            → own.of t ≡ its.part_in (Some table.old) → AreBeside its.number held.now t
+        ensures served { IfOk result (λ left. IfNone left ((t : Tables) → cell.InOrder t
+            → (own self.now).of t ≡ (its self.now).part_in (Some table.old)
+            → AreBeside (its self.now).number held.now t
             → is_told self.now facts client.old.row.client t
-            → IsDoneIn own t client.old.row (its.part_in (Some table.new)) client.new
+            → IsDoneIn (own self.now) t client.old.row ((its self.now).part_in (Some table.new))
+            client.new (verdict self.now number))) }
+        ensures left { IfOk result (λ left. IfSome left (λ l. (t : Tables) → cell.InOrder t
+            → (own self.now).of t ≡ (its self.now).part_in (Some table.old)
+            → is_told self.now facts client.old.row.client t
+            → TellsSeveral (own self.now) t client.old.row (becomes self.now facts
+            client.old.row.client ((its self.now).part_in (Some table.old))) l.0.items
             (verdict self.now number))) }
-        ensures left { IfOk result (λ left. IfSome left (λ l. (t : Tables)
-            → own.of t ≡ its.part_in (Some table.old)
-            → is_told self.now facts client.old.row.client t
-            → TellsSeveral own t client.old.row (becomes self.now facts client.old.row.client
-            (its.part_in (Some table.old))) l.0.items (verdict self.now number))) }
         ensures fits { IfOk result (λ left. IfSome left (λ l. fits self.now facts l.1
-            client.old.row.client (its.part_in (Some table.old)))) }
-        ensures table { IsPartOf its (Some table.new) }
+            client.old.row.client ((its self.now).part_in (Some table.old)))) }
+        ensures table { IsPartOf (its self.now) (Some table.new) }
         ensures same { IfOk result (λ left. OnSome left (
             (client.new ≡ client.old) × (table.new ≡ table.old))) }
         ensures kept { OnErr result ((client.new ≡ client.old) × (table.new ≡ table.old)) };
 
     /// Does on the table what is left where others are told something. It takes no memory.
     fn finish(&self, client: u32, facts: Self::Facts, rest: &Self::Rest, table: &mut Part)
-        requires table { IsPartOf its (Some table.old) }
+        requires table { IsPartOf (its self.now) (Some table.old) }
         requires sound { sound facts }
-        requires fits { fits self.now facts rest.now client (its.part_in (Some table.old)) }
+        requires fits { fits self.now facts rest.now client
+            ((its self.now).part_in (Some table.old)) }
         ensures { table.new
-            ≡ its.part (becomes self.now facts client (its.part_in (Some table.old))) };
+            ≡ (its self.now).part (becomes self.now facts client
+            ((its self.now).part_in (Some table.old))) };
 
     /// Its part is that of its table.
-    ghost stands: { (t : Tables) → IsPartOf its (slice_get (cell.table_parts t) its.number) };
+    ghost stands: { (asked : Self) (t : Tables)
+        → IsPartOf (its asked) (slice_get (cell.table_parts t) (its asked).number) };
 
     /// Its words ask for its table.
     ghost asks: { (asked : Self) (number : ℕ)
-        → is_in (heard_asks (verdict asked number)) its.number ≡ true };
+        → is_in (heard_asks (verdict asked number)) (its asked).number ≡ true };
 }
 
 /// Serves what a client sends on its part and that of the table that is held in that place. Where others are told
@@ -150,21 +156,23 @@ fn serve_alone<S: OnParts>(
     facts: S::Facts,
 ) -> Result<Option<(Vec<(u32, ClientTold)>, S::Rest)>, Memory>
     requires serving { IsServing who.clients who.client held.old }
-    requires below { S.its.number < tables_many }
-    requires place { place ≡ table_place cell who.clients S.its.number }
-    requires table { IsPartOf S.its (held_at held.old place) }
+    requires below { (S.its asked.now).number < tables_many }
+    requires place { place ≡ table_place cell who.clients (S.its asked.now).number }
+    requires table { IsPartOf (S.its asked.now) (held_at held.old place) }
     requires may { S.may asked.now number (row_held held.old who.client)
-        (S.its.part_in (held_at held.old place)) }
+        ((S.its asked.now).part_in (held_at held.old place)) }
     requires sound { S.sound facts }
     requires told { S.is_told asked.now facts who.client (tables_shown cell held.old) }
     ensures put { IfOk result (λ left. IfNone left (held.new
         ≡ heard_in_place who.client (S.verdict asked.now number) held.old)) }
     ensures left { IfOk result (λ left. IfSome left (λ l. hears (tables_shown cell held.old)
         (row_held held.old who.client) who.client (S.verdict asked.now number)
-        ≡ all_done (S.own.put (S.becomes asked.now facts who.client
-        (S.its.part_in (held_at held.old place))) (tables_shown cell held.old)) l.0.items)) }
+        ≡ all_done ((S.own asked.now).put (S.becomes asked.now facts who.client
+        ((S.its asked.now).part_in (held_at held.old place))) (tables_shown cell held.old))
+        l.0.items)) }
     ensures fits { IfOk result (λ left. IfSome left (λ l.
-        S.fits asked.now facts l.1 who.client (S.its.part_in (held_at held.old place)))) }
+        S.fits asked.now facts l.1 who.client
+        ((S.its asked.now).part_in (held_at held.old place)))) }
     ensures same { IfOk result (λ left. OnSome left (held.new ≡ held.old)) }
     ensures kept { OnErr result (held.new ≡ held.old) }
 {
@@ -190,14 +198,15 @@ fn finish_and_tell<S: OnParts>(
     left: (Vec<(u32, ClientTold)>, S::Rest),
 ) -> Result<(), Memory>
     requires serving { IsServing who.clients who.client held.old }
-    requires below { S.its.number < tables_many }
-    requires place { place ≡ table_place cell who.clients S.its.number }
-    requires table { IsPartOf S.its (held_at held.old place) }
+    requires below { (S.its asked.now).number < tables_many }
+    requires place { place ≡ table_place cell who.clients (S.its asked.now).number }
+    requires table { IsPartOf (S.its asked.now) (held_at held.old place) }
     requires sound { S.sound facts }
     requires fits { S.fits asked.now facts left.1 who.client
-        (S.its.part_in (held_at held.old place)) }
-    ensures put { OnOk result (held.new ≡ put_in_place cell (all_done (S.own.put
-        (S.becomes asked.now facts who.client (S.its.part_in (held_at held.old place)))
+        ((S.its asked.now).part_in (held_at held.old place)) }
+    ensures put { OnOk result (held.new ≡ put_in_place cell (all_done ((S.own asked.now).put
+        (S.becomes asked.now facts who.client
+        ((S.its asked.now).part_in (held_at held.old place)))
         (tables_shown cell held.old)) left.0.items) held.old) }
     ensures kept { OnErr result (held.new ≡ held.old) }
 {
@@ -218,10 +227,11 @@ pub(crate) fn serve_on<S: OnParts>(
     asked: &S,
 ) -> Result<(), Memory>
     requires serving { IsServing who.clients who.client held.old }
-    requires below { S.its.number < tables_many }
+    requires below { (S.its asked.now).number < tables_many }
     requires ready { IsReady who.clients who.client (S.verdict asked.now number) held.old }
     requires may { S.may asked.now number (row_held held.old who.client)
-        (S.its.part_in (held_at held.old (table_place cell who.clients S.its.number))) }
+        ((S.its asked.now).part_in
+        (held_at held.old (table_place cell who.clients (S.its asked.now).number))) }
     ensures put { OnOk result (held.new
         ≡ heard_in_place who.client (S.verdict asked.now number) held.old) }
     ensures kept { OnErr result (held.new ≡ held.old) }

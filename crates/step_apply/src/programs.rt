@@ -102,9 +102,9 @@ impl OnParts for ProgramRequest<'_> {
 
     type Rest = ();
 
-    ghost own = { own_programs };
+    ghost own = { λ asked. own_programs };
 
-    ghost its = { is_programs };
+    ghost its = { λ asked. is_programs };
 
     ghost verdict = { λ asked invoke. Takes invoke (program_request asked) };
 
@@ -137,7 +137,7 @@ impl OnParts for ProgramRequest<'_> {
 
     fn finish(&self, _client: u32, _facts: (), _rest: &(), _table: &mut Part) {}
 
-    ghost stands = { λ t. refl };
+    ghost stands = { λ asked t. refl };
 
     ghost asks = { λ asked invoke. ap (λ a. is_in (asks_of a) 3) (in_programs asked) };
 }

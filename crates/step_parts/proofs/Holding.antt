@@ -14,7 +14,7 @@ use Rattle.step_parts.specs.declared.part.Part.{Part}
 use Rattle.step_parts.specs.declared.part.Part.TheVariants.{Client, Semaphores}
 use Rattle.step_parts.specs.State.{State}
 use Rattle.step_parts.specs.Step.{step}
-use Rattle.step_parts.specs.Partition.{cell, parts_of, client_part, client_place, clients_among, client_in, state_in, IsClient}
+use Rattle.step_parts.specs.Partition.{IsInOrder, cell, parts_of, client_part, client_place, clients_among, client_in, state_in, IsClient}
 use Rattle.step_parts.specs.Needs.{need, shown, wants, is_held}
 use Rattle.step_parts.specs.After.{after, parts_after}
 use Rattle.step_parts.specs.AfterLaws.{is_device, each_framed}
@@ -56,40 +56,40 @@ held_client s hand client of some there held =
 -- ---- an event
 
 pub parts_step : (s : State) (event : CellEvent) → parts_of (step s event) ≡ parts_after event (parts_of s)
-parts_step s event = laws.parts_step parts_of state_in (wants event) (λ u. step u event) (device.cut cell is_device) s (each_framed event s)
+parts_step s event = laws.parts_step parts_of IsInOrder state_in (wants event) (λ u. step u event) (device.cut cell is_device) s tt (each_framed event s)
 
-shows : (s : State) (hand : List (Option Part)) → IsHandOf hand (parts_of s) → laws.Shows parts_of state_in hand s
-shows s hand of = laws.shows_state parts_of state_in (device.cut cell is_device) hand s of
+shows : (s : State) (hand : List (Option Part)) → IsHandOf hand (parts_of s) → laws.Shows parts_of IsInOrder state_in hand s
+shows s hand of = laws.shows_state parts_of IsInOrder state_in (device.cut cell is_device) hand s of
 
 pub step_of_hand : (s : State) (hand new : List (Option Part)) (event : CellEvent) → IsHandOf hand (parts_of s)
     → need event hand ≡ [] → new ≡ after event hand → IsHandOf new (parts_of (step s event))
 step_of_hand s hand new event of enough is =
     subst (λ (h : List (Option Part)). IsHandOf h (parts_of (step s event))) (sym is)
-    (laws.hand_after parts_of state_in (wants event) (λ u. step u event) (device.cut cell is_device) s hand (each_framed event) of enough)
+    (laws.hand_after parts_of IsInOrder state_in (wants event) (λ u. step u event) (device.cut cell is_device) s hand tt (λ u ordered. each_framed event u) of enough)
 
 -- a hand of the state after it that holds the same places
 pub after_of_hand : (s : State) (hand new : List (Option Part)) (event : CellEvent) → IsHandOf hand (parts_of s) → need event hand ≡ []
     → IsHandOf new (parts_of (step s event)) → places_held new ≡ places_held hand → new ≡ after event hand
 after_of_hand s hand new event of enough becomes same =
-    laws.is_after parts_of state_in (wants event) (λ u. step u event) (device.cut cell is_device) s hand new (each_framed event) of enough becomes same
+    laws.is_after parts_of IsInOrder state_in (wants event) (λ u. step u event) (device.cut cell is_device) s hand new tt (λ u ordered. each_framed event u) of enough becomes same
 
 pub others_stay : (s : State) (hand : List (Option Part)) (event : CellEvent) (place : ℕ) → IsHandOf hand (parts_of s)
     → need event hand ≡ [] → held_at hand place ≡ None → slice_get (parts_of (step s event)) place ≡ slice_get (parts_of s) place
 others_stay s hand event place of enough free =
-    laws.others_stay parts_of state_in (wants event) (λ u. step u event) s hand (shows s hand of) (each_framed event s) enough place (ap is_some free)
+    laws.others_stay parts_of IsInOrder state_in (wants event) (λ u. step u event) s hand (shows s hand of) (each_framed event s) enough place (ap is_some free)
 
 pub held_determined : (s t : State) (hand : List (Option Part)) (event : CellEvent) (place : ℕ) → IsHandOf hand (parts_of s) → IsHandOf hand (parts_of t)
     → need event hand ≡ [] → is_held hand place ≡ true → slice_get (parts_of (step s event)) place ≡ slice_get (parts_of (step t event)) place
 held_determined s t hand event place of_s of_t enough held = at s of_s ∙ sym (at t of_t)
   where
     at : (u : State) → IsHandOf hand (parts_of u) → slice_get (parts_of (step u event)) place ≡ slice_get (parts_of (step (state_in hand) event)) place
-    at u of = laws.held_told parts_of state_in (wants event) (λ v. step v event) u hand (shows u hand of) (each_framed event u) enough (each_framed event (state_in hand)) place held
+    at u of = laws.held_told parts_of IsInOrder state_in (wants event) (λ v. step v event) u hand (shows u hand of) (each_framed event u) enough (each_framed event (state_in hand)) place held
 
 pub shown_grows : (s : State) (hand larger : List (Option Part)) (event : CellEvent) (place : ℕ) → IsHandOf hand (parts_of s) → IsHandOf larger (parts_of s)
     → ((other : ℕ) → is_held hand other ≡ true → is_held larger other ≡ true) → Contains (shown event hand) place → Contains (shown event larger) place
 shown_grows s hand larger event place of of_larger more is =
     laws.in_contains (shown event larger) place
-    (laws.shown_grows parts_of state_in (wants event) s hand larger [] (shows s hand of) (shows s larger of_larger) (each_framed event s).stages_told refl more place
+    (laws.shown_grows parts_of IsInOrder state_in (wants event) s hand larger [] (shows s hand of) (shows s larger of_larger) (each_framed event s).stages_told refl more place
     (laws.contains_in (shown event hand) place is))
 
 -- ---- with all parts
@@ -103,7 +103,7 @@ still_all hand parts before of same = laws.still_all hand parts before of same
 
 -- all parts of a state show the state
 pub shows_itself : (s : State) → state_in (map Some (parts_of s)) ≡ s
-shows_itself s = (device.cut cell is_device).whole s
+shows_itself s = (device.cut cell is_device).whole s tt
 
 -- ---- a part that is changed
 

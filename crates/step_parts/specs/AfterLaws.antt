@@ -47,7 +47,7 @@ use Rattle.cell_services.specs.Requests.{OutcomeIn, RequestIn, asks_in, more_in,
 use Rattle.cell_services.specs.Services.{InArea, OfDevice, OfVariables, OfDomains, OfInvocations, OfPrograms, OfEvents, OfJournals, OfSemaphores, area_of, reply_in, asks_of, more_of, cause_of, effect_of, lacks_number}
 use Rattle.cell_client.specs.Requests.{is_done, request_told, size_of}
 use Rattle.cell_services.specs.Serving.{tables_cancelled, tables_lost, waiting_of, without_clients, also_lost, all_told, comes_of, domains_without, hears, journals_without, keeps_upload, more_of_verdict, resolved, heard_asks, heard_more, loss_asks, lost_in, meanwhile, abort_asks, aborted_meanwhile, evaluation_asks, passes, saying, time_asks, services, words}
-use Rattle.step_parts.specs.Partition.{cell, clock_in, domains_in, events_in, journals_in, programs_in, semaphores_in, variables_in, parts_of}
+use Rattle.step_parts.specs.Partition.{IsInOrder, cell, clock_in, domains_in, events_in, journals_in, programs_in, semaphores_in, variables_in, parts_of}
 use Rattle.step_parts.specs.Step.{step}
 use Rattle.step_parts.specs.Needs.{need, wants}
 use Rattle.step_parts.specs.After.{after, parts_after}
@@ -70,7 +70,9 @@ pub is_device : IsDevice cell
 is_device = record {
   many = λ t. refl;
   behind = omega arith;
-  whole = λ t. refl;
+  in_order = λ hand. tt;
+  shown = λ t. refl;
+  whole = λ t ordered. refl;
   by_place = by_place;
   row_back = λ row. refl;
   tables_back = λ t rows. refl;
@@ -84,30 +86,30 @@ abbrev alone : List ℕ → Tables → Tables
 alone us t = parted.masked cell us t
 
 as_it_was : (us : List ℕ) (t : Tables) → parted.merged cell us (alone us t) t ≡ t
-as_it_was us t = served.merged_masked cell is_device us t
+as_it_was us t = served.merged_masked cell is_device us t tt
 
 -- ---- each area's table, and each question
 
 abbrev pub is_clock : IsTable cell own_clock
-is_clock = record { number = clock_table; part = Clock; part_in = clock_in; one = refl; shown = λ hand. refl; puts = λ new t. refl }
+is_clock = record { number = clock_table; part = Clock; part_in = clock_in; one = refl; shown = λ hand. refl; keeps = λ new t ordered. tt; puts = λ new t. refl }
 
 abbrev pub is_variables : IsTable cell own_variables
-is_variables = record { number = variables_table; part = Variables; part_in = variables_in; one = refl; shown = λ hand. refl; puts = λ new t. refl }
+is_variables = record { number = variables_table; part = Variables; part_in = variables_in; one = refl; shown = λ hand. refl; keeps = λ new t ordered. tt; puts = λ new t. refl }
 
 abbrev pub is_domains : IsTable cell own_domains
-is_domains = record { number = domains_table; part = Domains; part_in = domains_in; one = refl; shown = λ hand. refl; puts = λ new t. refl }
+is_domains = record { number = domains_table; part = Domains; part_in = domains_in; one = refl; shown = λ hand. refl; keeps = λ new t ordered. tt; puts = λ new t. refl }
 
 abbrev pub is_programs : IsTable cell own_programs
-is_programs = record { number = programs_table; part = Programs; part_in = programs_in; one = refl; shown = λ hand. refl; puts = λ new t. refl }
+is_programs = record { number = programs_table; part = Programs; part_in = programs_in; one = refl; shown = λ hand. refl; keeps = λ new t ordered. tt; puts = λ new t. refl }
 
 abbrev pub is_events : IsTable cell own_events
-is_events = record { number = conditions_table; part = Events; part_in = events_in; one = refl; shown = λ hand. refl; puts = λ new t. refl }
+is_events = record { number = conditions_table; part = Events; part_in = events_in; one = refl; shown = λ hand. refl; keeps = λ new t ordered. tt; puts = λ new t. refl }
 
 abbrev pub is_journals : IsTable cell own_journals
-is_journals = record { number = journals_table; part = Journals; part_in = journals_in; one = refl; shown = λ hand. refl; puts = λ new t. refl }
+is_journals = record { number = journals_table; part = Journals; part_in = journals_in; one = refl; shown = λ hand. refl; keeps = λ new t ordered. tt; puts = λ new t. refl }
 
 abbrev pub is_semaphores : IsTable cell own_semaphores
-is_semaphores = record { number = semaphores_table; part = Semaphores; part_in = semaphores_in; one = refl; shown = λ hand. refl; puts = λ new t. refl }
+is_semaphores = record { number = semaphores_table; part = Semaphores; part_in = semaphores_in; one = refl; shown = λ hand. refl; keeps = λ new t ordered. tt; puts = λ new t. refl }
 
 -- where no variable is guarded, semaphores tell nothing
 none_owned : (client : ℕ) (rows other : Rows) (guards : List (Option (List ℕ))) → list_any is_some guards ≡ false
@@ -123,61 +125,61 @@ scope_used domain v e j rows =
 
 told_same : (k : Question) (facts : Facts) (us : List ℕ) (t : Tables) → AllIn cell (tables_for k) us → noted k (alone us t) facts ≡ noted k t facts
 told_same Now facts us t all =
-    ap (λ (now : ℕ). record facts { now = record { 0 = now } }) (table_same cell is_device own_clock is_clock us t (all clock_table refl))
+    ap (λ (now : ℕ). record facts { now = record { 0 = now } }) (table_same cell is_device own_clock is_clock us t tt (all clock_table refl))
 told_same (Live true domain) facts us t all =
-    ap (λ (d : DomainTables). record facts { live = is_domain_live domain d }) (table_same cell is_device own_domains is_domains us t (all domains_table refl))
+    ap (λ (d : DomainTables). record facts { live = is_domain_live domain d }) (table_same cell is_device own_domains is_domains us t tt (all domains_table refl))
 told_same (Live false domain) facts us t all = refl
 told_same (Scoped domain) facts us t all =
     ap₂ (λ (v : VariableTables) (rows : Rows). record facts { scoped = scope_used domain v (alone us t).events (alone us t).journals rows })
-    (table_same cell is_device own_variables is_variables us t (all variables_table refl))
-    (table_same cell is_device own_semaphores is_semaphores us t (all semaphores_table refl))
+    (table_same cell is_device own_variables is_variables us t tt (all variables_table refl))
+    (table_same cell is_device own_semaphores is_semaphores us t tt (all semaphores_table refl))
     ∙ ap₂ (λ (e : EventTables) (j : journal.Rows). record facts { scoped = scope_used domain t.variables e j t.semaphores })
-    (table_same cell is_device own_events is_events us t (all conditions_table refl))
-    (table_same cell is_device own_journals is_journals us t (all journals_table refl))
+    (table_same cell is_device own_events is_events us t tt (all conditions_table refl))
+    (table_same cell is_device own_journals is_journals us t tt (all journals_table refl))
 told_same (Owned client guards) facts us t all = by_guards (list_any is_some guards) refl all
   where
     by_guards : (b : Bool) → list_any is_some guards ≡ b → AllIn cell (guard_tables b) us
         → noted (Owned client guards) (alone us t) facts ≡ noted (Owned client guards) t facts
     by_guards true e all =
         ap (λ (rows : Rows). record facts { owned = flags_of (λ guard. owns_guard client guard rows) guards })
-        (table_same cell is_device own_semaphores is_semaphores us t (all semaphores_table refl))
+        (table_same cell is_device own_semaphores is_semaphores us t tt (all semaphores_table refl))
     by_guards false e all = ap (λ (owned : List Bool). record facts { owned = owned }) (none_owned client (alone us t).semaphores t.semaphores guards e)
 told_same (Cell None) facts us t all = refl
 told_same (Cell (Some variable)) facts us t all =
     ap (λ (v : VariableTables). record facts { cell = cell_of (Some variable) v.vars })
-    (table_same cell is_device own_variables is_variables us t (all variables_table refl))
+    (table_same cell is_device own_variables is_variables us t tt (all variables_table refl))
 told_same (Truth None) facts us t all = refl
 told_same (Truth (Some number)) facts us t all =
     ap (λ (v : VariableTables). record facts { truth = is_true (Some number) v.vars })
-    (table_same cell is_device own_variables is_variables us t (all variables_table refl))
+    (table_same cell is_device own_variables is_variables us t tt (all variables_table refl))
 told_same (Names class.NamedVariable) facts us t all =
     ap (λ (v : VariableTables). record facts { names = λ s after. names_after s after v.vars.variables })
-    (table_same cell is_device own_variables is_variables us t (all variables_table refl))
+    (table_same cell is_device own_variables is_variables us t tt (all variables_table refl))
 told_same (Names class.NamedVariableList) facts us t all =
     ap (λ (v : VariableTables). record facts { names = λ s after. names_after s after v.lists })
-    (table_same cell is_device own_variables is_variables us t (all variables_table refl))
+    (table_same cell is_device own_variables is_variables us t tt (all variables_table refl))
 told_same (Names class.Semaphore) facts us t all =
     ap (λ (rows : Rows). record facts { names = λ s after. names_after s after rows })
-    (table_same cell is_device own_semaphores is_semaphores us t (all semaphores_table refl))
+    (table_same cell is_device own_semaphores is_semaphores us t tt (all semaphores_table refl))
 told_same (Names class.EventCondition) facts us t all =
     ap (λ (e : EventTables). record facts { names = λ s after. names_after s after e.conditions })
-    (table_same cell is_device own_events is_events us t (all conditions_table refl))
+    (table_same cell is_device own_events is_events us t tt (all conditions_table refl))
 told_same (Names class.EventEnrollment) facts us t all =
     ap (λ (e : EventTables). record facts { names = λ s after. names_after s after e.enrolments })
-    (table_same cell is_device own_events is_events us t (all conditions_table refl))
+    (table_same cell is_device own_events is_events us t tt (all conditions_table refl))
 told_same (Names class.Journal) facts us t all =
     ap (λ (rows : journal.Rows). record facts { names = λ s after. names_after s after rows })
-    (table_same cell is_device own_journals is_journals us t (all journals_table refl))
+    (table_same cell is_device own_journals is_journals us t tt (all journals_table refl))
 told_same (Names class.Domain) facts us t all =
     ap (λ (d : DomainTables). record facts { names = λ s after. domains_listed d s after })
-    (table_same cell is_device own_domains is_domains us t (all domains_table refl))
+    (table_same cell is_device own_domains is_domains us t tt (all domains_table refl))
 told_same (Names class.ProgramInvocation) facts us t all =
     ap (λ (p : program.Rows). record facts { names = λ s after. programs_listed p s after })
-    (table_same cell is_device own_programs is_programs us t (all programs_table refl))
+    (table_same cell is_device own_programs is_programs us t tt (all programs_table refl))
 told_same (Names c) facts us t all = refl
 
 are_told : AreTold cell tells
-are_told = record { same = told_same }
+are_told = record { same = λ k facts us t ordered all. told_same k facts us t all }
 
 -- ---- each area: a request that is taken is settled by the tables that it uses alone
 
@@ -227,7 +229,7 @@ module _ {A : Type 0} (own : Own Tables A) (is_own : IsOwn cell own) (stays : (t
 
   taken_within : (t : Tables) → taken_in t ≡ parted.done_within cell (uses t) t (taken_in (alone (uses t) t))
   taken_within t =
-      planned t ∙ is_plan.within t ∙ ap (λ (d : Done Tables Effect). parted.done_within cell (uses t) t d) (sym (planned (alone (uses t) t)))
+      planned t ∙ is_plan.within t tt ∙ ap (λ (d : Done Tables Effect). parted.done_within cell (uses t) t d) (sym (planned (alone (uses t) t)))
 
 variables_own : IsOwn cell own_variables
 variables_own = table_own cell is_device own_variables is_variables
@@ -253,14 +255,14 @@ semaphores_own = table_own cell is_device own_semaphores is_semaphores
 -- ---- and so each request
 
 more_law : (t : Tables) (row : ClientRow) (a : InArea) → more_of (alone (asks_of a) t) row a ≡ more_of t row a
-more_law t row (OfDevice r) = (is_plan no_table (none_own cell is_device) (λ u. refl) row 0 0 r).more_same t
-more_law t row (OfVariables r) = (is_plan own_variables variables_own (λ u. refl) row 0 0 r).more_same t
-more_law t row (OfDomains r) = (is_plan own_domains domains_own (λ u. refl) row 0 0 r).more_same t
-more_law t row (OfInvocations r) = (is_plan own_invocations invocations_own (λ u. refl) row 0 0 r).more_same t
-more_law t row (OfPrograms r) = (is_plan own_programs programs_own (λ u. refl) row 0 0 r).more_same t
-more_law t row (OfEvents r) = (is_plan own_events events_own (λ u. refl) row 0 0 r).more_same t
-more_law t row (OfJournals r) = (is_plan own_journals journals_own (λ u. refl) row 0 0 r).more_same t
-more_law t row (OfSemaphores r) = (is_plan own_semaphores semaphores_own (λ u. refl) row 0 0 r).more_same t
+more_law t row (OfDevice r) = (is_plan no_table (none_own cell is_device) (λ u. refl) row 0 0 r).more_same t tt
+more_law t row (OfVariables r) = (is_plan own_variables variables_own (λ u. refl) row 0 0 r).more_same t tt
+more_law t row (OfDomains r) = (is_plan own_domains domains_own (λ u. refl) row 0 0 r).more_same t tt
+more_law t row (OfInvocations r) = (is_plan own_invocations invocations_own (λ u. refl) row 0 0 r).more_same t tt
+more_law t row (OfPrograms r) = (is_plan own_programs programs_own (λ u. refl) row 0 0 r).more_same t tt
+more_law t row (OfEvents r) = (is_plan own_events events_own (λ u. refl) row 0 0 r).more_same t tt
+more_law t row (OfJournals r) = (is_plan own_journals journals_own (λ u. refl) row 0 0 r).more_same t tt
+more_law t row (OfSemaphores r) = (is_plan own_semaphores semaphores_own (λ u. refl) row 0 0 r).more_same t tt
 
 abbrev area_uses : Tables → ClientRow → InArea → List ℕ
 area_uses t row a = asks_of a ++ (more_of t row a ++ [])
@@ -285,12 +287,12 @@ takes_law t row client invoke (OfSemaphores r) = taken_within own_semaphores sem
 all_shown : (us : List ℕ) (t : Tables) → AllIn cell loss_tables us → alone us t ≡ record t { programs = (alone us t).programs }
 all_shown us t all =
     ap₂ (λ (n : ℕ) (v : VariableTables). record (alone us t) { now = n; variables = v })
-    (table_same cell is_device own_clock is_clock us t (all clock_table refl)) (table_same cell is_device own_variables is_variables us t (all variables_table refl))
+    (table_same cell is_device own_clock is_clock us t tt (all clock_table refl)) (table_same cell is_device own_variables is_variables us t tt (all variables_table refl))
     ∙ ap₂ (λ (d : DomainTables) (rows : Rows). record t { domains = d; programs = (alone us t).programs; events = (alone us t).events; journals = (alone us t).journals; semaphores = rows })
-    (table_same cell is_device own_domains is_domains us t (all domains_table refl)) (table_same cell is_device own_semaphores is_semaphores us t (all semaphores_table refl))
+    (table_same cell is_device own_domains is_domains us t tt (all domains_table refl)) (table_same cell is_device own_semaphores is_semaphores us t tt (all semaphores_table refl))
     ∙ ap₂ (λ (e : EventTables) (j : journal.Rows). record t { programs = (alone us t).programs; events = e; journals = j })
-    (table_same cell is_device own_events is_events us t (all conditions_table refl))
-    (table_same cell is_device own_journals is_journals us t (all journals_table refl))
+    (table_same cell is_device own_events is_events us t tt (all conditions_table refl))
+    (table_same cell is_device own_journals is_journals us t tt (all journals_table refl))
 
 abbrev with_programs : program.Rows → Done Tables Effect → Done Tables Effect
 with_programs p done = record { tables = record done.tables { programs = p }; told = done.told }
@@ -329,7 +331,7 @@ module _ (us : List ℕ) (f : Tables → Done Tables Effect) (t : Tables) (all :
   all_within =
       ap (λ (u : Tables). record { tables = u; told = (f t).told })
       (merged_within cell is_device us (λ u. (f u).tables) t
-      (record { alone = ap (λ (d : Done Tables Effect). d.tables) shown_done ∙ sym done_shown; others = others }))
+      (record { alone = ap (λ (d : Done Tables Effect). d.tables) shown_done ∙ sym done_shown; in_order = tt; others = others }))
       ∙ ap (λ (told : List (ℕ × Effect)). record { tables = parted.merged cell us (f (alone us t)).tables t; told = told })
       (sym (ap (λ (d : Done Tables Effect). d.told) shown_done))
 
@@ -346,7 +348,7 @@ lacks_law us t row invoke (OfEvents r) all = refl
 lacks_law us t row invoke (OfJournals r) all = refl
 lacks_law us t row invoke (OfSemaphores r) all = refl
 lacks_law us t row invoke (OfDomains r) all =
-    ap (λ (d : DomainTables). lacks_number_in r no_facts row invoke d) (table_same cell is_device own_domains is_domains us t (all domains_table refl))
+    ap (λ (d : DomainTables). lacks_number_in r no_facts row invoke d) (table_same cell is_device own_domains is_domains us t tt (all domains_table refl))
 
 -- and so is what a verdict comes to
 resolved_law : (us : List ℕ) (t : Tables) (row : ClientRow) (v : Verdict) → AllIn cell (heard_asks v) us → resolved (alone us t) row v ≡ resolved t row v
@@ -356,7 +358,7 @@ resolved_law us t row (Replies number came) all =
     ap (λ (b : Bool). if b then Aborts else Replies number came) (lacks_law us t row number (reply_in number came) all)
 resolved_law us t row Concludes all =
     ap (λ (d : DomainTables). if has_upload row.client d.uploads then Tells keeps_open else Concludes)
-    (table_same cell is_device own_domains is_domains us t (all domains_table refl))
+    (table_same cell is_device own_domains is_domains us t tt (all domains_table refl))
 resolved_law us t row other all = refl
 
 itself : (us : List ℕ) → AllIn cell us us
@@ -438,7 +440,7 @@ module _ (t : Tables) (row : ClientRow) (client : ℕ) where
       turned b = if b then Tells keeps_open else Concludes
 
       by_test : (b : Bool) → ComesWithin (heard_asks Concludes ++ (more_of_verdict t row (turned b) ++ [])) (turned b)
-      by_test true = served.unchanged cell is_device (heard_asks Concludes) t (tell client keeps_open ++ [])
+      by_test true = served.unchanged cell is_device (heard_asks Concludes) t (tell client keeps_open ++ []) tt
       by_test false = lost_within (heard_asks Concludes) Concludes (λ u p. refl)
   comes_within (Cancels invoke) = by_waiting (waiting_of invoke row.waiting)
     where
@@ -451,7 +453,7 @@ module _ (t : Tables) (row : ClientRow) (client : ℕ) where
       by_waiting : (o : Option Waiting) → at o t ≡ parted.done_within cell us t (at o (alone us t))
       by_waiting None = refl
       by_waiting (Some request) = refl
-  comes_within (Tells effects) = served.unchanged cell is_device [] t (tell client effects ++ [])
+  comes_within (Tells effects) = served.unchanged cell is_device [] t (tell client effects ++ []) tt
   comes_within (Exhausts invoke) = lost_within loss_tables (Exhausts invoke) (λ u p. refl)
   comes_within Aborts = lost_within loss_tables Aborts (λ u p. refl)
 
@@ -469,7 +471,7 @@ lost_law : (t : Tables) (number client : ℕ) (a : Association)
     → record { tables = tables_lost a number t; told = tell client (loss_told a) ++ also_lost a number t }
     ≡ parted.done_within cell (loss_asks a ++ []) t
     (record { tables = tables_lost a number (alone (loss_asks a ++ []) t); told = tell client (loss_told a) ++ also_lost a number (alone (loss_asks a ++ []) t) })
-lost_law t number client Idle = served.unchanged cell is_device [] t []
+lost_law t number client Idle = served.unchanged cell is_device [] t [] tt
 lost_law t number client (Open values) = refl
 
 -- time goes by: where no client is lost by what happens to semaphores none is, and what the cells say is used where a
@@ -514,21 +516,21 @@ time_law ms t = by_both (any_due (moment_after ms t) t.events.conditions) refl (
 
 pub each_served : (event : CellEvent) → IsServed cell services event
 each_served (Heard client octets) = record {
-  stages = λ t row. (refl, (heard_more_law t row (verdict row octets), tt));
-  within = λ t row. hears_law t row client (verdict row octets);
+  stages = λ t row ordered. (refl, (heard_more_law t row (verdict row octets), tt));
+  within = λ t row ordered. hears_law t row client (verdict row octets);
 }
 each_served (Lost client) = record {
-  stages = λ t row. (refl, tt);
-  within = λ t row. lost_law t row.client client row.association;
+  stages = λ t row ordered. (refl, tt);
+  within = λ t row ordered. lost_law t row.client client row.association;
 }
-each_served (Tick ms) = record { stages = λ t row. (refl, tt); within = λ t row. time_law ms t }
-each_served (Ends name) = record { stages = λ t row. tt; within = λ t row. refl }
-each_served (Drain client) = record { stages = λ t row. tt; within = λ t row. refl }
+each_served (Tick ms) = record { stages = λ t row ordered. (refl, tt); within = λ t row ordered. time_law ms t }
+each_served (Ends name) = record { stages = λ t row ordered. tt; within = λ t row ordered. refl }
+each_served (Drain client) = record { stages = λ t row ordered. tt; within = λ t row ordered. refl }
 
 -- ---- so each event touches what it wants
 
-pub each_framed : (event : CellEvent) (s : State) → IsFramed parts_of (wants event) (λ u. step u event) s
-each_framed event s = served.framed cell is_device services event (each_served event) s
+pub each_framed : (event : CellEvent) (s : State) → IsFramed parts_of IsInOrder (wants event) (λ u. step u event) s
+each_framed event s = served.framed cell is_device services event (each_served event) s tt
 
 pub after_holds_the_same : (event : CellEvent) (hand : List (Option Part)) → places_held (after event hand) ≡ places_held hand
 after_holds_the_same event = served.after_holds_the_same cell is_device services event (each_served event)

@@ -211,7 +211,8 @@ pub record AreHeld (n : ℕ) (hand : List (Option Part)) (t : Tables) : Type 0 w
 -- ---- the device, as tables and clients
 
 -- How a state is cut into tables and clients, and put together of them; and which tables parts show that stand in the
--- order of the tables, without those of clients between them. Where a part isn't held, its table is empty.
+-- order of the tables, without those of clients between them. Where a part isn't held, its table is empty. Each table
+-- has one part, so whatever tables there are show in their parts as they are.
 abbrev pub cell : Device State Tables ClientRow Effect Part
 cell = record {
   tables_of = λ s. record { now = s.now; variables = s.variables; domains = s.domains; programs = s.programs; events = s.events; journals = s.journals; semaphores = s.semaphores };
@@ -221,6 +222,7 @@ cell = record {
   tables = tables_many;
   last = 5;
   client_part = client_part;
+  InOrder = λ t. Unit {0};
   tables_in = λ hand. record {
     now = clock_in (held_at hand 0);
     variables = variables_in (held_at hand 1);
@@ -234,6 +236,10 @@ cell = record {
   nobody = no_client;
   felt = felt;
 }
+
+-- the tables of a state are in order, as those that parts show are
+abbrev pub IsInOrder : State → Type 0
+IsInOrder s = parted.IsInOrder cell s
 
 -- the state that held parts show: the tables that are held, and the rows of the clients
 abbrev pub state_in : List (Option Part) → State

@@ -26,7 +26,7 @@ use Rattle.cell_services.specs.Facts.{Question, Now, Live, Owned, Names, class_t
 use Rattle.cell_services.specs.Services.{InArea, OfDevice, OfVariables, OfSemaphores, area_of, asks_of, more_of, OfDomains, OfEvents, OfInvocations, OfJournals, OfPrograms, reply_in}
 use Rattle.cell_services.specs.Serving.{heard_asks, heard_more, loss_asks, services, abort_asks, aborted_meanwhile, evaluation_asks, time_asks, words, more_of_verdict, resolved}
 use Rattle.step_parts.specs.Step.{step}
-use Rattle.step_parts.specs.Partition.{cell, parts_of, state_in}
+use Rattle.step_parts.specs.Partition.{IsInOrder, cell, parts_of, state_in}
 use Rattle.step_parts.specs.Needs.{need, is_held, wants}
 use Rattle.step_parts.specs.AfterLaws.{each_framed, each_served, is_device}
 
@@ -150,7 +150,7 @@ own_there n (Drain client) among = among.1
 
 pub nothing_needed : (s : State) (event : CellEvent) → IsAmong (length s.clients) event → need event (map Some (parts_of s)) ≡ []
 nothing_needed s event among =
-    laws.all_are_enough parts_of state_in (wants event) (λ u. step u event) (device.cut cell is_device) s (each_framed event s)
+    laws.all_are_enough parts_of IsInOrder state_in (wants event) (λ u. step u event) (device.cut cell is_device) s (each_framed event s)
     (served.wanted_within cell is_device services event (each_served event) s (own_there (length s.clients) event among)
     (below (parted.uses cell services (cell.tables_of s) (parted.row_of cell services s event) event)
     (uses_below (cell.tables_of s) (parted.row_of cell services s event) event)))

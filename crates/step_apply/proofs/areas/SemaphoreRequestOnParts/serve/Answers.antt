@@ -12,12 +12,12 @@ use Rattle.step_parts.proofs.Found.{if_none, if_some}
 use Rattle.step_apply.proofs.areas.SemaphoreRequestOnParts.serve.Goals as goal
 
 pub returns-in-None-clause-served : goal.returns-in-None-clause-served
-returns-in-None-clause-served c t stood beside told =
+returns-in-None-clause-served c t ordered stood beside told =
     semaphores_served c.args.self.now c.args.client.now.row c.args.invoke c.args.facts.0 c.args.facts.1 c.in-Semaphores.rows t c.serve.new.rows c.serve.new.own
     (if_none c.in_ok-serve-in-Semaphores.field-0 c.in-None.is c.in_ok-serve-in-Semaphores.ensures.served) (stood ∙ ap (λ (p : Part). semaphores_in (Some p)) c.in-Semaphores.is) told.0 told.1
 
 pub returns-clause-left : goal.returns-clause-left
-returns-clause-left c t stood told =
+returns-clause-left c t ordered stood told =
     let row = c.args.client.now.row in
     let asked = c.args.self.now in
     subst (λ (p : Part). hears t row row.client (Takes c.args.invoke (semaphore_request asked))

@@ -15,7 +15,7 @@ use Rattle.step_parts.proofs.Shown.{shown_semaphores}
 use Rattle.step_apply.proofs.areas.VariableRequestOnParts.serve.Goals as goal
 
 pub returns-clause-served : goal.returns-clause-served
-returns-clause-served c t stood beside told =
+returns-clause-served c t ordered stood beside told =
     let there : Some (Semaphores t.semaphores) ≡ Some (Semaphores (tables_shown cell c.args.held.now).semaphores) = beside 6 (λ same. omega (arith, same)) in
     let is : t.semaphores ≡ (tables_shown cell c.args.held.now).semaphores = cc there in
     variables_served c.args.self.now t c.args.client.now.row c.args.invoke c.in-Variables.rows c.serve.new.tables c.get.result.now c.args.live c.serve.new.own

@@ -12,7 +12,7 @@ reply-requires-clause-number c facts invoke =
     subst (λ (p : Part). lacks_number_in (replied c.args.number (came c.args.self.now)) facts c.args.client.now.row invoke (domains_in (Some p)) ≡ false) c.in-Domains.is (c.requires.may.2 facts invoke)
 
 pub returns-clause-served : goal.returns-clause-served
-returns-clause-served c t stood beside told =
+returns-clause-served c t ordered stood beside told =
     reply_served t c.args.client.now.row c.args.number (came c.args.self.now) c.in-Domains.rows c.reply.new.tables c.reply.new.own c.in_ok-reply-in-Domains.ensures.served
     (λ facts invoke.
     subst (λ (p : Part). lacks_number_in (replied c.args.number (came c.args.self.now)) facts c.args.client.now.row invoke (domains_in (Some p)) ≡ false) c.in-Domains.is

@@ -12,7 +12,7 @@ use Rattle.step_parts.proofs.Found.{if_none, if_some}
 use Rattle.step_apply.proofs.events.EventRequestOnParts.serve.Goals as goal
 
 pub returns-in-None-clause-served : goal.returns-in-None-clause-served
-returns-in-None-clause-served c t stood beside told =
+returns-in-None-clause-served c t ordered stood beside told =
     let row = c.args.client.now.row in
     let facts = c.args.facts in
     events_served c.args.self.now row c.args.invoke facts.now facts.is_true c.in-Events.rows facts.live facts.cell t c.serve.new.tables c.serve.new.own
@@ -20,7 +20,7 @@ returns-in-None-clause-served c t stood beside told =
     (stood ∙ ap (λ (p : Part). events_in (Some p)) c.in-Events.is) told.now (told.live row) (told.watched row) (told.truth row refl)
 
 pub returns-clause-left : goal.returns-clause-left
-returns-clause-left c t stood told =
+returns-clause-left c t ordered stood told =
     let row = c.args.client.now.row in
     let asked = c.args.self.now in
     let facts = c.args.facts in
