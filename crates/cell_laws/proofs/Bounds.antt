@@ -1,5 +1,5 @@
 -- Each service for semaphores keeps what links requests that wait and entries that are queued.
-use Rattle.std.proofs.Common.{◌≡◌, ℕ, ◌+◌, ◌<◌, ◌≤◌, inl, Bool, true, false, not, cond, ◌==◌, ◌&&◌, ◌||◌, List, [], ◌∷◌, length, Option, None, Some, option_map, option_to_list, if◌then◌else◌, refl, sym, ◌∙◌, ap, subst, arith}
+use Rattle.std.proofs.Common.{◌≡◌, ℕ, ◌+◌, ◌<◌, ◌≤◌, inl, Bool, true, false, not, cond, ◌==◌, ◌&&◌, ◌||◌, List, [], ◌∷◌, length, Option, None, Some, option_map, option_to_list, if◌then◌else◌, refl, sym, ◌∙◌, ap, subst, arith, ◌++◌}
 use Rattle.std.specs.Map.{lookup}
 use Rattle.std.proofs.lemmas.Bool.Decides.{nat_tests}
 use Rattle.std.proofs.lemmas.Map.{lookup-remove_entry}
@@ -23,6 +23,7 @@ use Rattle.token_sem.proofs.Losing.{owner-not_queued}
 use Rattle.pool_sem.specs.Pools as pool
 use Rattle.mms_time.specs.Semaphores.{IsSound, Rows, changed, entries_in, entries_of, entry_in, entry_waits, made_in}
 use Rattle.mms_time.specs.Services.{cancel_after, cancelled, define_after, delete_cause, delete_conditions, deleted, new_semaphore, place_asked, relinquish_after, relinquish_grant_in, relinquish_grant_of, take_after, take_cause, take_conditions, take_told, take_told_in, take_told_of, with_take, with_token_back, without_entry}
+use Rattle.mms_time.proofs.Defined.{new_row, put_lookup}
 use Rattle.mms_time.specs.declared.row.Semaphore.{Semaphore}
 use Rattle.mms_time.specs.declared.row.Semaphore.TheVariants.{Token, Pool}
 use Rattle.mms_time.specs.declared.row.SemaphoreRow.{SemaphoreRow}
@@ -181,10 +182,11 @@ module _ (rows : Rows) (f : ℕ → ℕ → Option Waiting) (bound : Bound (aske
           (changed-less (without_entry number) key rows row number e (in_semaphore row.semaphore)) left
 
   -- a semaphore is defined
-  pub bound-defined : (client : ℕ) (x : DefineSemaphore) → Bound (asker (define_after client x rows)) f
-  bound-defined client x = bound-same (asker rows) (asker (define_after client x rows)) f f bound (λ k n. still k n rows) (λ c i. refl)
+  pub bound-defined : (client : ℕ) (x : DefineSemaphore) → lookup (key_eq (key_of client x.name)) rows ≡ None → Bound (asker (define_after client x rows)) f
+  bound-defined client x new =
+      bound-same (asker rows) (asker (define_after client x rows)) f f bound (λ k n. ap (asker_in n) (put_lookup (new_row client x) rows k new) ∙ still k n rows) (λ c i. refl)
     where
-      still : (k : Key) (n : ℕ) (all : Rows) → asker (define_after client x all) k n ≡ asker all k n
+      still : (k : Key) (n : ℕ) (all : Rows) → asker (all ++ new_row client x ∷ []) k n ≡ asker all k n
       still k n [] = by_test (key_eq k (key_of client x.name))
         where
           by_test : (b : Bool) → asker_in n (cond b (Some (record { configured = false; semaphore = new_semaphore x.tokens })) None) ≡ None
@@ -192,8 +194,8 @@ module _ (rows : Rows) (f : ℕ → ℕ → Option Waiting) (bound : Bound (aske
           by_test false = refl
       still k n (row ∷ all) = by_test (key_eq k row.0) (still k n all)
         where
-          by_test : (b : Bool) → asker (define_after client x all) k n ≡ asker all k n
-              → asker_in n (cond b (Some row.1) (lookup (key_eq k) (define_after client x all))) ≡ asker_in n (cond b (Some row.1) (lookup (key_eq k) all))
+          by_test : (b : Bool) → asker (all ++ new_row client x ∷ []) k n ≡ asker all k n
+              → asker_in n (cond b (Some row.1) (lookup (key_eq k) (all ++ new_row client x ∷ []))) ≡ asker_in n (cond b (Some row.1) (lookup (key_eq k) all))
           by_test true ih = refl
           by_test false ih = ih
 

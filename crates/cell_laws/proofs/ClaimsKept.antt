@@ -1,6 +1,6 @@
 -- After any history, and at each point while time goes by, a client has one claim at most on each semaphore of equal
 -- tokens.
-use Rattle.std.proofs.Common.{◌≡◌, ℕ, ◌+◌, ◌⊎◌, inl, inr, Bool, true, false, not, cond, ◌==◌, List, [], ◌∷◌, ◌++◌, filter, fold, Option, None, Some, is_some, option_and_then, option_map, if◌then◌else◌, refl, sym, ◌∙◌, ap, subst}
+use Rattle.std.proofs.Common.{◌≡◌, ℕ, ◌+◌, ◌⊎◌, inl, inr, Bool, true, false, not, cond, ◌==◌, List, [], ◌∷◌, ◌++◌, filter, fold, Option, None, Some, is_some, option_and_then, option_map, if◌then◌else◌, refl, sym, ◌∙◌, ap, subst, nat_le}
 use Rattle.std.specs.Map.{lookup, remove_entry}
 use Rattle.std.proofs.lemmas.Map.{lookup-remove_entry, lookup-set_value}
 use Rattle.std.proofs.lemmas.Map.Entries.{lookup-filter-keys}
@@ -31,6 +31,7 @@ use Rattle.mms_time.specs.Loss.{all_changed, lost, without_client}
 use Rattle.mms_time.specs.Opening.{configured, pool_row}
 use Rattle.mms_time.specs.Semaphores.{IsSound, Rows, changed, changed_row, changed_to, entry_in, entry_waits}
 use Rattle.mms_time.specs.Services.{ask_of, cancel_after, cancelled, define_after, new_semaphore, relinquished, take_after, take_told, with_take, with_token_back, without_entry}
+use Rattle.mms_time.specs.Parts.{part_of_row, with_semaphore}
 use Rattle.mms_time.specs.declared.row.Semaphore.{Semaphore}
 use Rattle.mms_time.specs.declared.row.Semaphore.TheVariants.{Token, Pool}
 use Rattle.mms_time.specs.declared.row.SemaphoreRow.{SemaphoreRow}
@@ -175,9 +176,31 @@ deleted-single key rows sound single k row there =
     by_test true h = absurd (cc h)
     by_test false h = single k row h
 
+-- it is one of them, or the new one
+single-put : (k : Key) (rows : Rows) (e : Key × SemaphoreRow) (row : SemaphoreRow) → lookup (key_eq k) (with_semaphore e rows) ≡ Some row
+    → (lookup (key_eq k) rows ≡ Some row) ⊎ (e.1 ≡ row)
+single-put k [] e row there = single-appended k [] e row there
+single-put k (first ∷ rows) e row there = by_place (nat_le (part_of_row first) (part_of_row e)) there (single-put k rows e row)
+  where
+    by_first : (b : Bool) → cond b (Some first.1) (lookup (key_eq k) (with_semaphore e rows)) ≡ Some row
+        → (lookup (key_eq k) (with_semaphore e rows) ≡ Some row → (lookup (key_eq k) rows ≡ Some row) ⊎ (e.1 ≡ row))
+        → (cond b (Some first.1) (lookup (key_eq k) rows) ≡ Some row) ⊎ (e.1 ≡ row)
+    by_first true h ih = inl h
+    by_first false h ih = ih h
+
+    by_new : (b : Bool) → cond b (Some e.1) (lookup (key_eq k) (first ∷ rows)) ≡ Some row → (lookup (key_eq k) (first ∷ rows) ≡ Some row) ⊎ (e.1 ≡ row)
+    by_new true h = inr (cc h)
+    by_new false h = inl h
+
+    by_place : (b : Bool) → lookup (key_eq k) (if b then first ∷ with_semaphore e rows else e ∷ first ∷ rows) ≡ Some row
+        → (lookup (key_eq k) (with_semaphore e rows) ≡ Some row → (lookup (key_eq k) rows ≡ Some row) ⊎ (e.1 ≡ row))
+        → (lookup (key_eq k) (first ∷ rows) ≡ Some row) ⊎ (e.1 ≡ row)
+    by_place true h ih = by_first (key_eq k first.0) h ih
+    by_place false h ih = by_new (key_eq k e.0) h
+
 defined-single : (client : ℕ) (x : DefineSemaphore) (rows : Rows) → AreSingle rows → AreSingle (define_after client x rows)
 defined-single client x rows single k row there =
-    by_part (single-appended k rows (key_of client x.name, record { configured = false; semaphore = new_semaphore x.tokens }) row there)
+    by_part (single-put k rows (key_of client x.name, record { configured = false; semaphore = new_semaphore x.tokens }) row there)
   where
     by_part : (lookup (key_eq k) rows ≡ Some row) ⊎ (record { configured = false; semaphore = new_semaphore x.tokens } ≡ row) → SingleIn row.semaphore
     by_part (inl found) = single k row found

@@ -1,5 +1,5 @@
 -- What holds of the name of each row holds so of fewer rows, and of one more where it holds of its name.
-use Rattle.std.proofs.Common.{◌≡◌, zero, suc, Bool, true, false, not, cond, List, [], ◌∷◌, ◌++◌, filter, Option, None, Some, refl, arith}
+use Rattle.std.proofs.Common.{◌≡◌, zero, suc, Bool, true, false, not, cond, List, [], ◌∷◌, ◌++◌, filter, Option, None, Some, refl, arith, nat_le, if◌then◌else◌, ℕ}
 use Rattle.std.specs.Prelude.{◌||◌}
 use Rattle.std.specs.List.{All}
 use Rattle.std.specs.Map.{keys_of, lookup, remove_entry, set_value}
@@ -9,6 +9,7 @@ use Rattle.mms_types.specs.declared.key.Scope.{Scope}
 use Rattle.object_names.specs.Deletion.{goes, left}
 use Rattle.object_names.specs.Scopes.{has_any_of, without_all_of}
 use Rattle.mms_time.specs.Loss.{all_changed}
+use Rattle.parted_state.specs.Gathered.{put_behind}
 use Rattle.mms_time.specs.Semaphores.{Rows, changed, changed_row, changed_to}
 use Rattle.mms_time.specs.declared.row.Semaphore.{Semaphore}
 use Rattle.mms_time.specs.declared.row.SemaphoreRow.{SemaphoreRow}
@@ -56,6 +57,15 @@ module _ {T : Type 0} (P : Key → Type 0) where
   pub each_added : (rows : List (Key × T)) (row : Key × T) → Each P rows → P row.0 → Each P (rows ++ row ∷ [])
   each_added [] row all new = (new, tt)
   each_added (first ∷ rows) row all new = (all.0, each_added rows row all.1 new)
+
+  -- one that stands behind those of its place
+  pub each_put : (place : Key × T → ℕ) (rows : List (Key × T)) (row : Key × T) → Each P rows → P row.0 → Each P (put_behind place row rows)
+  each_put place [] row all new = (new, tt)
+  each_put place (first ∷ rows) row all new = by_test (nat_le (place first) (place row)) (each_put place rows row all.1 new)
+    where
+      by_test : (b : Bool) → Each P (put_behind place row rows) → Each P (if b then first ∷ put_behind place row rows else row ∷ first ∷ rows)
+      by_test true rest = (all.0, rest)
+      by_test false rest = (new, all)
 
   -- by places
   pub each_all : (rows : List (Key × T)) → Each P rows → All P (keys_of rows)

@@ -1,6 +1,6 @@
 -- Each table keeps its limit and its names distinct, whatever is done.
 use Rattle.std.proofs.Common.{◌≡◌, ℕ, ◌≤◌, ◌==◌, Bool, true, false, not, nat_le, List, [], ◌∷◌, filter, length, Option, None, Some, is_none, is_some, option_map, if◌then◌else◌, refl, sym, subst, arith}
-use Rattle.std.specs.Prelude.{◌||◌, ◌&&◌}
+use Rattle.std.specs.Prelude.{◌||◌, ◌&&◌, ◌++◌}
 use Rattle.std.specs.List.{list_any}
 use Rattle.std.specs.Map.{lookup, set_value}
 use Rattle.std.specs.Option.{option_map_or}
@@ -43,7 +43,10 @@ use Rattle.variable_lists.specs.Lists as lists
 use Rattle.variable_lists.specs.declared.row.VariableList.{VariableList}
 use Rattle.variable_services.specs.declared.tables.VariableTables.{VariableTables}
 use Rattle.variable_services.specs.Services.{pairs}
+use Rattle.mms_time.proofs.Defined.{new_row, put_distinct, put_permutes}
+use Rattle.mms_time.specs.Parts.{with_semaphore}
 use Rattle.mms_time.specs.Loss.{all_changed, lost, without_owners, without_waiters}
+use Rattle.std.proofs.lemmas.List.Sorted.{length_permutation}
 use Rattle.mms_time.specs.Semaphores.{Rows, changed, changed_row, changed_to, entry_in, entry_waits, semaphore}
 use Rattle.mms_time.specs.Services.{cancel_after, cancelled, define_cause, most_semaphores, new_semaphore, take_after, take_told, with_take, with_token_back, without_entry}
 use Rattle.mms_time.specs.declared.row.Semaphore.{Semaphore}
@@ -91,6 +94,13 @@ use Rattle.association.specs.Asked.{asked_of}
 use Rattle.cell_laws.specs.Limits.{AreFew}
 use Rattle.cell_laws.proofs.Few.{few-added, few-changed, few-kept, few-mapped, few-removed, few-set, length-filter, length-map, length-more, room}
 use Rattle.cell_laws.proofs.ScopesKept.{none_refused, writes_stay}
+
+-- one that stands behind those of its part
+few-put : (row : Key × SemaphoreRow) (rows : Rows) → AreFew key_eq most_semaphores (rows ++ row ∷ []) → AreFew key_eq most_semaphores (with_semaphore row rows)
+few-put row rows are = record {
+  distinct = put_distinct row rows are.distinct;
+  few = let same = length_permutation (rows ++ row ∷ []) (with_semaphore row rows) (put_permutes row rows) in let less = are.few in omega (arith, same, less);
+}
 
 pub record Few (t : Tables) : Type 0 where
   pub variables : AreFew key_eq variables.most_variables t.variables.vars.variables
@@ -387,7 +397,8 @@ module _ (t : Tables) (all : Few t) where
         let asks : Bool = is_of_domain x.name in
         let live : Bool = if asks then is_domain_live (domain_in x.name) t.domains else false in
         let free = semaphore_free live row.client x t.semaphores none in
-        few-semaphores _ (few-added key_eq most_semaphores keys_equal t.semaphores (key_of row.client x.name, record { configured = false; semaphore = new_semaphore x.tokens }) free.0 free.1 all.semaphores)
+        few-semaphores _ (few-put (new_row row.client x) t.semaphores
+        (few-added key_eq most_semaphores keys_equal t.semaphores (new_row row.client x) free.0 free.1 all.semaphores))
     few-effect (request.DeleteSemaphore x) none = few-semaphores _ (few-removed key_eq most_semaphores (key_eq (key_of row.client x)) t.semaphores all.semaphores)
     few-effect (request.InitiateDownloadSequence x) none =
         let free = domain_free (calling_left row) x t.domains.domains none in

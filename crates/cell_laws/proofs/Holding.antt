@@ -20,6 +20,7 @@ use Rattle.mms_time.specs.Deadlines.{expire_after, without_due}
 use Rattle.mms_time.specs.Loss.{lost, without_client}
 use Rattle.mms_time.specs.Semaphores.{IsSound, Rows, changed, changed_row, changed_to, entries_in, entries_of, entry_in, entry_waits, made_in}
 use Rattle.mms_time.specs.Services.{cancel_after, cancelled, define_after, delete_cause, delete_conditions, deleted, without_entry}
+use Rattle.mms_time.proofs.Defined.{new_row, put_lookup}
 use Rattle.mms_time.specs.declared.row.Semaphore.{Semaphore}
 use Rattle.mms_time.specs.declared.row.Semaphore.TheVariants.{Token, Pool}
 use Rattle.mms_time.specs.declared.row.SemaphoreRow.{SemaphoreRow}
@@ -128,11 +129,11 @@ lookup-front test (first ∷ rows) more row e = by_test (test first.0) e (lookup
     by_test false h ih = ih h
 
 pub defined-stays : (client : ℕ) (asked : DefineSemaphore) (rows : Rows) (key : Key) (c : SemEntry) → AreSound rows → entry_in key c.number rows ≡ Some c
-    → entry_in key c.number (define_after client asked rows) ≡ Some c
-defined-stays client asked rows key c sound is =
+    → lookup (key_eq (key_of client asked.name)) rows ≡ None → entry_in key c.number (define_after client asked rows) ≡ Some c
+defined-stays client asked rows key c sound is new =
     let its = holder key rows c sound is in
     let row : SemaphoreRow = its.found.row in
-    let at = lookup-front (key_eq key) rows _ row its.found.there in
+    let at = put_lookup (new_row client asked) rows key new ∙ lookup-front (key_eq key) rows (new_row client asked ∷ []) row its.found.there in
     let was = sym (ap (λ (o : Option SemaphoreRow). option_and_then (λ row. numbered c.number (entries_of row)) o) its.found.there) ∙ is in
     ap (λ (o : Option SemaphoreRow). option_and_then (λ row. numbered c.number (entries_of row)) o) at ∙ was
 

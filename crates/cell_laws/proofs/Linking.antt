@@ -36,6 +36,10 @@ use Rattle.association.specs.Negotiation.{negotiation}
 use Rattle.association.specs.Waiting.{is_waiting}
 use Rattle.token_sem.specs.declared.entry.Expired.{Expired}
 use Rattle.token_sem.specs.declared.entry.Grant.{Grant}
+use Rattle.mms_time.proofs.Unopposed.{nothing_against}
+use Rattle.serve_semaphores.specs.Semaphores.{define_semaphore}
+use Rattle.cell_services.specs.Requests.{told_in}
+use Rattle.cell_services.specs.Tables.{own_semaphores}
 use Rattle.mms_time.specs.Deadlines.{NamedDeadline, expired, expire_after, next_due}
 use Rattle.mms_time.specs.Loss.{lost}
 use Rattle.mms_time.specs.Semaphores.{Rows}
@@ -234,6 +238,7 @@ module _ (count : ℕ) (s : State) (sound : IsSound count s) (bound : Bound (ask
         by_grant (Some grant) told =
             bound-given s.semaphores (waits_in rows) now_bound sound.semaphores its.client (moment_of old) x grant _ told (granted-left (option_to_list grant) rows)
     done (request.DefineSemaphore x) none = bound-defined s.semaphores (waits_in rows) now_bound its.client x
+        (nothing_against (told_in own_semaphores old its (define_semaphore x)).live its.client x s.semaphores none)
     done (request.DeleteSemaphore x) none = bound-deleted s.semaphores (waits_in rows) now_bound sound.semaphores its.client x none
     done (request.InitiateDownloadSequence x) none = told-nothing ((its.client, Asks asks.Segment x.domain) ∷ []) (tt, tt)
     done (request.DeleteEventCondition x) none =

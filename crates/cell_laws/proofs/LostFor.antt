@@ -24,6 +24,10 @@ use Rattle.token_sem.specs.declared.entry.SemEntry.{SemEntry}
 use Rattle.token_sem.specs.Semaphore.{aborts, holds, is_owner, is_queued, numbered, owned_by}
 use Rattle.token_sem.proofs.Keeping.{Among}
 use Rattle.token_sem.proofs.Losing.{owner-not_queued}
+use Rattle.mms_time.proofs.Unopposed.{nothing_against}
+use Rattle.serve_semaphores.specs.Semaphores.{define_semaphore}
+use Rattle.cell_services.specs.Requests.{told_in}
+use Rattle.cell_services.specs.Tables.{own_semaphores}
 use Rattle.mms_time.specs.Deadlines.{NamedDeadline, expire_after, expired, expired_entry, expired_from, expired_in, next_due}
 use Rattle.mms_time.specs.Loss.{lost}
 use Rattle.mms_time.specs.Semaphores.{Rows, entries_in, entries_of, entry_in}
@@ -281,7 +285,9 @@ module _ (count : ℕ) (s : State) (sound : IsSoundState count s) (key : Key) (e
     done invoke (request.TakeControl x) is served = took invoke x is served
     done invoke (request.RelinquishControl x) is served = subst After (sym (became invoke (request.RelinquishControl x) is served)) (gave invoke x is served)
     done invoke (request.DefineSemaphore x) is served =
-        subst After (sym (became invoke (request.DefineSemaphore x) is served)) (as_was (defined-stays its.client x s.semaphores key e sound.semaphores at))
+        subst After (sym (became invoke (request.DefineSemaphore x) is served))
+        (as_was (defined-stays its.client x s.semaphores key e sound.semaphores at
+        (nothing_against (told_in own_semaphores old its (define_semaphore x)).live its.client x s.semaphores (refused-not invoke (request.DefineSemaphore x) is served))))
     done invoke (request.DeleteSemaphore x) is served =
         subst After (sym (became invoke (request.DeleteSemaphore x) is served))
         (as_was (deleted-stays its.client x s.semaphores key e sound.semaphores at (refused-not invoke (request.DeleteSemaphore x) is served)))

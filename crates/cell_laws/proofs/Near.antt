@@ -1,5 +1,5 @@
 -- No deadline is further away than 32 bits tell, whatever a request, a cancel, a loss or a deadline that is met does.
-use Rattle.std.proofs.Common.{◌≡◌, ℕ, zero, suc, ◌+◌, ◌≤◌, ◌==◌, ◌⊎◌, inl, inr, Bool, true, false, not, cond, List, [], ◌∷◌, ◌++◌, map, filter, fold, length, Option, None, Some, option_and_then, option_map, option_to_list, if◌then◌else◌, refl, ap, subst, arith}
+use Rattle.std.proofs.Common.{◌≡◌, ℕ, zero, suc, ◌+◌, ◌≤◌, ◌==◌, ◌⊎◌, inl, inr, Bool, true, false, not, cond, List, [], ◌∷◌, ◌++◌, map, filter, fold, length, Option, None, Some, option_and_then, option_map, option_to_list, if◌then◌else◌, refl, ap, subst, arith, nat_le}
 use Rattle.std.specs.List.{All, cons_option}
 use Rattle.std.specs.Map.{lookup, remove_entry, set_value}
 use Rattle.mms_types.specs.Order.{key_eq, key_of, scope_eq}
@@ -23,6 +23,7 @@ use Rattle.mms_time.specs.Deadlines.{NamedDeadline, all_deadlines, deadlines_of,
 use Rattle.mms_time.specs.Loss.{all_changed, lost, without_owners, without_waiters}
 use Rattle.mms_time.specs.Semaphores.{Rows, changed, changed_row, changed_to, entries_in, entries_of, entry_in, entry_waits}
 use Rattle.mms_time.specs.Services.{ask_of, cancel_after, cancelled, define_after, deleted, place_asked, relinquished, take_after, with_take, with_token_back, without_entry}
+use Rattle.mms_time.specs.Parts.{part_of_row, with_semaphore}
 use Rattle.mms_time.specs.declared.row.Semaphore.{Semaphore}
 use Rattle.mms_time.specs.declared.row.Semaphore.TheVariants.{Token, Pool}
 use Rattle.mms_time.specs.declared.row.SemaphoreRow.{SemaphoreRow}
@@ -121,9 +122,13 @@ module _ (until : Moment) where
       by_test true rest = all.1
       by_test false rest = (all.0, rest)
 
-  rows_added : (rows : Rows) (row : Key × SemaphoreRow) → RowsNear until rows → AreNear until (entries_of row.1) → RowsNear until (rows ++ row ∷ [])
-  rows_added [] row all last = (last, tt)
-  rows_added (first ∷ rows) row all last = (all.0, rows_added rows row all.1 last)
+  rows_added : (rows : Rows) (row : Key × SemaphoreRow) → RowsNear until rows → AreNear until (entries_of row.1) → RowsNear until (with_semaphore row rows)
+  rows_added [] row all new = (new, tt)
+  rows_added (first ∷ rows) row all new = by_test (nat_le (part_of_row first) (part_of_row row)) (rows_added rows row all.1 new)
+    where
+      by_test : (b : Bool) → RowsNear until (with_semaphore row rows) → RowsNear until (if b then first ∷ with_semaphore row rows else row ∷ first ∷ rows)
+      by_test true rest = (all.0, rest)
+      by_test false rest = (new, all)
 
   -- ---- as deadlines
 

@@ -45,6 +45,7 @@ use Rattle.mms_time.specs.Deadlines.{expire_after, without_due}
 use Rattle.mms_time.specs.Loss.{all_changed, lost, without_owners, without_waiters}
 use Rattle.mms_time.specs.Semaphores.{Rows, entry_in, entry_waits, semaphore}
 use Rattle.mms_time.specs.Services.{cancel_after, cancelled, define_after, define_cause, delete_after, most_semaphores, new_semaphore, relinquish_after, take_after, take_told, with_take, with_token_back, without_entry}
+use Rattle.mms_time.specs.Parts.{part_of_row}
 use Rattle.mms_time.specs.declared.taking.TakeDone.{TakeDone}
 use Rattle.mms_time.specs.declared.taking.TakeDone.TheVariants.{Answered, Waits}
 use Rattle.sem_ticks.specs.Granted.{relinquish_granted}
@@ -94,7 +95,7 @@ use Rattle.cell_services.specs.Services.{area_of, cause, effect, effect_of, reli
 use Rattle.cell_services.specs.Serving.{domains_without, journals_without, is_served_in, lost_in, meanwhile, passed, saying, tables_cancelled, tables_heard, tables_lost, tables_served, waiting_of, without_client, without_clients}
 use Rattle.cell_services.specs.Tables.{Tables, moment_after, moment_of, own_domains, own_events, own_variables}
 use Rattle.cell_laws.specs.Scopes.{IsScopeLive}
-use Rattle.cell_laws.proofs.EachName.{Each, each_added, each_changed, each_kept, each_left, each_mapped, each_other, each_removed, each_set, each_weaker, each_without}
+use Rattle.cell_laws.proofs.EachName.{Each, each_added, each_changed, each_put, each_kept, each_left, each_mapped, each_other, each_removed, each_set, each_weaker, each_without}
 use Rattle.cell_laws.proofs.Happened.{from_rows, keeps-ticked}
 use Rattle.cell_laws.proofs.LiveStays.{StayLive, begun_stays, deleted_stays, lost_stays, not_scoped, replied_stays, unused_stay, used_stay}
 
@@ -400,7 +401,7 @@ module _ (t : Tables) (all : AreLive t) where
         let asks : Bool = is_of_domain x.name in
         let live : Bool = if asks then is_domain_live (domain_in x.name) t.domains else false in
         with_semaphores (define_after row.client x t.semaphores)
-        (each_added Live t.semaphores (key_of row.client x.name, record { configured = false; semaphore = new_semaphore x.tokens }) all.semaphores
+        (each_put Live part_of_row t.semaphores (key_of row.client x.name, record { configured = false; semaphore = new_semaphore x.tokens }) all.semaphores
         (new_live t.domains row.client x.name asks (λ e. e) (semaphore_against live row.client x t.semaphores none)))
     effect_live (request.DeleteSemaphore x) none distinct =
         with_semaphores (delete_after row.client x t.semaphores) (each_removed Live (key_eq (key_of row.client x)) t.semaphores all.semaphores)

@@ -1,6 +1,6 @@
 -- What holds of each client that has anything in the tables holds so after requests, and after the loss of a client of
 -- all others.
-use Rattle.std.proofs.Common.{◌≡◌, ℕ, ℤ, Bool, true, false, not, cond, ◌==◌, List, [], ◌∷◌, ◌++◌, filter, map, length, Option, None, Some, IfSome, if◌then◌else◌, refl, sym, subst}
+use Rattle.std.proofs.Common.{◌≡◌, ℕ, ℤ, Bool, true, false, not, cond, ◌==◌, List, [], ◌∷◌, ◌++◌, filter, map, length, Option, None, Some, IfSome, if◌then◌else◌, refl, sym, subst, nat_le}
 use Rattle.std.specs.List.{AllByRecursion}
 use Rattle.std.specs.Option.{option_map_or}
 use Rattle.std.specs.Map.{lookup, remove_entry, set_value}
@@ -28,6 +28,8 @@ use Rattle.variable_services.specs.Services.{pairs}
 use Rattle.mms_time.specs.Loss.{all_changed, without_owners, without_waiters}
 use Rattle.mms_time.specs.Semaphores.{Rows, entry_in, entry_waits}
 use Rattle.mms_time.specs.Services.{cancel_after, cancelled, define_after, delete_after, new_semaphore, relinquish_after, take_after, take_told, with_take, with_token_back, without_entry}
+use Rattle.mms_time.specs.Parts.{part_of_row}
+use Rattle.parted_state.specs.Gathered.{put_behind}
 use Rattle.mms_time.specs.declared.taking.TakeDone.{TakeDone}
 use Rattle.mms_time.specs.declared.taking.TakeDone.TheVariants.{Answered, Waits}
 use Rattle.sem_ticks.specs.Granted.{relinquish_granted}
@@ -59,7 +61,7 @@ use Rattle.cell_services.specs.Requests.{told_in}
 use Rattle.cell_services.specs.Services.{effect, relinquish_outcome, take_outcome}
 use Rattle.cell_services.specs.Serving.{tables_cancelled, without_client}
 use Rattle.cell_services.specs.Tables.{Tables, moment_of, own_events, own_variables}
-use Rattle.cell_laws.proofs.EachName.{Each, each_added, each_changed, each_kept, each_left, each_mapped, each_removed}
+use Rattle.cell_laws.proofs.EachName.{Each, each_added, each_put, each_changed, each_kept, each_left, each_mapped, each_removed}
 use Rattle.cell_laws.proofs.ScopesKept.{NamesAre, each_cancelled, each_condition, each_journal, names_weaker, writes_stay}
 use Rattle.cell_laws.proofs.Unhung.{AllRows, back-fits, changed-fits, entry-fits, rows-lost, take-fits}
 
@@ -105,6 +107,14 @@ module _ {A : Type 0} (P : A → Type 0) where
   all-added : (xs : List A) (x : A) → AllByRecursion P xs → P x → AllByRecursion P (xs ++ x ∷ [])
   all-added [] x all new = (new, tt)
   all-added (y ∷ xs) x all new = (all.0, all-added xs x all.1 new)
+
+  all-put : (place : A → ℕ) (xs : List A) (x : A) → AllByRecursion P xs → P x → AllByRecursion P (put_behind place x xs)
+  all-put place [] x all new = (new, tt)
+  all-put place (y ∷ xs) x all new = by_test (nat_le (place y) (place x)) (all-put place xs x all.1 new)
+    where
+      by_test : (b : Bool) → AllByRecursion P (put_behind place x xs) → AllByRecursion P (if b then y ∷ put_behind place x xs else x ∷ y ∷ xs)
+      by_test true rest = (all.0, rest)
+      by_test false rest = (new, all)
 
   all-mapped : (f : A → A) → ((x : A) → P x → P (f x)) → (xs : List A) → AllByRecursion P xs → AllByRecursion P (map f xs)
   all-mapped f one [] all = tt
@@ -375,8 +385,8 @@ module _ (Q : ℕ → Type 0) (t : Tables) (sound : AreSound t.semaphores) (all 
             (λ r found is. back-fits Q row.client x.token (moment_of t) r.semaphore (row_found t.semaphores (key_of row.client x.name) r sound.each found) is) all.entries)
     effect-theirs (request.DefineSemaphore x) =
         with-semaphores (define_after row.client x t.semaphores)
-        (each_added OfName t.semaphores (key_of row.client x.name, record { configured = false; semaphore = new_semaphore x.tokens }) all.names.semaphores (mine x.name))
-        (all-added _ t.semaphores (key_of row.client x.name, record { configured = false; semaphore = new_semaphore x.tokens }) all.entries (λ e s. absurd s))
+        (each_put OfName part_of_row t.semaphores (key_of row.client x.name, record { configured = false; semaphore = new_semaphore x.tokens }) all.names.semaphores (mine x.name))
+        (all-put _ part_of_row t.semaphores (key_of row.client x.name, record { configured = false; semaphore = new_semaphore x.tokens }) all.entries (λ e s. absurd s))
     effect-theirs (request.DeleteSemaphore x) =
         with-semaphores (delete_after row.client x t.semaphores) (each_removed OfName (key_eq (key_of row.client x)) t.semaphores all.names.semaphores)
         (entries-removed (key_eq (key_of row.client x)) t.semaphores all.entries)

@@ -1,5 +1,6 @@
 pub mod Bounded
 pub mod Changed
+pub mod Defined
 pub mod EachLost
 pub mod Entered
 pub mod KeyOrder

@@ -4,6 +4,7 @@ pub mod Entered
 pub mod Guards
 pub mod Loss
 pub mod Opening
+pub mod Parts
 pub mod Semaphores
 pub mod Services
 pub mod Statuses

@@ -18,6 +18,7 @@ use Rattle.pool_sem.specs.Pools as pool
 use Rattle.token_sem.specs.Semaphore.{after_cancel, after_relinquish, after_take, has_claim, has_token, heir_of, makes_entry, outcome, owned_by, owner_of}
 use Rattle.token_sem.specs.declared.entry.Ask.{Ask}
 use Rattle.token_sem.specs.declared.entry.Grant.{Grant}
+use Rattle.mms_time.specs.Parts.{with_semaphore}
 use Rattle.mms_time.specs.Semaphores.{Rows, changed, entries_of, entry_in, entry_waits, names_in, semaphore}
 use Rattle.mms_time.specs.declared.row.Semaphore.{Semaphore}
 use Rattle.mms_time.specs.declared.row.Semaphore.TheVariants.{Token, Pool}
@@ -220,8 +221,9 @@ define_cause live client asked rows =
 abbrev pub new_semaphore : ℕ → Semaphore
 new_semaphore tokens = Token (record { tokens = tokens; made = 0; entries = [] })
 
+-- it stands behind those of its part
 abbrev pub define_after : ℕ → DefineSemaphore → Rows → Rows
-define_after client asked rows = rows ++ (key_of client asked.name, record { configured = false; semaphore = new_semaphore asked.tokens }) ∷ []
+define_after client asked rows = with_semaphore (key_of client asked.name, record { configured = false; semaphore = new_semaphore asked.tokens }) rows
 
 -- ---- DeleteSemaphore
 

@@ -35,9 +35,9 @@ pub fn define_semaphore_cause(
     None
 }
 
-/// Defines a semaphore (ISO 9506-1, DefineSemaphore): it is the last one, and its tokens are free. The one refusal is
-/// want of memory; then all is as before.
-#[tactic(auto, using(crate::proofs::Unopposed::nothing_against))]
+/// Defines a semaphore (ISO 9506-1, DefineSemaphore): it is the last one of its part, and its tokens are free. The
+/// one refusal is want of memory; then all is as before.
+#[tactic(auto, using(crate::proofs::Unopposed::nothing_against, crate::proofs::Defined::defined_last))]
 pub fn define_semaphore(
     alloc: Global,
     semaphores: &mut Semaphores,

@@ -1,5 +1,5 @@
 -- What holds of the moment of each deadline, and of every moment after now, holds of each after a request, a cancel, a loss or a deadline that is met now.
-use Rattle.std.proofs.Common.{◌≡◌, ℕ, zero, suc, ◌+◌, ◌==◌, ◌⊎◌, inl, inr, Bool, true, false, not, cond, List, [], ◌∷◌, ◌++◌, map, filter, fold, length, Option, None, Some, option_map, option_to_list, if◌then◌else◌, refl, subst, arith}
+use Rattle.std.proofs.Common.{◌≡◌, ℕ, zero, suc, ◌+◌, ◌==◌, ◌⊎◌, inl, inr, Bool, true, false, not, cond, List, [], ◌∷◌, ◌++◌, map, filter, fold, length, Option, None, Some, option_map, option_to_list, if◌then◌else◌, refl, subst, arith, nat_le}
 use Rattle.std.specs.List.{All, cons_option, flat_map}
 use Rattle.std.specs.Map.{lookup, remove_entry, set_value, values_of}
 use Rattle.mms_types.specs.Order.{key_eq, key_of, scope_eq}
@@ -23,6 +23,7 @@ use Rattle.mms_time.specs.Deadlines.{NamedDeadline, all_deadlines, deadlines_of,
 use Rattle.mms_time.specs.Loss.{all_changed, lost, without_owners, without_waiters}
 use Rattle.mms_time.specs.Semaphores.{Rows, changed, changed_row, changed_to, entries_in, entries_of, entry_in, entry_waits}
 use Rattle.mms_time.specs.Services.{ask_of, cancel_after, cancelled, define_after, deleted, place_asked, relinquished, take_after, with_take, with_token_back, without_entry}
+use Rattle.mms_time.specs.Parts.{part_of_row, with_semaphore}
 use Rattle.mms_time.specs.declared.row.Semaphore.{Semaphore}
 use Rattle.mms_time.specs.declared.row.Semaphore.TheVariants.{Token, Pool}
 use Rattle.mms_time.specs.declared.row.SemaphoreRow.{SemaphoreRow}
@@ -311,9 +312,13 @@ module _ (P : Moment → Type 0) (now : Moment) (past : (ms : ℕ) → (ms == 0)
       by_test true rest = all.1
       by_test false rest = (all.0, rest)
 
-  rows_added : (rows : Rows) (row : Key × SemaphoreRow) → RowsAt rows → AreAt (entries_of row.1) → RowsAt (rows ++ row ∷ [])
-  rows_added [] row all last = (last, tt)
-  rows_added (first ∷ rows) row all last = (all.0, rows_added rows row all.1 last)
+  rows_added : (rows : Rows) (row : Key × SemaphoreRow) → RowsAt rows → AreAt (entries_of row.1) → RowsAt (with_semaphore row rows)
+  rows_added [] row all new = (new, tt)
+  rows_added (first ∷ rows) row all new = by_test (nat_le (part_of_row first) (part_of_row row)) (rows_added rows row all.1 new)
+    where
+      by_test : (b : Bool) → RowsAt (with_semaphore row rows) → RowsAt (if b then first ∷ with_semaphore row rows else row ∷ first ∷ rows)
+      by_test true rest = (all.0, rest)
+      by_test false rest = (new, all)
 
   -- ---- as deadlines
 

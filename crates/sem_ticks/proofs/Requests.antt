@@ -19,6 +19,7 @@ use Rattle.token_sem.proofs.Keeping.{cancel-keeps, relinquish-keeps}
 use Rattle.token_sem.proofs.Taking.{take-keeps}
 use Rattle.mms_time.specs.Semaphores.{IsSound, Rows, entries_in, entries_of, entry_in, entry_waits}
 use Rattle.mms_time.specs.Services.{ask_of, cancel_after, cancelled, define_after, define_cause, deleted, new_semaphore, place_asked, relinquished, take_after, with_take, with_token_back, without_entry}
+use Rattle.mms_time.proofs.Defined.{put_distinct, put_each}
 use Rattle.mms_time.specs.declared.row.Semaphore.{Semaphore}
 use Rattle.mms_time.specs.declared.row.Semaphore.TheVariants.{Token, Pool}
 use Rattle.pool_sem.specs.Pools.{is_place}
@@ -82,11 +83,13 @@ keeps_cancelled key number rows is = by_test (entry_waits (entry_in key number r
 pub keeps_defined : (live : Bool) (client : ℕ) (asked : DefineSemaphore) (rows : Rows) → define_cause live client asked rows ≡ None → AreSound rows
     → AreSound (define_after client asked rows)
 keeps_defined live client asked rows none is = record {
-  names = subst (IsDistinct key_eq) (sym (map-append (λ e. e.0) rows (one ∷ [])))
+  names = put_distinct one rows
+      (subst (IsDistinct key_eq) (sym (map-append (λ e. e.0) rows (one ∷ [])))
       (IsDistinct-push keys_equal (keys_of rows) (key_of client asked.name) is.names
-      (sym (is_some-lookup (key_eq (key_of client asked.name)) rows) ∙ ap is_some (nothing_against live client asked rows none)));
-  each = subst (All IsSoundRow) (sym (map-append (λ e. e.1) rows (one ∷ [])))
-      (All-append IsSoundRow (values_of rows) (one.1 ∷ []) is.each first);
+      (sym (is_some-lookup (key_eq (key_of client asked.name)) rows) ∙ ap is_some (nothing_against live client asked rows none))));
+  each = put_each IsSoundRow one rows
+      (subst (All IsSoundRow) (sym (map-append (λ e. e.1) rows (one ∷ [])))
+      (All-append IsSoundRow (values_of rows) (one.1 ∷ []) is.each first));
 }
   where
     one : Key × SemaphoreRow

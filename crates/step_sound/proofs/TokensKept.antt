@@ -32,6 +32,7 @@ use Rattle.mms_time.specs.Deadlines.{NamedDeadline, expired, expire_after, next_
 use Rattle.mms_time.specs.Loss.{all_changed, lost, without_owners, without_waiters}
 use Rattle.mms_time.specs.Semaphores.{Rows, changed, changed_row, changed_to, entry_in, entry_waits, made_in, semaphore}
 use Rattle.mms_time.specs.Services.{ask_of, cancel_after, cancelled, define_after, define_cause, deleted, name_at, named_answer, new_semaphore, place_asked, relinquished, take_after, take_told, take_told_in, take_told_of, with_take, with_token_back, without_entry}
+use Rattle.mms_time.proofs.Defined.{put_each}
 use Rattle.sem_ticks.specs.Granted.{relinquish_granted}
 use Rattle.mms_time.specs.declared.row.Semaphore.{Semaphore}
 use Rattle.mms_time.specs.declared.row.Semaphore.TheVariants.{Token, Pool}
@@ -256,8 +257,9 @@ made_cancelled count key number rows all = by_test (entry_waits (entry_in key nu
 
 made_defined : (count client : ℕ) (asked : DefineSemaphore) (rows : Rows) → HaveMadeAtMost count rows → HaveMadeAtMost (suc count) (define_after client asked rows)
 made_defined count client asked rows all =
-    subst (All (HasMadeAtMost (suc count))) (sym (map-append (λ e. e.1) rows (one ∷ [])))
-    (All-append (HasMadeAtMost (suc count)) (values_of rows) (one.1 ∷ []) (made_more count rows all) first)
+    put_each (HasMadeAtMost (suc count)) one rows
+    (subst (All (HasMadeAtMost (suc count))) (sym (map-append (λ e. e.1) rows (one ∷ [])))
+    (All-append (HasMadeAtMost (suc count)) (values_of rows) (one.1 ∷ []) (made_more count rows all) first))
   where
     one : Key × SemaphoreRow
     one = (key_of client asked.name, record { configured = false; semaphore = new_semaphore asked.tokens })

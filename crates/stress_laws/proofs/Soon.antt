@@ -1,5 +1,5 @@
 -- Of semaphores whose requests wait five milliseconds at most: who waits waits so long at most, and nobody is aborted.
-use Rattle.std.proofs.Common.{◌&&◌, ◌≡◌, ℕ, ◌+◌, ◌≤◌, ◌==◌, inl, inr, Bool, true, false, not, cond, nat_lt, List, [], ◌∷◌, ◌++◌, map, filter, Option, None, Some, option_and_then, if◌then◌else◌, refl, sym, ◌∙◌, ap, subst, arith}
+use Rattle.std.proofs.Common.{◌&&◌, ◌≡◌, ℕ, ◌+◌, ◌≤◌, ◌==◌, inl, inr, Bool, true, false, not, cond, nat_lt, List, [], ◌∷◌, ◌++◌, map, filter, Option, None, Some, option_and_then, if◌then◌else◌, refl, sym, ◌∙◌, ap, subst, arith, nat_le}
 use Rattle.std.specs.Map.{lookup, set_value}
 use Rattle.mms_types.specs.Order.{key_eq, key_of}
 use Rattle.mms_types.specs.declared.key.Key.{Key}
@@ -17,6 +17,7 @@ use Rattle.mms_time.specs.Deadlines.{NamedDeadline, expire_after, expired, expir
 use Rattle.mms_time.specs.Deadlines as due
 use Rattle.mms_time.specs.Semaphores.{Rows, changed, changed_row, changed_to, entries_in}
 use Rattle.mms_time.specs.Services.{ask_of, define_after, relinquished, take_after, with_take, with_token_back}
+use Rattle.mms_time.specs.Parts.{part_of_row, with_semaphore}
 use Rattle.mms_time.specs.declared.row.Semaphore.{Semaphore}
 use Rattle.mms_time.specs.declared.row.Semaphore.TheVariants.{Token, Pool}
 use Rattle.mms_time.specs.declared.row.SemaphoreRow.{SemaphoreRow}
@@ -94,9 +95,13 @@ module _ (until : Moment) where
       by_row None found = all
       by_row (Some row) found = rows_set (key_eq key) (changed_row f row) rows (each row.semaphore (found_soon (key_eq key) rows row all found)) all
 
-  rows_added : (rows : Rows) (row : Key × SemaphoreRow) → RowsSoon until rows → IsSoonIn until row.1.semaphore → RowsSoon until (rows ++ row ∷ [])
-  rows_added [] row all last = (last, tt)
-  rows_added (first ∷ rows) row all last = (all.0, rows_added rows row all.1 last)
+  rows_added : (rows : Rows) (row : Key × SemaphoreRow) → RowsSoon until rows → IsSoonIn until row.1.semaphore → RowsSoon until (with_semaphore row rows)
+  rows_added [] row all new = (new, tt)
+  rows_added (first ∷ rows) row all new = by_test (nat_le (part_of_row first) (part_of_row row)) (rows_added rows row all.1 new)
+    where
+      by_test : (b : Bool) → RowsSoon until (with_semaphore row rows) → RowsSoon until (if b then first ∷ with_semaphore row rows else row ∷ first ∷ rows)
+      by_test true rest = (all.0, rest)
+      by_test false rest = (new, all)
 
 -- ---- time goes by
 
