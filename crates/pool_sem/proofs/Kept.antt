@@ -7,13 +7,13 @@ use Rattle.std.proofs.lemmas.Bool.Decides.{nat_tests}
 use Rattle.mms_types.specs.declared.moment.Moment.{Moment}
 use Rattle.token_sem.specs.declared.entry.Ask.{Ask}
 use Rattle.token_sem.specs.declared.entry.SemEntry.{SemEntry}
-use Rattle.token_sem.specs.Semaphore.{Rises, before, holds, is_owner, is_queued, numbered, owned_by, without}
+use Rattle.token_sem.specs.Semaphore.{Loss, Rises, before, holds, is_owner, is_queued, numbered, owned_by, without}
 use Rattle.token_sem.specs.Entries as of_any
 use Rattle.token_sem.specs.Entries.{lists_of, after_end}
 use Rattle.sem_queue.specs.Rows as q
 use Rattle.token_sem.proofs.Keeping.{Among, among-find, among-least, rises-without}
 use Rattle.token_sem.proofs.Serving.{numbered-at}
-use Rattle.pool_sem.specs.Pools.{IsPool, Pool, after_cancel, after_freeing_of, after_leaving, grant_freeing, grant_leaving, grant_of, granted_to, expired_entry, has, has_claim, is_claim, is_place, loss_of, names, next, outcome, owner_entry, owner_from, owner_of, queued_entry, wants}
+use Rattle.pool_sem.specs.Pools.{IsPool, Pool, after_cancel, after_freeing_of, after_leaving, grant_freeing, grant_leaving, grant_of, granted_to, expired_entry, has, has_claim, is_claim, is_place, lose_one, loss_of, lost_one, names, next, outcome, owner_entry, owner_from, owner_of, queued_entry, wants}
 use Rattle.pool_sem.specs.declared.marks.Marks.{Marks}
 use Rattle.pool_sem.specs.Marks.{AreMarks, is_marked}
 use Rattle.pool_sem.proofs.Counting.{weight, weight-yes, weight-no, count-cons, count-without, count-changed, count-push, none-among, none-any}
@@ -239,3 +239,9 @@ ended-in tokens count p e now named = ap (λ (o : Option ℕ). record p { entrie
 
 pub loss-in : (tokens : Option ℕ) (count client : ℕ) (now : Moment) (es : List SemEntry) → tokens ≡ Some count → of_any.loss_of tokens client now es ≡ loss_of client now es
 loss-in tokens count client now es named = ap (λ (o : Option ℕ). of_any.loss_of o client now es) named
+
+pub lose_one-in : (tokens : Option ℕ) (count client : ℕ) (now : Moment) (l : Loss) → tokens ≡ Some count → of_any.lose_one tokens client now l ≡ lose_one client now l
+lose_one-in tokens count client now l named = ap (λ (o : Option ℕ). of_any.lose_one o client now l) named
+
+pub lost_one-in : (tokens : Option ℕ) (count client : ℕ) (es : List SemEntry) → tokens ≡ Some count → of_any.lost_one tokens client es ≡ lost_one client es
+lost_one-in tokens count client es named = ap (λ (o : Option ℕ). of_any.lost_one o client es) named

@@ -7,10 +7,12 @@ use Rattle.mms_types.specs.declared.moment.Moment.{Moment}
 use Rattle.token_sem.specs.declared.entry.SemEntry.{SemEntry}
 use Rattle.token_sem.specs.declared.entry.SemState.TheVariants.{Hung}
 use Rattle.token_sem.specs.Semaphore.{Rises, is_queued, is_owner, holds, without, hung_entry, waits_for, owned_by, Loss}
-use Rattle.token_sem.proofs.Keeping.{Among, among-least, rises-lower, rises-without}
+use Rattle.token_sem.proofs.Keeping.{Among, among-least, rises-lower, rises-above, rises-without}
 use Rattle.token_sem.proofs.Losing.{Each, each-owned, rises-filter, waits-queued, among-map, among-filter, among-unique, owner-not_queued, hung-other}
+use Rattle.token_sem.proofs.LosingOne.{stays}
+use Rattle.token_sem.proofs.Tabled.{owner-is}
 use Rattle.token_sem.specs.Semaphore as of_tokens
-use Rattle.pool_sem.specs.Pools.{Pool, IsPool, has, wants, is_place, next, owner_from, granted_to, granted_entry, after_freeing, after_freeing_of, after_leaving, grant_leaving, loss_of_one, after_lose}
+use Rattle.pool_sem.specs.Pools.{Pool, IsPool, has, wants, is_place, next, owner_from, granted_to, granted_entry, after_freeing, after_freeing_of, after_leaving, grant_leaving, loss_of_one, losing, after_lose, after_lose_one}
 use Rattle.pool_sem.proofs.Counting.{weight, rises-changed, count-changed, count-kept, count-fewer}
 use Rattle.pool_sem.proofs.Freeing.{is-pool, unplaced, wants-queued, queued-lacks, left}
 
@@ -112,3 +114,16 @@ pub lose-keeps : (p : Pool) (client : ℕ) (now : Moment) → IsPool p → IsPoo
 lose-keeps p client now is =
     lost-fold p (filter (owned_by client) p.entries) (record { entries = filter (λ e. not (waits_for client e)) p.entries; grants = [] }) 0 now (unqueued p client is)
     (each-owned client p.entries) (rises-filter (owned_by client) 0 p.made p.entries is.rises)
+
+-- and where one of its owners is lost
+pub lose_one-keeps : (p : Pool) (client : ℕ) (now : Moment) → IsPool p → IsPool (after_lose_one p client now)
+lose_one-keeps p client now is = by_owner (of_tokens.owner_of client p.entries) refl
+  where
+    by_owner : (o : Option SemEntry) → of_tokens.owner_of client p.entries ≡ o
+        → IsPool (record p { entries = (losing o now (record { entries = filter (λ e. not (waits_for client e)) p.entries; grants = [] })).entries })
+    by_owner None f = unqueued p client is
+    by_owner (Some o) f =
+        let there = owner-is client p.entries o f in
+        let kept = among-filter (λ e. not (waits_for client e)) p.entries o there.0 (stays client o (owner-not_queued o there.1)) in
+        let above : o.number ≤ p.made = (rises-above 0 p.made p.entries o is.rises there.0).1 in
+        (one-lost p (record { entries = filter (λ e. not (waits_for client e)) p.entries; grants = [] }) o [] now (unqueued p client is) ((kept, there.1), tt) above).0

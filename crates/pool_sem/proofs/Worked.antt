@@ -9,10 +9,12 @@ use Rattle.token_sem.specs.declared.entry.NotOwner.{NotOwner}
 use Rattle.token_sem.specs.declared.entry.SemEntry.{SemEntry}
 use Rattle.token_sem.specs.declared.entry.SemState.{SemState}
 use Rattle.token_sem.specs.declared.entry.SemState.TheVariants.{Queued, Owner, Hung}
+use Rattle.token_sem.specs.declared.entry.LostOne.{LostOne}
+use Rattle.token_sem.specs.declared.entry.LostOne.TheVariants.{Freed, Done}
 use Rattle.token_sem.specs.declared.entry.Taken.TheVariants.{Granted, Waits, TimedOut}
 use Rattle.token_sem.specs.declared.entry.TakeRefused.TheVariants.{Twice}
 use Rattle.pool_sem.specs.declared.outcome.TokenState.TheVariants as status
-use Rattle.pool_sem.specs.Pools.{Pool, after_expire, after_relinquish, after_take, expired_of, has_token, loss_of, place_of, relinquish_answer, take_answer, token_got, token_state}
+use Rattle.pool_sem.specs.Pools.{Pool, after_expire, after_relinquish, after_take, expired_of, has_token, lose_each, loss_of, lost_one, place_of, relinquish_answer, take_answer, token_got, token_state}
 
 -- a function answers each row of a table with its second column
 abbrev Answers : {A B : Type 0} → (A → B) → List (A × B) → Type 0
@@ -243,3 +245,28 @@ of_priority n priority = map (λ k. k + 3) (filter (λ k. (k * 5) % 7 == priorit
 
 granted_by_rank : served 120 1 (crowd 120) ≡ of_priority 120 0 ++ of_priority 120 1 ++ of_priority 120 2 ++ of_priority 120 3 ++ of_priority 120 4 ++ of_priority 120 5 ++ of_priority 120 6
 granted_by_rank = refl
+
+-- one owner at a time: what is told of client 1, and which entries are left, after so many were lost
+abbrev after_each : List SemEntry → ℕ → List SemEntry
+after_each entries n = (lose_each n 1 (at 100) (record { entries = entries; grants = [] })).entries
+
+abbrev told_each : List SemEntry → ℕ → LostOne
+told_each entries n = lost_one 1 (after_each entries n)
+
+-- a hung entry of the client and two that it owns, and one of another that waits for the second of these
+abbrev two_owned : List SemEntry
+two_owned = hung 1 1 2 ∷ owner 2 1 1 ∷ owner 3 1 0 ∷ waiter 4 2 (Some 0) ∷ []
+
+-- the hung one is left alone; least number first, and then the other; then there is none
+two_told : map (told_each two_owned) (0 ∷ 1 ∷ 2 ∷ []) ≡ Freed None ∷ Freed (Some (record { client = 2; invoke = 1; entry = 4; token = None })) ∷ Done ∷ []
+two_told = refl
+
+two_left : map (λ n. map (λ e. e.number) (after_each two_owned n)) (1 ∷ 2 ∷ []) ≡ (1 ∷ 3 ∷ 4 ∷ []) ∷ (1 ∷ 4 ∷ []) ∷ []
+two_left = refl
+
+-- queued entries alone: they go, and there is none
+queued_gone : map (λ e. e.number) (after_each (waiter 4 1 None ∷ waiter 5 2 None ∷ []) 1) ≡ 5 ∷ []
+queued_gone = refl
+
+queued_told : told_each (waiter 4 1 None ∷ waiter 5 2 None ∷ []) 0 ≡ Done
+queued_told = refl

@@ -1,7 +1,7 @@
 -- A pool, tokens that have names and a list of entries: ISO 9506-1, semaphore management. What a pool has in common
 -- with equal tokens, as entries, their rank and their deadlines, and who gets a token that is freed, stands in
 -- `token_sem`.
-use Rattle.std.specs.Prelude.{◌≡◌, ℕ, ◌+◌, ◌<◌, ◌≤◌, Bool, true, false, not, ◌&&◌, ◌||◌, ◌==◌, nat_eq, nat_lt, if◌then◌else◌, List, [], ◌∷◌, ◌++◌, map, filter, find, fold, count_by, length, position, Option, None, Some, is_some, option_to_list, Result, Ok, Err}
+use Rattle.std.specs.Prelude.{◌≡◌, ℕ, zero, suc, ◌+◌, ◌<◌, ◌≤◌, Bool, true, false, not, ◌&&◌, ◌||◌, ◌==◌, nat_eq, nat_lt, if◌then◌else◌, List, [], ◌∷◌, ◌++◌, map, filter, find, fold, count_by, length, position, Option, None, Some, is_some, option_to_list, Result, Ok, Err}
 use Rattle.std.specs.List.{list_any, range_with_len, AllAdjacentBelow}
 use Rattle.std.specs.Option.{option_eq, option_cmp}
 use Rattle.std.specs.Cmp.Lexicographic.{pointwise}
@@ -15,12 +15,14 @@ use Rattle.token_sem.specs.declared.entry.Ask.{Ask}
 use Rattle.token_sem.specs.declared.entry.Grant.{Grant}
 use Rattle.token_sem.specs.declared.entry.NotOwner.{NotOwner}
 use Rattle.token_sem.specs.declared.entry.Expired.{Expired}
+use Rattle.token_sem.specs.declared.entry.LostOne.{LostOne}
+use Rattle.token_sem.specs.declared.entry.LostOne.TheVariants.{Freed, Hung, Done}
 use Rattle.token_sem.specs.declared.entry.Taken.{Taken}
 use Rattle.token_sem.specs.declared.entry.Taken.TheVariants.{Granted, Waits, TimedOut}
 use Rattle.token_sem.specs.declared.entry.TakeRefused.{TakeRefused}
 use Rattle.token_sem.specs.declared.entry.TakeRefused.TheVariants.{Twice}
 use Rattle.token_sem.specs.Semaphore as of_tokens
-use Rattle.token_sem.specs.Semaphore.{is_queued, is_owner, is_hung, holds, before, least, without, numbered, after, deadline_after, hung_entry, waits_for, owned_by, aborts, Loss, Rises}
+use Rattle.token_sem.specs.Semaphore.{is_queued, is_owner, is_hung, holds, before, least, without, numbered, after, deadline_after, hung_entry, waits_for, without_waiters, owned_by, aborts, Loss, Rises}
 pub use Rattle.token_sem.specs.Named.{suits, wants, next, token_told, owner_from, granted_entry, granted_to, after_freeing, grant_of, after_freeing_of, after_leaving, grant_freeing, grant_leaving}
 use Rattle.pool_sem.specs.declared.outcome.PoolOutcome.{PoolOutcome}
 use Rattle.pool_sem.specs.declared.outcome.PoolOutcome.TheVariants.{Refused, Preempts, Gets, TimesOut, WaitsUntil, WaitsForEver}
@@ -213,6 +215,30 @@ loss_of client now entries =
 
 abbrev pub after_lose : Pool → ℕ → Moment → Pool
 after_lose p client now = record p { entries = (loss_of client now p.entries).entries }
+
+-- of a client that is lost, its queued entries go, and its owner entry of least number is lost, if there is one
+
+abbrev pub losing : Option SemEntry → Moment → Loss → Loss
+losing None now l = l
+losing (Some o) now l = loss_of_one now l o
+
+abbrev pub lose_one : ℕ → Moment → Loss → Loss
+lose_one client now l = losing (of_tokens.owner_of client l.entries) now (record l { entries = without_waiters client l.entries })
+
+abbrev pub lost_of : Option SemEntry → List SemEntry → LostOne
+lost_of None entries = Done
+lost_of (Some o) entries = if o.keep then Hung else Freed (grant_leaving o entries)
+
+abbrev pub lost_one : ℕ → List SemEntry → LostOne
+lost_one client entries = lost_of (of_tokens.owner_of client entries) (without_waiters client entries)
+
+abbrev pub after_lose_one : Pool → ℕ → Moment → Pool
+after_lose_one p client now = record p { entries = (lose_one client now (record { entries = p.entries; grants = [] })).entries }
+
+-- one after the other, so many times
+abbrev pub lose_each : ℕ → ℕ → Moment → Loss → Loss
+lose_each zero client now l = l
+lose_each (suc n) client now l = lose_each n client now (lose_one client now l)
 
 -- what ReportPoolSemaphoreStatus tells of a token: by the entry that has it, if one does
 

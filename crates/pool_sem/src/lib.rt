@@ -14,8 +14,8 @@ mod outcome;
 mod pool;
 
 pub use laws::{
-    a_freed_token_is_served, a_token_is_had_once, no_free_token_is_wanted,
-    no_more_are_had_than_there_are,
+    a_freed_token_is_served, a_loss_is_made_one_by_one, a_token_is_had_once,
+    no_free_token_is_wanted, no_more_are_had_than_there_are,
 };
 pub use outcome::{PoolOutcome, TokenState};
 pub use pool::PoolSem;

@@ -4,8 +4,9 @@ ghost use Rattle.std.specs.Option.{option_copied};
 ghost use Rattle.mms_types.specs.Moments.{IsDated};
 ghost use Rattle.token_sem.specs.declared.entry.SemEntry.{SemEntry};
 ghost use Rattle.token_sem.specs.declared.entry.TakeRefused.TheVariants.{Memory as OutOfMemory};
+ghost use Rattle.token_sem.specs.Entries.{rows_of};
 ghost use Rattle.token_sem.specs.Semaphore.{deadline_at, first_deadline, holds, is_hung, is_owner, is_queued, moment_and_entry, numbered, owned_by};
-ghost use Rattle.pool_sem.specs.Pools.{IsPool, NamesRise, after_cancel, after_expire, after_leaving, after_lose, after_relinquish, after_take, expired_of, free_token, grant_leaving, has_claim, has_token, heir_of, is_place, is_placed, loss_of, makes_entry, outcome, owner_of, place_of, relinquish_answer, take_answer, token_got, token_state};
+ghost use Rattle.pool_sem.specs.Pools.{IsPool, NamesRise, after_cancel, after_expire, after_leaving, after_lose, after_lose_one, after_relinquish, after_take, expired_of, free_token, grant_leaving, has_claim, has_token, heir_of, is_place, is_placed, loss_of, lost_one, makes_entry, outcome, owner_of, place_of, relinquish_answer, take_answer, token_got, token_state};
 
 use crate::entries::{
     grant_to, has_claim, hung_to_preempt, outcome_later, owner_entry, owner_of, place_of,
@@ -14,10 +15,13 @@ use crate::entries::{
 use crate::marks::Marks;
 use crate::{PoolOutcome, TokenState};
 use mms_types::{Identifier, Identifiers, Memory, Moment};
+use sem_queue::Ranks;
 use std::alloc::Global;
 use std::marker::Model;
 use token_sem::entries::{hung, owned};
-use token_sem::{Ask, Deadline, Entries, Expired, Grant, NotOwner, SemEntry, TakeRefused, Taken};
+use token_sem::{
+    Ask, Deadline, Entries, Expired, Grant, LostOne, NotOwner, SemEntry, TakeRefused, Taken,
+};
 
 /// A semaphore whose tokens have names (ISO 9506-1, pool semaphore). A token is told by its place in the list of their
 /// names, counted from 0 in order of octets. Contracts see the names, how many entries were made, and the entries in
@@ -302,6 +306,29 @@ impl PoolSem {
         let grants = self.entries.lose(alloc, client, now)?;
         self.marks = Marks::of(self.entries.as_slice());
         Ok(grants)
+    }
+
+    /// One step of the loss of a client: its queued entries go. Then its owner entry of least number becomes hung where
+    /// its token is kept, and else goes, and its token is freed: who is granted it is told. `Done` exactly where it has
+    /// no owner entry. It takes no memory.
+    pub fn lose_one(&mut self, client: u32, now: Moment) -> LostOne
+        requires { IsDated now }
+        ensures told { result ≡ lost_one client self.old.entries }
+        ensures state { self.new ≡ after_lose_one self.old client now }
+    {
+        let lost = self.entries.lose_one(client, now);
+        let entries = self.entries.as_slice();
+        self.marks = Marks::of(entries);
+        lost
+    }
+
+    /// The rows by which it is told who is served next: one for each entry that waits or has a deadline, in order of
+    /// number. An owner or a hung entry without a deadline has none. The tokens there are those of the pool.
+    pub fn ranks(&self) -> &Ranks
+        ensures rows { result.now.rows ≡ rows_of self.now.entries }
+        ensures tokens { result.now.tokens ≡ length self.now.tokens }
+    {
+        self.entries.ranks()
     }
 
     /// How many entries were made.

@@ -11,7 +11,7 @@ use Rattle.sem_queue.proofs.Lists.{weight-yes, weight-no, count-cons}
 use Rattle.sem_queue.proofs.Least.{Among, count-among, least-among, least-first, least-ties, before-order, sooner-order, tied, tied-due, moment_is, due_is, all-among}
 
 module _ {A : Type 0} where
-  among-contains : (xs : List A) (x : A) → Among xs x → Contains xs x
+  pub among-contains : (xs : List A) (x : A) → Among xs x → Contains xs x
   among-contains [] x h = absurd h
   among-contains (y ∷ ys) x (inl same) = (0, omega arith, same)
   among-contains (y ∷ ys) x (inr h) = let rest = among-contains ys x h in let lt = rest.1 in (suc rest.0, omega arith, rest.2)
@@ -21,11 +21,11 @@ module _ {A : Type 0} where
   at-among (y ∷ ys) x zero lt e = inl e
   at-among (y ∷ ys) x (suc k) lt e = inr (at-among ys x k (omega arith) e)
 
-  contains-among : (xs : List A) (x : A) → Contains xs x → Among xs x
+  pub contains-among : (xs : List A) (x : A) → Contains xs x → Among xs x
   contains-among xs x h = at-among xs x h.0 h.1 h.2
 
   -- those of a filter
-  among-filter : (p : A → Bool) (xs : List A) (x : A) → Among (filter p xs) x → Among xs x × (p x ≡ true)
+  pub among-filter : (p : A → Bool) (xs : List A) (x : A) → Among (filter p xs) x → Among xs x × (p x ≡ true)
   among-filter p [] x h = absurd h
   among-filter p (y ∷ ys) x h = by_test (p y) refl h (among-filter p ys x)
     where
@@ -34,7 +34,7 @@ module _ {A : Type 0} where
       by_test true t (inr h) ih = let rest = ih h in (inr rest.0, rest.1)
       by_test false t h ih = let rest = ih h in (inr rest.0, rest.1)
 
-  filter-among : (p : A → Bool) (xs : List A) (x : A) → Among xs x → p x ≡ true → Among (filter p xs) x
+  pub filter-among : (p : A → Bool) (xs : List A) (x : A) → Among xs x → p x ≡ true → Among (filter p xs) x
   filter-among p [] x h t = absurd h
   filter-among p (y ∷ ys) x h t = by_test (p y) refl h (λ k. filter-among p ys x k t)
     where
@@ -44,7 +44,7 @@ module _ {A : Type 0} where
       by_test false u (inl same) ih = absurd (let v : p y ≡ true = ap p same ∙ t in cc (u, v))
       by_test false u (inr h) ih = ih h
 
-  count-zero : (p : A → Bool) (xs : List A) → ((x : A) → Among xs x → p x ≡ false) → count_by p xs ≡ 0
+  pub count-zero : (p : A → Bool) (xs : List A) → ((x : A) → Among xs x → p x ≡ false) → count_by p xs ≡ 0
   count-zero p [] h = refl
   count-zero p (x ∷ xs) h =
       let none = weight-no p x (h x (inl refl)) in
@@ -66,7 +66,7 @@ distinct-rest x rows distinct n =
     let most : count_by p (x ∷ rows) ≤ 1 = distinct n in
     omega (arith, count-cons p x rows)
 
-distinct-same : (rows : List Row) (a b : Row) → AreDistinct rows → Among rows a → Among rows b → a.number ≡ b.number → a ≡ b
+pub distinct-same : (rows : List Row) (a b : Row) → AreDistinct rows → Among rows a → Among rows b → a.number ≡ b.number → a ≡ b
 distinct-same [] a b distinct h k e = absurd h
 distinct-same (x ∷ rows) a b distinct (inl h) (inl k) e = sym h ∙ k
 distinct-same (x ∷ rows) a b distinct (inl h) (inr k) e = absurd (twice x b rows distinct k (ap (λ (r : Row). r.number) h ∙ e))

@@ -6,8 +6,8 @@
 //! after it a row comes and goes without memory.
 //!
 //! `find` counts the rows that it looks at: of n rows, 2 to that number is at most 2n + 1. That each look is counted is
-//! seen in the code, where one function looks and counts; no clause says it. Nothing here calls `find` and `after` yet:
-//! `insert` and `remove` search by the same loop, and have no bound.
+//! seen in the code, where one function looks and counts; no clause says it. `attach_sem` alone calls `after`, and
+//! nothing `find`: `insert` and `remove` search by the same loop, and have no bound.
 //!
 //! Who is served first is exactly the row that wants the token and that none that wants it comes before
 //! (`the_least_is_served_first`); which deadline is first is told likewise (`the_first_deadline_is_the_least`).

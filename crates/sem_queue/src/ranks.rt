@@ -2,7 +2,7 @@ ghost use Rattle.std.specs.Prelude.{◌≡◌, ◌+◌, ◌-◌, ◌*◌, ◌^�
 ghost use Rattle.std.specs.List.{list_any};
 ghost use Rattle.sem_queue.specs.Marks.{IsIndex, is_up_to, row_from, rows_at};
 ghost use Rattle.sem_queue.specs.declared.order.Order.TheVariants.{Rank};
-ghost use Rattle.sem_queue.specs.Rows.{after_remove, count_numbered, due_of, earlier_number, first_deadline, first_due, is_placed, least_number, listed, number_after, numbered, place_of as place_in, waits_numbered, with_row};
+ghost use Rattle.sem_queue.specs.Rows.{AreDistinct, after_remove, count_numbered, due_of, earlier_number, first_deadline, first_due, is_placed, least_number, listed, number_after, numbered, place_of as place_in, waits_numbered, with_row};
 
 use crate::keys::{
     begin_later, begin_of, begin_sooner, key_of, place_of, put, row_under, take_out,
@@ -208,6 +208,14 @@ impl Ranks {
             by_deadline,
             begins,
         })
+    }
+
+    /// How many tokens there are. Of any ranks it holds that no two rows have one number.
+    pub fn tokens(&self) -> u32
+        ensures tokens { result ≡ self.now.tokens }
+        ensures always { AreDistinct self.now.rows }
+    {
+        self.tokens
     }
 
     /// Makes room for so many rows more, where there is less. The one refusal is want of memory; then all is as

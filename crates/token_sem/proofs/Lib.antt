@@ -7,4 +7,6 @@ pub mod Unowned
 pub mod Positions
 pub mod Ranked
 pub mod Tabled
+pub mod OneByOne
+pub mod LosingOne
 mod Worked

@@ -8,7 +8,7 @@ use Rattle.token_sem.specs.declared.entry.SemState.TheVariants.{Hung}
 use Rattle.token_sem.specs.Semaphore as s
 use Rattle.token_sem.specs.Semaphore.{is_queued, Rises, without, numbered, hung_entry, waits_for, owned_by}
 use Rattle.token_sem.specs.Named as named
-use Rattle.token_sem.specs.Entries.{Table, row_of, rows_of, is_ranked, put_entry, IsTable, AreEntries, ArePlaced, lists_of, next_of, name_of, token_of, owner_from, grant_of, freed, told_freed, left, told_left, after_end, loss_of, loss_of_one}
+use Rattle.token_sem.specs.Entries.{Table, row_of, rows_of, is_ranked, put_entry, IsTable, AreEntries, ArePlaced, lists_of, next_of, name_of, token_of, owner_from, grant_of, freed, told_freed, left, told_left, after_end, lose_one, loss_of, loss_of_one}
 use Rattle.token_sem.proofs.Keeping.{Among, among-find, among-least, rises-without, same_number}
 use Rattle.token_sem.proofs.Serving.{numbered-at}
 use Rattle.token_sem.proofs.Unowned.{none_passes}
@@ -418,3 +418,6 @@ ended-equal tokens sem e now f = ap (λ (o : Option ℕ). record sem { entries =
 
 pub loss-equal : (tokens : Option ℕ) (client : ℕ) (now : Moment) (es : List SemEntry) → tokens ≡ None → loss_of tokens client now es ≡ s.loss_of client now es
 loss-equal tokens client now es f = ap (λ (o : Option ℕ). loss_of o client now es) f
+
+pub lose_one-equal : (tokens : Option ℕ) (client : ℕ) (now : Moment) (l : s.Loss) → tokens ≡ None → lose_one tokens client now l ≡ s.lose_one client now l
+lose_one-equal tokens client now l f = ap (λ (o : Option ℕ). lose_one o client now l) f

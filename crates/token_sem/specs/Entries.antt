@@ -1,11 +1,13 @@
 -- The entries of a semaphore, of equal tokens or of a pool's, and their rows by rank and by deadline.
-use Rattle.std.specs.Prelude.{◌≡◌, ℕ, ◌++◌, Bool, true, not, ◌&&◌, ◌||◌, ◌==◌, if◌then◌else◌, List, [], ◌∷◌, map, filter, fold, Option, None, Some, is_some, option_map, option_to_list}
+use Rattle.std.specs.Prelude.{◌≡◌, ℕ, zero, suc, ◌++◌, Bool, true, not, ◌&&◌, ◌||◌, ◌==◌, if◌then◌else◌, List, [], ◌∷◌, map, filter, fold, Option, None, Some, is_some, option_map, option_to_list}
 use Rattle.mms_types.specs.declared.moment.Moment.{Moment}
 use Rattle.token_sem.specs.declared.entry.SemEntry.{SemEntry}
 use Rattle.token_sem.specs.declared.entry.Grant.{Grant}
 use Rattle.token_sem.specs.declared.entry.Expired.{Expired}
+use Rattle.token_sem.specs.declared.entry.LostOne.{LostOne}
+use Rattle.token_sem.specs.declared.entry.LostOne.TheVariants.{Freed, Hung, Done}
 use Rattle.token_sem.specs.Semaphore as equal
-use Rattle.token_sem.specs.Semaphore.{is_queued, is_owner, aborts, without, hung_entry, waits_for, owned_by, Loss, Rises}
+use Rattle.token_sem.specs.Semaphore.{is_queued, is_owner, owner_of, aborts, without, without_waiters, hung_entry, waits_for, owned_by, Loss, Rises}
 use Rattle.token_sem.specs.Named as named
 use Rattle.sem_queue.specs.declared.row.Row.{Row}
 use Rattle.sem_queue.specs.Rows.{Queue, is_placed}
@@ -82,6 +84,27 @@ loss_of_one tokens now l o =
 abbrev pub loss_of : Option ℕ → ℕ → Moment → List SemEntry → Loss
 loss_of tokens client now entries =
     fold (loss_of_one tokens now) (record { entries = filter (λ e. not (waits_for client e)) entries; grants = [] }) (filter (owned_by client) entries)
+
+-- of a client that is lost, its queued entries go, and its owner entry of least number is lost, if there is one
+
+abbrev pub losing : Option ℕ → Option SemEntry → Moment → Loss → Loss
+losing tokens None now l = l
+losing tokens (Some o) now l = loss_of_one tokens now l o
+
+abbrev pub lose_one : Option ℕ → ℕ → Moment → Loss → Loss
+lose_one tokens client now l = losing tokens (owner_of client l.entries) now (record l { entries = without_waiters client l.entries })
+
+abbrev pub lost_of : Option ℕ → Option SemEntry → List SemEntry → LostOne
+lost_of tokens None entries = Done
+lost_of tokens (Some o) entries = if o.keep then Hung else Freed (told_left tokens o entries)
+
+abbrev pub lost_one : Option ℕ → ℕ → List SemEntry → LostOne
+lost_one tokens client entries = lost_of tokens (owner_of client entries) (without_waiters client entries)
+
+-- one after the other, so many times
+abbrev pub lose_each : Option ℕ → ℕ → ℕ → Moment → Loss → Loss
+lose_each tokens zero client now l = l
+lose_each tokens (suc n) client now l = lose_each tokens n client now (lose_one tokens client now l)
 
 -- an entry takes the place of the one that has its number
 abbrev pub put_entry : SemEntry → SemEntry → SemEntry

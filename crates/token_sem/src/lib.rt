@@ -17,8 +17,11 @@ mod sem;
 mod table;
 
 pub use entry::{
-    Ask, Deadline, Expired, Grant, NotOwner, SemEntry, SemState, TakeOutcome, TakeRefused, Taken,
+    Ask, Deadline, Expired, Grant, LostOne, NotOwner, SemEntry, SemState, TakeOutcome, TakeRefused,
+    Taken,
 };
-pub use laws::{a_freed_token_is_served, the_first_deadline_is_the_least};
+pub use laws::{
+    a_freed_token_is_served, a_loss_is_made_one_by_one, the_first_deadline_is_the_least,
+};
 pub use sem::TokenSem;
 pub use table::Entries;

@@ -4,13 +4,13 @@ ghost use Rattle.std.specs.Prelude.{◌≡◌, ◌+◌, ◌-◌, ◌≤◌, ◌<
 ghost use Rattle.std.specs.List.{list_any};
 ghost use Rattle.mms_types.specs.Moments.{IsDated};
 ghost use Rattle.sem_queue.specs.Rows.{is_placed};
-ghost use Rattle.token_sem.specs.Entries.{AreEntries, ArePlaced, after_end, expired_of, freed, is_ranked, left, lists_of, loss_of, loss_of_one, name_of, next_of, put_entry, row_of, token_of, told_freed, told_left};
+ghost use Rattle.token_sem.specs.Entries.{AreEntries, ArePlaced, after_end, expired_of, freed, is_ranked, left, lists_of, lose_one, loss_of, loss_of_one, lost_one, name_of, next_of, put_entry, row_of, rows_of, token_of, told_freed, told_left};
 ghost use Rattle.token_sem.specs.Semaphore.{Rises, deadline_at, first_deadline, hung_entry, is_queued, moment_and_entry, numbered, owned_by, waits_for, without};
 ghost use Rattle.token_sem.specs.declared.entry.SemEntry.{SemEntry};
 ghost use Rattle.token_sem.specs.declared.entry.TakeRefused.TheVariants.{Memory as OutOfMemory};
 
-use crate::entries::{aborts, granted, owner_from, owners_of, push};
-use crate::{Deadline, Expired, Grant, SemEntry, SemState, TakeRefused};
+use crate::entries::{aborts, granted, owner_from, owner_of, owners_of, push};
+use crate::{Deadline, Expired, Grant, LostOne, SemEntry, SemState, TakeRefused};
 use mms_types::{Memory, Moment};
 use sem_queue::{Ranks, Row};
 use std::alloc::Global;
@@ -294,8 +294,31 @@ impl Entries {
         self.put(&entry);
     }
 
+    /// Of a client that is lost, its queued entries go. Then its owner entry of least number becomes hung where its
+    /// token is kept, and else goes, and its token is freed: who gets it is told. `Done` exactly where it has no owner
+    /// entry. It takes no memory.
+    pub fn lose_one(&mut self, client: u32, now: Moment) -> LostOne
+        requires { IsDated now }
+        ensures told { result ≡ lost_one self.old.named client self.old.list }
+        ensures state { self.new ≡ record self.old {
+          list = (lose_one self.old.named client now
+              (record { entries = self.old.list; grants = [] })).entries;
+        } }
+    {
+        let first = owner_of(client, &self.list);
+        self.lose_waiters(client);
+        let Some(owner) = first else {
+            return LostOne::Done;
+        };
+        if !owner.keep {
+            return LostOne::Freed(self.leave(&owner, now));
+        }
+        self.hang(owner.number);
+        LostOne::Hung
+    }
+
     /// The client of an owner is lost. Who gets its token is appended, for which there is room.
-    fn lose_one(&mut self, grants: &mut Vec<Grant>, owner: &SemEntry, now: Moment)
+    fn lose_owner(&mut self, grants: &mut Vec<Grant>, owner: &SemEntry, now: Moment)
         requires placed { is_placed (lists_of self.old.named) owner.now.token ≡ true }
         requires room { vec_len grants.old < vec_capacity grants.old }
         requires now { IsDated now }
@@ -328,7 +351,7 @@ impl Entries {
         ensures named { self.new.named ≡ self.old.named }
     {
         for owner in owners {
-            self.lose_one(grants, owner, now);
+            self.lose_owner(grants, owner, now);
         }
     }
 
@@ -425,6 +448,16 @@ impl Entries {
                 number: due.number,
             }),
         }
+    }
+
+    /// The rows by which it is told who is served next and which deadline is met first: one for each entry that waits or
+    /// has a deadline, and none for an owner or a hung entry without one, which stand in no order. Equal tokens are one
+    /// token there, of number 0.
+    pub fn ranks(&self) -> &Ranks
+        ensures rows { result.now.rows ≡ rows_of self.now.list }
+        ensures tokens { result.now.tokens ≡ lists_of self.now.named }
+    {
+        &self.ranks
     }
 
     /// A copy. The one refusal is want of memory.

@@ -1,0 +1,4 @@
+pub mod Going
+pub mod Linked
+pub mod Following
+mod Worked
