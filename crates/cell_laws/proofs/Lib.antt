@@ -70,3 +70,6 @@ pub mod Recorded
 pub mod SegmentsStay
 pub mod Uploaded
 pub mod ReadOn
+pub mod AsksAll
+pub mod NamesOn
+pub mod Listing

@@ -12,3 +12,4 @@ pub mod Recorded
 pub mod Scopes
 pub mod Tally
 pub mod Uploaded
+pub mod Asking

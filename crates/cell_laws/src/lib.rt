@@ -30,20 +30,25 @@
 //! - Each table keeps its limit, and no name stands twice in it (`each_table_keeps_its_limit`).
 //! - An entry of a journal stays as it was written until it goes for a cause (`an_entry_stays_as_it_was_written`); read
 //!   on after an entry, a journal tells what comes behind it (`a_journal_is_read_on_from_an_entry`).
+//! - Names that are listed on after a name are those that stood behind it (`a_name_list_is_read_on_from_a_name`).
+//! - Each service asks other tables all that it uses (`each_service_asks_what_it_uses`).
 //! - What the segments of an upload told is a front of its domain's octets (`an_upload_tells_a_front_of_its_domain`).
 #![tactic(auto)]
 
+mod asking;
 mod conditions;
 mod journals;
 mod laws;
 mod loads;
 mod losses;
+mod names;
 mod programs;
 mod scopes;
 mod tables;
 mod time;
 mod uploads;
 
+pub use asking::each_service_asks_what_it_uses;
 pub use conditions::each_enrollment_has_its_condition_and_client;
 pub use journals::{a_journal_is_read_on_from_an_entry, an_entry_stays_as_it_was_written};
 pub use laws::{
@@ -56,6 +61,7 @@ pub use loads::{
     nothing_of_an_ended_load_stays,
 };
 pub use losses::{an_abort_by_time_is_a_loss, nothing_is_left_of_an_association};
+pub use names::a_name_list_is_read_on_from_a_name;
 pub use programs::each_domain_knows_its_programs;
 pub use scopes::each_scope_is_live;
 pub use tables::each_table_keeps_its_limit;

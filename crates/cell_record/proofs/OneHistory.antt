@@ -299,12 +299,18 @@ opened_as : (x : Opening) (config : Config) → config_in x ≡ Some config → 
 opened_as (Err e) config c = cc
 opened_as (Ok o) config c = (o, refl, cc)
 
+-- what a text tells is a configuration
+pub told_holds : (text : List ℕ) (configured : Config) → config_of_text text ≡ Some configured → IsConfig configured
+told_holds text configured c =
+    let x = opened_as (opening_of_text text) configured c in
+    subst IsConfig x.2 (opened_holds text x.0 x.1)
+
 pub one_history_so_far : (said : List CellEvent → ℕ → List What) (text : List ℕ) (configured : Config) (done rest bodies others : List (List CellEvent)) → config_of_text text ≡ Some configured → (reading_of_text text).phases ≡ done ++ rest
     → Interleaves bodies done → Interleaves others done → report said configured.clients bodies ≡ report said configured.clients others → bodies ≡ others
 one_history_so_far said text configured done rest bodies others c f i j e =
     let x = opened_as (opening_of_text text) configured c in
     let o = x.0 in
-    let holds : IsConfig configured = subst IsConfig x.2 (opened_holds text o x.1) in
+    let holds : IsConfig configured = told_holds text configured c in
     let all : Each (Each (IsRecorded o.config)) (reading_of_text text).phases =
     subst (λ (y : Opening). Each (Each (IsRecorded o.config)) (after_opening y).phases) (sym x.1) (reading_recorded o.config o.rest o.place (fresh o.config.start.0)) in
     let of_text : Each (Each (IsRecorded configured)) (reading_of_text text).phases = subst (λ (n : Config). Each (Each (IsRecorded n)) (reading_of_text text).phases) x.2 all in

@@ -4,6 +4,7 @@ ghost use Rattle.std.specs.Prelude.{◌≡◌, ◌↔◌, ◌++◌, ℕ, List, [
 ghost use Rattle.cell_io.specs.Lines.{lines_of};
 ghost use Rattle.mms_types.specs.declared.event.CellEvent.{CellEvent};
 ghost use Rattle.cell_config.specs.declared.config.Config.{Config};
+ghost use Rattle.cell_config.specs.Said.{IsConfig};
 ghost use Rattle.cell_record.specs.Grammar.{ReadsRecording};
 ghost use Rattle.mms_types.specs.declared.event.What.{What};
 ghost use Rattle.cell_record.specs.Recording.{reading_of_text, config_of_text};
@@ -55,4 +56,12 @@ pub fn a_report_so_far_has_one_history()
         (done rest : List (List CellEvent))
         → config_of_text text ≡ Some configured → (reading_of_text text).phases ≡ done ++ rest
         → HasOneHistory said configured.clients done }
+{}
+
+/// The configuration that a text tells keeps the rules of one: it has clients, a moment that can be told, texts, cells,
+/// variables and pools, each within its bounds. So what holds of every configuration that keeps them, whatever the
+/// history, holds of what is printed of a text.
+pub fn a_text_tells_a_configuration()
+    ensures { (text : List ℕ) (configured : Config)
+        → config_of_text text ≡ Some configured → IsConfig configured }
 {}

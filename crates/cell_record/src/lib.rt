@@ -18,8 +18,8 @@ mod words;
 
 pub use cell_io::WriteError;
 pub use laws::{
-    a_report_has_one_history, a_report_so_far_has_one_history, phases_end_before_the_refusal,
-    recordings_are_read, refusals_are_the_first,
+    a_report_has_one_history, a_report_so_far_has_one_history, a_text_tells_a_configuration,
+    phases_end_before_the_refusal, recordings_are_read, refusals_are_the_first,
 };
 pub use recording::{Phase, Recording};
 pub use refusal::{BadWord, RecordError};

@@ -50,7 +50,8 @@ impl Model for Device {
     ghost view = { λ device. record { table = device.table; config = device.config.value } };
 
     ghost invariant = { λ device. IsOf device.table device.config.value
-        × IsConfig device.config.value × (device.clients ≡ device.config.value.clients) };
+        × IsConfig device.config.value × (device.clients ≡ device.config.value.clients)
+        × (device.edition ≡ device.config.value.edition) };
 }
 
 /// How many events a caller may commit: 2^33.

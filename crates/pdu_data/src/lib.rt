@@ -1,7 +1,7 @@
 //! Data and types of variables in octets, both ways (ISO 9506-2, Data and TypeSpecification).
 //!
 //! Both nest no deeper than 10. They are too deep exactly where all before some array or structure is of its form and that
-//! one nests deeper (`tells_deep_data`), and malformed exactly elsewhere where the octets are none.
+//! one nests deeper (`tells_deep_data`, `tells_deep_types`), and malformed exactly elsewhere where the octets are none.
 #![tactic(auto)]
 
 mod data;
@@ -12,4 +12,4 @@ mod types;
 mod writing;
 
 pub use forms::{DataAlternatives, DataValue, TypeAlternatives, TypeSpecification};
-pub use laws::tells_deep_data;
+pub use laws::{tells_deep_data, tells_deep_types};

@@ -5,6 +5,7 @@ ghost use Rattle.ber_core.specs.Part.{part};
 ghost use Rattle.ber_forms.specs.Form as form;
 ghost use Rattle.ber_forms.specs.Value as value;
 ghost use Rattle.ber_forms.specs.Reading.{Gives, reading, alternatives, members_by, required_at, defaulted_at};
+ghost use Rattle.ber_forms.specs.Reads.{NeedsNoMemory};
 ghost use Rattle.mms_types.specs.Shape.{shape_depth, fields_depth};
 ghost use Rattle.mms_types.specs.SeenType.{fields};
 ghost use Rattle.pdu_names.specs.Editions.{lengths_of};
@@ -36,9 +37,10 @@ fn is_format(width: u8, exponent: u8) -> bool
 
 /// The width of an integer.
 fn signed_width(contents: &[u8], _edition: Edition) -> Result<u8, Unread>
-    ensures { Gives (λ n. value.number (pos n)) result
+    ensures exact { Gives (λ n. value.number (pos n)) result
         (reading (lengths_of _edition)
         (form.such_that says_signed_width form.unsigned8) contents.now) }
+    ensures no_memory { NeedsNoMemory result }
 {
     let width = unsigned8(contents)?;
     if is_signed_width(width) {
@@ -50,9 +52,10 @@ fn signed_width(contents: &[u8], _edition: Edition) -> Result<u8, Unread>
 
 /// The width of an unsigned.
 fn unsigned_width(contents: &[u8], _edition: Edition) -> Result<u8, Unread>
-    ensures { Gives (λ n. value.number (pos n)) result
+    ensures exact { Gives (λ n. value.number (pos n)) result
         (reading (lengths_of _edition)
         (form.such_that says_unsigned_width form.unsigned8) contents.now) }
+    ensures no_memory { NeedsNoMemory result }
 {
     let width = unsigned8(contents)?;
     if is_unsigned_width(width) {
@@ -68,14 +71,16 @@ fn universal_u8(parts: &mut Cursor<'_>) -> Result<u8, Unread>
     ensures exact { Gives (λ n. (value.number (pos n), parts.new.octets)) result
         (required_at parts.old.lengths (form.universal 2 form.unsigned8) parts.old.octets) }
     ensures kept { parts.new.lengths ≡ parts.old.lengths }
+    ensures no_memory { NeedsNoMemory result }
 {
     let element = parts.required(Tag::universal(2))?;
     unsigned8(element.contents)
 }
 
 fn two_widths(contents: &[u8], edition: Edition) -> Result<(u8, u8), Unread>
-    ensures { Gives (λ f. floating_value f.0 f.1) result
+    ensures exact { Gives (λ f. floating_value f.0 f.1) result
         (reading (lengths_of edition) floating_form contents.now) }
+    ensures no_memory { NeedsNoMemory result }
 {
     let mut parts = cursor(edition, contents);
     let width = universal_u8(&mut parts)?;
@@ -86,8 +91,9 @@ fn two_widths(contents: &[u8], edition: Edition) -> Result<(u8, u8), Unread>
 
 /// The widths of a format and of its exponent.
 fn widths(contents: &[u8], edition: Edition) -> Result<(u8, u8), Unread>
-    ensures { Gives (λ f. floating_value f.0 f.1) result
+    ensures exact { Gives (λ f. floating_value f.0 f.1) result
         (reading (lengths_of edition) (form.such_that says_format floating_form) contents.now) }
+    ensures no_memory { NeedsNoMemory result }
 {
     let (width, exponent) = two_widths(contents, edition)?;
     if is_format(width, exponent) {
@@ -99,8 +105,9 @@ fn widths(contents: &[u8], edition: Edition) -> Result<(u8, u8), Unread>
 
 /// A length, or the greatest one as a number below 0.
 fn length_of(contents: &[u8], _edition: Edition) -> Result<i32, Unread>
-    ensures { Gives (λ n. value.number n) result
+    ensures exact { Gives (λ n. value.number n) result
         (reading (lengths_of _edition) length_form contents.now) }
+    ensures no_memory { NeedsNoMemory result }
 {
     Ok(integer(contents, -60000, 60000)? as i32)
 }
@@ -110,6 +117,7 @@ fn simple(element: Element<'_>, edition: Edition) -> Result<TypeSpec, Unread>
     ensures exact { Gives type_value result
         (alternatives (lengths_of edition) simple_types (part element.entry)) }
     ensures deep { IfOk result (λ s. shape_depth s ≡ 0) }
+    ensures no_memory { NeedsNoMemory result }
 {
     let Element { tag, contents } = element;
     if has_tag(tag, Tag::primitive(3)) {
@@ -150,6 +158,7 @@ fn packed(parts: &mut Cursor<'_>, edition: Edition) -> Result<bool, Unread>
         (defaulted_at (lengths_of edition)
         (form.context 0 form.boolean) (value.truth false) parts.old.octets) }
     ensures kept { parts.new.lengths ≡ parts.old.lengths }
+    ensures no_memory { NeedsNoMemory result }
 {
     parts.defaulted_boolean(0, false)
 }
@@ -161,6 +170,7 @@ fn count(parts: &mut Cursor<'_>, edition: Edition) -> Result<u32, Unread>
         (required_at (lengths_of edition)
         (form.context 1 (form.integer (pos 0) (pos 4096))) parts.old.octets) }
     ensures kept { parts.new.lengths ≡ parts.old.lengths }
+    ensures no_memory { NeedsNoMemory result }
 {
     Ok(parts.required_integer(1, 0, 4096)? as u32)
 }

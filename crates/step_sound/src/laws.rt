@@ -109,13 +109,13 @@ pub fn no_free_token_is_waited_for()
         → filter (wants token) pool.entries ≡ [] }
 {}
 
-/// The value of a cell that has a guard is changed by a write alone that is served, of a client that has an owner entry
-/// of the guard's semaphore in the state on which it is served.
+/// The value of a cell that has a guard is changed by a write alone that is served and names that cell, of a client that
+/// has an owner entry of the guard's semaphore in the state on which it is served.
 pub fn a_guarded_cell_is_written_by_an_owner()
     ensures { (s : State) (event : CellEvent) (number : ℕ) (was : StoredCell) (guard : List ℕ)
         → cell_at number s.variables.vars ≡ Some was → was.guard ≡ Some guard
         → (cell_at number (step s event).variables.vars ≡ Some was)
-        ⊎ IsWrittenByOwner guard s event }
+        ⊎ IsWrittenByOwner number guard s event }
 {}
 
 /// Every deadline of a semaphore lies ahead, after any history, and so does every evaluation of an event condition.
