@@ -3,6 +3,7 @@ pub mod PartsAfter
 pub mod Rows
 pub mod Configured
 mod Worked
+mod WorkedRequests
 pub mod Sent
 pub mod Needed
 pub mod Others

@@ -1,6 +1,6 @@
--- Worked examples: which parts an event wants, of a device of two clients, in each row of the table of parts in
--- docs/PROFILE.md. Its parts are 0 the clock, 1 variables, 2 domains, 3 program invocations, 4 event conditions, 5
--- journals, 6 and 7 the clients, 8 semaphores.
+-- Worked examples: which parts an event wants, of a device of two clients, in the rows of the table of parts in
+-- docs/PROFILE.md; `WorkedRequests` has those of further requests. Its parts are 0 the clock, 1 variables, 2 domains, 3
+-- program invocations, 4 event conditions, 5 journals, 6 and 7 the clients, 8 semaphores.
 use Rattle.std.specs.Prelude.{◌≡◌, ℕ, suc, nat_eq, List, [], ◌∷◌, map, filter, codes, Option, Some, None, false, true, if◌then◌else◌}
 use Rattle.std.specs.List.{list_any, range_with_len}
 use Rattle.std.proofs.Common.{refl}
