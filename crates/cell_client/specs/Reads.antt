@@ -41,6 +41,11 @@ pub record IsRead (read : Result Read Refusal) (heard : Result Pdu Refusal) : Ty
 abbrev pub Kept : Type 0
 Kept = Option (Edition × Result Read Refusal)
 
+-- memory was wanting to read it
+abbrev pub kept_wants_memory : Kept → Bool
+kept_wants_memory None = false
+kept_wants_memory (Some kept) = wants_memory kept.1
+
 abbrev pub IsReadOf : Kept → List ℕ → Type 0
 IsReadOf None octets = Unit {0}
 IsReadOf (Some kept) octets = IsRead kept.1 (pdu_heard kept.0 octets)

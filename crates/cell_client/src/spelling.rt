@@ -1,6 +1,6 @@
 //! How what a client is told is spelled, where it is told by a plan.
 
-ghost use Rattle.std.specs.Prelude.{◌≡◌, true, false, IfOk, MatchOption, Some};
+ghost use Rattle.std.specs.Prelude.{◌≡◌, [], true, false, IfOk, MatchOption, OnErr, OnOk, Some};
 ghost use Rattle.mms_pdu.specs.Pdus.{pdu_octets};
 ghost use Rattle.mms_types.specs.declared.pdu.Pdu.TheVariants as pdu;
 ghost use Rattle.cell_client.specs.Association.{further_error, sends};
@@ -66,17 +66,24 @@ pub fn refusal(alloc: Global, invoke: u32, error: ServiceError) -> Result<Client
     sent(alloc, &out)
 }
 
-/// A client is sent an eventNotification. What it is spelled into is given, and is empty then but for that.
+/// A client is sent an eventNotification. What it is spelled into is given, and has these octets alone then; without
+/// memory it has none.
 pub fn notification(
     alloc: Global,
     out: &mut Writer,
     told: &EventNotification,
 ) -> Result<ClientTold, Memory>
-    ensures { IfOk result (λ sent. effect_of sent ≡ sends (pdu.EventNotification told.now)) }
+    ensures sent { IfOk result (λ sent. effect_of sent ≡ sends (pdu.EventNotification told.now)) }
+    ensures spelled { OnOk result (out.new ≡ pdu_octets (pdu.EventNotification told.now)) }
+    ensures emptied { OnErr result (out.new ≡ []) }
 {
     out.truncate(0);
     put_event_notification(out, told)?;
-    sent(alloc, out)
+    let told = sent(alloc, out);
+    if told.is_err() {
+        out.truncate(0);
+    }
+    told
 }
 
 /// A client is sent a conclude-Response.

@@ -1,12 +1,12 @@
 //! What the octets of a client come to, before any service is asked.
 
-ghost use Rattle.std.specs.Prelude.{◌≡◌, nat_lt, None, Some, Ok, Err, IfOk, OnOk, Result};
+ghost use Rattle.std.specs.Prelude.{◌≡◌, nat_lt, true, None, Some, Ok, Err, IfOk, OnErr, OnOk, Result};
 ghost use Rattle.association.specs.Admission.{admission};
 ghost use Rattle.association.specs.Asked.{asked_of};
 ghost use Rattle.association.specs.Waiting.{is_waiting};
 ghost use Rattle.cell_client.specs.Association.{admitted, answered_by, cancelled, concluded, failed_by, heard_error, heard_response, idle_verdict, open_verdict, rejected, requested, verdict_by};
 ghost use Rattle.cell_client.specs.Meant.{meant};
-ghost use Rattle.cell_client.specs.Reads.{pdu_read, IsDeep};
+ghost use Rattle.cell_client.specs.Reads.{pdu_read, wants_memory, IsDeep};
 
 use association::{ClientPart, Negotiated, NotAdmitted};
 use mms_pdu::{Read, Refusal, reject_for};
@@ -203,15 +203,16 @@ fn reject<'a>(part: &ClientPart, number: Option<u32>) -> Found<'a>
     }
 }
 
-/// What is heard in an association of those values.
+/// What is heard in an association of those values. The one refusal is that memory was wanting to read it.
 fn open<'a>(
     values: &Negotiated,
     part: &ClientPart,
     read: &'a Result<Read, Refusal>,
 ) -> Result<Found<'a>, Memory>
     requires depth { IsDeep read.now }
-    ensures { IfOk result (λ found. meant found
+    ensures verdict { IfOk result (λ found. meant found
         ≡ open_verdict values.now part.now.row (pdu_read read.now)) }
+    ensures wants { OnErr result (wants_memory read.now ≡ true) }
 {
     let read = match read {
         Err(refusal) => return Ok(Found::Tells(AtOnce::Reject(reject_for(*refusal)?))),
@@ -242,14 +243,15 @@ fn open<'a>(
     })
 }
 
-/// What was read comes to, for a client with that part.
+/// What was read comes to, for a client with that part. The one refusal is that memory was wanting to read it.
 pub fn verdict_of<'a>(
     part: &ClientPart,
     read: &'a Result<Read, Refusal>,
 ) -> Result<Found<'a>, Memory>
     requires depth { IsDeep read.now }
-    ensures { IfOk result (λ found. meant found
+    ensures verdict { IfOk result (λ found. meant found
         ≡ verdict_by part.now.row.association part.now.row (pdu_read read.now)) }
+    ensures wants { OnErr result (wants_memory read.now ≡ true) }
 {
     match part.negotiated() {
         None => Ok(idle(read)),

@@ -255,7 +255,8 @@ fn put_clients(clients: &mut Vec<u32>, happened: &cell_ticks::Happening) -> Resu
 
 /// The clients that are told of all that happened on the device, one thing after the other.
 fn clients_meanwhile(alloc: Global, happened: &[DatedHappening]) -> Result<Vec<u32>, Memory>
-    ensures { IfOk result (λ clients. clients.items ≡ clients_meanwhile happened.now) }
+    ensures told { IfOk result (λ clients. clients.items ≡ clients_meanwhile happened.now) }
+    ensures wants { OnErr result (happened.now ≢ []) }
 {
     let mut clients = Vec::new(alloc);
     for one in happened {
@@ -266,8 +267,9 @@ fn clients_meanwhile(alloc: Global, happened: &[DatedHappening]) -> Result<Vec<u
 
 /// The clients that are told of what happened on the device, each as often as it is told. Their order is left open.
 pub fn told_meanwhile(alloc: Global, happened: &[DatedHappening]) -> Result<Vec<u32>, Memory>
-    ensures { IfOk result (λ clients. (k : ℕ) → is_told (all_told happened.now) k
+    ensures told { IfOk result (λ clients. (k : ℕ) → is_told (all_told happened.now) k
         ≡ list_any (λ c. c == k) clients.items) }
+    ensures wants { OnErr result (happened.now ≢ []) }
 {
     let clients = clients_meanwhile(alloc, happened)?;
     Ok(clients)

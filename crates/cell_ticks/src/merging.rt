@@ -1,6 +1,7 @@
 //! What happens in both parts of a tick, in one.
 
-ghost use Rattle.std.specs.Prelude.{◌≡◌, ◌++◌, IfOk, List, OnOk, filter_map, length, map, zip};
+ghost use Rattle.std.specs.Prelude.{◌≡◌, ◌+◌, ◌++◌, ◌≤◌, IfOk, List, filter_map, length, map, vec_capacity, vec_len, zip};
+ghost use Rattle.std.specs.VecDeque.{deque_len};
 ghost use Rattle.cell_ticks.specs.Meant.{AreInOrder, From, StartsFrom, loss_in, starts_before};
 ghost use Rattle.cell_ticks.specs.Parts.{in_semaphores, merged, turning};
 ghost use Rattle.cell_ticks.specs.declared.happening.DatedHappening.{DatedHappening as Happened};
@@ -84,35 +85,34 @@ fn starts_before(left: &VecDeque<DatedHappening>, at: Moment) -> bool
     }
 }
 
-/// Those of the second list come next that are earlier than that moment.
-fn put_earlier(
-    all: &mut Vec<DatedHappening>,
-    left: &mut VecDeque<DatedHappening>,
-    at: Moment,
-) -> Result<(), Memory>
-    ensures same { (xs : List Happened) → From at xs → OnOk result
-        (all.new.items ++ merged xs left.new.items ≡ all.old.items ++ merged xs left.old.items) }
-    ensures starts { OnOk result (StartsFrom at left.new.items) }
+/// Those of the second list come next that are earlier than that moment. There is room for all that are left.
+fn put_earlier(all: &mut Vec<DatedHappening>, left: &mut VecDeque<DatedHappening>, at: Moment)
+    requires room { vec_len all.old + deque_len left.old ≤ vec_capacity all.old }
+    ensures same { (xs : List Happened) → From at xs
+        → all.new.items ++ merged xs left.new.items ≡ all.old.items ++ merged xs left.old.items }
+    ensures starts { StartsFrom at left.new.items }
+    ensures many { vec_len all.new + deque_len left.new ≡ vec_len all.old + deque_len left.old }
+    ensures capacity { vec_capacity all.new ≡ vec_capacity all.old }
 {
     while starts_before(left, at) {
         if let Some(first) = left.pop_front() {
-            all.push(first)?;
+            all.push_reserved(first);
         }
     }
-    Ok(())
 }
 
-/// All that is left of the second list comes next.
-fn put_rest(all: &mut Vec<DatedHappening>, mut left: VecDeque<DatedHappening>) -> Result<(), Memory>
-    ensures { OnOk result (all.new.items ≡ all.old.items ++ left.items) }
+/// All that is left of the second list comes next. There is room for it.
+fn put_rest(all: &mut Vec<DatedHappening>, mut left: VecDeque<DatedHappening>)
+    requires room { vec_len all.old + deque_len left ≤ vec_capacity all.old }
+    ensures { all.new.items ≡ all.old.items ++ left.items }
 {
     while let Some(first) = left.pop_front() {
-        all.push(first)?;
+        all.push_reserved(first);
     }
-    Ok(())
 }
 
-/// Two lists in one, by moments, and of one moment those of the first list before those of the second.
+/// Two lists in one, by moments, and of one moment those of the first list before those of the second. The one refusal
+/// is want of memory, for a list as long as both.
 pub(crate) fn merged(
     alloc: Global,
     happened: Vec<DatedHappening>,
@@ -123,9 +123,9 @@ pub(crate) fn merged(
 {
     let mut all = Vec::with_capacity(alloc, happened.len() + left.len())?;
     for one in happened {
-        put_earlier(&mut all, &mut left, one.at)?;
-        all.push(one)?;
+        put_earlier(&mut all, &mut left, one.at);
+        all.push_reserved(one);
     }
-    put_rest(&mut all, left)?;
+    put_rest(&mut all, left);
     Ok(all)
 }

@@ -1,4 +1,4 @@
-ghost use Rattle.std.specs.Prelude.{◌≡◌, ◌==◌, ◌<◌, ◌≤◌, ◌↔◌, not, [], IfOk, IfSome, IsSome, None, OnErr, Some, length, nat_lt, slice_get, take, ◌≢◌};
+ghost use Rattle.std.specs.Prelude.{◌≡◌, ◌==◌, ◌<◌, ◌≤◌, ◌↔◌, ℕ, Bool, not, [], IfOk, IfSome, IsSome, None, OnErr, Some, length, nat_lt, slice_get, take, ◌≢◌};
 ghost use Rattle.std.specs.Map.{keys_of};
 ghost use Rattle.std.specs.List.{IsDistinct};
 ghost use Rattle.std.specs.Option.{option_copied};
@@ -160,8 +160,18 @@ impl Domains {
         None
     }
 
-    /// Deletes the domain of that name, with all its octets (ISO 9506-1, DeleteDomain). It takes no memory.
+    /// Deletes the domain of that name, against which no cause stands, with all its octets (ISO 9506-1, DeleteDomain).
+    /// It takes no memory.
     pub fn delete(&mut self, name: &Identifier)
+        requires { (uploads : ℕ) × (in_scope : Bool)
+            × (delete_cause name.now uploads in_scope self.old ≡ None) }
+        ensures { self.new ≡ without name.now self.old }
+    {
+        self.remove(name);
+    }
+
+    /// The domain of that name goes with all its octets, wherever it stands. It takes no memory.
+    pub(crate) fn remove(&mut self, name: &Identifier)
         ensures { self.new ≡ without name.now self.old }
     {
         self.rows.shift_remove(name);

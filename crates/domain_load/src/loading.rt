@@ -99,7 +99,7 @@ impl Domains {
                     Asked::Segment => Some(ask(alloc, by, Asked::Discard, domain)?),
                     _ => None,
                 };
-                self.delete(domain);
+                self.remove(domain);
                 Ok(also)
             }
         }
@@ -156,7 +156,7 @@ impl Domains {
         let passes = domain.would_pass(octets.len());
         let also = ask(alloc, by, asked_after(passes, more), name)?;
         if passes {
-            self.delete(name);
+            self.remove(name);
         } else {
             put_segment(alloc, &mut self.rows, name, octets.as_slice())?;
         }

@@ -1,5 +1,5 @@
 //! Names in order of octets, of which only the first so many are wanted.
-ghost use Rattle.std.specs.Prelude.{◌≡◌, ◌≤◌, ◌∷◌, ◌++◌, drop, IfOk, OnOk, length, map, slice_get, take};
+ghost use Rattle.std.specs.Prelude.{◌≡◌, ◌≤◌, ◌∷◌, ◌++◌, drop, IfOk, OnErr, OnOk, length, map, slice_get, take};
 ghost use Rattle.domain_load.specs.Kept.{comes_before};
 ghost use Rattle.std.specs.Option.{option_copied};
 ghost use Rattle.object_names.specs.Listing.{comes_after, insert_name, sorted_names};
@@ -32,14 +32,16 @@ fn place_of(names: &[&Identifier], name: &Identifier) -> usize
 }
 
 /// Puts a name at its place among names in order of octets, of which the first so many stay. The one refusal is want of
-/// memory.
+/// memory; then the names are as before.
 pub fn put_name<'a>(
     names: &mut Vec<&'a Identifier>,
     name: &'a Identifier,
     most: usize,
 ) -> Result<(), Memory>
-    ensures { OnOk result (map (λ name. name.now) names.new.items
+    ensures placed { OnOk result (map (λ name. name.now) names.new.items
         ≡ take most (insert_name name.now (map (λ name. name.now) names.old.items))) }
+    ensures kept { OnErr result (map (λ name. name.now) names.new.items
+        ≡ map (λ name. name.now) names.old.items) }
 {
     let place = place_of(names, name);
     names.insert(place, name)?;

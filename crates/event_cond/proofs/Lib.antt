@@ -1,5 +1,4 @@
 pub mod ByName
-pub mod Mentioned
 pub mod Multiples
 pub mod Orders
 pub mod Passing

@@ -18,7 +18,8 @@ use Rattle.mms_types.specs.declared.object_name.ObjectName.{ObjectName}
 use Rattle.mms_types.specs.declared.object_name.ObjectName.TheVariants as name
 use Rattle.mms_types.specs.declared.variable.Spec.TheVariants as spec
 use Rattle.event_cond.specs.Conditions.{Rows, after_evaluate, evaluate_told}
-use Rattle.event_cond.specs.Deletion.{after_delete, deletions, missing, once, without_client}
+use Rattle.object_names.specs.Deletion.{missing, once}
+use Rattle.event_cond.specs.Deletion.{after_delete, deletions, without_client}
 use Rattle.event_cond.specs.Evaluations.{next_evaluation}
 use Rattle.event_cond.specs.Multiples.{least_multiple}
 use Rattle.event_cond.specs.Services.{after_alter, after_define, after_trigger, alter_cause, alter_told, define_cause, status, trigger_cause, trigger_told}

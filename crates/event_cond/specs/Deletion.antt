@@ -1,37 +1,25 @@
 -- DeleteEventCondition, and the loss of a client (ISO 9506-1 and ISO 9506-2, event management).
-use Rattle.std.specs.Prelude.{ℕ, not, List, [], ◌∷◌, None, filter, filter_map, is_none, length, map}
+use Rattle.std.specs.Prelude.{ℕ, Bool, false, not, List, None, filter, filter_map}
 use Rattle.std.specs.Option.{option_map}
-use Rattle.mms_types.specs.Order.{key_eq, key_of}
+use Rattle.mms_types.specs.Order.{key_eq}
 use Rattle.mms_types.specs.declared.condition.Turned.{Turned}
 use Rattle.mms_types.specs.declared.key.Key.{Key}
 use Rattle.mms_types.specs.declared.key.Scope.TheVariants.{Association}
 use Rattle.mms_types.specs.declared.moment.Moment.{Moment}
 use Rattle.mms_types.specs.declared.object_name.ObjectName.{ObjectName}
-use Rattle.object_names.specs.Deletion.{is_listed_by}
+use Rattle.object_names.specs.Deletion.{is_listed_by, mentioned}
 use Rattle.object_names.specs.Scopes.{without_all_of}
 use Rattle.event_cond.specs.Conditions.{Rows, named}
 use Rattle.event_cond.specs.Transitions.{any_to_deleted}
 use Rattle.event_cond.specs.declared.condition.Condition.{Condition}
 
--- each name once, in the order of their first mention
-abbrev pub once : List Key → List Key
-once [] = []
-once (key ∷ keys) = key ∷ filter (λ other. not (key_eq key other)) (once keys)
-
--- the conditions that a client's names mean
-abbrev pub mentioned : ℕ → List ObjectName → List Key
-mentioned client names = once (map (key_of client) names)
-
--- how many of them are missing
-abbrev pub missing_of : List Key → Rows → ℕ
-missing_of keys rows = length (filter (λ key. is_none (named key rows)) keys)
-
-abbrev pub missing : ℕ → List ObjectName → Rows → ℕ
-missing client names rows = missing_of (mentioned client names) rows
-
 -- a condition is deleted, wherever it stands: no state is told
 abbrev pub deletion_turn : Moment → Key → Condition → Turned
 deletion_turn now key c = record { condition = key; transition = any_to_deleted; severity = c.severity; state = None; at = now }
+
+-- any condition can be deleted
+abbrev pub is_fixed : Condition → Bool
+is_fixed c = false
 
 -- what is told of those that are there
 abbrev pub deletions_of : Moment → List Key → Rows → List Turned

@@ -1,9 +1,10 @@
 //! AlterEventConditionMonitoring.
 
-ghost use Rattle.std.specs.Prelude.{◌≡◌, ◌≤◌, IfOk, Some};
+ghost use Rattle.std.specs.Prelude.{◌≡◌, ◌≢◌, ◌≤◌, Err, IfOk, None, OnErr, Some};
 ghost use Rattle.mms_types.specs.Moments.{IsDated};
 ghost use Rattle.mms_types.specs.Order.{key_of};
 ghost use Rattle.mms_types.specs.Serves.{Serves};
+ghost use Rattle.mms_types.specs.declared.refuse.Refuse.TheVariants.{Memory as OutOfMemory};
 ghost use Rattle.event_cond.specs.Conditions.{move_told};
 ghost use Rattle.event_cond.specs.Kept.{IsClass, IsCondition, IsWatch};
 ghost use Rattle.event_cond.specs.Services.{after_alter, alter_cause, alter_told, altered, class_altered, enabled_altered, evaluation_at, interval_altered, is_refused, with_interval};
@@ -132,7 +133,7 @@ impl Condition {
 }
 
 impl Kept {
-    /// What is told of a request. The one refusal is want of memory.
+    /// What is told of a request. The one refusal is want of memory, only where anything is told.
     fn alter_told(
         &self,
         alloc: Global,
@@ -142,8 +143,10 @@ impl Kept {
         is_true: bool,
     ) -> Result<Option<Turned>, Memory>
         requires now { IsDated now }
-        ensures { IfOk result (λ told. told ≡ move_told (key_of client asked.now.name) now
+        ensures told { IfOk result (λ told. told ≡ move_told (key_of client asked.now.name) now
             (class_altered now is_true asked.now self.now.class) self.now) }
+        ensures wants { OnErr result (move_told (key_of client asked.now.name) now
+            (class_altered now is_true asked.now self.now.class) self.now ≢ None) }
     {
         let class = self.condition.class.altered(now, is_true, asked);
         self.condition
@@ -180,7 +183,8 @@ impl Conditions {
     }
 
     /// What is told of a request to alter an event condition: a transition, or none where its state stays, with what
-    /// its cell says (`cell_is_true`), which counts where a disabled one is enabled. Nothing changes.
+    /// its cell says (`cell_is_true`), which counts where a disabled one is enabled. Nothing changes. Memory is wanted
+    /// only where a transition is told.
     pub fn alter_told(
         &self,
         alloc: Global,
@@ -190,8 +194,10 @@ impl Conditions {
         cell_is_true: bool,
     ) -> Result<Option<Turned>, Refuse>
         requires now { IsDated now }
-        ensures { Serves result (alter_cause client asked.now self.now)
+        ensures served { Serves result (alter_cause client asked.now self.now)
             (Some (alter_told client now cell_is_true asked.now self.now)) }
+        ensures wants { result ≡ Err OutOfMemory
+            → alter_told client now cell_is_true asked.now self.now ≢ None }
     {
         if let Some(error) = self.alter_cause(client, asked) {
             return Err(Refuse::Service(error));

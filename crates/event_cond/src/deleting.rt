@@ -1,16 +1,16 @@
 //! DeleteEventCondition.
 
-ghost use Rattle.std.specs.Prelude.{◌≡◌, ◌+◌, ◌<◌, if◌then◌else◌, not, filter, is_none, IfOk, OnErr, OnOk};
-ghost use Rattle.std.specs.List.{list_any};
-ghost use Rattle.mms_types.specs.Order.{key_eq};
-ghost use Rattle.event_cond.specs.Conditions.{named};
-ghost use Rattle.event_cond.specs.Deletion.{after_delete, deletion_turn, deletions, deletions_of, mentioned, missing, missing_of, without};
+ghost use Rattle.std.specs.Prelude.{◌≡◌, ◌+◌, ◌<◌, ◌≤◌, ◌∷◌, ◌++◌, [], if◌then◌else◌, is_none, IfOk, OnErr, OnOk};
+ghost use Rattle.std.specs.Option.{SomeIff};
+ghost use Rattle.mms_types.specs.Order.{key_of};
+ghost use Rattle.event_cond.specs.Conditions.{condition};
+ghost use Rattle.object_names.specs.Deletion.{missing};
+ghost use Rattle.event_cond.specs.Deletion.{after_delete, deletion_turn, deletions, deletions_of, without};
 
-use crate::kept::Kept;
 use crate::{Condition, Conditions};
 use indexmap::IndexSet;
 use mms_types::{Key, Listed, Memory, Moment, ObjectName, Transitions, Turned};
-use object_names::Named;
+use object_names::{KeyRef, Selection};
 use std::alloc::Global;
 
 /// What becomes of conditions that are to be deleted.
@@ -20,17 +20,6 @@ pub struct ConditionsDeleted {
     pub missing: u32,
     /// What is told of those that are there, in the order in which they are mentioned first.
     pub turned: Listed<Turned>,
-}
-
-/// The conditions that a client's names mean, each once.
-fn mentioned(alloc: Global, client: u32, names: &[ObjectName]) -> Result<IndexSet<Key>, Memory>
-    ensures { IfOk result (λ set. set.keys ≡ mentioned client names.now) }
-{
-    let mut set = IndexSet::new(alloc);
-    for name in names {
-        set.insert(name.key(alloc, client)?)?;
-    }
-    Ok(set)
 }
 
 /// What is told of a condition that is deleted.
@@ -46,77 +35,66 @@ fn deletion_turn(now: Moment, key: Key, condition: &Condition) -> Turned
     }
 }
 
-/// Takes the rows of some names out.
-fn take_out(rows: &mut Named<Kept>, keys: &IndexSet<Key>)
-    ensures { rows.new
-        ≡ filter (λ row. not (list_any (λ key. key_eq key row.0) keys.now.keys)) rows.old }
+/// So many, as it is told. None exactly where 32 bits don't tell as many.
+fn counted(count: usize) -> Option<u32>
+    ensures { SomeIff result (count ≤ 4294967295) count }
 {
-    for place in 0..keys.len() {
-        let Some(key) = keys.get_index(place) else {
-            unreachable!()
-        };
-        let _distinct = rows.len();
-        rows.remove(key);
-    }
-}
-
-/// One more than so many, where one more is missing.
-fn counted(missing: usize, lacks: bool) -> usize
-    requires { missing < 9223372036854775808 }
-    ensures { result ≡ missing + (if lacks then 1 else 0) }
-{
-    if lacks { missing + 1 } else { missing }
+    u32::try_from(count).ok()
 }
 
 impl Conditions {
-    /// Whether there is none of that name.
-    fn lacks(&self, key: &Key) -> bool
-        ensures { result ≡ is_none (named key.now self.now) }
-    {
-        match self.get(key) {
-            None => true,
-            Some(_) => false,
-        }
-    }
-
-    /// How many of those names mean none.
-    fn missing(&self, keys: &IndexSet<Key>) -> usize
-        ensures { result ≡ missing_of keys.now.keys self.now }
-    {
-        let mut missing = 0usize;
-        for place in 0..keys.len() {
-            let Some(key) = keys.get_index(place) else {
-                unreachable!()
-            };
-            missing = counted(missing, self.lacks(key));
-        }
-        missing
-    }
-
-    /// What is told of the conditions of those names. The one refusal is want of memory.
-    fn deletions(
+    /// One name more, that wasn't mentioned before: how many are missing with it, of which so many are missing without,
+    /// and what is told of its condition. The one refusal is want of memory.
+    fn told_more(
         &self,
         alloc: Global,
+        client: u32,
         now: Moment,
-        keys: &IndexSet<Key>,
-    ) -> Result<Listed<Turned>, Memory>
-        ensures { IfOk result (λ turned. turned ≡ deletions_of now keys.now.keys self.now) }
+        name: &ObjectName,
+        missing: usize,
+        turned: &mut Listed<Turned>,
+    ) -> Result<usize, Memory>
+        requires few { missing < 9223372036854775808 }
+        ensures missing { IfOk result (λ more. more
+            ≡ missing + (if is_none (condition client name.now self.now) then 1 else 0)) }
+        ensures turned { OnOk result (turned.new
+            ≡ turned.old ++ deletions_of now (key_of client name.now ∷ []) self.now) }
     {
+        let Some(condition) = self.named(client, name) else {
+            return Ok(missing + 1);
+        };
+        turned.push(deletion_turn(now, name.key(alloc, client)?, condition))?;
+        Ok(missing)
+    }
+
+    /// How many of a client's names are missing, and what is told of the conditions of the others, each once. The one
+    /// refusal is want of memory.
+    fn told(
+        &self,
+        alloc: Global,
+        client: u32,
+        now: Moment,
+        names: &[ObjectName],
+    ) -> Result<(usize, Listed<Turned>), Memory>
+        ensures missing { IfOk result (λ told. told.0 ≡ missing client names.now self.now) }
+        ensures turned { IfOk result (λ told. told.1 ≡ deletions client now names.now self.now) }
+    {
+        let mut mentioned = IndexSet::new(alloc);
+        let mut missing = 0usize;
         let mut turned = Listed::new(alloc);
-        for place in 0..keys.len() {
-            let Some(key) = keys.get_index(place) else {
-                unreachable!()
-            };
-            if let Some(condition) = self.get(key) {
-                turned.push(deletion_turn(now, key.copy(alloc)?, condition))?;
+        for name in names {
+            let (_, added) = mentioned.insert_full(KeyRef::of(client, name))?;
+            if added {
+                missing = self.told_more(alloc, client, now, name, missing, &mut turned)?;
             }
         }
-        Ok(turned)
+        Ok((missing, turned))
     }
 
     /// What becomes of the event conditions of those names (ISO 9506-2, DeleteEventCondition): how many are missing,
     /// and what is told of those that are there, enabled or not: they are deleted, and come to no other state before.
-    /// Each name counts once, where it is mentioned first. Nothing changes. The one refusal is want of memory.
+    /// Each name counts once, where it is mentioned first. Nothing changes. The one refusal is want of memory, as which
+    /// it counts that more are missing than 32 bits tell.
     pub fn delete_told(
         &self,
         alloc: Global,
@@ -128,11 +106,10 @@ impl Conditions {
         ensures turned { IfOk result
             (λ told. told.turned ≡ deletions client now names.now self.now) }
     {
-        let keys = mentioned(alloc, client, names)?;
-        let Ok(missing) = u32::try_from(self.missing(&keys)) else {
+        let (missing, turned) = self.told(alloc, client, now, names)?;
+        let Some(missing) = counted(missing) else {
             return Err(Memory::wanting());
         };
-        let turned = self.deletions(alloc, now, &keys)?;
         Ok(ConditionsDeleted { missing, turned })
     }
 
@@ -142,10 +119,11 @@ impl Conditions {
         ensures deleted { OnOk result (self.new ≡ after_delete client names.now self.old) }
         ensures kept { OnErr result (self.new ≡ self.old) }
     {
-        let keys = mentioned(alloc, client, names)?;
-        take_out(&mut self.rows, &keys);
+        let selection = Selection::of_names(alloc, client, names)?;
+        self.rows.delete(&selection);
         Ok(())
     }
+
     /// Deletes the event condition of that name, as `delete` does, where it is there; all others stay as they are, in
     /// their order. It takes no memory.
     pub fn remove(&mut self, key: &Key)

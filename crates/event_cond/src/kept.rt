@@ -1,6 +1,8 @@
+ghost use Rattle.event_cond.specs.Deletion.{is_fixed};
+
 use crate::Condition;
 use mms_types::Memory;
-use object_names::Copied;
+use object_names::{Copied, Deletable};
 use std::alloc::Global;
 use std::marker::Model;
 
@@ -25,6 +27,14 @@ impl Copied for Kept {
         Ok(Kept {
             condition: self.condition,
         })
+    }
+}
+
+impl Deletable for Kept {
+    ghost is_fixed = { is_fixed };
+
+    fn is_fixed(&self) -> bool {
+        false
     }
 }
 

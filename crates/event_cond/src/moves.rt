@@ -108,8 +108,10 @@ impl Condition {
         now: Moment,
         class: ConditionClass,
     ) -> Result<Option<Turned>, Memory>
-        ensures { IfOk result
+        ensures told { IfOk result
             (λ told. told ≡ move_told (key_of client name.now) now class self.now) }
+        ensures wants { OnErr result
+            (move_told (key_of client name.now) now class self.now ≢ None) }
     {
         match self.number_of_move(class) {
             None => Ok(None),

@@ -1,5 +1,5 @@
 -- Event enrollments: who is told of an event condition (ISO 9506-1 and ISO 9506-2, event management).
-use Rattle.std.specs.Prelude.{ℕ, ◌+◌, ◌-◌, ◌/◌, ◌%◌, ◌^◌, ◌==◌, bit_and, min, nat_le, nat_lt, Bool, true, not, ◌&&◌, ◌||◌, if◌then◌else◌, List, [], ◌∷◌, ◌++◌, Option, None, is_some, filter, length, map, slice_index}
+use Rattle.std.specs.Prelude.{ℕ, ◌-◌, ◌/◌, ◌%◌, ◌^◌, ◌==◌, bit_and, nat_le, nat_lt, Bool, true, not, ◌&&◌, List, [], ◌∷◌, ◌++◌, Option, None, is_some, filter, length, map, slice_index}
 use Rattle.std.specs.Map.{lookup}
 use Rattle.mms_types.specs.Errors.{first_of, capability_unavailable, object_non_existent}
 use Rattle.mms_types.specs.Order.{key_eq, key_of}
@@ -15,7 +15,7 @@ use Rattle.mms_types.specs.declared.key.Scope.TheVariants.{Vmd, Domain, Associat
 use Rattle.mms_types.specs.declared.object_name.ObjectName.{ObjectName}
 use Rattle.mms_types.specs.declared.object_name.ObjectName.TheVariants as named
 use Rattle.mms_types.specs.declared.service_error.ServiceError.{ServiceError}
-use Rattle.object_names.specs.Deletion.{is_listed_by}
+use Rattle.object_names.specs.Deletion.{is_listed_by, missing}
 use Rattle.object_names.specs.NewName.{new_name}
 use Rattle.object_names.specs.Scopes.{without_all_of}
 use Rattle.event_enrol.specs.declared.enrolment.Enrolment.{Enrolment}
@@ -105,15 +105,9 @@ abbrev pub delete_cause : Bool → DeleteEventEnrollment → Option ServiceError
 delete_cause there (asked.Names names) = None
 delete_cause there (asked.Condition name) = first_of ((not there, object_non_existent) ∷ [])
 
--- how many of the names are missing: each counts once, where it is named last
-abbrev pub missing : ℕ → List ObjectName → Rows → ℕ
-missing client [] rows = 0
-missing client (name ∷ names) rows =
-    (if is_defined client name rows || is_listed_by client names (key_of client name) then 0 else 1) + missing client names rows
-
--- how many weren't deleted, as far as 32 bits tell it
+-- how many weren't deleted: those of the names that are missing
 abbrev pub undeleted : ℕ → DeleteEventEnrollment → Rows → ℕ
-undeleted client (asked.Names names) rows = min (missing client names rows) 4294967295
+undeleted client (asked.Names names) rows = missing client names rows
 undeleted client (asked.Condition name) rows = 0
 
 -- ---- what goes else, of which nobody is told

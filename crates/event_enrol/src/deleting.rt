@@ -1,8 +1,9 @@
 //! DeleteEventEnrollment, and what goes else.
-ghost use Rattle.std.specs.Prelude.{◌≡◌, IfOk, filter, not};
-ghost use Rattle.object_names.specs.Deletion.{is_listed_by};
+ghost use Rattle.std.specs.Prelude.{◌≡◌, ◌≤◌, IfOk, filter, not};
+ghost use Rattle.std.specs.Option.{SomeIff};
+ghost use Rattle.object_names.specs.Deletion.{is_listed_by, missing};
 ghost use Rattle.event_enrol.specs.Deleted.{selected};
-ghost use Rattle.event_enrol.specs.Enrolments.{delete_cause, is_deleted, missing, undeleted, without_client, without_condition};
+ghost use Rattle.event_enrol.specs.Enrolments.{delete_cause, is_deleted, undeleted, without_client, without_condition};
 ghost use Rattle.object_names.specs.Selected.{is_among};
 
 use crate::Enrolments;
@@ -18,6 +19,13 @@ pub struct Deletion<'a> {
     /// How many of the names are missing. None of a condition's enrollments is.
     pub undeleted: u32,
     going: Going<'a>,
+}
+
+/// So many, as it is told. None exactly where 32 bits don't tell as many.
+fn counted(count: usize) -> Option<u32>
+    ensures { SomeIff result (count ≤ 4294967295) count }
+{
+    u32::try_from(count).ok()
 }
 
 impl Enrolments {
@@ -39,7 +47,7 @@ impl Enrolments {
     }
 
     /// Which enrollments a client's request deletes, and how many of its names are missing, each counted once. Nothing
-    /// changes. The one refusal is want of memory.
+    /// changes. The one refusal is want of memory, as which it counts that more are missing than 32 bits tell.
     pub fn deletion<'a>(
         &self,
         alloc: Global,
@@ -58,8 +66,11 @@ impl Enrolments {
             }),
             DeleteEventEnrollment::Names(names) => {
                 let (names, missing) = self.listed(alloc, client, names.as_slice())?;
+                let Some(undeleted) = counted(missing) else {
+                    return Err(Memory::wanting());
+                };
                 Ok(Deletion {
-                    undeleted: missing.min(4_294_967_295) as u32,
+                    undeleted,
                     going: Going::Names(names),
                 })
             }
@@ -67,6 +78,7 @@ impl Enrolments {
     }
 
     /// The names that a client gives, each once, and how many of them are missing.
+    #[tactic(auto, using(object_names::proofs::Gathered::all_listed))]
     fn listed<'a>(
         &self,
         alloc: Global,
@@ -78,12 +90,10 @@ impl Enrolments {
     {
         let mut set = IndexSet::new(alloc);
         let mut count = 0usize;
-        let mut left = names.len();
-        while left > 0 {
-            left -= 1;
-            let name = KeyRef::of(client, &names[left]);
-            let (_, added) = set.insert_full(name)?;
-            if added && !self.rows.contains_key(name) {
+        for name in names {
+            let key = KeyRef::of(client, name);
+            let (_, added) = set.insert_full(key)?;
+            if added && !self.rows.contains_key(key) {
                 count += 1;
             }
         }

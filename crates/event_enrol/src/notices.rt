@@ -1,5 +1,5 @@
 //! Who is told of a transition.
-ghost use Rattle.std.specs.Prelude.{◌≡◌, ◌++◌, IfOk, OnOk, filter, map};
+ghost use Rattle.std.specs.Prelude.{◌≡◌, ◌∷◌, ◌++◌, [], IfOk, OnErr, OnOk, filter, map};
 ghost use Rattle.event_enrol.specs.Enrolments.{has_bit, notices};
 ghost use Rattle.event_enrol.specs.Groups.{is_member_told, member_notice};
 
@@ -23,11 +23,12 @@ impl Enrolments {
         }
     }
 
-    /// The clients of these notices, in the same order, behind those that are given; no notice is made. The one refusal is
-    /// want of memory.
+    /// The clients of these notices, in the same order, behind those that are given; no notice is made. The one refusal
+    /// is want of memory, as it pushes onto a vector; then those that are given are as before.
     pub fn told_clients(&self, turned: &Turned, clients: &mut Vec<u32>) -> Result<(), Memory>
-        ensures { OnOk result (clients.new.items
+        ensures told { OnOk result (clients.new.items
             ≡ clients.old.items ++ map (λ n. n.client) (notices turned.now self.now)) }
+        ensures kept { OnErr result (clients.new.items ≡ clients.old.items) }
     {
         match self.groups.get(&turned.condition) {
             None => Ok(()),
@@ -68,15 +69,30 @@ fn notices_of(alloc: Global, members: &[Member], turned: &Turned) -> Result<Noti
     Ok(told)
 }
 
-/// Puts the clients of those members that are told of a transition behind those that are given.
-fn put_clients(members: &[Member], transition: u8, clients: &mut Vec<u32>) -> Result<(), Memory>
-    ensures { OnOk result (clients.new.items ≡ clients.old.items
-        ++ map (λ m. m.client) (filter (λ m. has_bit transition m.transitions) members.now)) }
+/// Puts a client behind those that are given. The one refusal is want of memory; then they are as before.
+fn put_client(clients: &mut Vec<u32>, client: u32) -> Result<(), Memory>
+    ensures put { OnOk result (clients.new.items ≡ clients.old.items ++ client ∷ []) }
+    ensures kept { OnErr result (clients.new.items ≡ clients.old.items) }
 {
+    clients.push(client)?;
+    Ok(())
+}
+
+/// Puts the clients of those members that are told of a transition behind those that are given. The one refusal is want
+/// of memory; then they are as before.
+fn put_clients(members: &[Member], transition: u8, clients: &mut Vec<u32>) -> Result<(), Memory>
+    ensures told { OnOk result (clients.new.items ≡ clients.old.items
+        ++ map (λ m. m.client) (filter (λ m. has_bit transition m.transitions) members.now)) }
+    ensures kept { OnErr result (clients.new.items ≡ clients.old.items) }
+{
+    let before = clients.len();
     let mut rest = members;
     while let Some((member, later)) = rest.split_first() {
         if has_bit(member.transitions, transition) {
-            clients.push(member.client)?;
+            if let Err(error) = put_client(clients, member.client) {
+                clients.truncate(before);
+                return Err(error);
+            }
         }
         rest = later;
     }

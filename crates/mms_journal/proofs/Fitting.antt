@@ -1,5 +1,5 @@
 -- An entry whose texts and bit strings are of their forms is of its form.
-use Rattle.std.proofs.Common.{◌≡◌, ◌∙◌, ap, subst, refl, ℕ, zero, suc, ◌+◌, ◌-◌, ◌*◌, ◌/◌, ◌^◌, ◌≤◌, ◌<◌, ◌==◌, nat_lt, Bool, IsTrue, true, false, List, [], ◌∷◌, arith, get_or, length, take}
+use Rattle.std.proofs.Common.{◌≡◌, ◌∙◌, ap, subst, sym, refl, ℕ, zero, suc, ◌+◌, ◌-◌, ◌*◌, ◌/◌, ◌^◌, ◌≤◌, ◌<◌, ◌==◌, nat_lt, Bool, IsTrue, true, false, List, [], ◌∷◌, arith, get_or, length, take}
 use Rattle.std.proofs.lemmas.Bool.Decides.{nat_tests}
 use Rattle.ber_forms.specs.Bits.{cleared}
 use Rattle.ber_forms.specs.Fits.{Every, Fits, FitsMember, FitsOne}
@@ -39,6 +39,25 @@ clear_is u (a ∷ rest) long low t =
   where
     nat_eq_is : (m n : ℕ) → IsTrue (m == n) → m ≡ n
     nat_eq_is m n h = grind (arith, nat_tests, h)
+
+last_cleared : (u a : ℕ) (rest : List ℕ) (i : ℕ) → length (a ∷ rest) ≡ suc i → get_or (cleared u (a ∷ rest)) i 0 ≡ get_or (a ∷ rest) i 0 / 2 ^ u * 2 ^ u
+last_cleared u a [] zero is = refl
+last_cleared u a [] (suc i) is = absurd (omega (arith, is))
+last_cleared u a (b ∷ rest) zero is = absurd (omega (arith, is))
+last_cleared u a (b ∷ rest) (suc i) is = last_cleared u b rest i (omega (arith, is))
+
+-- a bit string of its form has no more unused bits than there can be, and none that is set
+pub clear_of : (u : ℕ) (octets : List ℕ) → 1 ≤ length octets → Fits bit_string (value.bits u octets)
+    → (u ≤ 7) × IsTrue (get_or octets (length octets - 1) 0 / 2 ^ u * 2 ^ u == get_or octets (length octets - 1) 0)
+clear_of u [] long h = absurd (omega (arith, long))
+clear_of u (a ∷ rest) long h =
+    let i = length (a ∷ rest) - 1 in
+    let last = get_or (a ∷ rest) i 0 in
+    let same : last / 2 ^ u * 2 ^ u ≡ last = sym (last_cleared u a rest i (omega arith)) ∙ ap (λ l. get_or l i 0) h.1 in
+    (h.0, is_nat_eq (last / 2 ^ u * 2 ^ u) last same)
+  where
+    is_nat_eq : (m n : ℕ) → m ≡ n → IsTrue (m == n)
+    is_nat_eq m n h = grind (arith, nat_tests, h)
 
 -- ---- data
 
@@ -85,6 +104,12 @@ pub formed_next : (xs : List Datum) (i : ℕ) (x : Datum) → i < length xs → 
 formed_next xs i x low is front h =
     let step : suc i ≡ i + 1 = omega arith in
     subst (λ n. AreFormed (row (take n xs))) step (formed_more xs i x low is front h)
+
+-- each part of data that is of its form is of its form
+pub formed_at : (xs : List Datum) (i : ℕ) (x : Datum) → i < length xs → x ≡ get_or xs i x → AreFormed (row xs) → IsFormed x
+formed_at [] i x low is h = absurd (omega (arith, low))
+formed_at (y ∷ ys) zero x low is h = subst IsFormed (sym is) h.0
+formed_at (y ∷ ys) (suc i) x low is h = formed_at ys i x (omega (arith, low)) is h.1
 
 -- ---- variables, events and entries
 

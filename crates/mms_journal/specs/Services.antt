@@ -78,6 +78,13 @@ write_cause client name entries rows = first_of (
     ∷ (option_map_or (has_no_room entries) (journal client name rows) true, capability_unavailable)
     ∷ [])
 
+-- those of these causes that are looked for before the entries are spelled
+abbrev pub early_cause : ℕ → ObjectName → List JournalEntry → Rows → Option ServiceError
+early_cause client name entries rows = first_of (
+    (is_none (journal client name rows), object_non_existent)
+    ∷ (option_map_or (has_no_number entries) (journal client name rows) true, capability_unavailable)
+    ∷ [])
+
 abbrev pub written_by : ℕ → List JournalEntry → Log → Log
 written_by client entries j = record {
   entries = j.entries ++ numbered client j.written entries;

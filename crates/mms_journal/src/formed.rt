@@ -43,7 +43,8 @@ fn is_cleared(octet: u8, unused: u8) -> bool
 
 /// Whether no unused bit is set, and no more bits are unused than there can be.
 fn is_clear(unused: u8, octets: &[u8]) -> bool
-    ensures { IsTrue result → Fits bit_string (value.bits unused octets.now) }
+    ensures fits { IsTrue result → Fits bit_string (value.bits unused octets.now) }
+    ensures all { Fits bit_string (value.bits unused octets.now) → IsTrue result }
 {
     match octets {
         [] => unused == 0,
@@ -53,7 +54,8 @@ fn is_clear(unused: u8, octets: &[u8]) -> bool
 
 /// A number of 64 bits is of its form.
 fn is_signed(n: i64) -> bool
-    ensures { Fits int64 (value.number n) }
+    ensures always { result ≡ true }
+    ensures fits { Fits int64 (value.number n) }
 {
     let _n = n;
     true
@@ -61,7 +63,8 @@ fn is_signed(n: i64) -> bool
 
 /// A number of 32 bits without a sign is of its form.
 fn is_unsigned(n: u32) -> bool
-    ensures { Fits unsigned32 (value.number (pos n)) }
+    ensures always { result ≡ true }
+    ensures fits { Fits unsigned32 (value.number (pos n)) }
 {
     let _n = n;
     true
@@ -70,7 +73,8 @@ fn is_unsigned(n: u32) -> bool
 /// Whether data is of its form.
 #[cycle(formed)]
 fn is_formed_data(item: &Data) -> bool
-    ensures { IsTrue result → IsFormed item.now }
+    ensures formed { IsTrue result → IsFormed item.now }
+    ensures all { IsFormed item.now → IsTrue result }
 {
     match &item.kind {
         DataKind::Array(items) => are_formed_data(items),
@@ -88,7 +92,8 @@ fn is_formed_data(item: &Data) -> bool
 
 #[cycle(formed)]
 fn are_formed_data(items: &[Data]) -> bool
-    ensures { IsTrue result → AreFormed (row items.now) }
+    ensures formed { IsTrue result → AreFormed (row items.now) }
+    ensures all { AreFormed (row items.now) → IsTrue result }
 {
     for item in items {
         if !is_formed_data(item) {
@@ -100,7 +105,8 @@ fn are_formed_data(items: &[Data]) -> bool
 
 /// Whether a variable is of its form.
 fn is_variable(variable: &JournalVariable) -> bool
-    ensures { IsTrue result → IsVariable variable.now }
+    ensures variable { IsTrue result → IsVariable variable.now }
+    ensures all { IsVariable variable.now → IsTrue result }
 {
     let _depth = variable.value.depth();
     are_visible(variable.tag.as_slice()) && is_formed_data(&variable.value)
@@ -108,7 +114,8 @@ fn is_variable(variable: &JournalVariable) -> bool
 
 /// Whether variables are of their form.
 fn are_variables(variables: &[JournalVariable]) -> bool
-    ensures { IsTrue result → AreVariables variables.now }
+    ensures variables { IsTrue result → AreVariables variables.now }
+    ensures all { AreVariables variables.now → IsTrue result }
 {
     for variable in variables {
         if !is_variable(variable) {
@@ -142,7 +149,8 @@ fn is_name(name: &ObjectName) -> bool
 
 /// Whether what an entry says is of its form.
 fn is_content(content: &EntryContent) -> bool
-    ensures { IsTrue result → IsContent content.now }
+    ensures content { IsTrue result → IsContent content.now }
+    ensures all { IsContent content.now → IsTrue result }
 {
     match content {
         EntryContent::Data {
@@ -167,7 +175,8 @@ fn is_content(content: &EntryContent) -> bool
 
 /// Whether an entry is of its form: all that were read are.
 pub(crate) fn is_formed(entry: &JournalEntry) -> bool
-    ensures { IsTrue result → IsOf journal_entry Two entry.now }
+    ensures entry { IsTrue result → IsOf journal_entry Two entry.now }
+    ensures all { IsContent entry.now.content → IsTrue result }
 {
     is_content(&entry.content)
 }

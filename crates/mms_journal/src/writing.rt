@@ -1,9 +1,11 @@
 //! WriteJournal: all of the entries or none.
 
-ghost use Rattle.std.specs.Prelude.{◌≡◌, ◌+◌, ◌++◌, ◌≤◌, IfOk, None, OnErr, OnOk, Some, false, length, nat_lt, sum_by, vec_capacity, vec_len};
+ghost use Rattle.std.specs.Prelude.{◌≡◌, ◌+◌, ◌++◌, ◌≤◌, Err, IfOk, IsOk, None, OnErr, OnOk, Some, false, length, nat_lt, sum_by, vec_capacity, vec_len};
+ghost use Rattle.std.specs.Option.{SomeIff};
+ghost use Rattle.mms_types.specs.declared.refuse.Refuse.TheVariants.{Memory as OutOfMemory};
 ghost use Rattle.mms_journal.specs.Entries.{entry_length};
 ghost use Rattle.mms_journal.specs.Journals.{journal, most_entries};
-ghost use Rattle.mms_journal.specs.Services.{IsPrepared, after_write, has_no_number, has_no_room, numbered, write_cause, written_by};
+ghost use Rattle.mms_journal.specs.Services.{IsPrepared, after_write, early_cause, has_no_number, has_no_room, numbered, write_cause, written_by};
 
 use crate::journal::Written;
 use crate::kept::Kept;
@@ -44,17 +46,15 @@ impl Model for Prepared {
     ghost invariant = { λ p. p.octets ≡ sum_by entry_length p.entries.items };
 }
 
-/// So many octets and so many more. More than 64 bits tell count as want of memory; no memory holds as many.
-fn sum(octets: u64, more: usize) -> Result<u64, Memory>
-    ensures { IfOk result (λ sum. sum ≡ octets + more) }
+/// So many and so many more. None exactly where 64 bits don't tell as many.
+fn sum(count: u64, more: usize) -> Option<u64>
+    ensures { SomeIff result (count + more ≤ 18446744073709551615) (count + more) }
 {
-    match octets.checked_add(more as u64) {
-        None => Err(Memory::wanting()),
-        Some(sum) => Ok(sum),
-    }
+    count.checked_add(more as u64)
 }
 
-/// Entries as journals keep them. The one refusal is want of memory.
+/// Entries as journals keep them. The one refusal is want of memory, as which it counts that they have more octets than
+/// 64 bits tell; no memory holds as many.
 fn each_kept(alloc: Global, entries: &[JournalEntry]) -> Result<Prepared, Memory>
     ensures { IfOk result (λ prepared. prepared ≡ entries.now) }
 {
@@ -63,7 +63,10 @@ fn each_kept(alloc: Global, entries: &[JournalEntry]) -> Result<Prepared, Memory
     let mut octets = 0u64;
     for entry in entries {
         let one = Kept::of(alloc, &mut out, entry)?;
-        octets = sum(octets, one.len())?;
+        let Some(all) = sum(octets, one.len()) else {
+            return Err(Memory::wanting());
+        };
+        octets = all;
         kept.push(one)?;
     }
     Ok(Prepared {
@@ -87,6 +90,23 @@ fn append(rows: &mut Vec<Written>, client: u32, number: u64, entries: Vec<Kept>)
             entry,
         });
     }
+}
+
+/// Makes room for so many entries, and answers how many were written with them. It wants memory only where there is no
+/// room for them, and where 64 bits don't tell how many were written.
+fn reserved(rows: &mut Vec<Written>, written: u64, count: usize) -> Result<u64, Memory>
+    ensures written { IfOk result (λ all. all ≡ written + count) }
+    ensures fits { IfOk result (λ all. all ≤ 18446744073709551615) }
+    ensures room { OnOk result (vec_len rows.new + count ≤ vec_capacity rows.new) }
+    ensures items { rows.new.items ≡ rows.old.items }
+    ensures enough { vec_len rows.old + count ≤ vec_capacity rows.old
+        → written + count ≤ 18446744073709551615 → IsOk result }
+{
+    let Some(all) = sum(written, count) else {
+        return Err(Memory::wanting());
+    };
+    rows.reserve(count)?;
+    Ok(all)
 }
 
 impl Journal {
@@ -113,11 +133,7 @@ impl Journal {
         ensures kept { OnErr result (self.new ≡ self.old) }
     {
         let Prepared { entries, octets } = prepared;
-        let count = entries.len();
-        let Some(written) = self.written.checked_add(count as u64) else {
-            return Err(Memory::wanting());
-        };
-        self.entries.reserve(count)?;
+        let written = reserved(&mut self.entries, self.written, entries.len())?;
         append(&mut self.entries, client, self.written, entries);
         self.written = written;
         self.octets += octets;
@@ -129,15 +145,18 @@ impl Journals {
     /// What is to be written into a journal (ISO 9506-2, WriteJournal), as it keeps it: object-non-existent where the
     /// journal is missing; capability-unavailable where it would have more than 65,536 entries, or else more than
     /// 16,777,216 octets, the contents of its entries in output spelling. Nothing changes. Memory may be wanting before
-    /// the octets are counted, and is so where an entry is not of its form, which none is that was read.
+    /// the octets are counted, where the first two causes don't hold, and is so where an entry is not of its form,
+    /// which none is that was read.
     pub fn prepare(
         &self,
         alloc: Global,
         client: u32,
         asked: &WriteJournal,
     ) -> Result<Prepared, Refuse>
-        ensures { IsPrepared result
+        ensures prepared { IsPrepared result
             (write_cause client asked.now.name asked.now.entries self.now) asked.now.entries }
+        ensures wants { result ≡ Err OutOfMemory
+            → early_cause client asked.now.name asked.now.entries self.now ≡ None }
     {
         let Some(journal) = self.named(client, &asked.name) else {
             return Err(Refuse::Service(ServiceError::OBJECT_NON_EXISTENT));

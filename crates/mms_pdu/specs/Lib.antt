@@ -1,6 +1,7 @@
 pub mod Services
 pub mod Pdus
 pub mod Hearing
+pub mod Copies
 pub mod Refused
 pub mod ClientPdus
 pub mod Rejects

@@ -2,10 +2,12 @@
 
 ghost use Rattle.std.specs.Prelude.{◌≡◌, ◌==◌, ◌&&◌, nat_le, true, false, Ok, Err, IfOk, IsErr};
 ghost use Rattle.ber_core.specs.Part.{part};
+ghost use Rattle.ber_forms.specs.Reads.{NeedsNoMemory};
 ghost use Rattle.ber_forms.specs.Reading.{Gives, is_tag, has_tag, alternatives};
 ghost use Rattle.pdu_names.specs.Editions.{lengths_of};
 ghost use Rattle.mms_pdu.specs.Pdus.{pdu_value};
 ghost use Rattle.mms_pdu.specs.Heard.{IsHeard, pdu_heard};
+ghost use Rattle.mms_pdu.specs.Copies.{NoMemoryWanting, copies_nothing, is_copied};
 ghost use Rattle.mms_pdu.specs.Refused.{RefusesFirst};
 ghost use Rattle.mms_pdu.specs.Hearing.{Hears, is_pdu, kept_pdus, noted_pdus, valid, invalid_of, and_then, asked_at, request_told, reject_told, part_told, heard, depth_of};
 
@@ -34,6 +36,7 @@ fn kept_pdu(alloc: Global, element: Element<'_>, edition: Edition) -> Result<Pdu
     ensures told { Gives pdu_value result
         (alternatives (lengths_of edition) (kept_pdus edition) (part element.entry)) }
     ensures client { IfOk result IsHeard }
+    ensures no_memory { is_copied element.entry.tag ≡ false → NeedsNoMemory result }
 {
     let Element { tag, contents } = element;
     if has_tag(tag, Tag::constructed(1)) {
@@ -118,6 +121,7 @@ fn tell_confirmed(
 fn rejected(alloc: Global, contents: &[u8], edition: Edition) -> Result<Pdu, Refusal>
     ensures told { Hears pdu_value result (reject_told (lengths_of edition) edition contents.now) }
     ensures client { IfOk result IsHeard }
+    ensures no_memory { NoMemoryWanting result }
 {
     match read_heard_reject(alloc, contents, edition) {
         Ok(invoke) => Ok(Pdu::HeardReject { invoke }),
@@ -130,6 +134,7 @@ fn other(alloc: Global, element: Element<'_>, edition: Edition) -> Result<Pdu, R
     ensures told { Hears pdu_value result
         (valid (alternatives (lengths_of edition) (kept_pdus edition) (part element.entry))) }
     ensures client { IfOk result IsHeard }
+    ensures no_memory { is_copied element.entry.tag ≡ false → NoMemoryWanting result }
 {
     match kept_pdu(alloc, element, edition) {
         Ok(pdu) => Ok(pdu),
@@ -145,6 +150,7 @@ fn unasked(alloc: Global, element: Element<'_>, edition: Edition) -> Result<Pdu,
     ensures told { Hears pdu_value result
         (part_told (lengths_of edition) edition (part element.entry)) }
     ensures client { IfOk result IsHeard }
+    ensures no_memory { is_copied element.entry.tag ≡ false → NoMemoryWanting result }
 {
     let tag = element.tag;
     if has_tag(tag, Tag::constructed(4)) {
@@ -170,6 +176,7 @@ fn tell_unasked(
     ensures told { Hears (λ r. pdu_value r.pdu) told.new
         (part_told (lengths_of edition) edition (part element.entry)) }
     ensures client { IfOk told.new (λ r. IsHeard r.pdu) }
+    ensures no_memory { is_copied element.entry.tag ≡ false → NoMemoryWanting told.new }
     ensures depth { IfOk told.new (λ r. r.depth ≡ depth_of r.pdu) }
 {
     match unasked(alloc, element, edition) {
@@ -193,6 +200,7 @@ fn tell_element(
     ensures told { Hears (λ r. pdu_value r.pdu) told.new
         (part_told (lengths_of edition) edition (part element.entry)) }
     ensures client { IfOk told.new (λ r. IsHeard r.pdu) }
+    ensures no_memory { is_copied element.entry.tag ≡ false → NoMemoryWanting told.new }
     ensures depth { IfOk told.new (λ r. r.depth ≡ depth_of r.pdu) }
 {
     let tag = element.tag;
@@ -212,6 +220,8 @@ fn tell_whole(alloc: Global, octets: &[u8], edition: Edition, told: &mut Result<
     ensures told { Hears (λ r. pdu_value r.pdu) told.new
         (heard (lengths_of edition) edition octets.now) }
     ensures client { IfOk told.new (λ r. IsHeard r.pdu) }
+    ensures no_memory { copies_nothing (lengths_of edition) octets.now ≡ true
+        → NoMemoryWanting told.new }
     ensures depth { IfOk told.new (λ r. r.depth ≡ depth_of r.pdu) }
 {
     let mut parts = cursor(edition, octets);
@@ -230,6 +240,8 @@ pub fn read_pdu_to(alloc: Global, octets: &[u8], edition: Edition, told: &mut Re
         (heard (lengths_of edition) edition octets.now) }
     ensures pdu { Hears (λ r. r.pdu) told.new (pdu_heard edition octets.now) }
     ensures refused { RefusesFirst (lengths_of edition) edition octets.now told.new }
+    ensures no_memory { copies_nothing (lengths_of edition) octets.now ≡ true
+        → NoMemoryWanting told.new }
     ensures client { IfOk told.new (λ r. IsHeard r.pdu) }
     ensures depth { IfOk told.new (λ r. r.depth ≡ depth_of r.pdu) }
 {
@@ -244,6 +256,8 @@ pub fn read_pdu(alloc: Global, octets: &[u8], edition: Edition) -> Result<Read, 
         (heard (lengths_of edition) edition octets.now) }
     ensures pdu { Hears (λ r. r.pdu) result (pdu_heard edition octets.now) }
     ensures refused { RefusesFirst (lengths_of edition) edition octets.now result }
+    ensures no_memory { copies_nothing (lengths_of edition) octets.now ≡ true
+        → NoMemoryWanting result }
     ensures client { IfOk result (λ r. IsHeard r.pdu) }
     ensures depth { IfOk result (λ r. r.depth ≡ depth_of r.pdu) }
 {

@@ -1,8 +1,10 @@
 pub mod ByName
 pub mod Fewer
 pub mod Found
+pub mod Gathered
 pub mod KeysInOrder
 pub mod Listed
+pub mod Mentioned
 pub mod Ordered
 pub mod Places
 pub mod Ranked

@@ -1,6 +1,7 @@
 -- Which names a deletion selects, and what it makes of a table (ISO 9506-2, DeleteVariableAccess-Request, scopeOfDelete).
-use Rattle.std.specs.Prelude.{ℕ, Bool, false, not, ◌&&◌, List, Option, None, Some, filter, length}
+use Rattle.std.specs.Prelude.{ℕ, Bool, false, not, ◌&&◌, List, [], ◌∷◌, Option, None, Some, filter, is_none, length, map}
 use Rattle.std.specs.List.{list_any}
+use Rattle.std.specs.Map.{lookup}
 use Rattle.mms_types.specs.declared.key.Key.{Key}
 use Rattle.mms_types.specs.declared.key.Scope.TheVariants.{Vmd, Domain, Association}
 use Rattle.mms_types.specs.declared.object_name.ObjectName.{ObjectName}
@@ -12,6 +13,22 @@ use Rattle.mms_types.specs.Order.{key_eq, key_of, scope_eq}
 -- one of the names that a client gives
 abbrev pub is_listed_by : ℕ → List ObjectName → Key → Bool
 is_listed_by client names key = list_any (λ name. key_eq (key_of client name) key) names
+
+-- each name once, in the order of their first mention
+abbrev pub once : List Key → List Key
+once [] = []
+once (key ∷ keys) = key ∷ filter (λ other. not (key_eq key other)) (once keys)
+
+-- the names that a client gives, each once
+abbrev pub mentioned : ℕ → List ObjectName → List Key
+mentioned client names = once (map (key_of client) names)
+
+-- how many of them have no row
+abbrev pub missing_of : {T : Type 0} → List Key → List (Key × T) → ℕ
+missing_of keys rows = length (filter (λ key. is_none (lookup (key_eq key) rows)) keys)
+
+abbrev pub missing : {T : Type 0} → ℕ → List ObjectName → List (Key × T) → ℕ
+missing client names rows = missing_of (mentioned client names) rows
 
 -- none without the list
 abbrev pub is_specific : ℕ → Option (List ObjectName) → Key → Bool

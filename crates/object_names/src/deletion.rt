@@ -42,13 +42,24 @@ fn listed<'a>(
 }
 
 impl<'a> Selection<'a> {
+    /// These names, as a client gives them. The one refusal is want of memory.
+    pub fn of_names(
+        alloc: Global,
+        client: u32,
+        names: &'a [ObjectName],
+    ) -> Result<Selection<'a>, Memory>
+        ensures { IfOk result (λ selection. selected selection ≡ is_listed_by client names.now) }
+    {
+        Ok(Selection::Names(listed(alloc, client, names)?))
+    }
+
     /// The names that a client's request selects.
     pub fn of(alloc: Global, client: u32, asked: &'a DeleteNames) -> Result<Selection<'a>, Memory>
         ensures { IfOk result (λ selection. selected selection ≡ selects client asked.now) }
     {
         match asked.scope {
             DeleteScope::Specific => match &asked.names {
-                Some(names) => Ok(Selection::Names(listed(alloc, client, names.as_slice())?)),
+                Some(names) => Selection::of_names(alloc, client, names.as_slice()),
                 None => Ok(Selection::Nothing),
             },
             DeleteScope::Association => Ok(Selection::Scope(ScopeRef::Association(client))),

@@ -68,6 +68,7 @@ fn class(parts: &mut Cursor<'_>, edition: Edition) -> Result<bool, Unread>
     requires { parts.old.lengths ≡ lengths_of edition }
     ensures exact { GivesNext (context 1 is_monitored) edition parts.old parts.new result }
     ensures kept { parts.new.lengths ≡ parts.old.lengths }
+    ensures no_memory { NeedsNoMemory result }
 {
     let element = parts.required(Tag::primitive(1))?;
     let number = unsigned8_in(element.contents, 0, 1)?;
@@ -80,6 +81,7 @@ fn priority(parts: &mut Cursor<'_>, edition: Edition) -> Result<u8, Unread>
     ensures exact { DefaultedGives priority.value ((context 2 priority).member edition)
         (priority.value 64) parts.old parts.new result }
     ensures kept { parts.new.lengths ≡ parts.old.lengths }
+    ensures no_memory { NeedsNoMemory result }
 {
     parts.defaulted_u8_in(2, 0, 127, 64)
 }
@@ -90,6 +92,7 @@ fn severity(parts: &mut Cursor<'_>, edition: Edition) -> Result<u8, Unread>
     ensures exact { DefaultedGives unsigned8.value ((context 3 unsigned8).member edition)
         (unsigned8.value 64) parts.old parts.new result }
     ensures kept { parts.new.lengths ≡ parts.old.lengths }
+    ensures no_memory { NeedsNoMemory result }
 {
     parts.defaulted_u8_in(3, 0, 255, 64)
 }
@@ -136,9 +139,10 @@ fn condition_parts(
 
 /// The condition of these components. Malformed where they are not those of its class.
 fn condition(parts: ConditionParts) -> Result<DefineEventCondition, Unread>
-    ensures { Gives define_condition.value result
+    ensures exact { Gives define_condition.value result
         (if has_what_it_needs (condition_parts.value parts)
         then Ok (condition_parts.value parts) else Err fault.malformed) }
+    ensures no_memory { NeedsNoMemory result }
 {
     let ConditionParts {
         name,

@@ -2,6 +2,7 @@
 #![tactic(auto, unfolding(ber_forms::specs::Spelling::appended), using(ber_forms::proofs::Joined::writing))]
 
 ghost use Rattle.std.specs.Prelude.{◌≡◌, refl, true, false};
+ghost use Rattle.ber_forms.specs.Reads.{NeedsNoMemory};
 ghost use Rattle.pdu_names.specs.Editions.{lengths_of};
 ghost use Rattle.pdu_names.specs.Gives.{GivesNext};
 ghost use Rattle.pdu_names.specs.Kinds.{context, named_bits, natural, unsigned8};
@@ -26,6 +27,7 @@ fn transitions(parts: &mut Cursor<'_>, edition: Edition) -> Result<[u8; 1], Unre
     requires { parts.old.lengths ≡ lengths_of edition }
     ensures exact { GivesNext (context 2 (named_bits 7)) edition parts.old parts.new result }
     ensures kept { parts.new.lengths ≡ parts.old.lengths }
+    ensures no_memory { NeedsNoMemory result }
 {
     let element = parts.required(Tag::primitive(2))?;
     named_bits::<1>(element.contents, 7)
@@ -36,6 +38,7 @@ fn rule(parts: &mut Cursor<'_>, edition: Edition) -> Result<u8, Unread>
     requires { parts.old.lengths ≡ lengths_of edition }
     ensures exact { GivesNext (context 3 (natural 0 0)) edition parts.old parts.new result }
     ensures kept { parts.new.lengths ≡ parts.old.lengths }
+    ensures no_memory { NeedsNoMemory result }
 {
     parts.required_u8_in(3, 0, 0)
 }
@@ -136,6 +139,7 @@ fn severity(parts: &mut Cursor<'_>, edition: Edition) -> Result<u8, Unread>
     requires { parts.old.lengths ≡ lengths_of edition }
     ensures exact { GivesNext (context 2 unsigned8) edition parts.old parts.new result }
     ensures kept { parts.new.lengths ≡ parts.old.lengths }
+    ensures no_memory { NeedsNoMemory result }
 {
     parts.required_u8(2)
 }

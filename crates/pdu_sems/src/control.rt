@@ -2,6 +2,7 @@
 #![tactic(auto, unfolding(ber_forms::specs::Spelling::appended), using(ber_forms::proofs::Joined::writing))]
 
 ghost use Rattle.std.specs.Prelude.{◌≡◌, refl, true, false, Ok, Err};
+ghost use Rattle.ber_forms.specs.Reads.{NeedsNoMemory};
 ghost use Rattle.ber_forms.specs.Steps.{DefaultedGives};
 ghost use Rattle.pdu_names.specs.Editions.{lengths_of};
 ghost use Rattle.pdu_names.specs.Names.{names_sound};
@@ -25,6 +26,7 @@ pub(crate) fn priority(parts: &mut Cursor<'_>, edition: Edition, number: u32) ->
     ensures exact { DefaultedGives priority.value ((context number priority).member edition)
         (priority.value 64) parts.old parts.new result }
     ensures kept { parts.new.lengths ≡ parts.old.lengths }
+    ensures no_memory { NeedsNoMemory result }
 {
     parts.defaulted_u8_in(number, 0, 127, 64)
 }

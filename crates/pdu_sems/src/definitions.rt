@@ -20,6 +20,7 @@ fn tokens(parts: &mut Cursor<'_>, edition: Edition) -> Result<u16, Unread>
     requires { parts.old.lengths ≡ lengths_of edition }
     ensures exact { GivesNext (context 1 (natural 1 65535)) edition parts.old parts.new result }
     ensures kept { parts.new.lengths ≡ parts.old.lengths }
+    ensures no_memory { NeedsNoMemory result }
 {
     parts.required_u16_in(1, 1, 65535)
 }

@@ -61,6 +61,7 @@ fn state(parts: &mut Cursor<'_>, edition: Edition) -> Result<EntryState, Unread>
     requires { parts.old.lengths ≡ lengths_of edition }
     ensures exact { GivesNext (context 1 entry_state) edition parts.old parts.new result }
     ensures kept { parts.new.lengths ≡ parts.old.lengths }
+    ensures no_memory { NeedsNoMemory result }
 {
     let element = parts.required(Tag::primitive(1))?;
     let number = unsigned8_in(element.contents, 0, 2)?;
@@ -109,6 +110,7 @@ fn class(parts: &mut Cursor<'_>, edition: Edition) -> Result<EntryClass, Unread>
     requires { parts.old.lengths ≡ lengths_of edition }
     ensures exact { GivesNext (context 1 entry_class) edition parts.old parts.new result }
     ensures kept { parts.new.lengths ≡ parts.old.lengths }
+    ensures no_memory { NeedsNoMemory result }
 {
     let element = parts.required(Tag::primitive(1))?;
     let number = unsigned8_in(element.contents, 0, 1)?;

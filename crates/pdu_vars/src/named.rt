@@ -3,6 +3,7 @@
 
 ghost use Rattle.std.specs.Prelude.{◌≡◌, refl, true, false, Ok, Err};
 ghost use Rattle.pdu_data.specs.Types.{type_sound};
+ghost use Rattle.ber_forms.specs.Reads.{NeedsNoMemory};
 ghost use Rattle.ber_forms.specs.Spelling.{Begins};
 ghost use Rattle.ber_forms.specs.Steps.{DefaultedGives};
 ghost use Rattle.mms_types.specs.declared.variable.DeleteScope.TheVariants.{Specific};
@@ -108,6 +109,7 @@ fn scope(parts: &mut Cursor<'_>, edition: Edition) -> Result<DeleteScope, Unread
     ensures exact { DefaultedGives delete_scope.value ((context 0 delete_scope).member edition)
         (delete_scope.value Specific) parts.old parts.new result }
     ensures kept { parts.new.lengths ≡ parts.old.lengths }
+    ensures no_memory { NeedsNoMemory result }
 {
     match parts.optional(Tag::primitive(0))? {
         None => Ok(DeleteScope::Specific),

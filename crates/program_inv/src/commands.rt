@@ -29,9 +29,10 @@ impl Programs {
         follow(&mut self.rows, command, name);
     }
 
-    /// A program invocation is started (ISO 9506-1, Start), and told the argument, or the empty text where there is
-    /// none. The one refusal is want of memory; then all is as before.
+    /// A program invocation is started that no cause keeps from it (ISO 9506-1, Start), and told the argument, or the
+    /// empty text where there is none. The one refusal is want of memory; then all is as before.
     pub fn start(&mut self, alloc: Global, asked: &RunProgram) -> Result<(), Memory>
+        requires { command_cause Command.Start asked.now.name self.old ≡ None }
         ensures started { OnOk result (self.new ≡ after_start asked.now self.old) }
         ensures kept { OnErr result (self.new ≡ self.old) }
     {
@@ -43,9 +44,10 @@ impl Programs {
         Ok(())
     }
 
-    /// A program invocation goes on (ISO 9506-1, Resume), and is told the argument; where there is none, what it was
-    /// told stays. The one refusal is want of memory; then all is as before.
+    /// A program invocation goes on that no cause keeps from it (ISO 9506-1, Resume), and is told the argument; where
+    /// there is none, what it was told stays. The one refusal is want of memory; then all is as before.
     pub fn resume(&mut self, alloc: Global, asked: &RunProgram) -> Result<(), Memory>
+        requires { command_cause Command.Resume asked.now.name self.old ≡ None }
         ensures resumed { OnOk result (self.new ≡ after_resume asked.now self.old) }
         ensures kept { OnErr result (self.new ≡ self.old) }
     {

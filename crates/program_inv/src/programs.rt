@@ -118,8 +118,10 @@ impl Programs {
         }
     }
 
-    /// Deletes the program invocation of that name (ISO 9506-1, DeleteProgramInvocation). It takes no memory.
+    /// Deletes the program invocation of that name, against which no cause stands (ISO 9506-1,
+    /// DeleteProgramInvocation). It takes no memory.
     pub fn delete(&mut self, name: &Identifier)
+        requires { delete_cause name.now self.old ≡ None }
         ensures { self.new ≡ after_delete name.now self.old }
     {
         self.rows.shift_remove(name);

@@ -12,7 +12,8 @@ use Rattle.mms_types.specs.declared.object_name.ObjectName.{ObjectName}
 use Rattle.mms_types.specs.declared.pdu.Answer.TheVariants as answer
 use Rattle.mms_types.specs.declared.service_error.ServiceError.{ServiceError}
 use Rattle.association.specs.Client.{ClientRow, Client as RoomyRow}
-use Rattle.event_cond.specs.Deletion.{deletions, missing}
+use Rattle.object_names.specs.Deletion.{missing}
+use Rattle.event_cond.specs.Deletion.{deletions}
 use Rattle.event_cond.specs.Services.{alter_cause, alter_told, trigger_cause, trigger_told}
 use Rattle.cell_client.specs.Areas.{IsServedIn}
 use Rattle.cell_client.specs.Effects.{felt, settled}

@@ -20,7 +20,8 @@ use Rattle.mms_types.specs.declared.memory.Memory.{Memory}
 use Rattle.mms_types.specs.declared.moment.Moment.{Moment}
 use Rattle.mms_types.specs.declared.object_name.ObjectName.{ObjectName}
 use Rattle.mms_types.specs.declared.pdu.Answer.TheVariants as answer
-use Rattle.event_cond.specs.Deletion.{deletions, missing}
+use Rattle.object_names.specs.Deletion.{missing}
+use Rattle.event_cond.specs.Deletion.{deletions}
 use Rattle.event_cond.specs.Services.{alter_cause, alter_told, trigger_cause, trigger_told}
 use Rattle.serve_events.specs.Events.{after_alter, after_delete, after_trigger, alter_condition, alter_turns, delete_conditions, delete_turns, request_in, trigger, trigger_turns, turned}
 use Rattle.serve_events.proofs.MovingLaws.{alter_effect, alter_turned, alter_why, delete_effect, delete_turned, trigger_effect, trigger_turned, trigger_why}

@@ -8,11 +8,11 @@ use Rattle.mms_types.specs.declared.key.Key.{Key}
 use Rattle.mms_types.specs.declared.moment.Moment.{Moment}
 use Rattle.mms_types.specs.declared.object_name.ObjectName.{ObjectName}
 use Rattle.mms_types.proofs.Precedence.{key_eq_tells}
-use Rattle.object_names.specs.Deletion.{is_listed_by}
+use Rattle.object_names.specs.Deletion.{is_listed_by, mentioned}
 use Rattle.event_cond.specs.Conditions.{Rows, named}
-use Rattle.event_cond.specs.Deletion.{after_delete, deletion_turn, deletions, deletions_of, mentioned, without}
+use Rattle.event_cond.specs.Deletion.{after_delete, deletion_turn, deletions, deletions_of, without}
 use Rattle.event_cond.specs.declared.condition.Condition.{Condition}
-use Rattle.event_cond.proofs.Mentioned.{among, listed_mentioned}
+use Rattle.object_names.proofs.Mentioned.{among, listed_mentioned}
 use Rattle.event_enrol.specs.Enrolments.{is_on, without_condition}
 use Rattle.event_enrol.specs.Enrolments as enrol
 use Rattle.event_enrol.specs.declared.enrolment.Enrolment.{Enrolment}

@@ -9,7 +9,7 @@ use Rattle.mms_types.specs.declared.moment.Moment.{Moment}
 use Rattle.mms_types.specs.declared.object_name.ObjectName.{ObjectName}
 use Rattle.mms_types.specs.declared.object_name.ObjectName.TheVariants as name
 use Rattle.mms_types.specs.Order.{key_of}
-use Rattle.event_cond.specs.Deletion.{missing}
+use Rattle.object_names.specs.Deletion.{missing}
 use Rattle.event_cond.specs.declared.condition.Condition.{Condition}
 use Rattle.event_cond.specs.declared.condition.ConditionClass.{ConditionClass}
 use Rattle.event_cond.specs.declared.condition.ConditionClass.TheVariants.{NetworkTriggered, Monitored}

@@ -22,6 +22,7 @@ use Rattle.mms_types.specs.declared.variable.Spec.{Spec}
 use Rattle.mms_types.specs.declared.variable.Spec.TheVariants as spec
 use Rattle.event_cond.specs.Conditions.{Rows as Conditions, condition}
 use Rattle.event_cond.specs.Deletion as deletion
+use Rattle.object_names.specs.Deletion.{missing}
 use Rattle.event_cond.specs.Services as cond
 use Rattle.event_cond.specs.declared.condition.ConditionClass.{ConditionClass}
 use Rattle.event_cond.specs.declared.condition.ConditionClass.TheVariants.{NetworkTriggered, Monitored}
@@ -122,7 +123,7 @@ delete_conditions names = record {
   more = λ t row. Truth (first_watched row.client t.conditions names) ∷ [];
   cause = λ facts t row. None;
   effect = λ facts t row invoke.
-      turned t (after_delete row.client facts.now names t) (answer.DeleteEventCondition (deletion.missing row.client names t.conditions))
+      turned t (after_delete row.client facts.now names t) (answer.DeleteEventCondition (missing row.client names t.conditions))
       (delete_turns row.client facts.now names t);
 }
 

@@ -1,5 +1,5 @@
 -- A program invocation is made: no domain has its name before, and without memory it is taken back.
-use Rattle.std.proofs.Common.{◌≡◌, ◌∙◌, ℕ, Bool, true, false, cond, ◌||◌, if◌then◌else◌, List, [], ◌∷◌, ◌++◌, Option, None, Some, is_some, filter, length, refl, ap, sym, subst}
+use Rattle.std.proofs.Common.{◌≡◌, ◌∙◌, ℕ, Bool, true, false, not, cond, ◌||◌, if◌then◌else◌, List, [], ◌∷◌, ◌++◌, Option, None, Some, is_some, filter, length, refl, ap, sym, subst}
 use Rattle.std.specs.List.{list_any}
 use Rattle.std.specs.Map.{keys_of, lookup, remove_entry}
 use Rattle.std.specs.Option.{option_map_or}
@@ -15,7 +15,9 @@ use Rattle.domain_load.specs.Domains.{Rows as DomainRows, is_there, name_eq}
 use Rattle.domain_load.specs.Domains as loaded
 use Rattle.domain_load.specs.Used.{AreFreeFor, is_had_by}
 use Rattle.domain_load.specs.declared.domain.Domain.{Domain}
-use Rattle.program_inv.specs.Programs.{Rows, after_create, after_delete, create_cause, named}
+use Rattle.mms_types.specs.Errors.{first_of, object_non_existent, object_state_conflict}
+use Rattle.mms_types.specs.declared.service_error.ServiceError.{ServiceError}
+use Rattle.program_inv.specs.Programs.{Rows, after_create, after_delete, create_cause, delete_cause, is_running, named}
 use Rattle.program_inv.specs.declared.invocation.Invocation.{Invocation}
 use Rattle.program_inv.proofs.Free.{all_free}
 use Rattle.program_inv.proofs.Unopposed.{nothing_against}
@@ -96,3 +98,19 @@ pub made_and_deleted : (request : CreateProgramInvocation) (domains : DomainRows
 made_and_deleted request domains rows made after none is gone =
     gone ∙ ap (after_delete request.name) is
     ∙ taken_back request.name (record { domains = request.domains; reusable = request.reusable; state = Idle; argument = [] }) rows (nothing_against request domains rows none).0
+
+-- ---- and nothing is against that
+
+named_last : (name : List ℕ) (p : Invocation) (rows : Rows) → named name rows ≡ None → named name (rows ++ (name, p) ∷ []) ≡ Some p
+named_last name p [] e = ap (λ (b : Bool). cond b (Some p) None) (nat_list_eq_equiv.refl name)
+named_last name p (row ∷ rows) e =
+    let a = first_other (name_eq name row.0) row.1 (named name rows) e in
+    ap (λ (b : Bool). cond b (Some row.1) (named name (rows ++ (name, p) ∷ []))) a.0 ∙ named_last name p rows a.1
+
+abbrev cause_of : Option Invocation → Option ServiceError
+cause_of found = first_of ((not (is_some found), object_non_existent) ∷ (option_map_or is_running found false, object_state_conflict) ∷ [])
+
+pub made_may_go : (request : CreateProgramInvocation) (domains : DomainRows) (rows made : Rows) → create_cause request domains rows ≡ None → made ≡ after_create request rows → delete_cause request.name made ≡ None
+made_may_go request domains rows made none is =
+    ap (delete_cause request.name) is
+    ∙ ap cause_of (named_last request.name (record { domains = request.domains; reusable = request.reusable; state = Idle; argument = [] }) rows (nothing_against request domains rows none).0)

@@ -77,6 +77,7 @@ fn start_there(
     asked: &RunProgram,
 ) -> Result<(), Memory>
     requires settled { own.old ≡ settled own.old.row }
+    requires free { command_cause Command.Start asked.now.name programs.old ≡ None }
     ensures told { OnOk result (own.new ≡ settled (felt_all
         (request_told (size_of own.old.row.association) invoke None (Some Answer.Start))
         own.old.row)) }
@@ -127,6 +128,7 @@ fn resume_there(
     asked: &RunProgram,
 ) -> Result<(), Memory>
     requires settled { own.old ≡ settled own.old.row }
+    requires free { command_cause Command.Resume asked.now.name programs.old ≡ None }
     ensures told { OnOk result (own.new ≡ settled (felt_all
         (request_told (size_of own.old.row.association) invoke None (Some Answer.Resume))
         own.old.row)) }

@@ -3,7 +3,7 @@
 
 ghost use Rattle.std.specs.Prelude.{◌≡◌, None, OnErr, OnOk, Some, if◌then◌else◌};
 ghost use Rattle.domain_load.specs.Used.{AreFreeFor, after_used};
-ghost use Rattle.program_inv.specs.Programs.{after_create, after_delete, create_cause, named};
+ghost use Rattle.program_inv.specs.Programs.{after_create, after_delete, create_cause, delete_cause, named};
 ghost use Rattle.cell_client.specs.Areas.{IsServedIn};
 ghost use Rattle.cell_client.specs.Effects.{felt_all, settled};
 ghost use Rattle.cell_client.specs.Facts.{Facts};
@@ -119,6 +119,7 @@ fn delete_there(
     invoke: u32,
     name: &Identifier,
 ) -> Result<(), Memory>
+    requires { delete_cause name.now programs.old ≡ None }
     ensures told { OnOk result (own.new ≡ settled (felt_all
         (request_told (size_of own.old.row.association) invoke None
         (Some Answer.DeleteProgramInvocation)) own.old.row)) }

@@ -1,6 +1,6 @@
 //! Who is granted a token is told (ISO 9506-2, TakeControl).
 
-ghost use Rattle.std.specs.Prelude.{◌≡◌, ◌++◌, false, is_some, IfNone, IfOk, IfSome, OnErr, OnOk, OnSome, Some};
+ghost use Rattle.std.specs.Prelude.{◌≡◌, ◌++◌, false, is_some, IfNone, IfOk, IfSome, OnErr, OnOk, OnSome, Some, take, vec_len};
 ghost use Rattle.mms_types.specs.declared.pdu.Pdu.TheVariants as pdu;
 ghost use Rattle.cell_client.specs.Association.{other_error, sends};
 ghost use Rattle.cell_client.specs.Telling.{effect_of, effects_told};
@@ -30,42 +30,54 @@ fn granted(alloc: Global, invoke: u32, answer: TakeControlAnswer) -> Result<Clie
     Ok(ClientTold::Sends(What::Octets(octets)))
 }
 
-/// Tells a client that waited that it has a token, after what is told before.
+/// Tells a client that waited that it has a token, after what is told before. The one refusal is want of memory; then
+/// what is told is as before.
 pub fn tell_grant(
     alloc: Global,
     told: &mut Vec<(u32, ClientTold)>,
     grant: Granted,
 ) -> Result<(), Memory>
-    ensures { OnOk result (effects_told told.new.items
+    ensures told { OnOk result (effects_told told.new.items
         ≡ effects_told told.old.items ++ grant_told grant) }
+    ensures first { take (vec_len told.old) told.new.items ≡ told.old.items }
+    ensures kept { OnErr result (told.new.items ≡ told.old.items) }
 {
     let Granted {
         client,
         invoke,
         answer,
     } = grant;
-    told.push((client, ClientTold::Answers(invoke)))?;
     let answer = granted(alloc, invoke, answer)?;
-    told.push((client, answer))?;
+    told.reserve(2)?;
+    told.push_reserved((client, ClientTold::Answers(invoke)));
+    told.push_reserved((client, answer));
     Ok(())
 }
 
-/// Tells clients that waited that they have a token, in order, after what is told before.
+/// Tells clients that waited that they have a token, in order, after what is told before. The one refusal is want of
+/// memory; then what is told is as before.
 pub fn tell_grants(
     alloc: Global,
     told: &mut Vec<(u32, ClientTold)>,
     grants: Vec<Granted>,
 ) -> Result<(), Memory>
-    ensures { OnOk result (effects_told told.new.items
+    ensures told { OnOk result (effects_told told.new.items
         ≡ effects_told told.old.items ++ grants_told grants.items) }
+    ensures first { take (vec_len told.old) told.new.items ≡ told.old.items }
+    ensures kept { OnErr result (told.new.items ≡ told.old.items) }
 {
+    let before = told.len();
     for grant in grants {
-        tell_grant(alloc, told, grant)?;
+        if let Err(error) = tell_grant(alloc, told, grant) {
+            told.truncate(before);
+            return Err(error);
+        }
     }
     Ok(())
 }
 
-/// The octets that answer a client that gives a token back. None where they are more than was negotiated: it is refused.
+/// The octets that answer a client that gives a token back. None where they are more than was negotiated: it is
+/// refused.
 fn answer_of(alloc: Global, own: &mut Client, invoke: u32) -> Result<Option<Octets>, Memory>
     ensures fits { IfOk result (λ octets. is_some octets
         ≡ fits (size_of own.old.row.association) invoke (Some Answer.RelinquishControl)) }

@@ -1,5 +1,5 @@
 -- Where no deadline is due, time goes by on the part of the clock alone.
-use Rattle.std.proofs.Common.{◌≡◌, ◌∙◌, ap, sym, subst, refl, set, ℕ, ◌+◌, ◌||◌, Bool, true, false, not, is_some, List, [], Option, None, Some, length, arith}
+use Rattle.std.proofs.Common.{◌≡◌, ◌≢◌, ◌∙◌, ap, sym, subst, refl, set, ℕ, ◌+◌, ◌||◌, Bool, true, false, not, is_some, List, [], Option, None, Some, length, arith}
 use Rattle.event_cond.specs.Conditions.{Rows as Conditions}
 use Rattle.mms_time.specs.Semaphores.{Rows}
 use Rattle.mms_types.specs.declared.moment.Moment.{Moment}
@@ -60,6 +60,19 @@ pub quiet : (until : Moment) (semaphores : Rows) (conditions : Conditions) → i
 quiet until semaphores conditions one other =
     none_found (next_due until semaphores conditions)
     (sym (due_is until semaphores conditions) ∙ ap (λ (b : Bool). b || any_due until conditions) one ∙ other)
+
+-- one of them
+pub loud : (until : Moment) (semaphores : Rows) (conditions : Conditions) → (is_some (sem_due.next_due until semaphores) || any_due until conditions) ≡ true
+    → next_due until semaphores conditions ≢ None
+loud until semaphores conditions due none = cc (sym due ∙ due_is until semaphores conditions ∙ ap is_some none)
+
+pub or_true : (b : Bool) → (b || true) ≡ true
+or_true true = refl
+or_true false = refl
+
+pub so_then : (b : Bool) → not b ≡ false → b ≡ true
+so_then true e = refl
+so_then false e = absurd (cc e)
 
 -- where there are no semaphores
 pub quiet_alone : (until : Moment) (semaphores : Rows) (conditions : Conditions) → semaphores ≡ [] → any_due until conditions ≡ false → next_due until semaphores conditions ≡ None

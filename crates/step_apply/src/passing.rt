@@ -1,6 +1,6 @@
 //! Time goes by on the parts that are held.
 
-ghost use Rattle.std.specs.Prelude.{◌≡◌, ◌+◌, ◌≤◌, [], false, is_some, true, length, None, OnOk, OnErr, Some};
+ghost use Rattle.std.specs.Prelude.{◌≡◌, ◌≢◌, ◌+◌, ◌≤◌, [], false, is_some, true, length, None, OnOk, OnErr, Some};
 ghost use Rattle.part_table.specs.Held.{held_at, IsHandOf};
 ghost use Rattle.parted_state.specs.Lifted.{put_in_place, tables_shown};
 ghost use Rattle.mms_time.specs.Deadlines.{next_due};
@@ -82,6 +82,10 @@ fn is_quiet(held: &mut Hand<Cell>, clients: u32, ms: u32) -> bool
         → device.next_due (record { 0 = clock_in (held_at held.old clock_place) + ms })
         (semaphores_in (held_at held.old (semaphores_place clients)))
         (events_in (held_at held.old events_place)).conditions ≡ None }
+    ensures wants { result ≡ false → is_clock (held_at held.old clock_place) ≡ true
+        → device.next_due (record { 0 = clock_in (held_at held.old clock_place) + ms })
+        (semaphores_in (held_at held.old (semaphores_place clients)))
+        (events_in (held_at held.old events_place)).conditions ≢ None }
     ensures same { held.new ≡ held.old }
 {
     let Some(Part::Clock(clock)) = held.get(0) else {
@@ -127,6 +131,10 @@ pub(crate) fn tick(
     ensures put { OnOk result (held.new
         ≡ put_in_place cell (passes ms (tables_shown cell held.old)) held.old) }
     ensures kept { OnErr result (held.new ≡ held.old) }
+    ensures wants { OnErr result (is_clock (held_at held.old clock_place) ≡ true
+        → device.next_due (record { 0 = clock_in (held_at held.old clock_place) + ms })
+        (semaphores_in (held_at held.old (semaphores_place clients)))
+        (events_in (held_at held.old events_place)).conditions ≢ None) }
 {
     if is_quiet(held, clients, ms) {
         advance(held, ms);

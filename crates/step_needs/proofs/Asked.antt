@@ -1,5 +1,5 @@
 -- What an event needs, as code finds it.
-use Rattle.std.specs.Prelude.{◌≡◌, ℕ, ◌==◌, Bool, true, false, Option, None, Some, option_and_then, is_some, List, [], ◌∷◌, ◌++◌, length, if◌then◌else◌, refl}
+use Rattle.std.specs.Prelude.{◌≡◌, ◌≢◌, ℕ, ◌==◌, ◌||◌, Bool, true, false, Option, None, Some, option_and_then, is_some, List, [], ◌∷◌, ◌++◌, length, if◌then◌else◌, refl}
 use Rattle.std.specs.List.{flat_map, list_any}
 use Rattle.std.specs.Option.{option_copied, option_map_or}
 use Rattle.std.proofs.Common.{Bor, ap, sym, ◌∙◌, subst}
@@ -16,7 +16,11 @@ use Rattle.sem_ticks.proofs.Settling.{settle-none}
 use Rattle.sem_ticks.specs.declared.ticks.Happening.{Happening}
 use Rattle.sem_ticks.specs.declared.ticks.Happening.TheVariants as happens
 use Rattle.cell_client.specs.Facts.{Question, Scoped}
+use Rattle.cell_ticks.specs.Deadlines as device
 use Rattle.cell_ticks.specs.Ticks.{aborted}
+use Rattle.cell_ticks.proofs.Coded.{due_is}
+use Rattle.event_cond.specs.Conditions.{Rows as Conditions}
+use Rattle.event_cond.specs.Skips.{any_due}
 use Rattle.step_parts.specs.declared.part.Part.{Part}
 use Rattle.cell_services.specs.Facts.{cell_tables, domain_tables, scope_tables, tables_for}
 use Rattle.cell_services.specs.Others.{is_abort}
@@ -73,6 +77,20 @@ nothing_due until rows none =
   where
     start : Ticking
     start = record { rows = rows; happened = [] }
+
+none_of_two : {A : Type 0} (o : Option A) (b : Bool) → (is_some o || b) ≡ false → o ≡ None
+none_of_two None b e = refl
+none_of_two (Some x) b e = absurd (cc e)
+
+-- a deadline of a semaphore is one of the device
+pub due_on_device : (until : Moment) (rows : Rows) (conditions : Conditions) → next_due until rows ≢ None → device.next_due until rows conditions ≢ None
+due_on_device until rows conditions some none = some (none_of_two (next_due until rows) (any_due until conditions) (due_is until rows conditions ∙ ap is_some none))
+
+-- where something happens to semaphores a deadline is due
+pub happened_is_due : (until : Moment) (rows : Rows) (conditions : Conditions) (happened : List Happening) → happened ≡ (ticked until rows).happened → happened ≢ []
+    → device.next_due until rows conditions ≢ None
+happened_is_due until rows conditions happened is some none =
+    some (is ∙ nothing_due until rows (none_of_two (next_due until rows) (any_due until conditions) (due_is until rows conditions ∙ ap is_some none)))
 
 -- ---- three stages
 

@@ -1,9 +1,10 @@
 -- What happens until a moment, as the tables show it that are held.
-use Rattle.std.specs.Prelude.{◌≡◌, ℕ, ◌+◌, ◌==◌, List, length}
+use Rattle.std.specs.Prelude.{◌≡◌, ◌≢◌, ℕ, ◌+◌, ◌==◌, List, None, length}
 use Rattle.std.specs.List.{list_any}
 use Rattle.part_table.specs.Held.{held_at}
 use Rattle.parted_state.specs.Served.{is_told}
 use Rattle.event_cond.specs.Skips.{Saying}
+use Rattle.cell_ticks.specs.Deadlines.{next_due}
 use Rattle.cell_ticks.specs.Ticks.{Ticking, ticked}
 use Rattle.cell_services.specs.Serving.{all_told, saying}
 use Rattle.step_parts.specs.Partition.{clients_among, clock_in, clock_place, events_in, events_place, semaphores_in, semaphores_place, variables_in, variables_place}
@@ -15,6 +16,10 @@ says coming = saying (variables_in (held_at coming.held.now variables_place))
 
 abbrev pub comes : Coming → Ticking
 comes coming = ticked (says coming) coming.until coming.semaphores.now coming.events.now.conditions coming.events.now.enrolments
+
+-- a deadline of a semaphore or an evaluation is due by then
+abbrev pub IsDue : Coming → Type 0
+IsDue coming = next_due coming.until coming.semaphores.now coming.events.now.conditions ≢ None
 
 -- these clients, and no others, are told something by it
 abbrev pub AreTold : Coming → List ℕ → Type 0

@@ -1,11 +1,11 @@
 //! Which parts an event needs.
 
-ghost use Rattle.std.specs.Prelude.{◌≡◌, ℕ, ◌≤◌, [], length, IfOk};
+ghost use Rattle.std.specs.Prelude.{◌≡◌, ℕ, ◌≤◌, [], true, length, IfOk, OnErr};
 ghost use Rattle.mms_types.specs.Actors.{IsAmong};
 ghost use Rattle.part_table.specs.Held.{held_at, IsHandOf};
 ghost use Rattle.parted_state.specs.Cut.{missing};
 ghost use Rattle.parted_state.specs.Sets.{IsSetOf};
-ghost use Rattle.cell_client.specs.Reads.{IsReadingOf};
+ghost use Rattle.cell_client.specs.Reads.{IsReadingOf, kept_wants_memory};
 ghost use Rattle.step_parts.specs.State.{State, IsSound};
 ghost use Rattle.step_parts.specs.Partition.{clients_among, clock_in, clock_place, parts_of};
 ghost use Rattle.step_parts.specs.Needs.{footprint, need};
@@ -84,7 +84,7 @@ fn need_more(
 
 /// What the octets of an event come to, by the part of its client as it is held: a verdict, which is found once for all
 /// that the event needs and for its step. None where the event has no octets, where that part isn't held, and where
-/// they were read by another edition than that of the client.
+/// they were read by another edition than that of the client. The one refusal is that memory was wanting to read them.
 pub fn verdict<'a>(
     event: &CellEvent,
     reading: &'a Reading,
@@ -94,6 +94,7 @@ pub fn verdict<'a>(
     requires among { IsAmong 64 event.now }
     ensures found { IfOk result (λ found. IsFoundOf found event.now held.now) }
     ensures read { IfOk result (λ found. IsFoundWhereRead found reading.now event.now held.now) }
+    ensures wants { OnErr result (kept_wants_memory reading.now ≡ true) }
 {
     let CellEvent::Heard { client, .. } = event else {
         return Ok(None);

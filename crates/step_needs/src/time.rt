@@ -1,6 +1,6 @@
 //! What is needed by time that goes by, once the clock, the event conditions and the semaphores are held.
 
-ghost use Rattle.std.specs.Prelude.{◌≡◌, ℕ, ◌+◌, ◌≤◌, ◌++◌, None, IfOk, IfNone, IfSome, length};
+ghost use Rattle.std.specs.Prelude.{◌≡◌, ◌≢◌, ℕ, ◌+◌, ◌≤◌, ◌++◌, None, IfOk, IfNone, IfSome, OnErr, OnSome, length};
 ghost use Rattle.part_table.specs.Held.{held_at};
 ghost use Rattle.parted_state.specs.Sets.{IsSetOf};
 ghost use Rattle.mms_types.specs.Moments.{IsDated};
@@ -12,8 +12,8 @@ ghost use Rattle.cell_ticks.specs.Ticks.{aborted};
 ghost use Rattle.cell_services.specs.Serving.{abort_asks, evaluation_asks};
 ghost use Rattle.cell_services.specs.Tables.{last_moment};
 ghost use Rattle.step_parts.specs.Needs.{placed, time_need};
-ghost use Rattle.step_parts.specs.Partition.{clients_among, clock_in, clock_place};
-ghost use Rattle.step_needs.specs.Coming.{AreTold, IsComing, comes, says};
+ghost use Rattle.step_parts.specs.Partition.{clients_among, clock_in, clock_place, events_in, events_place, semaphores_in, semaphores_place};
+ghost use Rattle.step_needs.specs.Coming.{AreTold, IsComing, IsDue, comes, says};
 
 use crate::heard::untold;
 use cell_services::{CellsOf, happened_to, is_lossy, told_meanwhile};
@@ -65,6 +65,8 @@ impl Coming<'_> {
             self.entry.events.now.enrolments ≡ comes self.entry)) }
         ensures none { IfOk result (λ met. IfNone met (next_due self.entry.until
             self.entry.semaphores.now self.entry.events.now.conditions ≡ None)) }
+        ensures some { IfOk result (λ met. OnSome met (IsDue self.entry)) }
+        ensures wants { OnErr result (IsDue self.entry) }
     {
         let variables = shown(self.alloc, self.held, VARIABLES);
         let cells = CellsOf {
@@ -83,7 +85,8 @@ impl Coming<'_> {
     /// The clients that are told of what happens, where conditions are evaluated.
     fn told_met(self) -> Result<Vec<u32>, Memory>
         requires { IsDated self.until }
-        ensures { IfOk result (λ clients. AreTold self.entry clients.items) }
+        ensures told { IfOk result (λ clients. AreTold self.entry clients.items) }
+        ensures wants { OnErr result (IsDue self.entry) }
     {
         match self.met()? {
             None => Ok(Vec::new(self.alloc)),
@@ -97,7 +100,8 @@ impl Coming<'_> {
         requires dated { IsDated self.until }
         requires due { is_due ≡ any_due self.until self.events.now.conditions }
         requires happened { happened.now ≡ (ticked self.until self.semaphores.now).happened }
-        ensures { IfOk result (λ clients. AreTold self.entry clients.items) }
+        ensures told { IfOk result (λ clients. AreTold self.entry clients.items) }
+        ensures wants { OnErr result (IsDue self.entry) }
     {
         if is_due {
             self.told_met()
@@ -107,11 +111,12 @@ impl Coming<'_> {
     }
 
     /// What happens to semaphores. Where no deadline is due, none is copied.
-    #[tactic(auto, using(crate::proofs::Asked::nothing_due))]
+    #[tactic(auto, using(crate::proofs::Asked::nothing_due, crate::proofs::Asked::due_on_device))]
     fn happening(self) -> Result<Vec<Happening>, Memory>
         requires { IsDated self.until }
-        ensures { IfOk result (λ happened.
+        ensures happened { IfOk result (λ happened.
             happened.items ≡ (ticked self.entry.until self.entry.semaphores.now).happened) }
+        ensures wants { OnErr result (IsDue self.entry) }
     {
         match tick(self.alloc, self.semaphores, self.until)? {
             None => Ok(Vec::new(self.alloc)),
@@ -123,8 +128,9 @@ impl Coming<'_> {
     fn need(self, clients: u32) -> Result<Parts, Memory>
         requires few { clients ≤ 64 }
         requires dated { IsDated self.until }
-        ensures { IfOk result (λ parts. (ms : ℕ) → IsComing self.entry clients ms
+        ensures need { IfOk result (λ parts. (ms : ℕ) → IsComing self.entry clients ms
             → IsSetOf parts (time_need clients self.entry.held.now ms)) }
+        ensures wants { OnErr result (IsDue self.entry) }
     {
         let is_due = self.events.conditions.is_due(self.until);
         let happened = self.happening()?;
@@ -137,7 +143,8 @@ impl Coming<'_> {
     }
 }
 
-/// What is needed by so many milliseconds that go by.
+/// What is needed by so many milliseconds that go by. The one refusal is want of memory, only where a deadline of what
+/// is held is due then.
 pub(crate) fn need_time(
     alloc: Global,
     clients: u32,
@@ -147,7 +154,11 @@ pub(crate) fn need_time(
     requires many { clients ≡ clients_among (length held.now) }
     requires few { clients ≤ 64 }
     requires time { clock_in (held_at held.now clock_place) + ms ≤ last_moment }
-    ensures { IfOk result (λ parts. IsSetOf parts (time_need clients held.now ms)) }
+    ensures need { IfOk result (λ parts. IsSetOf parts (time_need clients held.now ms)) }
+    ensures wants { OnErr result (next_due
+        (record { 0 = clock_in (held_at held.now clock_place) + ms })
+        (semaphores_in (held_at held.now (semaphores_place clients)))
+        (events_in (held_at held.now events_place)).conditions ≢ None) }
 {
     let rows = shown(alloc, held, semaphores(clients));
     let events = shown(alloc, held, EVENTS);

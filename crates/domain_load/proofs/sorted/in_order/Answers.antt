@@ -18,5 +18,5 @@ loop-left-preserved c =
     let enough : suc (length (drop left given)) ≤ length given = omega (arith, rest, there, within, c.loop-left-test.true) in
     record {
       within = omega (arith, within);
-      sorted = more_sorted name (drop left given) _ _ (length given) c.loop-left.invariant.sorted c.in_ok-put_name.ensures enough ∙ ap sorted_names (sym here);
+      sorted = more_sorted name (drop left given) _ _ (length given) c.loop-left.invariant.sorted c.in_ok-put_name.ensures.placed enough ∙ ap sorted_names (sym here);
     }

@@ -4,8 +4,8 @@ use Rattle.object_names.specs.Listing.{insert_name}
 use Rattle.domain_load.proofs.FirstNames.{map_put}
 use Rattle.domain_load.proofs.sorted.put_name.Goals as goal
 
-pub returns : goal.returns
-returns c =
+pub returns-clause-placed : goal.returns-clause-placed
+returns-clause-placed c =
     let old = c.args.names.now.items in
     let place = c.place_of-place.result in
     let name = c.args.name.now in

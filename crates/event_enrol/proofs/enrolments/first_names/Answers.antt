@@ -20,7 +20,7 @@ loop-left-preserved-then-is_listed c =
       within = omega (arith, within);
       are = subst (λ rs. AreFirst c.args.most c.args.scope.now after rs (map (λ name. name.now) c.put_name.new.names.items) (c.loop-left.count + 1)) (sym here)
           (one_more c.args.most c.args.scope.now after row (drop left rows) _ _ c.loop-left.count c.loop-left.invariant.are
-          (sym c.is_listed.ensures ∙ c.if-is_listed.true) c.in_ok-put_name.ensures);
+          (sym c.is_listed.ensures ∙ c.if-is_listed.true) c.in_ok-put_name.ensures.placed);
     }
 
 pub loop-left-preserved : goal.loop-left-preserved

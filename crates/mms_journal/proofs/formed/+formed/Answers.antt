@@ -1,7 +1,7 @@
-use Rattle.std.proofs.Common.{◌≡◌, ◌+◌, refl, sym, arith}
+use Rattle.std.proofs.Common.{◌≡◌, ◌+◌, IsTrue, refl, subst, sym, arith}
 use Rattle.mms_types.specs.Datum.{row, depth, deepest}
 use Rattle.mms_types.specs.DataFallsLaws.{sizes_below}
-use Rattle.mms_journal.proofs.Fitting.{formed_next}
+use Rattle.mms_journal.proofs.Fitting.{formed_at, formed_next}
 use Rattle.mms_journal.proofs.formed.+formed.Goals as goal
 
 pub is_formed_data-are_formed_data-requires : goal.is_formed_data-are_formed_data-requires
@@ -16,4 +16,9 @@ is_formed_data-are_formed_data-requires-in-Structure t c =
 
 pub are_formed_data-loop-item-preserved : goal.are_formed_data-loop-item-preserved
 are_formed_data-loop-item-preserved t c =
-    formed_next c.args.items.now c.loop-item.item-index c.item-item.result c.loop-item-test.true c.item-item.is c.loop-item.invariant (c.is_formed_data.ensures c.if-not-is_formed_data.false)
+    formed_next c.args.items.now c.loop-item.item-index c.item-item.result c.loop-item-test.true c.item-item.is c.loop-item.invariant (c.is_formed_data.ensures.formed c.if-not-is_formed_data.false)
+
+pub are_formed_data-returns-then-not-is_formed_data-clause-all : goal.are_formed_data-returns-then-not-is_formed_data-clause-all
+are_formed_data-returns-then-not-is_formed_data-clause-all t c = λ h.
+    subst IsTrue c.if-not-is_formed_data.true
+    (c.is_formed_data.ensures.all (formed_at c.args.items.now c.loop-item.item-index c.item-item.result c.loop-item-test.true c.item-item.is h))

@@ -10,5 +10,5 @@ pub returns-in_ok-refuse-in-Err-Service-clause-served : goal.returns-in_ok-refus
 returns-in_ok-refuse-in-Err-Service-clause-served c facts at truth =
     alter_refused c.args.tables.now c.args.own.now.row c.args.invoke c.client-client.result (c.client-client.ensures ∙ ap (λ (r : RoomyRow). r.row.client) c.part.ensures) c.args.now
     c.args.asked.now c.refuse.new.self c.in-Err-Service.error
-    (error_said _ c.in-Err-Service.error _ _ c.in-Err-Service.field-0-is c.in-Err-Service.ensures)
+    (error_said _ c.in-Err-Service.error _ _ c.in-Err-Service.field-0-is c.in-Err-Service.ensures.served)
     (c.in_ok-refuse-in-Err-Service.ensures.sent ∙ ap (λ (e : ServiceError). settled (felt (refuses c.args.invoke e) c.args.own.now.row)) c.in-Err-Service.error-is) facts

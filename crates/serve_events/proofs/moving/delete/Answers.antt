@@ -1,7 +1,8 @@
 use Rattle.std.proofs.Common.{List, ap, ◌∙◌}
 use Rattle.association.specs.Client.{Client as RoomyRow}
 use Rattle.mms_types.specs.declared.object_name.ObjectName.{ObjectName}
-use Rattle.event_cond.specs.Deletion.{deletions, missing}
+use Rattle.object_names.specs.Deletion.{missing}
+use Rattle.event_cond.specs.Deletion.{deletions}
 use Rattle.serve_events.proofs.MovingLaws.{delete_effect, delete_turned}
 use Rattle.serve_events.proofs.moving.delete.Goals as goal
 

@@ -1,6 +1,7 @@
 use Rattle.std.proofs.Common.{List, ap, ◌∙◌}
 use Rattle.mms_types.specs.declared.object_name.ObjectName.{ObjectName}
-use Rattle.event_cond.specs.Deletion.{deletions, missing}
+use Rattle.object_names.specs.Deletion.{missing}
+use Rattle.event_cond.specs.Deletion.{deletions}
 use Rattle.serve_events.proofs.OthersLaws.{deletion_clients}
 use Rattle.serve_events.proofs.others.deletion_tells.Goals as goal
 

@@ -88,7 +88,7 @@ returns-in-Tick c =
     (sym (need_ticked hand c.in-Tick.ms c.args.clients c.requires.clients
     (subst (λ (e : CellEvent). missing hand (footprint c.args.clients e) ≡ []) c.in-Tick.is c.requires.words))
     ∙ ap (λ (e : CellEvent). need e hand) (sym c.in-Tick.is)) is)
-    c.need_time.ensures
+    c.need_time.ensures.need
 
 pub returns-in-Ends : goal.returns-in-Ends
 returns-in-Ends c =

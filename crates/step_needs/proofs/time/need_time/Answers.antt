@@ -4,8 +4,8 @@ use Rattle.part_table.specs.Held.{held_at}
 use Rattle.step_parts.specs.Partition.{semaphores_in}
 use Rattle.step_needs.proofs.time.need_time.Goals as goal
 
-pub returns : goal.returns
-returns c =
+pub returns-clause-need : goal.returns-clause-need
+returns-clause-need c =
     let hand = c.args.held.now in
     IfOk-weaker c.need.result _ _
     (λ parts is.
@@ -16,4 +16,4 @@ returns c =
       semaphores = c.get.ensures ∙ c.shown-rows.ensures ∙ ap (λ (p : ℕ). semaphores_in (held_at hand p)) c.semaphores.ensures;
       events = c.get-2.ensures ∙ c.shown-events.ensures;
     }))
-    c.need.ensures
+    c.need.ensures.need

@@ -19,7 +19,7 @@ loop-left-preserved-then-comes_after c =
       within = omega (arith, within);
       are = subst (λ rs. AreFirst c.args.most after rs (map (λ name. name.now) c.put_name.new.names.items) (c.loop-left.count + 1)) (sym here)
           (one_more c.args.most after row (drop left rows) _ _ c.loop-left.count c.loop-left.invariant.are
-          (sym c.comes_after.ensures ∙ c.if-comes_after.true) c.in_ok-put_name.ensures);
+          (sym c.comes_after.ensures ∙ c.if-comes_after.true) c.in_ok-put_name.ensures.placed);
     }
 
 pub loop-left-preserved : goal.loop-left-preserved

@@ -6,8 +6,8 @@ use Rattle.event_enrol.specs.declared.group.Member.{Member}
 use Rattle.event_enrol.proofs.Told.{clients_alike}
 use Rattle.event_enrol.proofs.enrolments.Enrolments.told_clients.Goals as goal
 
-pub returns-in-None : goal.returns-in-None
-returns-in-None c =
+pub returns-in-None-clause-told : goal.returns-in-None-clause-told
+returns-in-None-clause-told c =
     let turned = c.args.turned.now in
     let items = c.args.clients.now.items in
     sym (append-nil items)
@@ -16,8 +16,8 @@ returns-in-None c =
     ∙ clients_alike turned c.self.inside.rows.entries
     ∙ ap (λ rows. map (λ n. n.client) (notices turned rows)) c.self.view_is)
 
-pub returns-in-Some : goal.returns-in-Some
-returns-in-Some c =
+pub returns-in-Some-clause-told : goal.returns-in-Some-clause-told
+returns-in-Some-clause-told c =
     let turned = c.args.turned.now in
     let items = c.args.clients.now.items in
     let same : map (λ (m : Member). m.client) (filter (λ (m : Member). has_bit turned.transition m.transitions) c.as_slice.result.now) ≡ map (λ n. n.client) (notices turned c.args.self.now) =
@@ -25,4 +25,4 @@ returns-in-Some c =
     (c.as_slice.ensures ∙ ap (λ o. unwrap_or o []) c.in-Some.ensures.value ∙ c.self.invariant.2 turned.condition)
     ∙ clients_alike turned c.self.inside.rows.entries
     ∙ ap (λ rows. map (λ n. n.client) (notices turned rows)) c.self.view_is in
-    subst (λ l. OnOk c.put_clients.result (c.put_clients.new.clients.items ≡ items ++ l)) same c.put_clients.ensures
+    subst (λ l. OnOk c.put_clients.result (c.put_clients.new.clients.items ≡ items ++ l)) same c.put_clients.ensures.told

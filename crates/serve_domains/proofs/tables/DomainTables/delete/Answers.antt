@@ -11,3 +11,10 @@ invariant_of-self c =
     (delete_keeps c.args.name.now c.requires.0 c.self.inside.domains c.self.inside.uploads
     (subst (λ (t : DomainTables). delete_cause c.args.name.now (uploads_of c.args.name.now t.uploads) c.requires.0 t.domains ≡ None) (sym c.self.view_is) c.requires.1)
     c.self.invariant)
+
+pub delete-requires : goal.delete-requires
+delete-requires c = (
+  uploads_of c.args.name.now c.self.inside.uploads,
+  c.requires.0,
+  subst (λ (t : DomainTables). delete_cause c.args.name.now (uploads_of c.args.name.now t.uploads) c.requires.0 t.domains ≡ None) (sym c.self.view_is) c.requires.1,
+)

@@ -9,5 +9,5 @@ pub returns : goal.returns
 returns c =
     let s = c.args.self in
     IfOk-weaker c.found_need.result _ _
-    (λ parts is. subst (λ (v : Verdict). IsSetOf parts (verdict_need s.clients s.held.now s.part.now.row v)) c.in_ok-verdict_of.ensures is)
+    (λ parts is. subst (λ (v : Verdict). IsSetOf parts (verdict_need s.clients s.held.now s.part.now.row v)) c.in_ok-verdict_of.ensures.verdict is)
     c.found_need.ensures

@@ -1,14 +1,15 @@
 -- Names that are mentioned once more, and rows of which those go that are mentioned.
-use Rattle.std.proofs.Common.{◌≡◌, ◌∙◌, ap, sym, refl, ℕ, Bool, true, false, cond, not, ◌||◌, List, [], ◌∷◌, ◌++◌, filter, map, if◌then◌else◌}
+use Rattle.std.proofs.Common.{◌≡◌, ◌∙◌, ap, sym, refl, ℕ, ◌+◌, arith, Bool, true, false, cond, not, ◌||◌, List, [], ◌∷◌, ◌++◌, append-nil, filter, length, map, is_none, if◌then◌else◌}
+use Rattle.std.proofs.lemmas.List.{length_push}
 use Rattle.std.specs.List.{list_any}
+use Rattle.std.specs.Map.{lookup}
 use Rattle.mms_types.specs.KeyLaws.{keys_equal}
 use Rattle.mms_types.specs.Order.{key_eq, key_of}
 use Rattle.mms_types.specs.declared.key.Key.{Key}
 use Rattle.mms_types.specs.declared.object_name.ObjectName.{ObjectName}
 use Rattle.mms_types.proofs.Precedence.{key_eq_tells}
 use Rattle.indexmap.specs.IndexSet.{insert_key}
-use Rattle.object_names.specs.Deletion.{is_listed_by}
-use Rattle.event_cond.specs.Deletion.{mentioned, once}
+use Rattle.object_names.specs.Deletion.{is_listed_by, mentioned, missing, missing_of, once}
 
 -- the name stands among them
 abbrev pub among : List Key → Key → Bool
@@ -109,3 +110,37 @@ listed_mentioned client names key = among_once (map (key_of client) names) key �
     by_names : (names : List ObjectName) → among (map (key_of client) names) key ≡ is_listed_by client names key
     by_names [] = refl
     by_names (name ∷ names) = ap (λ (b : Bool). key_eq (key_of client name) key || b) (by_names names)
+
+-- ---- names that have no row
+
+pub missing_with : {T : Type 0} (keys : List Key) (key : Key) (rows : List (Key × T)) (b : Bool) → is_none (lookup (key_eq key) rows) ≡ b
+    → missing_of (keys ++ key ∷ []) rows ≡ missing_of keys rows + (if b then 1 else 0)
+missing_with keys key rows true e =
+    ap length (filter_more (λ k. is_none (lookup (key_eq k) rows)) keys key ∙ ap (λ (b : Bool). filter (λ k. is_none (lookup (key_eq k) rows)) keys ++ (if b then key ∷ [] else [])) e)
+    ∙ length_push (filter (λ k. is_none (lookup (key_eq k) rows)) keys) key ∙ omega arith
+missing_with keys key rows false e =
+    ap length
+    (filter_more (λ k. is_none (lookup (key_eq k) rows)) keys key ∙ ap (λ (b : Bool). filter (λ k. is_none (lookup (key_eq k) rows)) keys ++ (if b then key ∷ [] else [])) e
+    ∙ append-nil (filter (λ k. is_none (lookup (key_eq k) rows)) keys))
+    ∙ omega arith
+
+-- one name more: where it is new and has no row, one more is missing
+pub missing_next : {T : Type 0} (client : ℕ) (names : List ObjectName) (name : ObjectName) (rows : List (Key × T)) (new absent : Bool)
+    → is_listed_by client names (key_of client name) ≡ not new → is_none (lookup (key_eq (key_of client name)) rows) ≡ absent
+    → missing client (names ++ name ∷ []) rows ≡ missing client names rows + (if new then (if absent then 1 else 0) else 0)
+missing_next client names name rows new absent listed e =
+    ap (λ (ks : List Key). missing_of (once ks) rows) (map_more (key_of client) names name)
+    ∙ ap (λ (ks : List Key). missing_of ks rows) (once_more (map (key_of client) names) (key_of client name))
+    ∙ by_new new (by_names names ∙ listed)
+  where
+    by_names : (names : List ObjectName) → among (map (key_of client) names) (key_of client name) ≡ is_listed_by client names (key_of client name)
+    by_names [] = refl
+    by_names (n ∷ ns) = ap (λ (b : Bool). key_eq (key_of client n) (key_of client name) || b) (by_names ns)
+
+    more : (b : Bool) → List Key
+    more b = cond b (mentioned client names) (mentioned client names ++ key_of client name ∷ [])
+
+    by_new : (b : Bool) → among (map (key_of client) names) (key_of client name) ≡ not b
+        → missing_of (more (among (map (key_of client) names) (key_of client name))) rows ≡ missing client names rows + (if b then (if absent then 1 else 0) else 0)
+    by_new true there = ap (λ (b : Bool). missing_of (more b) rows) there ∙ missing_with (mentioned client names) (key_of client name) rows absent e
+    by_new false there = ap (λ (b : Bool). missing_of (more b) rows) there ∙ omega arith
