@@ -4,10 +4,20 @@ import os
 import shutil
 import subprocess
 import sys
+import tempfile
 import unittest
 
 from common import DEVICE, TOP, needs_program
 
+TWICE = """A semaphore is defined, and once more.
+
+A semaphore is defined, and once more.
+= steps
+end
+1 <OPEN> -> <OPENED>
+1 A00D020101B508A003800154810101 -> A1050201019500
+1 A00D020102B508A003800154810101 -> A20A800102A205A003820105
+"""
 HAS_COMPILER = shutil.which("cc") is not None
 
 
@@ -45,6 +55,20 @@ class Tried(unittest.TestCase):
     def test_memory_that_is_refused(self):
         status, said = ended("memory_refused.py", "--most", "7", *self.program())
         self.assertEqual((status, said.split("\n")[-2]), (0, "0 ended in another way"), said)
+
+    def test_a_refusal_that_changes_something_is_caught(self):
+        faulty = os.path.join(os.path.dirname(__file__), "changes_on_a_refusal.py")
+        with tempfile.TemporaryDirectory() as room:
+            rows, device = os.path.join(room, "one.rows"), os.path.join(room, "device")
+            with open(rows, "w", encoding="latin-1") as file:
+                file.write(TWICE)
+            for program, found in ((shutil.which(DEVICE[0]), 0), (device, 1)):
+                if found:
+                    with open(device, "w", encoding="utf-8") as file:
+                        file.write(f'#!/bin/sh\nexec {sys.executable} {faulty} {shutil.which(DEVICE[0])} "$@"\n')
+                    os.chmod(device, 0o755)
+                status, said = ended("octets.py", "--rows", rows, "--some", "997", "--jobs", "2", "--program", program)
+                self.assertEqual((status, "refused, and changes what follows" in said), (found, bool(found)), said)
 
 
 if __name__ == "__main__":
