@@ -3,6 +3,7 @@ pub mod AreaLaws
 pub mod Cut
 pub mod CutLaws
 pub mod DeviceLaws
+pub mod Doing
 pub mod Gathered
 pub mod GatheredLaws
 pub mod Lifted

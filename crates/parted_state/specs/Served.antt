@@ -4,11 +4,9 @@ use Rattle.std.specs.Prelude.{◌≡◌, ℕ, zero, suc, ◌+◌, ◌-◌, ◌<�
 use Rattle.std.specs.List.{list_any}
 use Rattle.part_table.specs.Held.{held_at}
 use Rattle.parted_state.specs.Cut.{is_in, missing, shown_of, after_of, all_after_of}
-
--- what an event does: the tables after it, and what is told to whom
-pub record Done (T F : Type 0) : Type 0 where
-  pub tables : T
-  pub told : List (ℕ × F)
+pub use Rattle.parted_state.specs.Doing.{Done, change}
+use Rattle.parted_state.specs.Doing.{Doing}
+use Rattle.parted_state.specs.Doing as doing
 
 -- A state S is tables T and the rows R of clients 1 to n; a client is told effects F; the parts are P.
 pub record Device (S T R F P : Type 0) : Type 1 where
@@ -38,12 +36,6 @@ pub record Services (T R F E : Type 0) : Type 0 where
   pub words : E → List ℕ
   pub asks : E → List (T → R → List ℕ)
   pub serves : T → R → E → Done T F
-
--- the one at a place is changed
-abbrev pub change : {A : Type 0} → (A → A) → List A → ℕ → List A
-change f [] place = []
-change f (x ∷ xs) zero = f x ∷ xs
-change f (x ∷ xs) (suc place) = x ∷ change f xs place
 
 -- what is seen of a list where some places pass
 abbrev pub veiled : {P : Type 0} → (ℕ → Bool) → List P → List (Option P)
@@ -114,18 +106,15 @@ module _ {S T R F P : Type 0} (d : Device S T R F P) where
 
   -- the row of a client
   abbrev pub row_at : ℕ → List R → R
-  row_at zero rows = d.nobody
-  row_at (suc i) rows = unwrap_or (slice_get rows i) d.nobody
+  row_at client rows = doing.row_at d.nobody client rows
 
   -- an effect on the row of a client
   abbrev pub reached : ℕ → F → List R → List R
-  reached zero effect rows = rows
-  reached (suc i) effect rows = change (d.felt effect) rows i
+  reached client effect rows = doing.reached d.felt client effect rows
 
   -- the rows after what is told, in order
   abbrev pub delivered : List (ℕ × F) → List R → List R
-  delivered [] rows = rows
-  delivered (t ∷ told) rows = delivered told (reached t.0 t.1 rows)
+  delivered told rows = doing.delivered d.felt told rows
 
   abbrev pub told_if : Bool → ℕ → List ℕ
   told_if told client = if told then client_place client ∷ [] else []
@@ -147,14 +136,26 @@ module _ {S T R F P : Type 0} (d : Device S T R F P) where
     abbrev pub uses : T → R → E → List ℕ
     uses t row event = v.words event ++ asked (v.asks event) t row
 
+    -- what events do, apart from what they want
+    abbrev pub doing_of : Doing S T R F E
+    doing_of = record {
+      tables_of = d.tables_of;
+      clients_of = d.clients_of;
+      state_of = d.state_of;
+      nobody = d.nobody;
+      felt = d.felt;
+      own = v.own;
+      serves = v.serves;
+    }
+
     abbrev pub row_of : S → E → R
-    row_of s event = row_at (v.own event) (d.clients_of s)
+    row_of s event = doing.row_of doing_of s event
 
     abbrev pub done_of : S → E → Done T F
-    done_of s event = v.serves (d.tables_of s) (row_of s event) event
+    done_of s event = doing.done_of doing_of s event
 
     abbrev pub step : S → E → S
-    step s event = d.state_of (done_of s event).tables (delivered (done_of s event).told (d.clients_of s))
+    step s event = doing.after doing_of s event
 
     abbrev pub own_place : ℕ → List ℕ
     own_place zero = []

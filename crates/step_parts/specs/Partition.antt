@@ -1,15 +1,14 @@
 -- The parts that the state is cut into, each a thing that one caller at a time can hold (this profile's choice).
 use Rattle.std.specs.Prelude.{◌≡◌, ℕ, ◌+◌, ◌-◌, List, [], ◌∷◌, ◌++◌, map, Option, Some}
 use Rattle.mms_types.specs.declared.event.What.{What}
-use Rattle.association.specs.Client.{ClientRow, new_row, Client as RoomyRow}
-use Rattle.association.specs.declared.constants.Constants.{Constants}
-use Rattle.mms_types.specs.declared.identifier.Edition.TheVariants.{One}
+use Rattle.association.specs.Client.{ClientRow, Client as RoomyRow}
 use Rattle.part_table.specs.Held.{held_at}
 use Rattle.parted_state.specs.Served.{Device}
 use Rattle.parted_state.specs.Served as parted
 use Rattle.step_parts.specs.declared.part.Part.{Part}
 use Rattle.step_parts.specs.declared.part.Part.TheVariants.{Clock, Variables, Domains, Programs, Events, Journals, Client, Semaphores}
-use Rattle.step_parts.specs.State.{State}
+use Rattle.step_parts.specs.State.{State, tables_of, state_of}
+pub use Rattle.step_parts.specs.State.{no_device, no_client}
 use Rattle.mms_time.specs.Semaphores.{Rows}
 use Rattle.cell_client.specs.Effects.{Effect, felt, settled}
 use Rattle.cell_services.specs.Tables.{Tables}
@@ -127,14 +126,7 @@ semaphores_or semaphores other = semaphores
 abbrev pub semaphores_in : Option Part → Rows
 semaphores_in part = semaphores_or [] part
 
--- the device and the row that stand for a client's where no client's part is held; nothing is said of them
-abbrev pub no_device : Constants
-no_device = record { edition = One; vendor = []; model = []; revision = [] }
-
-abbrev pub no_client : ClientRow
-no_client = new_row 0 no_device
-
--- the row of a client, where its part is held
+-- the row of a client, where its part is held, and else nobody's
 abbrev pub row_in : Option Part → ClientRow
 row_in (Some (Client client)) = client.row
 row_in other = no_client
@@ -215,9 +207,9 @@ pub record AreHeld (n : ℕ) (hand : List (Option Part)) (t : Tables) : Type 0 w
 -- has one part, so whatever tables there are show in their parts as they are.
 abbrev pub cell : Device State Tables ClientRow Effect Part
 cell = record {
-  tables_of = λ s. record { now = s.now; variables = s.variables; domains = s.domains; programs = s.programs; events = s.events; journals = s.journals; semaphores = s.semaphores };
+  tables_of = tables_of;
   clients_of = λ s. s.clients;
-  state_of = λ t rows. record { now = t.now; variables = t.variables; domains = t.domains; programs = t.programs; events = t.events; journals = t.journals; semaphores = t.semaphores; clients = rows };
+  state_of = state_of;
   table_parts = λ t. Clock t.now ∷ Variables t.variables ∷ Domains t.domains ∷ Programs t.programs ∷ Events t.events ∷ Journals t.journals ∷ Semaphores t.semaphores ∷ [];
   tables = tables_many;
   last = 5;

@@ -3,6 +3,7 @@ use Rattle.std.specs.Prelude.{◌≡◌, ℕ, ◌+◌, ◌<◌, ◌≤◌, List,
 use Rattle.std.specs.List.{All, IsDistinct}
 use Rattle.std.specs.Map.{keys_of, values_of}
 use Rattle.mms_types.specs.Actors.{clients_to}
+use Rattle.mms_types.specs.declared.identifier.Edition.TheVariants.{One}
 use Rattle.association.specs.Admission.{called_of}
 use Rattle.association.specs.Asked.{AreApart, AreBelow}
 use Rattle.association.specs.Client.{ClientRow, new_row}
@@ -28,7 +29,7 @@ use Rattle.variable_services.specs.Services.{configured}
 use Rattle.mms_time.specs.Opening as pools
 use Rattle.mms_time.specs.Semaphores.{Rows, made_in}
 use Rattle.sem_ticks.specs.Sound.{AreSound, LieAhead}
-use Rattle.cell_services.specs.Tables.{last_moment}
+use Rattle.cell_services.specs.Tables.{Tables, last_moment}
 
 pub record State : Type 0 where
   -- the moment, in milliseconds since the beginning of 1 January 1984
@@ -47,6 +48,20 @@ pub record State : Type 0 where
   pub semaphores : Rows
   -- the rows of clients 1 to n, in this order
   pub clients : List ClientRow
+
+-- the tables of a state, and the state of tables and the rows of clients
+abbrev pub tables_of : State → Tables
+tables_of s = record { now = s.now; variables = s.variables; domains = s.domains; programs = s.programs; events = s.events; journals = s.journals; semaphores = s.semaphores }
+
+abbrev pub state_of : Tables → List ClientRow → State
+state_of t rows = record { now = t.now; variables = t.variables; domains = t.domains; programs = t.programs; events = t.events; journals = t.journals; semaphores = t.semaphores; clients = rows }
+
+-- the device and the row that stand for a client's where there is none; nothing is said of them
+abbrev pub no_device : Constants
+no_device = record { edition = One; vendor = []; model = []; revision = [] }
+
+abbrev pub no_client : ClientRow
+no_client = new_row 0 no_device
 
 -- what never changes of a configured device: its edition, and the three texts that it answers to Identify (ISO 9506-2,
 -- Identify)

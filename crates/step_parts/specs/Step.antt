@@ -1,20 +1,32 @@
 -- One event of the device, and what a history of events leads to (ISO 9506-1, the virtual manufacturing device).
 use Rattle.std.specs.Prelude.{ℕ, ◌+◌, ◌-◌, ◌≤◌, List, [], ◌∷◌, fold, length, slice_get, Option, None, Some}
-use Rattle.mms_types.specs.Actors.{IsAmong}
+use Rattle.mms_types.specs.Actors.{IsAmong, actor_of}
 use Rattle.mms_types.specs.declared.event.What.{What}
 use Rattle.mms_types.specs.declared.event.CellEvent.{CellEvent}
 use Rattle.mms_types.specs.declared.event.CellEvent.TheVariants.{Tick}
 use Rattle.association.specs.Client.{ClientRow}
 use Rattle.cell_config.specs.declared.config.Config.{Config}
-use Rattle.parted_state.specs.Served as parted
-use Rattle.step_parts.specs.State.{State, start}
-use Rattle.cell_services.specs.Tables.{last_moment}
-use Rattle.step_parts.specs.Partition.{cell}
-use Rattle.cell_services.specs.Serving.{services}
+use Rattle.cell_client.specs.Effects.{Effect, felt}
+use Rattle.parted_state.specs.Doing.{Doing, after}
+use Rattle.step_parts.specs.State.{State, tables_of, state_of, no_client, start}
+use Rattle.cell_services.specs.Tables.{Tables, last_moment}
+use Rattle.cell_services.specs.Serving.{serves}
+
+-- what events do to the device
+abbrev pub doing : Doing State Tables ClientRow Effect CellEvent
+doing = record {
+  tables_of = tables_of;
+  clients_of = λ s. s.clients;
+  state_of = state_of;
+  nobody = no_client;
+  felt = felt;
+  own = actor_of;
+  serves = serves;
+}
 
 -- one event: the tables become what it makes of them, and each client's row what it is told
 abbrev pub step : State → CellEvent → State
-step s event = parted.step cell services s event
+step s event = after doing s event
 
 -- the state after a history of events, from the start of a configured device on
 abbrev pub replay : Config → List CellEvent → State
