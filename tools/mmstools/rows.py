@@ -59,6 +59,7 @@ RULES = {
     "Application": ["~preempt|applicationToPreempt|ApplicationReference"],
     "Token": ["+asked reportPoolSemaphoreStatus"],
     "Entry": ["+asked reportSemaphoreEntryStatus", "+asked writeJournal"],
+    "Modifier": ["modifiers~."],
     "Transitions": ["~transition"],
     "EventTime": ["+notified"],
     "Time": ["+asked readJournal"],

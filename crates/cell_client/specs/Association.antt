@@ -13,7 +13,7 @@ use Rattle.mms_types.specs.declared.pdu.ClientAnswer.TheVariants.{DownloadSegmen
 use Rattle.mms_types.specs.declared.pdu.Request.{Request}
 use Rattle.mms_types.specs.declared.pdu.Reject.{Reject}
 use Rattle.mms_types.specs.declared.pdu.RejectReason.{RejectReason}
-use Rattle.mms_types.specs.declared.pdu.RejectReason.TheVariants.{InvalidPdu, InvalidInvokeId, MaxServOutstandingExceeded, MaxRecursionExceeded}
+use Rattle.mms_types.specs.declared.pdu.RejectReason.TheVariants.{InvalidPdu, InvalidInvokeId, MaxServOutstandingExceeded, MaxRecursionExceeded, UnrecognizedModifier}
 use Rattle.mms_types.specs.declared.pdu.Pdu.{Pdu}
 use Rattle.mms_types.specs.declared.pdu.Pdu.TheVariants as pdu
 use Rattle.mms_pdu.specs.declared.refusal.Refusal.{Refusal}
@@ -121,6 +121,11 @@ admitted (Ok taken) invoke asked = Takes invoke asked
 abbrev pub requested : Bool → ClientRow → ℕ → Request → Verdict
 requested too_deep row invoke asked = if too_deep then Tells (rejects invoke MaxRecursionExceeded ∷ []) else admitted (admission invoke row) invoke asked
 
+-- A request with a modifier that is read is rejected where its data nests deeper than was negotiated, and otherwise for its modifier: it isn't
+-- carried out yet.
+abbrev pub modified : Bool → ℕ → Verdict
+modified too_deep invoke = Tells (rejects invoke (if too_deep then MaxRecursionExceeded else UnrecognizedModifier) ∷ [])
+
 -- a conclusion is refused
 abbrev pub keeps_open : List Effect
 keeps_open = sends (pdu.ConcludeError further_error) ∷ []
@@ -178,6 +183,7 @@ open_verdict values row (Ok (pdu.InitiateRequest proposal)) = Aborts
 open_verdict values row (Ok pdu.ConcludeRequest) = concluded row.waiting row.asked
 open_verdict values row (Ok (pdu.CancelRequest invoke)) = cancelled (is_waiting invoke row.waiting) invoke
 open_verdict values row (Ok (pdu.ConfirmedRequest invoke asked)) = requested (nat_lt values.nesting (depth_of (pdu.ConfirmedRequest invoke asked))) row invoke asked
+open_verdict values row (Ok (pdu.ModifiedRequest invoke modifier asked)) = modified (nat_lt values.nesting (depth_of (pdu.ModifiedRequest invoke modifier asked))) invoke
 open_verdict values row (Ok (pdu.HeardResponse number told)) = heard_response number told (asked_of number row.asked)
 open_verdict values row (Ok (pdu.HeardError number)) = heard_error number (asked_of number row.asked)
 open_verdict values row (Ok (pdu.HeardReject number)) = rejected number row.asked

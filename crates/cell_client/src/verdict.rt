@@ -4,7 +4,7 @@ ghost use Rattle.std.specs.Prelude.{◌≡◌, nat_lt, true, None, Some, Ok, Err
 ghost use Rattle.association.specs.Admission.{admission};
 ghost use Rattle.association.specs.Asked.{asked_of};
 ghost use Rattle.association.specs.Waiting.{is_waiting};
-ghost use Rattle.cell_client.specs.Association.{admitted, answered_by, cancelled, concluded, failed_by, heard_error, heard_response, idle_verdict, open_verdict, rejected, requested, verdict_by};
+ghost use Rattle.cell_client.specs.Association.{admitted, answered_by, cancelled, concluded, failed_by, heard_error, heard_response, idle_verdict, modified, open_verdict, rejected, requested, verdict_by};
 ghost use Rattle.cell_client.specs.Meant.{meant};
 ghost use Rattle.cell_client.specs.Reads.{pdu_read, wants_memory, IsDeep};
 
@@ -105,6 +105,17 @@ fn asked<'a>(
         Err(NotAdmitted::Outstanding) => {
             rejects(invoke, RejectReason::MaxServOutstandingExceeded)
         }
+    }
+}
+
+/// What a request with a modifier comes to that is read: it isn't carried out yet.
+fn modified<'a>(values: &Negotiated, depth: u8, invoke: u32) -> Found<'a>
+    ensures { meant result ≡ modified (nat_lt values.now.nesting depth) invoke }
+{
+    if depth > values.nesting {
+        rejects(invoke, RejectReason::MaxRecursionExceeded)
+    } else {
+        rejects(invoke, RejectReason::UnrecognizedModifier)
     }
 }
 
@@ -225,6 +236,7 @@ fn open<'a>(
         Pdu::ConfirmedRequest { invoke, request } => {
             asked(values, part, read.depth, *invoke, request)
         }
+        Pdu::ModifiedRequest { invoke, .. } => modified(values, read.depth, *invoke),
         Pdu::HeardResponse { invoke, answer } => response(part, *invoke, answer),
         Pdu::HeardError { invoke } => error(part, *invoke),
         Pdu::HeardReject { invoke } => reject(part, *invoke),

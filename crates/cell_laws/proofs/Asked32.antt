@@ -22,7 +22,7 @@ use Rattle.mms_types.specs.declared.semaphore.TakeControl.{TakeControl}
 use Rattle.mms_pdu.specs.declared.refusal.Refusal.{Refusal}
 use Rattle.mms_pdu.specs.declared.refusal.Refusal.TheVariants as refusal
 use Rattle.mms_pdu.specs.Heard.{as_pdu, pdu_heard, pdu_of}
-use Rattle.mms_pdu.specs.Hearing.{Asked, and_then, argued, asked_at, asked_value, heard, is_pdu, kept_pdus, noted_pdus, part_told, reject_told, request_told, served, sole_part, valid}
+use Rattle.mms_pdu.specs.Hearing.{Asked, and_then, argued, asked_at, asked_value, heard, is_pdu, kept_pdus, listed, modified_value, modifier_at, noted_pdus, part_told, reject_told, request_told, served, service_told, sole_part, told_with, valid}
 use Rattle.mms_pdu.specs.Services.{request_shares, requests}
 use Rattle.pdu_areas.specs.Joined.{joined}
 use Rattle.pdu_areas.specs.Services.{arms_of}
@@ -249,12 +249,19 @@ module _ (lengths : Lengths) (edition : Edition) where
 
   good-request : (asked : Asked) → Good (request_told lengths edition asked)
   unfolding request_told
-  good-request asked = by_modified asked.modified
+  good-request asked = by_list asked.modifiers
     where
-      by_modified : (b : Bool) → Good (cond b (Err (refusal.Modifier asked.invoke))
-          (and_then (served lengths asked.invoke asked.service (form_at asked.service.tag.number (requests.alternatives edition))) (λ v. Ok (asked_value asked.invoke v))))
-      by_modified true = tt
-      by_modified false = good-served asked.invoke asked.service (form_at asked.service.tag.number (requests.alternatives edition)) refl
+      by_service : (m : Value) (t : Result Value Refusal) → Good (and_then t (λ v. Ok (modified_value asked.invoke m v)))
+      by_service m (Ok v) = tt
+      by_service m (Err e) = tt
+
+      by_modifier : (r t : Result Value Refusal) → Good (and_then r (λ m. and_then t (λ v. Ok (modified_value asked.invoke m v))))
+      by_modifier (Ok m) t = by_service m t
+      by_modifier (Err e) t = tt
+
+      by_list : (o : Option Part) → Good (told_with lengths edition asked.invoke o asked.service)
+      by_list None = good-served asked.invoke asked.service (form_at asked.service.tag.number (requests.alternatives edition)) refl
+      by_list (Some list) = by_modifier (listed asked.invoke (modifier_at lengths edition list asked.service)) (service_told lengths edition asked.invoke asked.service)
 
   good-reject : (c : List ℕ) → Good (reject_told lengths edition c)
   unfolding reject_told

@@ -146,6 +146,7 @@ open-told values row (Ok (pdu.InitiateRequest proposal)) = tt
 open-told values row (Ok pdu.ConcludeRequest) = by-conclusion (Told row) tt (inl silent-keeps) row.waiting row.asked
 open-told values row (Ok (pdu.CancelRequest invoke)) = cancelled-told row (is_waiting invoke row.waiting) invoke refl
 open-told values row (Ok (pdu.ConfirmedRequest invoke asked)) = requested-told row (nat_lt values.nesting (depth_of (pdu.ConfirmedRequest invoke asked))) invoke asked
+open-told values row (Ok (pdu.ModifiedRequest invoke modifier asked)) = inl (silent-reject invoke _)
 open-told values row (Ok (pdu.HeardResponse number told)) =
     by-response (Told row) (λ n came. tt) (λ n. inl (silent-settles n)) (inl silent-invalid) (inl silent-none) number told (asked_of number row.asked)
 open-told values row (Ok (pdu.HeardError number)) =

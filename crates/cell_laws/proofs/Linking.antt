@@ -134,6 +134,7 @@ open-meant values row (Ok (pdu.InitiateRequest proposal)) is = is
 open-meant values row (Ok pdu.ConcludeRequest) is = by-conclusion (Meant row) is (tt, tt) row.waiting row.asked
 open-meant values row (Ok (pdu.CancelRequest invoke)) is = cancelled-meant row (is_waiting invoke row.waiting) invoke
 open-meant values row (Ok (pdu.ConfirmedRequest invoke asked)) is = requested-meant row (nat_lt values.nesting (depth_of (pdu.ConfirmedRequest invoke asked))) invoke asked
+open-meant values row (Ok (pdu.ModifiedRequest invoke modifier asked)) is = (tt, tt)
 open-meant values row (Ok (pdu.HeardResponse number told)) is =
     by-response (Meant row) (λ n came. is) (λ n. (tt, tt)) (tt, tt) tt number told (asked_of number row.asked)
 open-meant values row (Ok (pdu.HeardError number)) is = by-error (Meant row) (λ n came. is) (λ n. (tt, tt)) (tt, tt) tt number (asked_of number row.asked)

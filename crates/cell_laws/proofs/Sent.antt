@@ -191,6 +191,7 @@ open-kept values row (Ok (pdu.InitiateRequest proposal)) = tt
 open-kept values row (Ok pdu.ConcludeRequest) = by-conclusion Meant tt (tt, tt) row.waiting row.asked
 open-kept values row (Ok (pdu.CancelRequest invoke)) = cancelled-kept (is_waiting invoke row.waiting) invoke
 open-kept values row (Ok (pdu.ConfirmedRequest invoke asked)) = requested-kept (nat_lt values.nesting (depth_of (pdu.ConfirmedRequest invoke asked))) row invoke asked
+open-kept values row (Ok (pdu.ModifiedRequest invoke modifier asked)) = (tt, tt)
 open-kept values row (Ok (pdu.HeardResponse number told)) = by-response Meant (λ n came. tt) (λ n. (tt, tt)) (tt, tt) tt number told (asked_of number row.asked)
 open-kept values row (Ok (pdu.HeardError number)) = by-error Meant (λ n came. tt) (λ n. (tt, tt)) (tt, tt) tt number (asked_of number row.asked)
 open-kept values row (Ok (pdu.HeardReject number)) = by-rejected Meant (λ n came. tt) (λ n. (tt, tt)) (tt, tt) tt number row.asked

@@ -18,10 +18,11 @@ use Rattle.ber_forms.specs.InForm.{InForm, IsAlternative}
 use Rattle.ber_forms.specs.Kept.{is_looked_into}
 use Rattle.ber_forms.proofs.EitherForms.{there, back}
 use Rattle.mms_types.specs.declared.identifier.Edition.{Edition}
+use Rattle.mms_types.specs.declared.identifier.Edition.TheVariants.{One, Two}
 use Rattle.pdu_assoc.specs.Heard.{heard_error, heard_reject_form}
 use Rattle.mms_pdu.specs.Hearing.{whole_pdus, noted_pdus}
-use Rattle.mms_pdu.specs.ClientPdus.{IsInvokeOf, IsReject, IsNoted, IsKeptAs}
-use Rattle.mms_pdu.proofs.LookedInto.{whole_looked}
+use Rattle.mms_pdu.specs.ClientPdus.{modified_pdu, IsInvokeOf, IsReject, IsNoted, IsModified, IsKeptAs}
+use Rattle.mms_pdu.proofs.LookedInto.{whole_looked, modified_looked}
 
 -- ---- tags
 
@@ -142,17 +143,29 @@ module _ (edition : Edition) (octets : List ℕ) (p : Part) (fits : IsBytes octe
       let u = noted_by_tag r p w (ap (λ (s : Part). s.tag) (one_again r element)) h in
       (u.0, (p, is, u.1))
 
+  -- ---- a confirmed-Request with a modifier
+
+  modified_there : (e : Edition) (v : Value) → IsModified Either e octets v → IsModified Either e (definite octets) v
+  modified_there One v h = absurd h
+  modified_there Two v (h, waits) = (there (suc (length octets)) modified_pdu modified_looked refl octets fits short (chosen 0 v) h, waits)
+
+  modified_back : (e : Edition) (v : Value) → IsModified Either e (definite octets) v → IsModified Either e octets v
+  modified_back One v h = absurd h
+  modified_back Two v (h, waits) = (back (suc (length octets)) modified_pdu modified_looked refl octets fits short (chosen 0 v) h, waits)
+
   -- ---- the law
 
   kept_there : (v : Value) → IsKeptAs Either edition octets v → IsKeptAs Either edition (definite octets) v
   kept_there v (inl h) = inl (there (suc (length octets)) (choice (whole_pdus edition)) (whole_looked edition) refl octets fits short v h)
-  kept_there v (inr (inl (o, r, e))) = inr (inl (o, reject_there o r, e))
-  kept_there v (inr (inr (h, e))) = inr (inr (noted_there h, e))
+  kept_there v (inr (inl h)) = inr (inl (modified_there edition v h))
+  kept_there v (inr (inr (inl (o, r, e)))) = inr (inr (inl (o, reject_there o r, e)))
+  kept_there v (inr (inr (inr (h, e)))) = inr (inr (inr (noted_there h, e)))
 
   kept_back : (v : Value) → IsKeptAs Either edition (definite octets) v → IsKeptAs Either edition octets v
   kept_back v (inl h) = inl (back (suc (length octets)) (choice (whole_pdus edition)) (whole_looked edition) refl octets fits short v h)
-  kept_back v (inr (inl (o, r, e))) = inr (inl (o, reject_back o r, e))
-  kept_back v (inr (inr (h, e))) = inr (inr (noted_back h, e))
+  kept_back v (inr (inl h)) = inr (inl (modified_back edition v h))
+  kept_back v (inr (inr (inl (o, r, e)))) = inr (inr (inl (o, reject_back o r, e)))
+  kept_back v (inr (inr (inr (h, e)))) = inr (inr (inr (noted_back h, e)))
 
   pub kept_anew : (v : Value) → IsKeptAs Either edition octets v ↔ IsKeptAs Either edition (definite octets) v
   kept_anew v = (kept_there v, kept_back v)

@@ -70,6 +70,7 @@ first_told t m n c d class few small little e =
 
 abbrev first_octet : Pdu → ℕ
 first_octet (pdu.ConfirmedRequest invoke request) = 160
+first_octet (pdu.ModifiedRequest invoke modifier request) = 0
 first_octet (pdu.ServerRequest invoke request) = 160
 first_octet (pdu.ConfirmedResponse invoke answer) = 161
 first_octet (pdu.HeardResponse invoke answer) = 0
@@ -92,6 +93,7 @@ first_octet (pdu.ConcludeError error) = 173
 first_is : (p : Pdu) → slice_index (pdu_octets p) 0 ≡ first_octet p
 unfolding element_octets identifier_octets
 first_is (pdu.ConfirmedRequest invoke request) = refl
+first_is (pdu.ModifiedRequest invoke modifier request) = refl
 first_is (pdu.ServerRequest invoke request) = refl
 first_is (pdu.ConfirmedResponse invoke answer) = refl
 first_is (pdu.HeardResponse invoke answer) = refl

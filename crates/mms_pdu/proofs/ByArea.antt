@@ -40,12 +40,12 @@ module _ (lengths : Lengths) (edition : Edition) (invoke : ℕ) (p : Part) (shar
   abbrev told_by : Option Form → Result Value Refusal
   told_by o = and_then (served lengths invoke p o) (λ v. Ok (asked_value invoke v))
 
-  told_own : Own → request_told lengths edition (asking invoke false p) ≡ told_by (form_at p.tag.number (forms_of share.arms edition))
+  told_own : Own → request_told lengths edition (asking invoke None p) ≡ told_by (form_at p.tag.number (forms_of share.arms edition))
   unfolding request_told
   told_own own = ap told_by own
 
   pub request_by : (r : Request) → Own → IsSaid share requests → read_under lengths p (form_at p.tag.number (forms_of share.arms edition)) ≡ Ok (Some (share.value r))
-      → request_told lengths edition (asking invoke false p) ≡ Ok (asked_value invoke (requests.value r))
+      → request_told lengths edition (asking invoke None p) ≡ Ok (asked_value invoke (requests.value r))
   request_by r own said e = told_own own ∙ by_form (form_at p.tag.number (forms_of share.arms edition)) e
     where
       by_read : (q : Result Value Fault) → (q >>= λ v. Ok (Some (Some v))) ≡ Ok (Some (share.value r)) → and_then (argued invoke q) (λ v. Ok (asked_value invoke v)) ≡ Ok (asked_value invoke (requests.value r))
@@ -59,7 +59,7 @@ module _ (lengths : Lengths) (edition : Edition) (invoke : ℕ) (p : Part) (shar
       by_form None e = absurd cc
       by_form (Some f) e = by_read (read_as lengths p (Some f)) e
 
-  pub not_offered : Own → read_under lengths p (form_at p.tag.number (forms_of share.arms edition)) ≡ Ok None → request_told lengths edition (asking invoke false p) ≡ Err (refusal.Service invoke)
+  pub not_offered : Own → read_under lengths p (form_at p.tag.number (forms_of share.arms edition)) ≡ Ok None → request_told lengths edition (asking invoke None p) ≡ Err (refusal.Service invoke)
   not_offered own e = told_own own ∙ by_form (form_at p.tag.number (forms_of share.arms edition)) e
     where
       by_read : (q : Result Value Fault) → (q >>= λ v. Ok (Some (Some v))) ≡ Ok None → and_then (argued invoke q) (λ v. Ok (asked_value invoke v)) ≡ Err (refusal.Service invoke)
@@ -71,7 +71,7 @@ module _ (lengths : Lengths) (edition : Edition) (invoke : ℕ) (p : Part) (shar
       by_form (Some f) e = by_read (read_as lengths p (Some f)) e
 
   refused_by : (e : Fault) → Own → read_under lengths p (form_at p.tag.number (forms_of share.arms edition)) ≡ Err e
-      → request_told lengths edition (asking invoke false p) ≡ and_then (argued invoke (Err e)) (λ v. Ok (asked_value invoke v))
+      → request_told lengths edition (asking invoke None p) ≡ and_then (argued invoke (Err e)) (λ v. Ok (asked_value invoke v))
   refused_by d own e = told_own own ∙ by_form (form_at p.tag.number (forms_of share.arms edition)) e
     where
       by_read : (q : Result Value Fault) → (q >>= λ v. Ok (Some (Some v))) ≡ Err d
@@ -86,7 +86,7 @@ module _ (lengths : Lengths) (edition : Edition) (invoke : ℕ) (p : Part) (shar
       by_form (Some f) e = by_read (read_as lengths p (Some f)) e
 
   pub unread_request : (e : Unread) → Own → Fails e (read_under lengths p (form_at p.tag.number (forms_of share.arms edition)))
-      → Refuses (refusal_of_argument invoke e) (request_told lengths edition (asking invoke false p))
+      → Refuses (refusal_of_argument invoke e) (request_told lengths edition (asking invoke None p))
   unread_request unread.Memory own e = tt
   unread_request unread.Malformed own e = refused_by fault.malformed own e
   unread_request unread.TooDeep own e = refused_by fault.too_deep own e

@@ -43,7 +43,8 @@ pub kept_by_two : (octets : List ℕ) (v : Value) → IsKeptAs Definite One octe
 kept_by_two octets v (inl h) =
     let wider = choice_wider (whole_pdus One) (whole_pdus Two) (whole_arms.wider One) in
     inl (wider.takes Either octets v (read_by_either (choice (whole_pdus One)) octets v h))
-kept_by_two octets v (inr (inl (invoke, r, is))) = inr (inl (
+kept_by_two octets v (inr (inl h)) = absurd h
+kept_by_two octets v (inr (inr (inl (invoke, r, is)))) = inr (inr (inl (
   invoke,
   record {
     part = r.part;
@@ -53,5 +54,5 @@ kept_by_two octets v (inr (inl (invoke, r, is))) = inr (inl (
     invoke_is = invoke_either r.part.contents invoke r.elements r.invoke_is;
   },
   is,
-))
-kept_by_two octets v (inr (inr (h, is))) = inr (inr ((h.0, read_by_either (choice noted_pdus) octets h.0 h.1), is))
+)))
+kept_by_two octets v (inr (inr (inr (h, is)))) = inr (inr (inr ((h.0, read_by_either (choice noted_pdus) octets h.0 h.1), is)))

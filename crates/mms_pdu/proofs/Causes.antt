@@ -1,6 +1,6 @@
 -- What is read of a confirmed-Request, and of one alternative, is what the octets are.
 use Rattle.std.proofs.Common.{◌≡◌, ℕ, pos, ◌⊎◌, inl, inr, Bool, true, false, List, [], ◌∷◌, ◌++◌, Option, Some, None, Result, Ok, Err, refl, sym, ap, subst, ◌∙◌, cond, eqb}
-use Rattle.std.specs.Prelude.{IsTrue, is_some}
+use Rattle.std.specs.Prelude.{IsTrue}
 use Rattle.std.proofs.lemmas.List.{append-nil}
 use Rattle.std.proofs.lemmas.Bool.{eqb-true, eq-eqb}
 use Rattle.ber_core.specs.declared.element.Tag.{Tag}
@@ -35,6 +35,12 @@ service_is p s e = by_class (eqb p.tag.class 2) refl e
 
 abbrev at_the_end : Value → Result (Value × List ℕ) Fault
 at_the_end v = Ok (v, [])
+
+abbrev some : Part → Option Part
+some p = Some p
+
+some_is : (p q : Part) → some p ≡ some q → p ≡ q
+some_is p q e = cc e
 
 module _ (lengths : Lengths) where
   same_part : (octets : List ℕ) (p q : Part) → IsElement lengths octets p → IsElement lengths octets q → p ≡ q
@@ -98,17 +104,18 @@ module _ (lengths : Lengths) where
     pub service_is : IsElement lengths service a.service
     pub fits : IsBytes service
     pub inner_fits : IsBytes a.service.contents
+    pub list_fits : (m : Part) → a.modifiers ≡ Some m → IsBytes m.contents
 
   pub asked_is : (c : List ℕ) (a : Asked) → IsBytes c → asked_at lengths c ≡ Ok a → AskedSo c a
   unfolding asked_at
   asked_is c a fits e =
       let test = is_tag 0 true 16 in
-      let i = bound (required_at lengths (universal 2 unsigned32) c) (λ i. optional_part lengths test i.1 >>= λ m. sole_part lengths m.1 >>= λ p. service_of p >>= λ s. Ok (asking (natural_of i.0) (is_some m.0) s)) a e in
-      let m = bound (optional_part lengths test i.0.1) (λ m. sole_part lengths m.1 >>= λ p. service_of p >>= λ s. Ok (asking (natural_of i.0.0) (is_some m.0) s)) a i.2 in
-      let p = bound (sole_part lengths m.0.1) (λ p. service_of p >>= λ s. Ok (asking (natural_of i.0.0) (is_some m.0.0) s)) a m.2 in
-      let s = bound (service_of p.0) (λ s. Ok (asking (natural_of i.0.0) (is_some m.0.0) s)) a p.2 in
+      let i = bound (required_at lengths (universal 2 unsigned32) c) (λ i. optional_part lengths test i.1 >>= λ m. sole_part lengths m.1 >>= λ p. service_of p >>= λ s. Ok (asking (natural_of i.0) m.0 s)) a e in
+      let m = bound (optional_part lengths test i.0.1) (λ m. sole_part lengths m.1 >>= λ p. service_of p >>= λ s. Ok (asking (natural_of i.0.0) m.0 s)) a i.2 in
+      let p = bound (sole_part lengths m.0.1) (λ p. service_of p >>= λ s. Ok (asking (natural_of i.0.0) m.0.0 s)) a m.2 in
+      let s = bound (service_of p.0) (λ s. Ok (asking (natural_of i.0.0) m.0.0 s)) a p.2 in
       let k = service_is p.0 s.0 s.1 in
-      let is : asking (natural_of i.0.0) (is_some m.0.0) p.0 ≡ a = ap (λ (q : Part). asking (natural_of i.0.0) (is_some m.0.0) q) k.0 ∙ fine_is (asking (natural_of i.0.0) (is_some m.0.0) s.0) a s.2 in
+      let is : asking (natural_of i.0.0) m.0.0 p.0 ≡ a = ap (λ (q : Part). asking (natural_of i.0.0) m.0.0 q) k.0 ∙ fine_is (asking (natural_of i.0.0) m.0.0 s.0) a s.2 in
       let t = member_sound lengths (universal 2 unsigned32) c i.0 fits i.1 in
       let invoke = subst (λ (v : Value). IsMember lengths (universal 2 unsigned32) t.part v) (invoke_is lengths c i.0 i.1) t.holds in
       subst (λ (b : Asked). AskedSo c b) is
@@ -117,10 +124,10 @@ module _ (lengths : Lengths) where
       by_modifiers : (rest : List ℕ) (n : ℕ) (i : Part) → Cut lengths c i rest → IsMember lengths (universal 2 unsigned32) i (number (pos n))
           → (m : Option Part × List ℕ) (p : Part) → sole_part lengths m.1 ≡ Ok p → p.tag.class ≡ 2
           → (m ≡ (None, rest)) ⊎ ((q : Part) × (after : List ℕ) × Cut lengths rest q after × (is_tag 0 true 16 q.tag ≡ true) × (m ≡ (Some q, after)))
-          → AskedSo c (asking n (is_some m.0) p)
+          → AskedSo c (asking n m.0 p)
       by_modifiers rest n i cut invoke m p sole class (inl none) =
           let x = sole_is rest p cut.rest_fits (ap (λ (y : Option Part × List ℕ). sole_part lengths y.1) (sym none) ∙ sole) in
-          subst (λ (y : Option Part × List ℕ). AskedSo c (asking n (is_some y.0) p)) (sym none)
+          subst (λ (y : Option Part × List ℕ). AskedSo c (asking n y.0 p)) (sym none)
           (record {
             list = i ∷ p ∷ [];
             cut = (cut.first, rest, cut.is, cut.parts, (rest, [], x.0, sym (append-nil rest), refl));
@@ -129,35 +136,37 @@ module _ (lengths : Lengths) where
             service_is = x.0;
             fits = cut.rest_fits;
             inner_fits = x.1;
+            list_fits = λ q e. absurd (cc e);
           })
-      by_modifiers rest n i cut invoke m p sole class (inr some) =
-          let after = some.1 in
-          let x = sole_is after p some.2.rest_fits (ap (λ (y : Option Part × List ℕ). sole_part lengths y.1) (sym some.4) ∙ sole) in
-          subst (λ (y : Option Part × List ℕ). AskedSo c (asking n (is_some y.0) p)) (sym some.4)
+      by_modifiers rest n i cut invoke m p sole class (inr found) =
+          let after = found.1 in
+          let x = sole_is after p found.2.rest_fits (ap (λ (y : Option Part × List ℕ). sole_part lengths y.1) (sym found.4) ∙ sole) in
+          subst (λ (y : Option Part × List ℕ). AskedSo c (asking n y.0 p)) (sym found.4)
           (record {
-            list = i ∷ some.0 ∷ p ∷ [];
-            cut = (cut.first, rest, cut.is, cut.parts, (some.2.first, after, some.2.is, some.2.parts, (after, [], x.0, sym (append-nil after), refl)));
-            are = (invoke, some.3, refl, refl, class);
+            list = i ∷ found.0 ∷ p ∷ [];
+            cut = (cut.first, rest, cut.is, cut.parts, (found.2.first, after, found.2.is, found.2.parts, (after, [], x.0, sym (append-nil after), refl)));
+            are = (invoke, found.3, refl, refl, class);
             service = after;
             service_is = x.0;
-            fits = some.2.rest_fits;
+            fits = found.2.rest_fits;
             inner_fits = x.1;
+            list_fits = λ q e. subst (λ (p : Part). IsBytes p.contents) (some_is found.0 q e) found.2.inner_fits;
           })
 
   not_modifiers : (t : Tag) → t.class ≡ 2 → is_tag 0 true 16 t ≡ false
   not_modifiers t k = rw k refl
 
-  plain_read : (c rest : List ℕ) (n : ℕ) (s : Part) → required_at lengths (universal 2 unsigned32) c ≡ Ok (number (pos n), rest) → IsElement lengths rest s → s.tag.class ≡ 2 → asked_at lengths c ≡ Ok (asking n false s)
+  plain_read : (c rest : List ℕ) (n : ℕ) (s : Part) → required_at lengths (universal 2 unsigned32) c ≡ Ok (number (pos n), rest) → IsElement lengths rest s → s.tag.class ≡ 2 → asked_at lengths c ≡ Ok (asking n None s)
   unfolding asked_at
   plain_read c rest n s e is class =
       rw (e, as_cut lengths (is_tag 0 true 16) rest (Some (s, [])) (next_again lengths rest rest [] s is (sym (append-nil rest))), not_modifiers s.tag class, sole_only rest s is, eq-eqb s.tag.class 2 class) refl
 
   modified_read : (c rest after : List ℕ) (n : ℕ) (m s : Part) → required_at lengths (universal 2 unsigned32) c ≡ Ok (number (pos n), rest) → next_at lengths rest ≡ Ok (Some (m, after))
-      → is_tag 0 true 16 m.tag ≡ true → IsElement lengths after s → s.tag.class ≡ 2 → asked_at lengths c ≡ Ok (asking n true s)
+      → is_tag 0 true 16 m.tag ≡ true → IsElement lengths after s → s.tag.class ≡ 2 → asked_at lengths c ≡ Ok (asking n (Some m) s)
   unfolding asked_at
   modified_read c rest after n m s e got t is class = rw (e, as_cut lengths (is_tag 0 true 16) rest (Some (m, after)) got, t, sole_only after s is, eq-eqb s.tag.class 2 class) refl
 
-  asked_only : (ps : List Part) (c : List ℕ) (a : Asked) → IsCut lengths c ps → AreAsked lengths ps a → asked_at lengths c ≡ Ok a
+  pub asked_only : (ps : List Part) (c : List ℕ) (a : Asked) → IsCut lengths c ps → AreAsked lengths ps a → asked_at lengths c ≡ Ok a
   asked_only [] c a cut are = absurd are
   asked_only (i ∷ []) c a cut are = absurd are
   asked_only (i ∷ s ∷ []) c a cut are =
@@ -167,7 +176,7 @@ module _ (lengths : Lengths) where
       let whole : rest ≡ later.0 = later.3 ∙ ap (λ (r : List ℕ). later.0 ++ r) later.4 ∙ append-nil later.0 in
       let is : IsElement lengths rest s = subst (λ (o : List ℕ). IsElement lengths o s) (sym whole) later.2 in
       plain_read c rest a.invoke s read is are.3
-      ∙ ap (λ (b : Bool). Ok (asking a.invoke b s)) (sym are.1) ∙ ap (λ (q : Part). Ok (asking a.invoke a.modified q)) (sym are.2)
+      ∙ ap (λ (o : Option Part). Ok (asking a.invoke o s)) (sym are.1) ∙ ap (λ (q : Part). Ok (asking a.invoke a.modifiers q)) (sym are.2)
   asked_only (i ∷ m ∷ s ∷ []) c a cut are =
       let rest = cut.1 in
       let later = cut.4 in
@@ -178,7 +187,7 @@ module _ (lengths : Lengths) where
       let whole : after ≡ last.0 = last.3 ∙ ap (λ (r : List ℕ). last.0 ++ r) last.4 ∙ append-nil last.0 in
       let is : IsElement lengths after s = subst (λ (o : List ℕ). IsElement lengths o s) (sym whole) last.2 in
       modified_read c rest after a.invoke m s read got are.1 is are.4
-      ∙ ap (λ (b : Bool). Ok (asking a.invoke b s)) (sym are.2) ∙ ap (λ (q : Part). Ok (asking a.invoke a.modified q)) (sym are.3)
+      ∙ ap (λ (o : Option Part). Ok (asking a.invoke o s)) (sym are.2) ∙ ap (λ (q : Part). Ok (asking a.invoke a.modifiers q)) (sym are.3)
   asked_only (i ∷ m ∷ s ∷ t ∷ more) c a cut are = absurd are
 
   -- the octets that ask are the element that was read

@@ -1,5 +1,5 @@
 -- The refusal that is told is that of the first cause that holds.
-use Rattle.std.proofs.Common.{◌≡◌, ◌≢◌, ℕ, inl, inr, Bool, true, false, cond, eqb, List, Option, Some, None, Result, Ok, Err, refl, sym, ap, subst, ◌∙◌}
+use Rattle.std.proofs.Common.{◌≡◌, ◌≢◌, ◌⊎◌, ℕ, inl, inr, Bool, true, false, cond, eqb, List, Option, Some, None, Result, Ok, Err, refl, sym, ap, subst, ◌∙◌}
 use Rattle.std.specs.Prelude.{[], ◌↔◌}
 use Rattle.ber_core.specs.declared.element.Lengths.{Lengths}
 use Rattle.ber_core.specs.Part.{Part}
@@ -13,20 +13,23 @@ use Rattle.ber_forms.specs.Form.{Form, Alternatives, no_other, or, choice}
 use Rattle.ber_forms.specs.Reading.{◌>>=◌, is_tag, has_tag, reading, alternatives}
 use Rattle.ber_forms.specs.ByNumber.{has_number, form_at, read_as}
 use Rattle.ber_forms.specs.InForm.{InForm, IsAlternative}
-use Rattle.ber_forms.proofs.Sound.{fine_is, alternatives_sound}
+use Rattle.ber_forms.proofs.Sound.{fine_is, reading_sound, alternatives_sound}
+use Rattle.ber_forms.proofs.Complete.{reading_complete}
 use Rattle.ber_forms.proofs.Numbered.{tag_class, sound_distinct, by_number}
 use Rattle.mms_types.specs.declared.identifier.Edition.{Edition}
+use Rattle.mms_types.specs.declared.identifier.Edition.TheVariants.{One, Two}
 use Rattle.mms_types.specs.FirstCause.{◌else◌, told, Tells, now, later}
 use Rattle.mms_types.specs.declared.pdu.Pdu.{Pdu}
 use Rattle.pdu_names.specs.Editions.{lengths_of}
+use Rattle.pdu_sems.specs.Control.{modifiers}
 use Rattle.pdu_assoc.specs.Heard.{heard_error, heard_reject_form, answered}
 use Rattle.mms_pdu.specs.declared.refusal.Refusal.{Refusal}
 use Rattle.mms_pdu.specs.declared.refusal.Refusal.TheVariants as refusal
 use Rattle.mms_pdu.specs.Services.{requests, requests_sound}
-use Rattle.mms_pdu.specs.Pdus.{heard_reject}
-use Rattle.mms_pdu.specs.Hearing.{Asked, is_pdu, kept_pdus, noted_pdus, noted_and, valid, and_then, argued, asked_value, served, sole_part, asked_at, reject_told, request_told, part_told, heard, Hears}
+use Rattle.mms_pdu.specs.Pdus.{heard_reject, may_wait}
+use Rattle.mms_pdu.specs.Hearing.{Asked, is_pdu, kept_pdus, noted_pdus, noted_and, valid, and_then, argued, listed, asked_value, modified_value, served, sole_part, asked_at, modifier_at, reject_told, service_told, told_with, request_told, part_told, heard, Hears}
 use Rattle.mms_pdu.specs.Heard.{as_pdu, pdu_heard}
-use Rattle.mms_pdu.specs.Refused.{Asks, other_pdus, IsNoElement, HasUnknownTag, IsNoPdu, HasModifiers, IsNotOffered, NestsTooDeep, HasBadArgument, of_request, IsRefused, RefusesFirst}
+use Rattle.mms_pdu.specs.Refused.{Asks, other_pdus, IsNoElement, HasUnknownTag, IsNoPdu, IsBadList, HasBadList, IsNotOffered, NestsTooDeep, HasBadArgument, of_request, IsRefused, RefusesFirst}
 use Rattle.mms_pdu.proofs.Whole.{alternative_tag}
 use Rattle.mms_pdu.proofs.Causes.{AskedSo, sole_is, sole_only, one_only, one_deep, one_deep_only, asked_is, asks_part}
 
@@ -57,6 +60,36 @@ some_form k (or n g others) f e = by_number (eqb k n) e (some_form k others f)
 not_both : {P : Type 0} (b : Bool) → b ≡ true → b ≡ false → P
 not_both b e f = absurd (cc (e, f))
 
+-- ---- a list of modifiers
+
+abbrev some : Part → Option Part
+some p = Some p
+
+some_is : (p q : Part) → some p ≡ some q → p ≡ q
+some_is p q e = cc e
+
+module _ (lengths : Lengths) where
+  -- one that is read is good
+  good_list : (edition : Edition) (list service : Part) (m : Value) → IsBytes list.contents → modifier_at lengths edition list service ≡ Ok m → IsBadList lengths edition list service → ⊥
+  good_list One list service m fits e bad = absurd cc
+  good_list Two list service m fits e bad = by_number (may_wait service.tag.number) refl e bad
+    where
+      by_number : (b : Bool) → may_wait service.tag.number ≡ b → cond b (reading lengths (modifiers.form Two) list.contents) (Err fault.malformed) ≡ Ok m
+          → (may_wait service.tag.number ≡ false) ⊎ ((v : Value) → InForm lengths (modifiers.form Two) list.contents v → ⊥) → ⊥
+      by_number false n f bad = absurd cc
+      by_number true n f (inl refused) = not_both (may_wait service.tag.number) n refused
+      by_number true n f (inr none) = none m (reading_sound lengths (modifiers.form Two) list.contents m fits f)
+
+  -- and one that can't be read is bad
+  bad_list : (edition : Edition) (list service : Part) (d : Fault) → IsBytes list.contents → modifier_at lengths edition list service ≡ Err d → IsBadList lengths edition list service
+  bad_list One list service d fits e = tt
+  bad_list Two list service d fits e = by_number (may_wait service.tag.number) refl e
+    where
+      by_number : (b : Bool) → may_wait service.tag.number ≡ b → cond b (reading lengths (modifiers.form Two) list.contents) (Err fault.malformed) ≡ Err d
+          → (may_wait service.tag.number ≡ false) ⊎ ((v : Value) → InForm lengths (modifiers.form Two) list.contents v → ⊥)
+      by_number false n f = inl n
+      by_number true n f = inr (λ v h. absurd (cc (f, reading_complete lengths (modifiers.form Two) list.contents v h)))
+
 module _ (lengths : Lengths) (edition : Edition) (octets : List ℕ) where
   abbrev NoElement : Refusal → Type 0
   NoElement = told refusal.InvalidPdu (IsNoElement lengths edition octets)
@@ -68,7 +101,7 @@ module _ (lengths : Lengths) (edition : Edition) (octets : List ℕ) where
   NoPdu = told refusal.InvalidPdu (IsNoPdu lengths edition octets)
 
   abbrev Modified : Refusal → Type 0
-  Modified = of_request lengths octets refusal.Modifier (HasModifiers lengths edition)
+  Modified = of_request lengths octets refusal.Modifier (HasBadList lengths edition)
 
   abbrev NotOffered : Refusal → Type 0
   NotOffered = of_request lengths octets refusal.Service (IsNotOffered lengths edition)
@@ -96,50 +129,60 @@ module _ (lengths : Lengths) (edition : Edition) (octets : List ℕ) where
 
     request_tells : (c : List ℕ) → AskedSo lengths c a → Tells FromRequests (refusal_in (request_told lengths edition a))
     unfolding request_told
-    request_tells c so = by_modified a.modified refl
+    request_tells c so = by_list a.modifiers refl
       where
-        form : Option Form
-        form = form_at a.service.tag.number (requests.alternatives edition)
-
         is : alternatives lengths (requests.alternatives edition) a.service ≡ read_as lengths a.service (form_at a.service.tag.number (requests.alternatives edition))
         is = by_number lengths a.service (requests.alternatives edition) (sound_distinct (requests.alternatives edition) (requests_sound edition))
 
         not_deep : (r : Result Value Fault) → alternatives lengths (requests.alternatives edition) a.service ≡ r → r ≢ Err fault.too_deep → NestsTooDeep lengths edition a → ⊥
         not_deep r e ne h = ne (sym e ∙ one_deep_only lengths (requests.alternatives edition) so.service a.service so.service_is h)
 
-        by_read : (r : Result Value Fault) → alternatives lengths (requests.alternatives edition) a.service ≡ r
-            → Tells (TooDeep else BadArgument) (refusal_in (and_then (argued a.invoke r) (λ v. Ok (asked_value a.invoke v))))
-        by_read (Ok v) e =
+        by_read : (made : Value → Value) (r : Result Value Fault) → alternatives lengths (requests.alternatives edition) a.service ≡ r
+            → Tells (TooDeep else BadArgument) (refusal_in (and_then (argued a.invoke r) (λ v. Ok (made v))))
+        by_read made (Ok v) e =
             later TooDeep BadArgument None (holds_not refusal.Recursion (NestsTooDeep lengths edition) (not_deep (Ok v) e (λ f. absurd cc)))
             (holds_not refusal.Argument (HasBadArgument lengths edition) (λ bad. bad v (alternatives_sound lengths (requests.alternatives edition) a.service v so.inner_fits e)))
-        by_read (Err fault.too_deep) e =
+        by_read made (Err fault.too_deep) e =
             now TooDeep BadArgument (refusal.Recursion a.invoke)
             (holds refusal.Recursion (NestsTooDeep lengths edition) (one_deep lengths (requests.alternatives edition) so.service a.service so.fits so.service_is e))
-        by_read (Err fault.malformed) e =
+        by_read made (Err fault.malformed) e =
             later TooDeep BadArgument (Some (refusal.Argument a.invoke)) (holds_not refusal.Recursion (NestsTooDeep lengths edition) (not_deep (Err fault.malformed) e (λ f. absurd cc)))
             (holds refusal.Argument (HasBadArgument lengths edition) (λ v h. absurd (cc (e, one_only lengths (requests.alternatives edition) so.service a.service v so.service_is h))))
 
-        by_form : (o : Option Form) → form_at a.service.tag.number (requests.alternatives edition) ≡ o
-            → Tells (NotOffered else TooDeep else BadArgument) (refusal_in (and_then (served lengths a.invoke a.service o) (λ v. Ok (asked_value a.invoke v))))
-        by_form None e =
+        by_form : (made : Value → Value) (o : Option Form) → form_at a.service.tag.number (requests.alternatives edition) ≡ o
+            → Tells (NotOffered else TooDeep else BadArgument) (refusal_in (and_then (served lengths a.invoke a.service o) (λ v. Ok (made v))))
+        by_form made None e =
             now NotOffered (TooDeep else BadArgument) (refusal.Service a.invoke)
             (holds refusal.Service (IsNotOffered lengths edition) (no_form a.service.tag.number (requests.alternatives edition) e))
-        by_form (Some f) e =
+        by_form made (Some f) e =
             let there = some_form a.service.tag.number (requests.alternatives edition) f e in
             let read = read_as lengths a.service (Some f) in
-            later NotOffered (TooDeep else BadArgument) (refusal_in (and_then (argued a.invoke read) (λ v. Ok (asked_value a.invoke v))))
+            later NotOffered (TooDeep else BadArgument) (refusal_in (and_then (argued a.invoke read) (λ v. Ok (made v))))
             (holds_not refusal.Service (IsNotOffered lengths edition) (λ h. not_both (has_number (requests.alternatives edition) a.service.tag.number) there h))
-            (by_read read (is ∙ ap (λ (o : Option Form). read_as lengths a.service o) e))
+            (by_read made read (is ∙ ap (λ (o : Option Form). read_as lengths a.service o) e))
 
-        by_modified : (b : Bool) → a.modified ≡ b
-            → Tells FromRequests (refusal_in (cond b (Err (refusal.Modifier a.invoke)) (and_then (served lengths a.invoke a.service (form_at a.service.tag.number (requests.alternatives edition))) (λ v. Ok (asked_value a.invoke v)))))
-        by_modified true m =
-            now Modified (NotOffered else TooDeep else BadArgument) (refusal.Modifier a.invoke) (holds refusal.Modifier (HasModifiers lengths edition) m)
-        by_modified false m =
-            later Modified (NotOffered else TooDeep else BadArgument)
-            (refusal_in (and_then (served lengths a.invoke a.service (form_at a.service.tag.number (requests.alternatives edition))) (λ v. Ok (asked_value a.invoke v))))
-            (holds_not refusal.Modifier (HasModifiers lengths edition) (λ h. not_both a.modified h m))
-            (by_form (form_at a.service.tag.number (requests.alternatives edition)) refl)
+        service : (made : Value → Value) → Tells (NotOffered else TooDeep else BadArgument) (refusal_in (and_then (service_told lengths edition a.invoke a.service) (λ v. Ok (made v))))
+        service made = by_form made (form_at a.service.tag.number (requests.alternatives edition)) refl
+
+        -- the list is refused, or the request is told as one without
+        by_modifier : (list : Part) → a.modifiers ≡ Some list → (r : Result Value Fault) → modifier_at lengths edition list a.service ≡ r
+            → Tells FromRequests (refusal_in (and_then (listed a.invoke r) (λ m. and_then (service_told lengths edition a.invoke a.service) (λ v. Ok (modified_value a.invoke m v)))))
+        by_modifier list some (Ok m) e =
+            later Modified (NotOffered else TooDeep else BadArgument) (refusal_in (and_then (service_told lengths edition a.invoke a.service) (λ v. Ok (modified_value a.invoke m v))))
+            (holds_not refusal.Modifier (HasBadList lengths edition) (λ h.
+            let same : h.0 ≡ list = some_is h.0 list (sym h.1 ∙ some) in
+            good_list lengths edition list a.service m (so.list_fits list some) e (subst (λ (l : Part). IsBadList lengths edition l a.service) same h.2)))
+            (service (λ v. modified_value a.invoke m v))
+        by_modifier list some (Err d) e =
+            now Modified (NotOffered else TooDeep else BadArgument) (refusal.Modifier a.invoke)
+            (holds refusal.Modifier (HasBadList lengths edition) (list, some, bad_list lengths edition list a.service d (so.list_fits list some) e))
+
+        by_list : (o : Option Part) → a.modifiers ≡ o → Tells FromRequests (refusal_in (told_with lengths edition a.invoke o a.service))
+        by_list (Some list) some = by_modifier list some (modifier_at lengths edition list a.service) refl
+        by_list None plain =
+            later Modified (NotOffered else TooDeep else BadArgument) (refusal_in (and_then (service_told lengths edition a.invoke a.service) (λ v. Ok (asked_value a.invoke v))))
+            (holds_not refusal.Modifier (HasBadList lengths edition) (λ h. absurd (cc (sym plain ∙ h.1))))
+            (service (λ v. asked_value a.invoke v))
 
   -- ---- one element
 
@@ -342,7 +385,7 @@ module _ (lengths : Lengths) (edition : Edition) (octets : List ℕ) where
       (neither (UnknownTag lengths edition octets) (NoPdu lengths edition octets else FromRequests lengths edition octets) (λ c. cc c.0)
       (neither (NoPdu lengths edition octets) (FromRequests lengths edition octets) (λ c. cc c.0)
       (neither (Modified lengths edition octets) (NotOffered lengths edition octets else TooDeep lengths edition octets else BadArgument lengths edition octets)
-      (of_none refusal.Modifier (HasModifiers lengths edition) (λ n e. cc e))
+      (of_none refusal.Modifier (HasBadList lengths edition) (λ n e. cc e))
       (neither (NotOffered lengths edition octets) (TooDeep lengths edition octets else BadArgument lengths edition octets) (of_none refusal.Service (IsNotOffered lengths edition) (λ n e. cc e))
       (neither (TooDeep lengths edition octets) (BadArgument lengths edition octets) (of_none refusal.Recursion (NestsTooDeep lengths edition) (λ n e. cc e))
       (of_none refusal.Argument (HasBadArgument lengths edition) (λ n e. cc e)))))))

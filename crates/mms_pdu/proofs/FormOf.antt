@@ -1,6 +1,5 @@
 -- What is heard as a PDU that is kept whole is of its form.
-use Rattle.std.proofs.Common.{◌≡◌, ℕ, pos, inl, inr, Bool, true, false, cond, eqb, List, Option, Some, None, Result, Ok, Err, refl, sym, ap, subst, ◌∙◌}
-use Rattle.std.specs.Prelude.{is_some}
+use Rattle.std.proofs.Common.{◌≡◌, ◌⊎◌, ℕ, pos, inl, inr, Bool, true, false, cond, eqb, List, Option, Some, None, Result, Ok, Err, refl, sym, ap, subst, ◌∙◌}
 use Rattle.ber_core.specs.declared.element.Tag.{Tag}
 use Rattle.ber_core.specs.declared.element.Lengths.{Lengths}
 use Rattle.ber_core.specs.Part.{Part}
@@ -21,7 +20,7 @@ use Rattle.ber_forms.specs.ByNumber.{form_at, read_as}
 use Rattle.ber_forms.proofs.Numbered.{sound_distinct, by_number}
 use Rattle.mms_pdu.specs.Services.{requests, requests_sound}
 use Rattle.mms_pdu.specs.Pdus.{asked, heard_reject}
-use Rattle.mms_pdu.specs.Hearing.{Asked, asking, is_pdu, kept_pdus, whole_pdus, noted_pdus, valid, and_then, argued, served, sole_part, service_of, asked_at, request_told, reject_told, part_told, heard}
+use Rattle.mms_pdu.specs.Hearing.{Asked, asking, is_pdu, kept_pdus, whole_pdus, noted_pdus, valid, and_then, argued, served, sole_part, service_of, asked_at, modifier_at, listed, modified_value, service_told, told_with, request_told, reject_told, part_told, heard}
 use Rattle.mms_pdu.proofs.Whole.{with_service, invoke_is}
 
 -- ---- steps
@@ -58,13 +57,13 @@ served_is lengths invoke p (Some f) v e = argued_is invoke (read_as lengths p (S
 
 module _ (lengths : Lengths) where
   -- nothing is taken where no modifiers are found
-  untouched : (test : Tag → Bool) (octets : List ℕ) (m : Option Part × List ℕ) → optional_part lengths test octets ≡ Ok m → is_some m.0 ≡ false → m.1 ≡ octets
+  untouched : (test : Tag → Bool) (octets : List ℕ) (m : Option Part × List ℕ) → optional_part lengths test octets ≡ Ok m → m.0 ≡ None → m.1 ≡ octets
   unfolding optional_part
   untouched test octets m e none =
       elim (which (is_ahead test octets) (part_at lengths octets >>= λ x. Ok (Some x.0, x.1)) (Ok (None, octets)) (Ok m) e) [
         | inl w ↦
             let x = bound (part_at lengths octets) (λ x. Ok (Some x.0, x.1)) m w.1 in
-            absurd (cc (none, ap (λ (y : Option Part × List ℕ). is_some y.0) (fine_is (Some x.0.0, x.0.1) m x.2)))
+            absurd (cc (none, ap (λ (y : Option Part × List ℕ). y.0) (fine_is (Some x.0.0, x.0.1) m x.2)))
         | inr w ↦ ap (λ (y : Option Part × List ℕ). y.1) (sym (fine_is (None, octets) m w.1))
       ]
 
@@ -90,24 +89,24 @@ module _ (lengths : Lengths) where
     pub invoke : Value × List ℕ
     pub invoked : required_at lengths (universal 2 unsigned32) c ≡ Ok invoke
     pub number_is : natural_of invoke.0 ≡ a.invoke
-    pub service : a.modified ≡ false → Alone invoke.1 a.service
+    pub service : a.modifiers ≡ None → Alone invoke.1 a.service
 
   parted : (c : List ℕ) (a : Asked) → asked_at lengths c ≡ Ok a → Parted c a
   unfolding asked_at
   parted c a e =
       let test = is_tag 0 true 16 in
-      let i = bound (required_at lengths (universal 2 unsigned32) c) (λ i. optional_part lengths test i.1 >>= λ m. sole_part lengths m.1 >>= λ p. service_of p >>= λ s. Ok (asking (natural_of i.0) (is_some m.0) s)) a e in
-      let m = bound (optional_part lengths test i.0.1) (λ m. sole_part lengths m.1 >>= λ p. service_of p >>= λ s. Ok (asking (natural_of i.0.0) (is_some m.0) s)) a i.2 in
-      let p = bound (sole_part lengths m.0.1) (λ p. service_of p >>= λ s. Ok (asking (natural_of i.0.0) (is_some m.0.0) s)) a m.2 in
-      let s = bound (service_of p.0) (λ s. Ok (asking (natural_of i.0.0) (is_some m.0.0) s)) a p.2 in
-      let is : asking (natural_of i.0.0) (is_some m.0.0) s.0 ≡ a = fine_is (asking (natural_of i.0.0) (is_some m.0.0) s.0) a s.2 in
+      let i = bound (required_at lengths (universal 2 unsigned32) c) (λ i. optional_part lengths test i.1 >>= λ m. sole_part lengths m.1 >>= λ p. service_of p >>= λ s. Ok (asking (natural_of i.0) m.0 s)) a e in
+      let m = bound (optional_part lengths test i.0.1) (λ m. sole_part lengths m.1 >>= λ p. service_of p >>= λ s. Ok (asking (natural_of i.0.0) m.0 s)) a i.2 in
+      let p = bound (sole_part lengths m.0.1) (λ p. service_of p >>= λ s. Ok (asking (natural_of i.0.0) m.0.0 s)) a m.2 in
+      let s = bound (service_of p.0) (λ s. Ok (asking (natural_of i.0.0) m.0.0 s)) a p.2 in
+      let is : asking (natural_of i.0.0) m.0.0 s.0 ≡ a = fine_is (asking (natural_of i.0.0) m.0.0 s.0) a s.2 in
       let same : p.0 ≡ a.service = service_is p.0 s.0 s.1 ∙ ap (λ (b : Asked). b.service) is in
       record {
         invoke = i.0;
         invoked = i.1;
         number_is = ap (λ (b : Asked). b.invoke) is;
         service = λ plain.
-            let none : is_some m.0.0 ≡ false = ap (λ (b : Asked). b.modified) is ∙ plain in
+            let none : m.0.0 ≡ None = ap (λ (b : Asked). b.modifiers) is ∙ plain in
             subst (λ (o : List ℕ). Alone o a.service) (untouched test i.0.1 m.0 m.1 none) (alone m.0.1 a.service (p.1 ∙ ap (λ (q : Part). Ok q) same));
       }
 
@@ -124,41 +123,84 @@ module _ (lengths : Lengths) (edition : Edition) where
   request_read c x rest w e f ends = rw (e, f, ends) refl
 
   pub record Granted (a : Asked) (v : Value) : Type 0 where
-    pub plain : a.modified ≡ false
     pub argument : Value
     pub read_so : alternatives lengths (requests.alternatives edition) a.service ≡ Ok argument
     pub is : chosen 0 (with_service a.invoke argument) ≡ v
 
-  granted : (a : Asked) (v : Value) → request_told lengths edition a ≡ Ok v → Granted a v
+  granted : (a : Asked) (v : Value) → a.modifiers ≡ None → request_told lengths edition a ≡ Ok v → Granted a v
   unfolding request_told
-  granted a v e = by_modified a.modified refl e
+  granted a v plain e =
+      let others = requests.alternatives edition in
+      let f : told_with lengths edition a.invoke None a.service ≡ Ok v = sym (ap (λ (o : Option Part). told_with lengths edition a.invoke o a.service) plain) ∙ e in
+      let s = stepped (service_told lengths edition a.invoke a.service) (λ v. Ok (chosen 0 (with_service a.invoke v))) v f in
+      let is = by_number lengths a.service others (sound_distinct others (requests_sound edition)) in record {
+        argument = s.0;
+        read_so = is ∙ served_is lengths a.invoke a.service (form_at a.service.tag.number others) s.0 s.1;
+        is = told_is (chosen 0 (with_service a.invoke s.0)) v s.2;
+      }
+
+  -- a request with a list, and the modifier and the argument of its service
+  pub record GrantedWith (a : Asked) (v : Value) : Type 0 where
+    pub list : Part
+    pub listed_is : a.modifiers ≡ Some list
+    pub modifier : Value
+    pub modifier_is : modifier_at lengths edition list a.service ≡ Ok modifier
+    pub argument : Value
+    pub read_so : alternatives lengths (requests.alternatives edition) a.service ≡ Ok argument
+    pub is : modified_value a.invoke modifier argument ≡ v
+
+  listed_ok : (invoke : ℕ) (r : Result Value Fault) (m : Value) → listed invoke r ≡ Ok m → r ≡ Ok m
+  listed_ok invoke (Ok w) m e = cc e
+  listed_ok invoke (Err d) m e = absurd cc
+
+  granted_with : (a : Asked) (v : Value) (list : Part) → a.modifiers ≡ Some list → request_told lengths edition a ≡ Ok v → GrantedWith a v
+  unfolding request_told
+  granted_with a v list some e =
+      let others = requests.alternatives edition in
+      let f : told_with lengths edition a.invoke (Some list) a.service ≡ Ok v = sym (ap (λ (o : Option Part). told_with lengths edition a.invoke o a.service) some) ∙ e in
+      let l = stepped (listed a.invoke (modifier_at lengths edition list a.service)) (λ m. and_then (service_told lengths edition a.invoke a.service) (λ w. Ok (modified_value a.invoke m w))) v f in
+      let s = stepped (service_told lengths edition a.invoke a.service) (λ w. Ok (modified_value a.invoke l.0 w)) v l.2 in
+      let is = by_number lengths a.service others (sound_distinct others (requests_sound edition)) in record {
+        list = list;
+        listed_is = some;
+        modifier = l.0;
+        modifier_is = listed_ok a.invoke (modifier_at lengths edition list a.service) l.0 l.1;
+        argument = s.0;
+        read_so = is ∙ served_is lengths a.invoke a.service (form_at a.service.tag.number others) s.0 s.1;
+        is = told_is (modified_value a.invoke l.0 s.0) v s.2;
+      }
+
+  -- contents that are read as a confirmed-Request with a modifier
+  pub record Modified (c : List ℕ) (v : Value) : Type 0 where
+    pub asked : Asked
+    pub read_so : asked_at lengths c ≡ Ok asked
+    pub granted_so : GrantedWith asked v
+
+  pub request_of : (c : List ℕ) (v : Value) → and_then (valid (asked_at lengths c)) (request_told lengths edition) ≡ Ok v → ((reading lengths (asked.form edition) c >>= λ w. Ok (chosen 0 w)) ≡ Ok v) ⊎ Modified c v
+  request_of c v e = by_list s.0.modifiers refl
     where
-      others : Alternatives
-      others = requests.alternatives edition
+      s : (a : Asked) × (valid (asked_at lengths c) ≡ Ok a) × (request_told lengths edition a ≡ Ok v)
+      s = stepped (valid (asked_at lengths c)) (request_told lengths edition) v e
 
-      by_modified : (b : Bool) → a.modified ≡ b
-          → cond b (Err (refusal.Modifier a.invoke)) (and_then (served lengths a.invoke a.service (form_at a.service.tag.number others)) (λ v. Ok (chosen 0 (with_service a.invoke v)))) ≡ Ok v → Granted a v
-      by_modified true m f = absurd cc
-      by_modified false m f =
-          let s = stepped (served lengths a.invoke a.service (form_at a.service.tag.number others)) (λ v. Ok (chosen 0 (with_service a.invoke v))) v f in
-          let is = by_number lengths a.service others (sound_distinct others (requests_sound edition)) in
-          record {
-            plain = m;
-            argument = s.0;
-            read_so = is ∙ served_is lengths a.invoke a.service (form_at a.service.tag.number others) s.0 s.1;
-            is = told_is (chosen 0 (with_service a.invoke s.0)) v s.2;
-          }
+      read_so : asked_at lengths c ≡ Ok s.0
+      read_so = valid_is (asked_at lengths c) s.0 s.1
 
-  pub request_of : (c : List ℕ) (v : Value) → and_then (valid (asked_at lengths c)) (request_told lengths edition) ≡ Ok v → (reading lengths (asked.form edition) c >>= λ w. Ok (chosen 0 w)) ≡ Ok v
-  request_of c v e =
-      let s = stepped (valid (asked_at lengths c)) (request_told lengths edition) v e in
-      let a = parted lengths c s.0 (valid_is (asked_at lengths c) s.0 s.1) in
-      let g = granted s.0 v s.2 in
-      let service = a.service g.plain in
-      let read = request_read c a.invoke service.rest g.argument a.invoked (chosen_so lengths (requests.alternatives edition) a.invoke.1 s.0.service service.rest g.argument service.first g.read_so) service.ends in
-      let is : parts (slot (given a.invoke.0) (slot (given g.argument) done)) ≡ with_service s.0.invoke g.argument =
-      ap (λ (n : Value). parts (slot (given n) (slot (given g.argument) done))) (invoke_is lengths c a.invoke a.invoked ∙ ap (λ (n : ℕ). number (pos n)) a.number_is) in
-      ap (λ (r : Result Value Fault). r >>= λ w. Ok (chosen 0 w)) read ∙ ap (λ (w : Value). Ok (chosen 0 w)) is ∙ ap (λ (w : Value). Ok w) g.is
+      plain_of : s.0.modifiers ≡ None → (reading lengths (asked.form edition) c >>= λ w. Ok (chosen 0 w)) ≡ Ok v
+      plain_of plain =
+          let a = parted lengths c s.0 read_so in
+          let g = granted s.0 v plain s.2 in
+          let service = a.service plain in
+          let read = request_read c a.invoke service.rest g.argument a.invoked (chosen_so lengths (requests.alternatives edition) a.invoke.1 s.0.service service.rest g.argument service.first g.read_so) service.ends in
+          let is : parts (slot (given a.invoke.0) (slot (given g.argument) done)) ≡ with_service s.0.invoke g.argument =
+          ap (λ (n : Value). parts (slot (given n) (slot (given g.argument) done))) (invoke_is lengths c a.invoke a.invoked ∙ ap (λ (n : ℕ). number (pos n)) a.number_is) in
+          ap (λ (r : Result Value Fault). r >>= λ w. Ok (chosen 0 w)) read ∙ ap (λ (w : Value). Ok (chosen 0 w)) is ∙ ap (λ (w : Value). Ok w) g.is
+
+      by_list : (o : Option Part) → s.0.modifiers ≡ o → ((reading lengths (asked.form edition) c >>= λ w. Ok (chosen 0 w)) ≡ Ok v) ⊎ Modified c v
+      by_list None plain = inl (plain_of plain)
+      by_list (Some list) some = inr (record { asked = s.0; read_so = read_so; granted_so = granted_with s.0 v list some s.2 })
+
+  chosen_of : (c : List ℕ) (n : ℕ) (w : Value) → and_then (valid (asked_at lengths c)) (request_told lengths edition) ≡ Ok (chosen n w) → (reading lengths (asked.form edition) c >>= λ w. Ok (chosen 0 w)) ≡ Ok (chosen n w)
+  chosen_of c n w e = elim (request_of c (chosen n w) e) [ inl read ↦ read | inr m ↦ absurd (cc m.granted_so.is) ]
 
   -- ---- a PDU
 
@@ -170,7 +212,7 @@ module _ (lengths : Lengths) (edition : Edition) where
           → cond a (cond b (and_then (valid (asked_at lengths p.contents)) (request_told lengths edition)) (cond d (reject_told lengths edition p.contents) (cond f (Ok nothing) (valid (alternatives lengths (kept_pdus edition) p))))) (Err refusal.UnknownType) ≡ Ok (chosen n w)
           → cond b (reading lengths (asked.form edition) p.contents >>= λ w. Ok (chosen 0 w)) (alternatives lengths (kept_pdus edition) p) ≡ Ok (chosen n w)
       by_tags false b d f e = absurd cc
-      by_tags true true d f e = request_of p.contents (chosen n w) e
+      by_tags true true d f e = chosen_of p.contents n w e
       by_tags true false true f e = absurd (ne (reject_is p.contents n w e))
       by_tags true false false true e = absurd cc
       by_tags true false false false e = valid_is (alternatives lengths (kept_pdus edition) p) (chosen n w) e

@@ -1,6 +1,5 @@
 -- The invokeID of a request that is heard is an Unsigned32.
-use Rattle.std.proofs.Common.{◌≡◌, ℕ, ℤ, pos, negsuc, ◌<◌, ◌^◌, ◌≤ℤ◌, Bool, true, false, cond, List, Result, Ok, Err, refl, ap, subst, ◌∙◌, arith}
-use Rattle.std.specs.Prelude.{is_some}
+use Rattle.std.proofs.Common.{◌≡◌, ℕ, ℤ, pos, negsuc, ◌<◌, ◌^◌, ◌≤ℤ◌, Bool, true, false, cond, List, Option, Some, None, Result, Ok, Err, refl, ap, subst, ◌∙◌, arith}
 use Rattle.ber_core.specs.declared.element.Lengths.{Lengths}
 use Rattle.ber_core.specs.Part.{Part}
 use Rattle.ber_forms.specs.Fault.{Fault}
@@ -10,6 +9,7 @@ use Rattle.ber_forms.specs.ByNumber.{form_at}
 use Rattle.ber_forms.specs.Reading.{◌>>=◌, integer_in, is_tag, has_tag, is_constructed, required_part, optional_part, required_by, reading, alternatives, required_at}
 use Rattle.ber_forms.proofs.Sound.{fine_is, bound, integer_within}
 use Rattle.mms_types.specs.declared.identifier.Edition.{Edition}
+use Rattle.mms_types.specs.declared.semaphore.Modifier.{Modifier}
 use Rattle.mms_types.specs.declared.pdu.Request.{Request}
 use Rattle.mms_types.specs.declared.pdu.Pdu.{Pdu}
 use Rattle.mms_types.specs.declared.pdu.Pdu.TheVariants as pdu
@@ -21,11 +21,12 @@ use Rattle.mms_pdu.specs.declared.refusal.Refusal.{Refusal}
 use Rattle.mms_pdu.specs.declared.refusal.Refusal.TheVariants as refusal
 use Rattle.mms_pdu.specs.Services.{requests}
 use Rattle.mms_pdu.specs.Pdus.{client_answered, heard_reject}
-use Rattle.mms_pdu.specs.Hearing.{Asked, asking, is_pdu, kept_pdus, noted_pdus, valid, and_then, served, asked_value, sole_part, service_of, asked_at, reject_told, request_told, part_told, heard}
+use Rattle.mms_pdu.specs.Hearing.{Asked, asking, is_pdu, kept_pdus, noted_pdus, valid, and_then, listed, asked_value, modified_value, sole_part, service_of, asked_at, modifier_at, reject_told, service_told, told_with, request_told, part_told, heard}
 use Rattle.mms_pdu.specs.Heard.{pdu_of, as_pdu, pdu_heard}
 
 abbrev pub AsksSmall : Pdu → Type 0
 AsksSmall (pdu.ConfirmedRequest invoke request) = invoke < 2 ^ 32
+AsksSmall (pdu.ModifiedRequest invoke modifier request) = invoke < 2 ^ 32
 AsksSmall p = Unit {0}
 
 abbrev pub HeardSmall : Result Pdu Refusal → Type 0
@@ -54,11 +55,11 @@ module _ (lengths : Lengths) where
   unfolding asked_at
   asked_small c a e =
       let test = is_tag 0 true 16 in
-      let i = bound (required_at lengths (universal 2 unsigned32) c) (λ i. optional_part lengths test i.1 >>= λ m. sole_part lengths m.1 >>= λ p. service_of p >>= λ s. Ok (asking (natural_of i.0) (is_some m.0) s)) a e in
-      let m = bound (optional_part lengths test i.0.1) (λ m. sole_part lengths m.1 >>= λ p. service_of p >>= λ s. Ok (asking (natural_of i.0.0) (is_some m.0) s)) a i.2 in
-      let p = bound (sole_part lengths m.0.1) (λ p. service_of p >>= λ s. Ok (asking (natural_of i.0.0) (is_some m.0.0) s)) a m.2 in
-      let s = bound (service_of p.0) (λ s. Ok (asking (natural_of i.0.0) (is_some m.0.0) s)) a p.2 in
-      let is = fine_is (asking (natural_of i.0.0) (is_some m.0.0) s.0) a s.2 in
+      let i = bound (required_at lengths (universal 2 unsigned32) c) (λ i. optional_part lengths test i.1 >>= λ m. sole_part lengths m.1 >>= λ p. service_of p >>= λ s. Ok (asking (natural_of i.0) m.0 s)) a e in
+      let m = bound (optional_part lengths test i.0.1) (λ m. sole_part lengths m.1 >>= λ p. service_of p >>= λ s. Ok (asking (natural_of i.0.0) m.0 s)) a i.2 in
+      let p = bound (sole_part lengths m.0.1) (λ p. service_of p >>= λ s. Ok (asking (natural_of i.0.0) m.0.0 s)) a m.2 in
+      let s = bound (service_of p.0) (λ s. Ok (asking (natural_of i.0.0) m.0.0 s)) a p.2 in
+      let is = fine_is (asking (natural_of i.0.0) m.0.0 s.0) a s.2 in
       subst (λ (b : Asked). b.invoke < 2 ^ 32) is (required_small c i.0 i.1)
 
   or_small : (n : ℕ) (f : Form) (others : Alternatives) (p : Part) → ((w : Value) → AsksSmall (pdu_of (chosen n w))) → IsSmall (valid (alternatives lengths others p))
@@ -73,12 +74,23 @@ module _ (lengths : Lengths) where
 module _ (lengths : Lengths) (edition : Edition) where
   request_small : (a : Asked) → a.invoke < 2 ^ 32 → IsSmall (request_told lengths edition a)
   unfolding request_told
-  request_small a small = by_modified a.modified (served lengths a.invoke a.service (form_at a.service.tag.number (requests.alternatives edition)))
+  request_small a small = by_list a.modifiers
     where
-      by_modified : (b : Bool) (r : Result Value Refusal) → IsSmall (cond b (Err (refusal.Modifier a.invoke)) (and_then r (λ v. Ok (asked_value a.invoke v))))
-      by_modified true r = tt
-      by_modified false (Ok v) = small
-      by_modified false (Err e) = tt
+      plain : (r : Result Value Refusal) → IsSmall (and_then r (λ v. Ok (asked_value a.invoke v)))
+      plain (Ok v) = small
+      plain (Err e) = tt
+
+      modified : (m : Value) (r : Result Value Refusal) → IsSmall (and_then r (λ v. Ok (modified_value a.invoke m v)))
+      modified m (Ok v) = small
+      modified m (Err e) = tt
+
+      with_list : (r t : Result Value Refusal) → IsSmall (and_then r (λ m. and_then t (λ v. Ok (modified_value a.invoke m v))))
+      with_list (Ok m) t = modified m t
+      with_list (Err e) t = tt
+
+      by_list : (o : Option Part) → IsSmall (told_with lengths edition a.invoke o a.service)
+      by_list None = plain (service_told lengths edition a.invoke a.service)
+      by_list (Some list) = with_list (listed a.invoke (modifier_at lengths edition list a.service)) (service_told lengths edition a.invoke a.service)
 
   asked_told : (c : List ℕ) → IsSmall (and_then (valid (asked_at lengths c)) (request_told lengths edition))
   asked_told c = by_asked (asked_at lengths c) refl
@@ -133,3 +145,6 @@ heard_small edition octets = by_sole (sole_part (lengths_of edition) octets)
 
 pub request_heard : (edition : Edition) (octets : List ℕ) (invoke : ℕ) (asked : Request) → pdu_heard edition octets ≡ Ok (pdu.ConfirmedRequest invoke asked) → invoke < 2 ^ 32
 request_heard edition octets invoke asked e = subst HeardSmall e (heard_small edition octets)
+
+pub modified_heard : (edition : Edition) (octets : List ℕ) (invoke : ℕ) (modifier : Modifier) (asked : Request) → pdu_heard edition octets ≡ Ok (pdu.ModifiedRequest invoke modifier asked) → invoke < 2 ^ 32
+modified_heard edition octets invoke modifier asked e = subst HeardSmall e (heard_small edition octets)

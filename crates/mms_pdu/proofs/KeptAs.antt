@@ -16,15 +16,17 @@ use Rattle.ber_forms.proofs.Sound.{reading_sound, alternatives_sound}
 use Rattle.ber_forms.proofs.Complete.{reading_complete}
 use Rattle.ber_forms.proofs.Numbered.{tag_class, other_number}
 use Rattle.mms_types.specs.declared.identifier.Edition.{Edition}
+use Rattle.mms_types.specs.declared.identifier.Edition.TheVariants.{One, Two}
 use Rattle.pdu_assoc.specs.Heard.{heard_error, heard_reject_form, answered}
 use Rattle.mms_pdu.specs.declared.refusal.Refusal.{Refusal}
 use Rattle.mms_pdu.specs.declared.refusal.Refusal.TheVariants as refusal
 use Rattle.mms_pdu.specs.Pdus.{heard_reject}
 use Rattle.mms_pdu.specs.Hearing.{is_pdu, kept_pdus, whole_pdus, noted_pdus, valid, and_then, sole_part, asked_at, request_told, reject_told, part_told, heard}
-use Rattle.mms_pdu.specs.ClientPdus.{IsInvokeOf, IsReject, IsNoted, IsKeptAs}
+use Rattle.mms_pdu.specs.ClientPdus.{IsInvokeOf, IsReject, IsNoted, IsModified, IsKeptAs}
 use Rattle.mms_pdu.proofs.Whole.{heard_again}
 use Rattle.mms_pdu.proofs.FormOf.{heard_as, told_is, stepped, valid_is, request_of}
 use Rattle.mms_pdu.proofs.Causes.{sole_is, sole_only, one_only}
+use Rattle.mms_pdu.proofs.ModifiedAs.{is_modified, modified_read}
 
 -- what is kept of a PDU of which nothing is kept, by its tag
 module _ (t : Tag) where
@@ -111,11 +113,14 @@ module _ (lengths : Lengths) (edition : Edition) where
         whole : alternatives lengths (whole_pdus edition) p ≡ Ok v → IsKeptAs lengths edition c v
         whole f = inl (p, is, alternatives_sound lengths (whole_pdus edition) p v fits f)
 
+        requested : is_tag 2 true 0 p.tag ≡ true → and_then (valid (asked_at lengths p.contents)) (request_told lengths edition) ≡ Ok v → IsKeptAs lengths edition c v
+        requested t f = elim (request_of lengths edition p.contents v f) [ inl read ↦ whole (rw t read) | inr m ↦ inr (inl (is_modified lengths edition c p v is fits t m)) ]
+
         rejected : is_tag 2 true 4 p.tag ≡ true → reject_told lengths edition p.contents ≡ Ok v → IsKeptAs lengths edition c v
         rejected t f =
             let r = reject_read p.contents v f in
             let h = reading_sound lengths heard_reject_form p.contents r.0 fits r.1 in
-            inr (inl (
+            inr (inr (inl (
               answered (reading lengths (heard_error.form edition) p.contents),
               record {
                 part = p;
@@ -125,18 +130,18 @@ module _ (lengths : Lengths) (edition : Edition) where
                 invoke_is = invoke_of p.contents fits;
               },
               sym r.2,
-            ))
+            )))
 
         noted : has_tag noted_pdus p.tag ≡ true → heard_as nothing ≡ Ok v → IsKeptAs lengths edition c v
         noted t f =
             let w = noted_is lengths p t in
-            inr (inr ((w.0, (p, is, alternatives_sound lengths noted_pdus p w.0 fits w.1)), sym (told_is nothing v f)))
+            inr (inr (inr ((w.0, (p, is, alternatives_sound lengths noted_pdus p w.0 fits w.1)), sym (told_is nothing v f))))
 
         by_tags : (a b d n : Bool) → is_tag 2 true 0 p.tag ≡ b → is_tag 2 true 4 p.tag ≡ d → has_tag noted_pdus p.tag ≡ n
             → cond a (cond b (and_then (valid (asked_at lengths p.contents)) (request_told lengths edition)) (cond d (reject_told lengths edition p.contents) (cond n (Ok nothing) (valid (alternatives lengths (kept_pdus edition) p))))) (Err refusal.UnknownType) ≡ Ok v
             → IsKeptAs lengths edition c v
         by_tags false b d n f g h e = absurd cc
-        by_tags true true d n f g h e = whole (rw f (request_of lengths edition p.contents v e))
+        by_tags true true d n f g h e = requested f e
         by_tags true false true n f g h e = rejected g e
         by_tags true false false true f g h e = noted h e
         by_tags true false false false f g h e = whole (rw f (valid_is (alternatives lengths (kept_pdus edition) p) v e))
@@ -171,16 +176,33 @@ module _ (lengths : Lengths) (edition : Edition) where
   contents_fit : (c : List ℕ) (p : Part) → IsBytes c → IsElement lengths c p → IsBytes p.contents
   contents_fit c p fits is = (sole_is lengths c p fits (sole_only lengths c p is)).1
 
+  request_part : (p : Part) (v : Value) → is_tag 2 true 0 p.tag ≡ true → and_then (valid (asked_at lengths p.contents)) (request_told lengths edition) ≡ Ok v → part_told lengths edition p ≡ Ok v
+  unfolding part_told
+  request_part p v t e =
+      let k = tag_class true 0 p.tag t in
+      let pdu : is_pdu p.tag ≡ true = rw (eq-eqb p.tag.class 2 k.0, k.1) refl in
+      rw (pdu, t) e
+
+  modified_heard : (c : List ℕ) (v : Value) → IsModified lengths edition c v → heard lengths edition c ≡ Ok v
+  modified_heard c v h = by_edition edition refl h
+    where
+      by_edition : (e : Edition) → e ≡ edition → IsModified lengths e c v → heard lengths edition c ≡ Ok v
+      by_edition One is k = absurd k
+      by_edition Two is k =
+          let r = modified_read lengths c v k.0 k.1 in
+          whole_told c r.0 v r.1 (request_part r.0 v r.2 (ap (λ (e : Edition). and_then (valid (asked_at lengths r.0.contents)) (request_told lengths e)) (sym is) ∙ r.3))
+
   pub kept_heard : (c : List ℕ) (v : Value) → IsBytes c → IsKeptAs lengths edition c v → heard lengths edition c ≡ Ok v
   kept_heard c v fits (inl h) = heard_again lengths edition c v h
-  kept_heard c v fits (inr (inl h)) =
+  kept_heard c v fits (inr (inl h)) = modified_heard c v h
+  kept_heard c v fits (inr (inr (inl h))) =
       let r = h.1 in
       let inner = contents_fit c r.part fits r.whole in
       let e = rejected_told c r.part r.whole inner r.tag (reading_complete lengths heard_reject_form r.part.contents nothing r.elements) in
       whole_told c r.part (reject_value r.part.contents) r.whole e
       ∙ ap (λ (o : Option ℕ). Ok (chosen 4 (heard_reject.value o))) (invoke_only r.part.contents h.0 inner r.invoke_is)
       ∙ ap (λ (w : Value). Ok w) (sym h.2)
-  kept_heard c v fits (inr (inr h)) =
+  kept_heard c v fits (inr (inr (inr h))) =
       let p = h.0.1.0 in
       let inner = contents_fit c p fits h.0.1.1 in
       let e = noted_told c p h.0.1.1 inner (tag_of lengths noted_pdus p h.0.0 (one_only lengths noted_pdus c p h.0.0 h.0.1.1 h.0.1.2)) in

@@ -4,6 +4,7 @@ use Rattle.std.specs.Prelude.{IsTrue}
 use Rattle.ber_forms.specs.Form.{choice}
 use Rattle.ber_forms.specs.Kept.{is_looked_into, alternatives_looked_into}
 use Rattle.mms_types.specs.declared.identifier.Edition.{Edition}
+use Rattle.mms_types.specs.declared.identifier.Edition.TheVariants.{Two}
 use Rattle.pdu_names.specs.Names.{names}
 use Rattle.pdu_data.specs.Data.{data_alternatives, data_choice}
 use Rattle.pdu_data.specs.Types.{type_alternatives, type_choice}
@@ -11,6 +12,7 @@ use Rattle.pdu_vars.specs.Variables.{specifications, accesses}
 use Rattle.pdu_events.specs.Entries.{journal_event, entry_contents}
 use Rattle.mms_pdu.specs.Services.{requests}
 use Rattle.mms_pdu.specs.Hearing.{whole_pdus}
+use Rattle.mms_pdu.specs.ClientPdus.{modified_pdu}
 
 names_looked : (e : Edition) → alternatives_looked_into (names.alternatives e) ≡ true
 unfolding names
@@ -52,3 +54,6 @@ requests_looked e = rw (accesses_looked e, specifications_looked e, entries_look
 
 pub whole_looked : (e : Edition) → IsTrue (is_looked_into (choice (whole_pdus e)))
 whole_looked e = rw (requests_looked e) refl
+
+pub modified_looked : IsTrue (is_looked_into modified_pdu)
+modified_looked = rw (names_looked Two, requests_looked Two) refl

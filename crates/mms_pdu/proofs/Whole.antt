@@ -95,7 +95,7 @@ module _ (lengths : Lengths) where
 
   -- ---- a confirmed-Request
 
-  served_ok : (n : ℕ) (p : Part) (o : Option Form) (v : Value) → read_as lengths p o ≡ Ok v → served lengths n p o ≡ Ok v
+  pub served_ok : (n : ℕ) (p : Part) (o : Option Form) (v : Value) → read_as lengths p o ≡ Ok v → served lengths n p o ≡ Ok v
   served_ok n p None v e = absurd cc
   served_ok n p (Some f) v e = ap (argued n) e
 
@@ -112,7 +112,7 @@ module _ (lengths : Lengths) where
   unmodified : (c : List ℕ) (p : Part) (rest : List ℕ) → part_at lengths c ≡ Ok (p, rest) → p.tag.class ≡ 2 → optional_part lengths (is_tag 0 true 16) c ≡ Ok (None, c)
   unmodified c p rest e k = rw (as_cut lengths (is_tag 0 true 16) c (Some (p, rest)) (next_of c (p, rest) e), k) refl
 
-  natural : (n : ℤ) → pos 0 ≤ℤ n → number n ≡ number (pos (natural_of (number n)))
+  pub natural : (n : ℤ) → pos 0 ≤ℤ n → number n ≡ number (pos (natural_of (number n)))
   natural (pos k) h = refl
   natural (negsuc k) h = absurd (grind (arith, h))
 
@@ -128,13 +128,13 @@ module _ (lengths : Lengths) where
       subst (λ (v : Value). v ≡ number (pos (natural_of v))) is (natural f.0 low)
 
   asked_again : (c : List ℕ) (x : Value × List ℕ) (p : Part) (rest : List ℕ) → required_at lengths (universal 2 unsigned32) c ≡ Ok x → part_at lengths x.1 ≡ Ok (p, rest) → sole_part lengths x.1 ≡ Ok p → p.tag.class ≡ 2
-      → asked_at lengths c ≡ Ok (asking (natural_of x.0) false p)
+      → asked_at lengths c ≡ Ok (asking (natural_of x.0) None p)
   unfolding asked_at
   asked_again c x p rest e f s k = rw (e, unmodified x.1 p rest f k, s, eq-eqb p.tag.class 2 k) refl
 
 -- what of this depends on the edition
 module _ (lengths : Lengths) (edition : Edition) where
-  argued_again : (n : ℕ) (p : Part) (v : Value) → alternatives lengths (requests.alternatives edition) p ≡ Ok v → request_told lengths edition (asking n false p) ≡ Ok (chosen 0 (with_service n v))
+  argued_again : (n : ℕ) (p : Part) (v : Value) → alternatives lengths (requests.alternatives edition) p ≡ Ok v → request_told lengths edition (asking n None p) ≡ Ok (chosen 0 (with_service n v))
   unfolding request_told
   argued_again n p v e =
       let others = requests.alternatives edition in

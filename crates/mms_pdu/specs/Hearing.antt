@@ -1,5 +1,5 @@
 -- What octets are that a client sends: a PDU, or a refusal, as they are read from left to right (ISO 9506-2, RejectPDU).
-use Rattle.std.specs.Prelude.{◌≡◌, ℕ, pos, Bool, true, ◌==◌, ◌&&◌, nat_le, is_some, List, Option, Some, None, Result, Ok, Err, if◌then◌else◌}
+use Rattle.std.specs.Prelude.{◌≡◌, ℕ, pos, Bool, true, ◌==◌, ◌&&◌, nat_le, List, Option, Some, None, Result, Ok, Err, if◌then◌else◌}
 use Rattle.ber_core.specs.declared.element.Tag.{Tag}
 use Rattle.ber_core.specs.declared.element.Lengths.{Lengths}
 use Rattle.ber_core.specs.Part.{Part}
@@ -12,26 +12,28 @@ use Rattle.ber_forms.specs.Form.{Form, Alternatives, unsigned32, universal, or, 
 use Rattle.ber_forms.specs.ByNumber.{form_at, read_as}
 use Rattle.ber_forms.specs.Reading.{◌>>=◌, is_tag, has_tag, at_end, part_at, optional_part, required_at, reading, alternatives}
 use Rattle.mms_types.specs.declared.identifier.Edition.{Edition}
+use Rattle.mms_types.specs.declared.identifier.Edition.TheVariants.{One, Two}
 use Rattle.mms_types.specs.declared.pdu.Request.{Request}
 use Rattle.mms_types.specs.declared.pdu.Request.TheVariants as request
 use Rattle.mms_types.specs.declared.pdu.Pdu.{Pdu}
 use Rattle.mms_types.specs.declared.pdu.Pdu.TheVariants as pdu
 use Rattle.mms_types.specs.Depths.{write_depth, definition_depth, journal_depth}
 use Rattle.pdu_names.specs.Said.{natural_of}
+use Rattle.pdu_sems.specs.Control.{modifiers}
 use Rattle.pdu_assoc.specs.Heard.{unconfirmed_form, heard_cancel_form, heard_cancel_error_form, heard_error, heard_reject_form, answered}
 use Rattle.mms_pdu.specs.declared.refusal.Refusal.{Refusal}
 use Rattle.mms_pdu.specs.declared.refusal.Refusal.TheVariants as refusal
 use Rattle.mms_pdu.specs.Services.{requests}
-use Rattle.mms_pdu.specs.Pdus.{heard_reject, kept_arms, whole_arms}
+use Rattle.mms_pdu.specs.Pdus.{heard_reject, may_wait, kept_arms, whole_arms}
 
--- a confirmed-Request: its invokeID, whether it has a list of modifiers, and the service that it asks for
+-- a confirmed-Request: its invokeID, its list of modifiers, where it has one, and the service that it asks for
 pub record Asked : Type 0 where
   pub invoke : ℕ
-  pub modified : Bool
+  pub modifiers : Option Part
   pub service : Part
 
-abbrev pub asking : ℕ → Bool → Part → Asked
-asking invoke modified service = record { invoke = invoke; modified = modified; service = service }
+abbrev pub asking : ℕ → Option Part → Part → Asked
+asking invoke modifiers service = record { invoke = invoke; modifiers = modifiers; service = service }
 
 -- a service: an element of context class, whatever its number
 abbrev pub service_of : Part → Result Part Fault
@@ -85,9 +87,24 @@ argued invoke (Ok v) = Ok v
 argued invoke (Err fault.too_deep) = Err (refusal.Recursion invoke)
 argued invoke (Err fault.malformed) = Err (refusal.Argument invoke)
 
+-- any list of modifiers that can't be read is refused in the same way
+abbrev pub listed : {A : Type 0} → ℕ → Result A Fault → Result A Refusal
+listed invoke (Ok x) = Ok x
+listed invoke (Err e) = Err (refusal.Modifier invoke)
+
+-- the refusal of a request whose list of modifiers could not be read
+abbrev pub refusal_of_list : ℕ → Unread → Refusal
+refusal_of_list invoke unread.Memory = refusal.Memory
+refusal_of_list invoke unread.Malformed = refusal.Modifier invoke
+refusal_of_list invoke unread.TooDeep = refusal.Modifier invoke
+
 -- a confirmed-Request with its service
 abbrev pub asked_value : ℕ → Value → Value
 asked_value invoke service = chosen 0 (parts (slot (given (number (pos invoke))) (slot (given service) done)))
+
+-- and with a modifier
+abbrev pub modified_value : ℕ → Value → Value → Value
+modified_value invoke modifier service = parts (slot (given (number (pos invoke))) (slot (given modifier) (slot (given service) done)))
 
 -- Each of these takes which forms of lengths are read first.
 module _ (lengths : Lengths) where
@@ -100,6 +117,11 @@ module _ (lengths : Lengths) where
   unfoldable pub sole_part : List ℕ → Result Part Fault
   sole_part octets = part_at lengths octets >>= λ x. at_end x.1 >>= λ _. Ok x.0
 
+  -- the modifier of a list: edition 1 takes none, and edition 2 one before a service that may wait
+  abbrev pub modifier_at : Edition → Part → Part → Result Value Fault
+  modifier_at One list service = Err fault.malformed
+  modifier_at Two list service = if may_wait service.tag.number then reading lengths (modifiers.form Two) list.contents else Err fault.malformed
+
   -- confirmed-Request: { INTEGER invokeID, SEQUENCE OF modifiers OPTIONAL, service }, and whatever the modifiers are
   unfoldable pub asked_at : List ℕ → Result Asked Fault
   asked_at octets =
@@ -107,7 +129,7 @@ module _ (lengths : Lengths) where
       optional_part lengths (is_tag 0 true 16) i.1 >>= λ m.
       sole_part m.1 >>= λ p.
       service_of p >>= λ s.
-      Ok (asking (natural_of i.0) (is_some m.0) s)
+      Ok (asking (natural_of i.0) m.0 s)
 
 -- Each of these takes the edition as well.
 module _ (lengths : Lengths) (edition : Edition) where
@@ -117,12 +139,18 @@ module _ (lengths : Lengths) (edition : Edition) where
       and_then (valid (reading lengths heard_reject_form octets)) (λ _.
       Ok (chosen 4 (heard_reject.value (answered (reading lengths (heard_error.form edition) octets)))))
 
-  -- a list of modifiers is refused, then a service that is not offered, and then its argument
+  -- the service that is asked for: one that is not offered is refused, and then its argument
+  abbrev pub service_told : ℕ → Part → Result Value Refusal
+  service_told invoke service = served lengths invoke service (form_at service.tag.number (requests.alternatives edition))
+
+  -- a list of modifiers is refused before the service
+  abbrev pub told_with : ℕ → Option Part → Part → Result Value Refusal
+  told_with invoke None service = and_then (service_told invoke service) (λ v. Ok (asked_value invoke v))
+  told_with invoke (Some list) service =
+      and_then (listed invoke (modifier_at lengths edition list service)) (λ m. and_then (service_told invoke service) (λ v. Ok (modified_value invoke m v)))
+
   unfoldable pub request_told : Asked → Result Value Refusal
-  request_told asked =
-      if asked.modified then Err (refusal.Modifier asked.invoke)
-      else and_then (served lengths asked.invoke asked.service (form_at asked.service.tag.number (requests.alternatives edition)))
-      (λ v. Ok (asked_value asked.invoke v))
+  request_told asked = told_with asked.invoke asked.modifiers asked.service
 
   -- an element of no PDU's tag is refused, then one that is not of its PDU's form, also one that only the server sends
   unfoldable pub part_told : Part → Result Value Refusal
@@ -149,6 +177,7 @@ request_depth other = 0
 -- and those of a PDU
 abbrev pub depth_of : Pdu → ℕ
 depth_of (pdu.ConfirmedRequest invoke request) = request_depth request
+depth_of (pdu.ModifiedRequest invoke modifier request) = request_depth request
 depth_of p = 0
 
 -- The refusal is the one that was told, unless it is want of memory.

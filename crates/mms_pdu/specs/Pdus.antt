@@ -1,5 +1,5 @@
 -- MMSpdu (ISO 9506-2): each PDU with its form, and what it says.
-use Rattle.std.specs.Prelude.{ℕ, List, [], Option, refl}
+use Rattle.std.specs.Prelude.{ℕ, Bool, not, ◌==◌, ◌||◌, List, [], Option, refl}
 use Rattle.ber_forms.specs.Value.{Value, nothing, chosen}
 use Rattle.ber_forms.specs.Form as asn
 use Rattle.ber_forms.specs.Form.{Alternatives}
@@ -9,6 +9,7 @@ use Rattle.mms_types.specs.declared.pdu.Answer.{Answer}
 use Rattle.mms_types.specs.declared.pdu.ServerRequest.{ServerRequest}
 use Rattle.mms_types.specs.declared.pdu.ClientAnswer.{ClientAnswer}
 use Rattle.mms_types.specs.declared.condition.EventNotification.{EventNotification}
+use Rattle.mms_types.specs.declared.semaphore.Modifier.{Modifier}
 use Rattle.mms_types.specs.declared.pdu.Pdu.{Pdu}
 use Rattle.mms_types.specs.declared.pdu.Pdu.TheVariants as pdu
 use Rattle.mms_types.specs.Spelling.{widest}
@@ -17,6 +18,7 @@ use Rattle.pdu_assoc.specs.Heard.{heard_error}
 use Rattle.pdu_assoc.specs.Initiate.{initiate, initiate_answer}
 use Rattle.pdu_assoc.specs.Reject.{reject}
 use Rattle.pdu_assoc.specs.ServiceErrors.{service_error, confirmed_error, cancel_error}
+use Rattle.pdu_sems.specs.Control.{modifiers}
 use Rattle.pdu_programs.specs.Services.{server_requests, client_answers}
 use Rattle.pdu_events.specs.Enrollments.{event_notification}
 use Rattle.mms_pdu.specs.Services.{requests, answers}
@@ -27,6 +29,19 @@ asked = sequence (
     required (universal 2 unsigned32) (λ x. x.0) (
     required (one_of requests) (λ x. x.1) no_more))
     (λ invoke request. (invoke, request)) (λ x. refl)
+
+-- and with a modifier: an invokeID, a list of modifiers, and then a service
+abbrev pub modified : Kind (ℕ × Modifier × Request)
+modified = sequence (
+    required (universal 2 unsigned32) (λ x. x.0) (
+    required (universal 16 modifiers) (λ x. x.1) (
+    required (one_of requests) (λ x. x.2) no_more)))
+    (λ invoke modifier request. (invoke, modifier, request)) (λ x. refl)
+
+-- a service that a modifier may let wait: neither takeControl nor relinquishControl, which wait or free themselves, nor
+-- initiateDownloadSequence (this profile's choice)
+abbrev pub may_wait : ℕ → Bool
+may_wait n = not ((n == 19) || (n == 20) || (n == 26))
 
 -- confirmed-Request of the server
 abbrev pub server_asked : Kind (ℕ × ServerRequest)
@@ -96,6 +111,7 @@ server_pdu = asn.or 0 (server_asked.form widest) asn.no_other
 -- what a PDU says: of those that were only heard, what is kept of them
 abbrev pub pdu_value : Pdu → Value
 pdu_value (pdu.ConfirmedRequest invoke request) = chosen 0 (asked.value (invoke, request))
+pdu_value (pdu.ModifiedRequest invoke modifier request) = modified.value (invoke, modifier, request)
 pdu_value (pdu.ServerRequest invoke request) = chosen 0 (server_asked.value (invoke, request))
 pdu_value (pdu.ConfirmedResponse invoke answer) = chosen 1 (responded.value (invoke, answer))
 pdu_value (pdu.HeardResponse invoke answer) = chosen 1 (client_answered.value (invoke, answer))
@@ -118,6 +134,7 @@ pdu_value (pdu.ConcludeError error) = chosen 13 (service_error.value error)
 -- The one spelling of a PDU: one element. What was only heard is never sent, and has none.
 abbrev pub pdu_octets : Pdu → List ℕ
 pdu_octets (pdu.ServerRequest invoke request) = alternative_octets server_pdu (pdu_value (pdu.ServerRequest invoke request))
+pdu_octets (pdu.ModifiedRequest invoke modifier request) = []
 pdu_octets (pdu.HeardResponse invoke answer) = []
 pdu_octets (pdu.HeardError invoke) = []
 pdu_octets (pdu.HeardReject invoke) = []

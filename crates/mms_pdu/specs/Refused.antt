@@ -1,6 +1,6 @@
 -- Why octets are refused that a client sends: the causes in their order, each a condition on the whole octets (ISO 9506-2, RejectPDU; the
 -- order is this profile's choice).
-use Rattle.std.specs.Prelude.{◌≡◌, ◌≢◌, ◌⊎◌, ℕ, pos, true, false, IsTrue, List, [], ◌∷◌, Result, Err}
+use Rattle.std.specs.Prelude.{◌≡◌, ◌≢◌, ◌⊎◌, ℕ, pos, true, false, IsTrue, List, [], ◌∷◌, Option, Some, None, Result, Err}
 use Rattle.ber_core.specs.declared.element.Lengths.{Lengths}
 use Rattle.ber_core.specs.Part.{Part}
 use Rattle.ber_core.specs.Element.{IsElement, IsCut}
@@ -11,11 +11,14 @@ use Rattle.ber_forms.specs.Reading.{is_tag}
 use Rattle.ber_forms.specs.InForm.{InForm, IsMember, IsAlternative}
 use Rattle.ber_forms.specs.TooDeep.{IsAlternativeTooDeep}
 use Rattle.mms_types.specs.declared.identifier.Edition.{Edition}
+use Rattle.mms_types.specs.declared.identifier.Edition.TheVariants.{One, Two}
 use Rattle.mms_types.specs.FirstCause.{◌else◌, told}
+use Rattle.pdu_sems.specs.Control.{modifiers}
 use Rattle.pdu_assoc.specs.Heard.{heard_reject_form}
 use Rattle.mms_pdu.specs.declared.refusal.Refusal.{Refusal}
 use Rattle.mms_pdu.specs.declared.refusal.Refusal.TheVariants as refusal
 use Rattle.mms_pdu.specs.Services.{requests}
+use Rattle.mms_pdu.specs.Pdus.{may_wait}
 use Rattle.mms_pdu.specs.Hearing.{Asked, is_pdu, kept_pdus, noted_and}
 
 -- the PDUs that a client may send, but for confirmed-Request: those that are kept, a reject, and those of which nothing is kept
@@ -28,9 +31,9 @@ module _ (lengths : Lengths) where
   -- an invokeID, a list of modifiers (whatever they are) or none, and a service: a context tag, whatever its number and its contents
   abbrev pub AreAsked : List Part → Asked → Type 0
   AreAsked (i ∷ s ∷ []) a =
-      IsMember lengths (universal 2 unsigned32) i (number (pos a.invoke)) × (a.modified ≡ false) × (a.service ≡ s) × (s.tag.class ≡ 2)
+      IsMember lengths (universal 2 unsigned32) i (number (pos a.invoke)) × (a.modifiers ≡ None) × (a.service ≡ s) × (s.tag.class ≡ 2)
   AreAsked (i ∷ m ∷ s ∷ []) a =
-      IsMember lengths (universal 2 unsigned32) i (number (pos a.invoke)) × IsTrue (is_tag 0 true 16 m.tag) × (a.modified ≡ true)
+      IsMember lengths (universal 2 unsigned32) i (number (pos a.invoke)) × IsTrue (is_tag 0 true 16 m.tag) × (a.modifiers ≡ Some m)
       × (a.service ≡ s) × (s.tag.class ≡ 2)
   AreAsked ps a = ⊥
 
@@ -42,6 +45,12 @@ module _ (lengths : Lengths) where
     pub components : List Part
     pub cut : IsCut lengths part.contents components
     pub are : AreAsked components a
+
+  -- a list of modifiers is refused before a service: in edition 1 any; in edition 2 one that is not of its form, of exactly one modifier, or
+  -- before a service that may not wait
+  abbrev pub IsBadList : Edition → Part → Part → Type 0
+  IsBadList One list service = Unit {0}
+  IsBadList Two list service = (may_wait service.tag.number ≡ false) ⊎ ((v : Value) → InForm lengths (modifiers.form Two) list.contents v → ⊥)
 
 module _ (lengths : Lengths) (edition : Edition) where
   -- ---- the causes
@@ -59,9 +68,9 @@ module _ (lengths : Lengths) (edition : Edition) where
     pub asked : (a : Asked) → Asks lengths octets a → ⊥
     pub other : (v : Value) → InForm lengths (choice (other_pdus edition)) octets v → ⊥
 
-  -- a confirmed-Request has a list of modifiers
-  abbrev pub HasModifiers : Asked → Type 0
-  HasModifiers a = a.modified ≡ true
+  -- a confirmed-Request has a list of modifiers that is refused
+  abbrev pub HasBadList : Asked → Type 0
+  HasBadList a = (list : Part) × (a.modifiers ≡ Some list) × IsBadList lengths edition list a.service
 
   -- its service is none of those that are offered
   abbrev pub IsNotOffered : Asked → Type 0
@@ -87,7 +96,7 @@ IsRefused lengths edition octets =
     told refusal.InvalidPdu (IsNoElement lengths edition octets)
     else told refusal.UnknownType (HasUnknownTag lengths edition octets)
     else told refusal.InvalidPdu (IsNoPdu lengths edition octets)
-    else of_request lengths octets refusal.Modifier (HasModifiers lengths edition)
+    else of_request lengths octets refusal.Modifier (HasBadList lengths edition)
     else of_request lengths octets refusal.Service (IsNotOffered lengths edition)
     else of_request lengths octets refusal.Recursion (NestsTooDeep lengths edition)
     else of_request lengths octets refusal.Argument (HasBadArgument lengths edition)

@@ -23,7 +23,9 @@ pub(crate) fn depth(pdu: &Pdu) -> u8
     ensures { result ≡ depth_of pdu.now }
 {
     match pdu {
-        Pdu::ConfirmedRequest { request, .. } => request_depth(request),
+        Pdu::ConfirmedRequest { request, .. } | Pdu::ModifiedRequest { request, .. } => {
+            request_depth(request)
+        }
         _ => 0,
     }
 }

@@ -14,6 +14,7 @@ ghost use Rattle.mms_types.specs.declared.identifier.Edition.TheVariants.{One, T
 ghost use Rattle.mms_types.specs.declared.pdu.Pdu.{Pdu};
 ghost use Rattle.mms_types.specs.declared.pdu.Pdu.TheVariants as pdu;
 ghost use Rattle.mms_types.specs.declared.pdu.Request.{Request};
+ghost use Rattle.mms_types.specs.declared.semaphore.Modifier.{Modifier};
 ghost use Rattle.pdu_names.specs.Editions.{lengths_of};
 ghost use Rattle.mms_pdu.specs.declared.refusal.Refusal.{Refusal};
 ghost use Rattle.mms_pdu.specs.declared.refusal.Refusal.TheVariants.{Memory};
@@ -26,8 +27,9 @@ ghost use Rattle.mms_pdu.specs.Asking.{IsAsking};
 ghost use Rattle.mms_pdu.specs.Answering.{IsAnswer, is_answer, HasUnsigned32, IsSent};
 
 /// Octets of the form of a PDU that a client may send and that is kept whole are heard as what they say, and what is
-/// heard as such a PDU is of its form. All other PDUs that are heard are a reject, under the number 4, and those of
-/// which nothing is kept. The invokeID of a confirmed-Request that is heard is an Unsigned32.
+/// heard as such a PDU is of its form. All other PDUs that are heard are a reject, under the number 4, a
+/// confirmed-Request with a modifier, which is no choice but its parts, and those of which nothing is kept. The invokeID
+/// of a confirmed-Request that is heard is an Unsigned32.
 pub fn hears_each_form()
     ensures heard { (lengths : Lengths) (edition : Edition) (c : List ℕ) (v : Value)
         → InForm lengths (choice (whole_pdus edition)) c v → heard lengths edition c ≡ Ok v }
@@ -37,6 +39,9 @@ pub fn hears_each_form()
         → InForm lengths (choice (whole_pdus edition)) c (chosen n w) }
     ensures invoke { (edition : Edition) (octets : List ℕ) (invoke : ℕ) (request : Request)
         → pdu_heard edition octets ≡ Ok (pdu.ConfirmedRequest invoke request) → invoke < 2 ^ 32 }
+    ensures modified { (edition : Edition) (octets : List ℕ) (invoke : ℕ) (modifier : Modifier)
+        (request : Request) → pdu_heard edition octets
+        ≡ Ok (pdu.ModifiedRequest invoke modifier request) → invoke < 2 ^ 32 }
 {}
 
 /// Of each edition, a confirmed-Request without modifiers, a cancel-Request, an initiate-Request and a

@@ -11,6 +11,7 @@
 
 mod depth;
 mod laws;
+mod modified;
 mod reading;
 mod refusal;
 mod request;

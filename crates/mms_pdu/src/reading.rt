@@ -12,6 +12,7 @@ ghost use Rattle.mms_pdu.specs.Refused.{RefusesFirst};
 ghost use Rattle.mms_pdu.specs.Hearing.{Hears, is_pdu, kept_pdus, noted_pdus, valid, invalid_of, and_then, asked_at, request_told, reject_told, part_told, heard, depth_of};
 
 use crate::depth::depth;
+use crate::modified::tell_modified;
 use crate::refusal::Refusal;
 use crate::request::{asked, sole, tell_request};
 use crate::response::response;
@@ -109,8 +110,9 @@ fn tell_confirmed(
     ensures depth { IfOk told.new (λ r. r.depth ≡ depth_of r.pdu) }
 {
     match asked(contents, edition) {
-        Ok((invoke, modified, service)) => {
-            tell_request(alloc, invoke, modified, service, edition, told);
+        Ok((invoke, None, service)) => tell_request(alloc, invoke, service, edition, told),
+        Ok((invoke, Some(list), service)) => {
+            tell_modified(alloc, invoke, list, service, edition, told);
         }
         Err(unread) => tell(told, Err(invalid(unread))),
     }

@@ -16,7 +16,8 @@ pub enum Refusal {
     /// The tag is none of a PDU: context 0 to 13.
     #[error("the tag is none of a PDU")]
     UnknownType,
-    /// A confirmed request has a list of modifiers.
+    /// A confirmed request has a list of modifiers. In edition 2 one of exactly one modifier is read, but not before a
+    /// service that may not wait.
     #[error("request {invoke} has a list of modifiers")]
     Modifier { invoke: u32 },
     /// The service of a confirmed request is not offered.

@@ -1,6 +1,7 @@
 //! confirmed-Request: what is asked for, and its argument.
 
-ghost use Rattle.std.specs.Prelude.{◌≡◌, ◌≢◌, ◌++◌, false, Ok, Err, Some, OnOk, OnErr, IfOk, IfErr, IsErr, IsTrue};
+ghost use Rattle.std.specs.Prelude.{◌≡◌, ◌≢◌, ◌++◌, Ok, Err, None, Some, OnOk, OnErr, IfOk, IfErr, IsErr, IsTrue};
+ghost use Rattle.std.specs.Option.{option_map};
 ghost use Rattle.ber_core.specs.Part.{part};
 ghost use Rattle.ber_forms.specs.ByNumber.{form_at, read_as};
 ghost use Rattle.ber_forms.specs.Reading.{Gives};
@@ -56,10 +57,14 @@ fn service(element: Element<'_>) -> Result<Element<'_>, Unread>
     }
 }
 
-/// What the contents of a confirmed-Request ask for: its invokeID, whether it has a list of modifiers, and the service.
+/// What the contents of a confirmed-Request ask for: its invokeID, its list of modifiers, where it has one, and the
+/// service.
 #[tactic(auto, unfolding(crate::specs::Hearing::asked_at))]
-pub(crate) fn asked(contents: &[u8], edition: Edition) -> Result<(u32, bool, Element<'_>), Unread>
-    ensures exact { Gives (λ a. asking a.0 a.1 (part a.2)) result
+pub(crate) fn asked(
+    contents: &[u8],
+    edition: Edition,
+) -> Result<(u32, Option<Element<'_>>, Element<'_>), Unread>
+    ensures exact { Gives (λ a. asking a.0 (option_map part a.1) (part a.2)) result
         (asked_at (lengths_of edition) contents.now) }
     ensures no_memory { NeedsNoMemory result }
 {
@@ -72,7 +77,7 @@ pub(crate) fn asked(contents: &[u8], edition: Edition) -> Result<(u32, bool, Ele
     })?;
     let element = sole(&mut parts, edition)?;
     let element = service(element)?;
-    Ok((invoke, modifiers.is_some(), element))
+    Ok((invoke, modifiers, element))
 }
 
 /// The refusal of a request whose argument could not be read.
@@ -148,7 +153,7 @@ fn tell_of<A: Area>(
     requires value { IsSaid A.area.requests requests }
     requires fresh { IsErr told.old }
     ensures told { Hears (λ r. pdu_value r.pdu) told.new
-        (request_told (lengths_of edition) edition (asking invoke false (part service.entry))) }
+        (request_told (lengths_of edition) edition (asking invoke None (part service.entry))) }
     ensures client { IfOk told.new (λ r. IsHeard r.pdu) }
     ensures depth { IfOk told.new (λ r. r.depth ≡ depth_of r.pdu) }
 {
@@ -171,7 +176,7 @@ fn tell_status(
     requires status { service.tag.number ≡ 0 }
     requires fresh { IsErr told.old }
     ensures told { Hears (λ r. pdu_value r.pdu) told.new
-        (request_told (lengths_of edition) edition (asking invoke false (part service.entry))) }
+        (request_told (lengths_of edition) edition (asking invoke None (part service.entry))) }
     ensures client { IfOk told.new (λ r. IsHeard r.pdu) }
     ensures depth { IfOk told.new (λ r. r.depth ≡ depth_of r.pdu) }
 {
@@ -194,7 +199,7 @@ fn tell_read(
     requires read { service.tag.number ≡ 4 }
     requires fresh { IsErr told.old }
     ensures told { Hears (λ r. pdu_value r.pdu) told.new
-        (request_told (lengths_of edition) edition (asking invoke false (part service.entry))) }
+        (request_told (lengths_of edition) edition (asking invoke None (part service.entry))) }
     ensures client { IfOk told.new (λ r. IsHeard r.pdu) }
     ensures depth { IfOk told.new (λ r. r.depth ≡ depth_of r.pdu) }
 {
@@ -217,7 +222,7 @@ fn tell_write(
     requires write { service.tag.number ≡ 5 }
     requires fresh { IsErr told.old }
     ensures told { Hears (λ r. pdu_value r.pdu) told.new
-        (request_told (lengths_of edition) edition (asking invoke false (part service.entry))) }
+        (request_told (lengths_of edition) edition (asking invoke None (part service.entry))) }
     ensures client { IfOk told.new (λ r. IsHeard r.pdu) }
     ensures depth { IfOk told.new (λ r. r.depth ≡ depth_of r.pdu) }
 {
@@ -240,7 +245,7 @@ fn tell_take(
     requires take { service.tag.number ≡ 19 }
     requires fresh { IsErr told.old }
     ensures told { Hears (λ r. pdu_value r.pdu) told.new
-        (request_told (lengths_of edition) edition (asking invoke false (part service.entry))) }
+        (request_told (lengths_of edition) edition (asking invoke None (part service.entry))) }
     ensures client { IfOk told.new (λ r. IsHeard r.pdu) }
     ensures depth { IfOk told.new (λ r. r.depth ≡ depth_of r.pdu) }
 {
@@ -263,7 +268,7 @@ fn tell_relinquish(
     requires relinquish { service.tag.number ≡ 20 }
     requires fresh { IsErr told.old }
     ensures told { Hears (λ r. pdu_value r.pdu) told.new
-        (request_told (lengths_of edition) edition (asking invoke false (part service.entry))) }
+        (request_told (lengths_of edition) edition (asking invoke None (part service.entry))) }
     ensures client { IfOk told.new (λ r. IsHeard r.pdu) }
     ensures depth { IfOk told.new (λ r. r.depth ≡ depth_of r.pdu) }
 {
@@ -279,20 +284,16 @@ fn tell_relinquish(
 pub(crate) fn tell_request(
     alloc: Global,
     invoke: u32,
-    modified: bool,
     service: Element<'_>,
     edition: Edition,
     told: &mut Result<Read, Refusal>,
 )
     requires { IsErr told.old }
     ensures told { Hears (λ r. pdu_value r.pdu) told.new
-        (request_told (lengths_of edition) edition (asking invoke modified (part service.entry))) }
+        (request_told (lengths_of edition) edition (asking invoke None (part service.entry))) }
     ensures client { IfOk told.new (λ r. IsHeard r.pdu) }
     ensures depth { IfOk told.new (λ r. r.depth ≡ depth_of r.pdu) }
 {
-    if modified {
-        return tell(told, Err(Refusal::Modifier { invoke }));
-    }
     match service.tag.number {
         0 => tell_status(alloc, invoke, service, edition, told),
         4 => tell_read(alloc, invoke, service, edition, told),

@@ -111,7 +111,8 @@ fn put(out: &mut Writer, pdu: &Pdu) -> Result<(), Full>
         Pdu::ConcludeRequest => Null::put_part(out, 11, &()),
         Pdu::ConcludeResponse => Null::put_part(out, 12, &()),
         Pdu::ConcludeError(error) => ServiceErrors::put_part(out, 13, error),
-        Pdu::HeardResponse { .. }
+        Pdu::ModifiedRequest { .. }
+        | Pdu::HeardResponse { .. }
         | Pdu::HeardError { .. }
         | Pdu::HeardReject { .. }
         | Pdu::HeardOther => Ok(()),

@@ -158,6 +158,7 @@ pub use semaphore::EntryNumber;
 pub use semaphore::EntryState;
 pub use semaphore::EntryStatus;
 pub use semaphore::EntryStatuses;
+pub use semaphore::Modifier;
 pub use semaphore::NamedToken;
 pub use semaphore::NamedTokens;
 pub use semaphore::PoolStatus;

@@ -4,10 +4,10 @@ use crate::{
     DefineNamedVariableList, DefineSemaphore, DeleteEventEnrollment, DeleteNames, Deleted,
     DomainAttributes, EntryStatuses, EventNotification, GetNameList, GetNameListAnswer, Identifier,
     IdentifyAnswer, InitializeJournal, Initiate, InitiateAnswer, InitiateDownloadSequence,
-    InitiateUploadSequenceAnswer, InvocationAttributes, JournalStatus, ListAttributes, ObjectName,
-    ObjectNames, PoolStatus, Read, ReadAnswer, ReadJournal, ReadJournalAnswer, RelinquishControl,
-    ReportPoolSemaphoreStatus, ReportSemaphoreEntryStatus, RunProgram, Segment, SemaphoreStatus,
-    ServiceError, Spec, Status, StatusAnswer, TakeControl, TakeControlAnswer,
+    InitiateUploadSequenceAnswer, InvocationAttributes, JournalStatus, ListAttributes, Modifier,
+    ObjectName, ObjectNames, PoolStatus, Read, ReadAnswer, ReadJournal, ReadJournalAnswer,
+    RelinquishControl, ReportPoolSemaphoreStatus, ReportSemaphoreEntryStatus, RunProgram, Segment,
+    SemaphoreStatus, ServiceError, Spec, Status, StatusAnswer, TakeControl, TakeControlAnswer,
     TerminateDownloadSequence, TriggerEvent, VariableAttributes, Write, WriteAnswer, WriteJournal,
 };
 
@@ -252,25 +252,52 @@ pub struct Reject {
 /// server sends them; these have a variant for each of the two.
 pub enum Pdu {
     /// A confirmed-Request that a client sent, without modifiers.
-    ConfirmedRequest { invoke: u32, request: Request },
+    ConfirmedRequest {
+        invoke: u32,
+        request: Request,
+    },
+    /// A confirmed-Request that a client sent, with a modifier. That is kept apart, so that no other request grows by
+    /// it.
+    ModifiedRequest {
+        invoke: u32,
+        modifier: Boxed<Modifier>,
+        request: Request,
+    },
     /// A confirmed-Request that the server sends.
-    ServerRequest { invoke: u32, request: ServerRequest },
+    ServerRequest {
+        invoke: u32,
+        request: ServerRequest,
+    },
     /// A confirmed-Response that the server sends.
-    ConfirmedResponse { invoke: u32, answer: Answer },
+    ConfirmedResponse {
+        invoke: u32,
+        answer: Answer,
+    },
     /// A confirmed-Response that a client sent.
-    HeardResponse { invoke: u32, answer: ClientAnswer },
+    HeardResponse {
+        invoke: u32,
+        answer: ClientAnswer,
+    },
     /// A confirmed-Error that the server sends.
     ConfirmedError(ConfirmedError),
     /// A confirmed-Error that a client sent: the invokeID alone is read.
-    HeardError { invoke: u32 },
+    HeardError {
+        invoke: u32,
+    },
     /// A reject that the server sends.
     Reject(Reject),
     /// A reject that a client sent: the invokeID alone is read, where there is one.
-    HeardReject { invoke: Option<u32> },
+    HeardReject {
+        invoke: Option<u32>,
+    },
     /// A cancel-Request.
-    CancelRequest { invoke: u32 },
+    CancelRequest {
+        invoke: u32,
+    },
     /// A cancel-Response that the server sends.
-    CancelResponse { invoke: u32 },
+    CancelResponse {
+        invoke: u32,
+    },
     /// A cancel-Error that the server sends.
     CancelError(CancelError),
     /// An unconfirmed PDU that the server sends: what a client is told of an event. What it is told is kept apart, so
@@ -421,6 +448,11 @@ impl Drop for Pdu {
             Pdu::ConfirmedRequest {
                 invoke: _,
                 request: _x,
+            } => {}
+            Pdu::ModifiedRequest {
+                invoke: _,
+                modifier: _x,
+                request: _y,
             } => {}
             Pdu::ServerRequest {
                 invoke: _,

@@ -27,6 +27,25 @@ pub struct TakeControl {
     pub preempt: Option<u32>,
 }
 
+/// For which token a request waits before it is carried out, and on what terms (ISO 9506-2, Modifier,
+/// AttachToSemaphore). What `TakeControl` says of these words holds of them here. The last three have no effect.
+pub struct Modifier {
+    /// The semaphore.
+    pub name: ObjectName,
+    /// The token of a pool that is wanted, where any will not do (namedToken).
+    pub token: Option<Identifier>,
+    /// The priority, 0 to 127 in what is read: 64 is meant where it is absent.
+    pub priority: u8,
+    /// How many milliseconds the request waits at most, where there is a bound (acceptableDelay).
+    pub delay: Option<u32>,
+    /// controlTimeOut.
+    pub control: Option<u32>,
+    /// abortOnTimeOut.
+    pub abort: Option<bool>,
+    /// relinquishIfConnectionLost. TRUE is meant where it is absent.
+    pub relinquish: bool,
+}
+
 /// Which token was taken (ISO 9506-2, TakeControl-Response).
 #[derive(Drop)]
 pub enum TakeControlAnswer {
@@ -240,4 +259,18 @@ pub struct EntryStatuses {
     pub entries: SemaphoreEntries,
     /// Whether more entries come after these.
     pub more: bool,
+}
+
+impl Drop for Modifier {
+    fn drop(self) {
+        let Modifier {
+            name: _name,
+            token: _token,
+            priority: _,
+            delay: _,
+            control: _,
+            abort: _,
+            relinquish: _,
+        } = self;
+    }
 }

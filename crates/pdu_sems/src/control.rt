@@ -1,4 +1,4 @@
-//! A token is taken and given back.
+//! A token is taken and given back, and a request waits for one.
 #![tactic(auto, unfolding(ber_forms::specs::Spelling::appended), using(ber_forms::proofs::Joined::writing))]
 
 ghost use Rattle.std.specs.Prelude.{◌≡◌, refl, true, false, Ok, Err};
@@ -7,14 +7,14 @@ ghost use Rattle.ber_forms.specs.Steps.{DefaultedGives};
 ghost use Rattle.pdu_names.specs.Editions.{lengths_of};
 ghost use Rattle.pdu_names.specs.Names.{names_sound};
 ghost use Rattle.pdu_names.specs.Kinds.{context};
-ghost use Rattle.pdu_sems.specs.Control.{priority, take_control, take_control_answers, relinquish_control};
+ghost use Rattle.pdu_sems.specs.Control.{priority, take_control, take_control_answers, relinquish_control, modifier, modifiers};
 
 use ber_core::{Element, Memory as Full, Tag, Writer};
 use ber_forms::{
     Cursor, Unread, has_tag, null, put_defaulted_boolean, put_defaulted_integer, put_null,
     put_optional_boolean, put_optional_u32,
 };
-use mms_types::{Edition, Identifier, RelinquishControl, TakeControl, TakeControlAnswer};
+use mms_types::{Edition, Identifier, Modifier, RelinquishControl, TakeControl, TakeControlAnswer};
 use pdu_names::{
     ApplicationReference, Chosen, Formed, Name, OneOf, cursor, optional, put_optional, required,
 };
@@ -161,6 +161,84 @@ impl Formed for RelinquishControlRequest {
     fn put(out: &mut Writer, x: &RelinquishControl) -> Result<(), Full> {
         Name::put_part(out, 0, &x.name)?;
         put_optional::<Identifier>(out, 1, x.token.as_ref())
+    }
+
+    ghost sound = { λ e. rw (names_sound e) refl };
+}
+
+/// The form of a modifier (ISO 9506-2, AttachToSemaphore): that of a TakeControl request without its last component.
+/// Names are copied.
+pub struct SemaphoreModifier;
+
+impl Formed for SemaphoreModifier {
+    type Item = Modifier;
+
+    ghost kind = { modifier };
+
+    ghost needs_no_memory = { false };
+
+    fn is_constructed() -> bool {
+        true
+    }
+
+    fn read(alloc: Global, contents: &[u8], edition: Edition) -> Result<Modifier, Unread> {
+        let mut parts = cursor(edition, contents);
+        let name = required::<Name>(alloc, &mut parts, edition, 0)?;
+        let token = optional::<Identifier>(alloc, &mut parts, edition, 1)?;
+        let priority = priority(&mut parts, edition, 2)?;
+        let delay = parts.optional_u32(3)?;
+        let control = parts.optional_u32(4)?;
+        let abort = parts.optional_boolean(5)?;
+        let relinquish = parts.defaulted_boolean(6, true)?;
+        // Nothing follows: a modifier takes no token over.
+        parts.end()?;
+        Ok(Modifier {
+            name,
+            token,
+            priority,
+            delay,
+            control,
+            abort,
+            relinquish,
+        })
+    }
+
+    fn put(out: &mut Writer, x: &Modifier) -> Result<(), Full> {
+        Name::put_part(out, 0, &x.name)?;
+        put_optional::<Identifier>(out, 1, x.token.as_ref())?;
+        put_defaulted_integer(out, 2, i64::from(x.priority), 64)?;
+        put_optional_u32(out, 3, x.delay)?;
+        put_optional_u32(out, 4, x.control)?;
+        put_optional_boolean(out, 5, x.abort)?;
+        put_defaulted_boolean(out, 6, x.relinquish, true)
+    }
+
+    ghost sound = { λ e. rw (names_sound e) refl };
+}
+
+/// The form of a list of modifiers: exactly one, that attaches to a semaphore. Names are copied.
+pub struct ModifierList;
+
+impl Formed for ModifierList {
+    type Item = Modifier;
+
+    ghost kind = { modifiers };
+
+    ghost needs_no_memory = { false };
+
+    fn is_constructed() -> bool {
+        true
+    }
+
+    fn read(alloc: Global, contents: &[u8], edition: Edition) -> Result<Modifier, Unread> {
+        let mut parts = cursor(edition, contents);
+        let modifier = required::<SemaphoreModifier>(alloc, &mut parts, edition, 1)?;
+        parts.end()?;
+        Ok(modifier)
+    }
+
+    fn put(out: &mut Writer, x: &Modifier) -> Result<(), Full> {
+        SemaphoreModifier::put_part(out, 1, x)
     }
 
     ghost sound = { λ e. rw (names_sound e) refl };

@@ -1,6 +1,7 @@
 //! The forms of the services for semaphores, in octets, both ways (ISO 9506-2, semaphore management): TakeControl,
 //! RelinquishControl, DefineSemaphore, DeleteSemaphore, ReportSemaphoreStatus, ReportPoolSemaphoreStatus and
-//! ReportSemaphoreEntryStatus. A relinquishing, a definition and a deletion are answered by `pdu_names::Null`.
+//! ReportSemaphoreEntryStatus, and that of the modifier by which another request waits for a token. A relinquishing, a
+//! definition and a deletion are answered by `pdu_names::Null`.
 #![tactic(auto)]
 
 mod control;
@@ -10,7 +11,8 @@ mod pools;
 mod services;
 
 pub use control::{
-    RelinquishControlRequest, TakeControlAlternatives, TakeControlRequest, TakeControlResponse,
+    ModifierList, RelinquishControlRequest, SemaphoreModifier, TakeControlAlternatives,
+    TakeControlRequest, TakeControlResponse,
 };
 pub use definitions::{
     DefineSemaphoreRequest, DeleteSemaphoreRequest, ReportSemaphoreStatusRequest,

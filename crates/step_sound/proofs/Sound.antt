@@ -311,6 +311,7 @@ module _ (count client : ℕ) where
   open_fine values row (Ok pdu.ConcludeRequest) sound = concluded_fine row row.waiting row.asked sound
   open_fine values row (Ok (pdu.CancelRequest invoke)) sound = cancelled_fine row (is_waiting invoke row.waiting) invoke sound
   open_fine values row (Ok (pdu.ConfirmedRequest invoke asked)) sound = requested_fine row (nat_lt values.nesting (depth_of (pdu.ConfirmedRequest invoke asked))) invoke asked sound
+  open_fine values row (Ok (pdu.ModifiedRequest invoke modifier asked)) sound = sent _ row sound
   open_fine values row (Ok (pdu.HeardResponse number told)) sound = response_fine row number told (asked_of number row.asked) sound
   open_fine values row (Ok (pdu.HeardError number)) sound = error_fine row number (asked_of number row.asked) sound
   open_fine values row (Ok (pdu.HeardReject number)) sound = rejected_fine row number sound

@@ -237,6 +237,7 @@ open_plain values row (Ok (pdu.InitiateRequest proposal)) = tt
 open_plain values row (Ok pdu.ConcludeRequest) = concluded_plain row.waiting row.asked
 open_plain values row (Ok (pdu.CancelRequest invoke)) = cancelled_plain (is_waiting invoke row.waiting) invoke
 open_plain values row (Ok (pdu.ConfirmedRequest invoke asked)) = requested_plain (nat_lt values.nesting (depth_of (pdu.ConfirmedRequest invoke asked))) row invoke asked
+open_plain values row (Ok (pdu.ModifiedRequest invoke modifier asked)) = (tt, tt)
 open_plain values row (Ok (pdu.HeardResponse number told)) = response_plain number told (asked_of number row.asked)
 open_plain values row (Ok (pdu.HeardError number)) = error_plain number (asked_of number row.asked)
 open_plain values row (Ok (pdu.HeardReject number)) = rejected_plain number row.asked
