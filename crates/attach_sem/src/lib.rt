@@ -10,6 +10,7 @@
 #![tactic(auto)]
 
 mod chain;
+mod copies;
 mod laws;
 mod table;
 mod waiting;

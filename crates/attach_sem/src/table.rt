@@ -30,6 +30,21 @@ fn place_of(pairs: &[Pair], key: &Key, entry: u64) -> Option<usize>
         .position(|pair| pair.entry == entry && pair.key == *key)
 }
 
+/// A copy of attached requests, in the same order.
+fn copied(alloc: Global, pairs: &[Pair]) -> Result<Vec<Pair>, Memory>
+    ensures { IfOk result (λ copies. copies.items ≡ pairs.now) }
+{
+    let mut copies = Vec::new(alloc);
+    for pair in pairs {
+        copies.push(Pair {
+            key: pair.key.copy(alloc)?,
+            entry: pair.entry,
+            waiting: pair.waiting.copy(alloc)?,
+        })?;
+    }
+    Ok(copies)
+}
+
 /// The requests of a client go.
 fn lose(pairs: &mut Vec<Pair>, client: u32)
     ensures pairs { pairs.new.items ≡ filter (λ p. not (is_by client p)) pairs.old.items }
@@ -74,6 +89,16 @@ impl Attached {
             pairs: Vec::new(alloc),
             spare: 0,
         }
+    }
+
+    /// A copy, with no room for more requests. The one refusal is want of memory.
+    pub fn copy(&self, alloc: Global) -> Result<Attached, Memory>
+        ensures { IfOk result (λ a. a ≡ record self.now { spare = 0 }) }
+    {
+        Ok(Attached {
+            pairs: copied(alloc, &self.pairs)?,
+            spare: 0,
+        })
     }
 
     /// Makes room for so many requests more, where there is less. The one refusal is want of memory; then all is as
