@@ -11,6 +11,62 @@ spec = importlib.util.spec_from_file_location("wrong_bodies", os.path.join(TOP, 
 script = importlib.util.module_from_spec(spec)
 spec.loader.exec_module(script)
 
+SOURCE = """/// One.
+#[cold]
+pub fn one() -> u8
+    ensures { result ≡ 1 }
+{
+    1
+}
+
+impl<T: Drop> Held<T> {
+    /// Two.
+    pub(crate) fn two(&self) -> u8 {
+        2
+    }
+}
+
+impl<T: Drop> Drop for Held<T> {
+    fn drop(self) {}
+}
+"""
+SAID = """note: src/held.rt:2:1: it is not proved that what the function ensures holds when it returns (`returns-clause-one`)
+fn parts::held::one: no proof: expected answers in ./proofs/held/one/Answers.antt; `search` did not prove `returns-clause-one`
+help: write ./proofs/held/one/Answers.antt with these lines
+    pub returns-clause-other : goal.returns-clause-other
+fn parts::held::Held::two: {}
+only=2 proved=0
+"""
+
+
+class Told(unittest.TestCase):
+    """What a check says of several wrong bodies is told of each by its own functions."""
+
+    def holder(self, line):
+        return script.holder("parts", "src/held.rt", SOURCE, line)
+
+    def said_of(self, name, ended):
+        return script.said_of([name], "parts", SAID.format(ended), {"src/held.rt": SOURCE})
+
+    def test_a_line_is_of_its_function(self):
+        self.assertEqual([self.holder(it) for it in (1, 2, 3, 6)], ["parts::held::one"] * 4)
+        self.assertEqual([self.holder(it) for it in (10, 12)], ["parts::held::Held::two"] * 2)
+        self.assertEqual(self.holder(17), "parts::held::HeldDrop::drop")
+        self.assertEqual([self.holder(it) for it in (8, 14)], ["", ""])
+        self.assertEqual(script.holder("parts", "specs/Held.antt", SOURCE, 3), "")
+
+    def test_one_is_refused_at_its_goal(self):
+        self.assertEqual(self.said_of("parts::held::one", "proved"), ("returns-clause-one", True))
+
+    def test_one_is_proved(self):
+        self.assertEqual(self.said_of("parts::held::Held::two", "proved"), script.PROVED)
+
+    def test_one_that_rests_on_another_is_not_told(self):
+        rests = "no proof: it calls `parts::held::one`, which is not proved"
+        self.assertIsNone(self.said_of("parts::held::Held::two", rests))
+        self.assertIsNone(self.said_of("parts::held::Held::two", "not proved"))
+        self.assertIsNone(self.said_of("parts::held::three", "proved"))
+
 
 class WrongBodies(unittest.TestCase):
     def test_each_is_told_as_it_stands(self):
