@@ -14,6 +14,9 @@ the whole answer; `each`, where each of its answers has a clause, and no two of 
 refuses exactly where a count of faults rises; `memory`, where nothing but want of memory is refused. What is left was
 read, and stands with its reason in the page, under "Read"; --read prints it with its clauses, and --check fails where
 that table lacks a call or has one that needn't be read.
+
+Of each call that the page names under "Without memory", want of memory may not be among the answers, and of those that
+are "never refused" there may be no refusal, nor nothing, at all.
 """
 
 import argparse
@@ -30,6 +33,8 @@ NAMED = re.compile(r"`(\w+)`")
 LEFT_OUT = re.compile(r"(_tests|_rows|_files|_laws)$|^(ber_forms|mmscell)$")
 ALSO = re.compile(r"\b(IfErr|OnErr|IsErr|IsErrOf|None|IsSome|Err)\b|result ≡")
 READ = "## Read"
+FREE = "## Without memory"
+HANDS_BACK = {"Unplaced", "Unclosed", "PhaseStopped"}
 EXACT = re.compile(r"(?<![.\w])result(?:\.\w+)* ≡ |≡ result\b|Is(?:Some|Ok|None|Err) result ↔|↔ Is(?:Some|Ok|None|Err) result|"
                    r"\b(?:Gives\w*|SomeIff|OkIff|ErrIff|MatchResult|MatchOption|Serves\w*|IsOkUnless|Hears)\b[^{}]*"
                    r"\b(?:result|told)\b")
@@ -134,6 +139,22 @@ def unread(page, found):
     return [f"not read: {it}" for it in lacks] + [f"read, and needn't be: {it}" for it in more]
 
 
+def wanting_memory(page, found):
+    """Calls that the page names as such that take no memory, or that are never refused, and that aren't."""
+    wanting, _ = memory.types()
+    out = []
+    for line in page.partition(f"\n{FREE}\n")[2].partition("\n## ")[0].split("\n"):
+        for call in CALL.findall(line) if line.startswith("| ") else ():
+            answers = [(re.search(r"-> (.*)", one.signature) or ["", ""])[1] for one in found.get(call, [])]
+            if not answers:
+                out.append(f"no call {call}")
+            elif any(memory_of(one, it, wanting | HANDS_BACK) != "never" for one, it in zip(found[call], answers)):
+                out.append(f"may want memory: {call}")
+            elif line.startswith("| never refused ") and any(re.match(r"Result|Option", it) for it in answers):
+                out.append(f"may be refused: {call}")
+    return out
+
+
 def rows(found):
     """The lines of the tables that are made."""
     wanting, lending = memory.types()
@@ -164,7 +185,7 @@ def main():
         print("\n".join("\n  ".join([it.title, *it.clauses]) for it in to_read(found)))
         return 0
     said, made = page.partition(MARK)[0], "\n".join(rows(found)) + "\n"
-    lost = missing(said, found) + unread(said, found)
+    lost = missing(said, found) + unread(said, found) + wanting_memory(said, found)
     print("\n".join(lost + [f"{len(lost)} are missing"]))
     if asked.write:
         with open(PAGE, "w", encoding="utf-8") as file:
