@@ -1,60 +1,24 @@
 -- The least deadline of a device is the sooner of the least one of its semaphores and of its next evaluation.
-use Rattle.std.proofs.Common.{◌≡◌, ◌∙◌, ap, sym, subst, refl, ℕ, zero, suc, ◌<◌, ◌⊎◌, inl, inr, ◌==◌, nat_lt, Bool, true, false, cond, List, [], ◌∷◌, ◌++◌, fold, map, Option, None, Some, option_map, if◌then◌else◌, arith}
-use Rattle.std.specs.Cmp.{IsStrictWeakOrder}
+use Rattle.std.proofs.Common.{◌≡◌, ◌∙◌, ap, subst, refl, ◌<◌, ◌⊎◌, inl, inr, ◌==◌, nat_lt, Bool, true, false, cond, List, [], ◌∷◌, ◌++◌, fold, map, Option, None, Some, option_map, if◌then◌else◌, arith}
 use Rattle.std.specs.List.{cons_option}
 use Rattle.std.specs.declared.cmp.Ordering.{Ordering}
 use Rattle.std.specs.declared.cmp.Ordering.TheVariants.{Less, Equal, Greater}
 use Rattle.std.specs.Ordering.{is_lt, nat_cmp, ordering_then}
 use Rattle.std.proofs.lemmas.Bool.Decides.{nat_tests}
-use Rattle.std.proofs.lemmas.List.Sums.{fold-append}
 use Rattle.mms_types.specs.Order.{key_order}
 use Rattle.mms_types.specs.declared.key.Key.{Key}
 use Rattle.mms_types.specs.declared.moment.Moment.{Moment}
-use Rattle.token_sem.specs.Semaphore.{acceptable_delay, control_time_out, deadline_with, deadlines, earlier, is_queued, least}
+use Rattle.token_sem.specs.Semaphore.{acceptable_delay, control_time_out, deadline_with, deadlines, earlier, is_queued}
 use Rattle.token_sem.specs.declared.entry.SemEntry.{SemEntry}
 use Rattle.token_sem.proofs.Least.{Stands, least-stands}
 use Rattle.mms_time.specs.Deadlines as sem
 use Rattle.mms_time.specs.Deadlines.{NamedDeadline, deadlines_of, due_sooner, named_deadline, pick}
 use Rattle.mms_time.specs.Semaphores as sem_rows
 use Rattle.mms_time.specs.Semaphores.{entries_of}
-use Rattle.mms_time.proofs.Soonest.{due_ranks}
+use Rattle.mms_time.proofs.Soonest.{due_ranks, least_append}
 use Rattle.event_cond.specs.Conditions as cond
 use Rattle.event_cond.specs.Evaluations.{evaluations, next_evaluation, sooner, sooner_of}
 use Rattle.cell_ticks.specs.Deadlines.{evaluation, evaluation_due, first_due}
-
--- ---- of two lists in one
-
-module _ {A : Type 0} (less : A → A → Bool) (order : IsStrictWeakOrder less) where
-  two : (b y m : A) → Some (cond (less m (cond (less y b) y b)) m (cond (less y b) y b)) ≡ Some (cond (less (cond (less m y) m y) b) (cond (less m y) m y) b)
-  two b y m = by_tests (less y b) refl (less m y) refl (less m b) refl
-    where
-      by_tests : (p : Bool) → less y b ≡ p → (q : Bool) → less m y ≡ q → (r : Bool) → less m b ≡ r
-          → Some (cond (less m (cond p y b)) m (cond p y b)) ≡ Some (cond (less (cond q m y) b) (cond q m y) b)
-      by_tests true p true q true r = ap (λ c. Some (cond c m y)) q ∙ ap (λ c. Some (cond c m b)) (sym r)
-      by_tests true p true q false r = absurd (let n = order.chain y m b (order.one_way m y q) r in cc (n, p))
-      by_tests true p false q r rr = ap (λ c. Some (cond c m y)) q ∙ ap (λ c. Some (cond c y b)) (sym p)
-      by_tests false p true q r rr = refl
-      by_tests false p false q true r = absurd (let n = order.chain m y b q p in cc (n, r))
-      by_tests false p false q false r = ap (λ c. Some (cond c m b)) r ∙ ap (λ c. Some (cond c y b)) (sym p)
-
-  fold_pick : (ys : List A) (b : A) → fold (earlier less) (Some b) ys ≡ pick less (Some b) (least less ys)
-  fold_pick [] b = refl
-  fold_pick (y ∷ ys) b = fold_pick ys (cond (less y b) y b) ∙ by_least (least less ys) ∙ ap (pick less (Some b)) (sym (fold_pick ys y))
-    where
-      by_least : (o : Option A) → pick less (Some (cond (less y b) y b)) o ≡ pick less (Some b) (pick less (Some y) o)
-      by_least None = refl
-      by_least (Some m) = two b y m
-
-  least_append : (xs ys : List A) → least less (xs ++ ys) ≡ pick less (least less xs) (least less ys)
-  least_append xs ys = fold-append (earlier less) None xs ys ∙ by_best (least less xs)
-    where
-      none : (o : Option A) → o ≡ pick less None o
-      none None = refl
-      none (Some x) = refl
-
-      by_best : (o : Option A) → fold (earlier less) o ys ≡ pick less o (least less ys)
-      by_best None = none (least less ys)
-      by_best (Some b) = fold_pick ys b
 
 -- ---- among evaluations the order is theirs
 

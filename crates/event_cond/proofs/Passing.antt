@@ -11,7 +11,7 @@ use Rattle.mms_types.specs.declared.moment.Moment.{Moment}
 use Rattle.event_cond.specs.Conditions.{Rows}
 use Rattle.event_cond.specs.Skips.{Saying, after_skip, any_due, first_due, first_turn, first_turns, in_order, row_skipped, turns_sooner, with_turn}
 use Rattle.event_cond.specs.declared.condition.Condition.{Condition}
-use Rattle.event_cond.proofs.Soonest.{take_next}
+use Rattle.object_names.proofs.Listed.{take_next}
 
 -- ---- changed in place
 

@@ -9,18 +9,10 @@ use Rattle.mms_types.specs.KeyLaws.{keys_equal, keys_total}
 use Rattle.mms_types.specs.Order.{key_eq}
 use Rattle.mms_types.specs.declared.key.Key.{Key}
 use Rattle.mms_types.specs.declared.moment.Moment.{Moment}
+use Rattle.object_names.proofs.Listed.{take_next}
 use Rattle.event_cond.specs.Conditions.{Rows}
 use Rattle.event_cond.specs.Evaluations.{evaluation_of, evaluation_order, evaluations, next_evaluation, next_named, next_of, sooner, sooner_if, sooner_of}
 use Rattle.event_cond.specs.declared.condition.Condition.{Condition}
-
--- one row more
-pub take_next : {X : Type 0} (xs : List X) (i : ℕ) (x : X) → slice_get xs i ≡ Some x → take (i + 1) xs ≡ take i xs ++ x ∷ []
-take_next {X = X} xs i x h = let e : i + 1 ≡ suc i = omega arith in ap (λ (n : ℕ). take n xs) e ∙ next xs i h
-  where
-    next : (xs : List X) (i : ℕ) → slice_get xs i ≡ Some x → take (suc i) xs ≡ take i xs ++ x ∷ []
-    next [] i h = absurd cc
-    next (y ∷ ys) zero h = let same : y ≡ x = cc in ap (λ (z : X). z ∷ []) same
-    next (y ∷ ys) (suc i) h = ap (λ l. y ∷ l) (next ys i h)
 
 -- the evaluations of rows with one more
 with_row : (rows : Rows) (key : Key) (c : Condition) (first : Option (Moment × Key))

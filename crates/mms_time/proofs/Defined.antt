@@ -19,7 +19,7 @@ use Rattle.mms_time.specs.declared.row.SemaphoreRow.{SemaphoreRow}
 
 -- ---- any semaphore more
 
--- the same semaphores
+-- no semaphore goes and none comes but that one
 pub put_permutes : (row : Key × SemaphoreRow) (rows : Rows) → IsPermutation (rows ++ row ∷ []) (with_semaphore row rows)
 put_permutes row [] = IsPermutation-refl (row ∷ [])
 put_permutes row (other ∷ rows) = by_test (nat_le (part_of_row other) (part_of_row row)) (put_permutes row rows)

@@ -4,7 +4,7 @@ use Rattle.std.specs.Map.{keys_of}
 use Rattle.mms_types.specs.declared.key.Key.{Key}
 use Rattle.mms_time.specs.Semaphores.{Rows}
 use Rattle.mms_time.specs.declared.row.SemaphoreRow.{SemaphoreRow}
-use Rattle.mms_time.proofs.Soonest.{take_next}
+use Rattle.object_names.proofs.Listed.{take_next}
 
 pub map_more : {X Y : Type 0} (f : X → Y) (xs : List X) (x : X) → map f (xs ++ x ∷ []) ≡ map f xs ++ f x ∷ []
 map_more f [] x = refl

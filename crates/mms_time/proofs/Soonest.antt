@@ -1,5 +1,5 @@
 -- The least deadline of all semaphores is the least of their least ones, and one of them.
-use Rattle.std.proofs.Common.{◌≡◌, ◌∙◌, ap, sym, subst, refl, ℕ, suc, zero, ◌+◌, ◌==◌, nat_lt, Bool, true, false, cond, ◌||◌, ◌&&◌, List, [], ◌∷◌, ◌++◌, append-nil, append_assoc, fold, map, take, slice_get, Option, None, Some, IfSome, option_map, option_and_then, arith}
+use Rattle.std.proofs.Common.{◌≡◌, ◌∙◌, ap, sym, subst, refl, ℕ, ◌+◌, ◌==◌, nat_lt, Bool, true, false, cond, ◌||◌, ◌&&◌, List, [], ◌∷◌, ◌++◌, append-nil, append_assoc, fold, map, take, slice_get, Option, None, Some, IfSome, option_map, option_and_then}
 use Rattle.std.specs.declared.cmp.Ordering.{Ordering}
 use Rattle.std.specs.declared.cmp.Ordering.TheVariants.{Less, Equal, Greater}
 use Rattle.std.specs.Ordering.{is_lt, nat_cmp, ordering_then}
@@ -12,6 +12,7 @@ use Rattle.std.proofs.lemmas.Map.Entries.{lookup_from_place}
 use Rattle.mms_types.specs.KeyLaws.{keys_equal, keys_total}
 use Rattle.mms_types.specs.Order.{key_eq}
 use Rattle.mms_types.specs.declared.key.Key.{Key}
+use Rattle.object_names.proofs.Listed.{take_next}
 use Rattle.token_sem.specs.Semaphore.{deadline_at, deadlines, earlier, first_deadline, least, sooner}
 use Rattle.token_sem.specs.declared.entry.Deadline.{Deadline}
 use Rattle.mms_time.specs.Deadlines.{NamedDeadline, all_deadlines, deadline_in, deadlines_of, due_meant, due_order, due_sooner, first_due, named_deadline, pick}
@@ -49,7 +50,7 @@ module _ {A : Type 0} (less : A → A → Bool) (order : IsStrictWeakOrder less)
       by_least None = refl
       by_least (Some m) = two b y m
 
-  least_append : (xs ys : List A) → least less (xs ++ ys) ≡ pick less (least less xs) (least less ys)
+  pub least_append : (xs ys : List A) → least less (xs ++ ys) ≡ pick less (least less xs) (least less ys)
   least_append xs ys = fold-append (earlier less) None xs ys ∙ by_best (least less xs)
     where
       none : (o : Option A) → o ≡ pick less None o
@@ -63,15 +64,6 @@ module _ {A : Type 0} (less : A → A → Bool) (order : IsStrictWeakOrder less)
 flat_more : {X A : Type 0} (f : X → List A) (xs : List X) (x : X) → flat_map f (xs ++ x ∷ []) ≡ flat_map f xs ++ f x
 flat_more f [] x = append-nil (f x)
 flat_more f (y ∷ ys) x = ap (λ l. f y ++ l) (flat_more f ys x) ∙ sym (append_assoc (f y) (flat_map f ys) (f x))
-
--- one element more
-pub take_next : {X : Type 0} (xs : List X) (i : ℕ) (x : X) → slice_get xs i ≡ Some x → take (i + 1) xs ≡ take i xs ++ x ∷ []
-take_next {X = X} xs i x h = let e : i + 1 ≡ suc i = omega arith in ap (λ (n : ℕ). take n xs) e ∙ next xs i h
-  where
-    next : (xs : List X) (i : ℕ) → slice_get xs i ≡ Some x → take (suc i) xs ≡ take i xs ++ x ∷ []
-    next [] i h = absurd cc
-    next (y ∷ ys) zero h = let same : y ≡ x = cc in ap (λ (z : X). z ∷ []) same
-    next (y ∷ ys) (suc i) h = ap (λ l. y ∷ l) (next ys i h)
 
 -- in one semaphore the order is that of its deadlines
 module _ (key : Key) where

@@ -5,31 +5,25 @@ use Rattle.std.specs.Prelude.{⊤}
 use Rattle.std.specs.List.Sorted.{IsStrictlySortedBy}
 use Rattle.std.specs.Map.{keys_of}
 use Rattle.std.specs.Ordering.{is_lt}
+use Rattle.std.specs.declared.cmp.Ordering.{Ordering}
 use Rattle.std.specs.declared.cmp.Ordering.TheVariants.{Less}
 use Rattle.std.proofs.lemmas.Bool.Decides.{eqb_tells}
 use Rattle.std.proofs.lemmas.List.{length-map}
-use Rattle.std.proofs.lemmas.List.Sorted.{IsPermutation-refl, IsPermutation-trans, IsPermutation-cons, IsPermutation-middle, ranks_by}
+use Rattle.std.proofs.lemmas.List.Sorted.{ranks_by}
 use Rattle.std.proofs.lemmas.List.Sums.{sum_by-cons}
 use Rattle.mms_types.specs.declared.key.Key.{Key}
 use Rattle.mms_types.specs.KeyLaws.{keys_total}
 use Rattle.mms_types.specs.Order.{key_order}
 use Rattle.object_names.specs.Index.{IsIndexOf, key_at, sum_below}
-use Rattle.object_names.specs.Ranked.{by_name, insert_row}
+use Rattle.object_names.specs.InOrder.{in_order, inserted}
+use Rattle.object_names.specs.Ranked.{by_name, insert_row, row_order}
+use Rattle.object_names.proofs.InOrder.{same_elements, sum_sorted}
 use Rattle.object_names.proofs.Places.{all_map, map_same, sum_map, within}
 
 -- ---- they are the same rows
 
-moved_in : {T : Type 0} (row : Key × T) (rows : List (Key × T)) → IsPermutation (row ∷ rows) (insert_row row rows)
-moved_in row [] = IsPermutation-refl (row ∷ [])
-moved_in row (other ∷ others) = by (is_lt (key_order other.0 row.0)) (moved_in row others)
-  where
-    by : (b : Bool) → IsPermutation (row ∷ others) (insert_row row others) → IsPermutation (row ∷ other ∷ others) (if b then other ∷ insert_row row others else row ∷ other ∷ others)
-    by true rest = IsPermutation-trans _ _ _ (IsPermutation-middle (row ∷ []) other others) (IsPermutation-cons other _ _ rest)
-    by false rest = IsPermutation-refl _
-
 pub same_rows : {T : Type 0} (rows : List (Key × T)) → IsPermutation rows (by_name rows)
-same_rows [] = IsPermutation-refl []
-same_rows (row ∷ rows) = IsPermutation-trans _ _ _ (IsPermutation-cons row _ _ (same_rows rows)) (moved_in row (by_name rows))
+same_rows = same_elements row_order
 
 -- ---- places in order of the keys at them
 
@@ -44,13 +38,15 @@ chain : (x y z : Key) → first x y ≡ false → first y z ≡ false → first 
 chain = (ranks_by keys_total (λ (k : Key). k)).chain
 
 module _ (k : ℕ → Key) where
+  -- places in order of their keys
+  abbrev place_order : ℕ → ℕ → Ordering
+  place_order p q = key_order (k p) (k q)
+
   abbrev put_place : ℕ → List ℕ → List ℕ
-  put_place p [] = p ∷ []
-  put_place p (q ∷ qs) = if first (k q) (k p) then q ∷ put_place p qs else p ∷ q ∷ qs
+  put_place = inserted place_order
 
   abbrev places_sorted : List ℕ → List ℕ
-  places_sorted [] = []
-  places_sorted (p ∷ ps) = put_place p (places_sorted ps)
+  places_sorted = in_order place_order
 
   -- none comes before one in front of it
   abbrev IsWeak : List ℕ → Type 0
@@ -76,25 +72,6 @@ module _ (k : ℕ → Key) where
   weak_sorted : (ps : List ℕ) → IsWeak (places_sorted ps)
   weak_sorted [] = tt
   weak_sorted (p ∷ ps) = weak_put p (places_sorted ps) (weak_sorted ps)
-
-  sum_put : (f : ℕ → ℕ) (p : ℕ) (qs : List ℕ) → sum_by f (put_place p qs) ≡ f p + sum_by f qs
-  sum_put f p [] = sum_by-cons f p []
-  sum_put f p (q ∷ qs) = by (first (k q) (k p)) (sum_put f p qs)
-    where
-      by : (b : Bool) → sum_by f (put_place p qs) ≡ f p + sum_by f qs → sum_by f (if b then q ∷ put_place p qs else p ∷ q ∷ qs) ≡ f p + sum_by f (q ∷ qs)
-      by true rest =
-          let new = sum_by-cons f q (put_place p qs) in
-          let old = sum_by-cons f q qs in
-          omega (arith, rest, new, old)
-      by false rest = sum_by-cons f p (q ∷ qs)
-
-  sum_sorted : (f : ℕ → ℕ) (ps : List ℕ) → sum_by f (places_sorted ps) ≡ sum_by f ps
-  sum_sorted f [] = refl
-  sum_sorted f (p ∷ ps) =
-      let put = sum_put f p (places_sorted ps) in
-      let rest = sum_sorted f ps in
-      let old = sum_by-cons f p ps in
-      omega (arith, put, rest, old)
 
   -- ---- places that ascend are those that are sorted
 
@@ -225,7 +202,7 @@ module _ {T : Type 0} (rows : List (Key × T)) (places : List ℕ) (index : IsIn
       sums : (g : ℕ → ℕ) → sum_by g places ≡ sum_by g (places_sorted k (below (length rows)))
       sums g =
           index.each g ∙ ap (sum_below g) (length-map rows (λ (row : Key × T). row.0)) ∙ sym (sum_of_below g (length rows))
-          ∙ sym (sum_sorted k g (below (length rows)))
+          ∙ sym (sum_sorted (place_order k) g (below (length rows)))
 
   -- there is one place for each row
   pub as_many : length places ≡ length rows

@@ -1,7 +1,9 @@
 pub mod ByName
+pub mod Distinct
 pub mod Fewer
 pub mod Found
 pub mod Gathered
+pub mod InOrder
 pub mod KeysInOrder
 pub mod Listed
 pub mod Mentioned

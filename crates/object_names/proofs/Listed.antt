@@ -1,6 +1,7 @@
 -- A name that is listed once more changes nothing of the set of those that are.
-use Rattle.std.proofs.Common.{◌≡◌, ℕ, suc, ◌+◌, ◌<◌, arith, length, take, get_or, Bool, true, false, ◌||◌, List, [], ◌∷◌, ◌++◌, refl, sym, ap, ◌∙◌, if◌then◌else◌}
+use Rattle.std.proofs.Common.{◌≡◌, ℕ, suc, ◌+◌, ◌<◌, arith, length, take, get_or, slice_get, Some, Bool, true, false, ◌||◌, List, [], ◌∷◌, ◌++◌, refl, sym, ap, ◌∙◌, if◌then◌else◌}
 use Rattle.std.proofs.Math.Seq.{take-suc}
+use Rattle.std.proofs.lemmas.Option.{get_or_from_slice_get, slice_get_within}
 use Rattle.std.specs.List.{list_any}
 use Rattle.indexmap.specs.IndexSet.{insert_key}
 use Rattle.mms_types.specs.declared.key.Key.{Key}
@@ -74,3 +75,6 @@ pub take_more : {A : Type 0} (i : ℕ) (xs : List A) (x : A) → i < length xs �
 take_more {A} i xs x h e =
     let step : i + 1 ≡ suc i = omega arith in
     ap (λ (n : ℕ). take n xs) step ∙ take-suc xs i x h ∙ ap (λ (y : A). take i xs ++ y ∷ []) (sym e)
+
+pub take_next : {A : Type 0} (xs : List A) (i : ℕ) (x : A) → slice_get xs i ≡ Some x → take (i + 1) xs ≡ take i xs ++ x ∷ []
+take_next xs i x at = take_more i xs x (slice_get_within xs i x at) (sym (get_or_from_slice_get xs i x x at))

@@ -1,6 +1,7 @@
 pub mod Borrowed
 pub mod BorrowedHash
 pub mod Deletion
+pub mod InOrder
 pub mod Index
 pub mod Listing
 pub mod NewName

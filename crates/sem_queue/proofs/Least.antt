@@ -21,7 +21,7 @@ module _ {A : Type 0} where
   count-among p (y ∷ ys) x (inl same) t = let one = weight-yes p y (ap p same ∙ t) in omega (arith, count-cons p y ys)
   count-among p (y ∷ ys) x (inr h) t = omega (arith, count-cons p y ys, count-among p ys x h t)
 
-  among-count : (p : A → Bool) (xs : List A) → 0 < count_by p xs → (x : A) × Among xs x × (p x ≡ true)
+  pub among-count : (p : A → Bool) (xs : List A) → 0 < count_by p xs → (x : A) × Among xs x × (p x ≡ true)
   among-count p [] some = absurd (omega arith)
   among-count p (y ∷ ys) some = by_test (p y) refl (among-count p ys)
     where
@@ -37,7 +37,7 @@ module _ {A : Type 0} where
   some-stays less [] b e = cc e
   some-stays less (y ∷ ys) b e = some-stays less ys (cond (less y b) y b) e
 
-  least-none : (less : A → A → Bool) (xs : List A) → least less xs ≡ None → xs ≡ []
+  pub least-none : (less : A → A → Bool) (xs : List A) → least less xs ≡ None → xs ≡ []
   least-none less [] e = refl
   least-none less (y ∷ ys) e = absurd (some-stays less ys y e)
 
@@ -140,7 +140,7 @@ filter-none w (r ∷ rows) z = by_test (w r) refl (filter-none w rows)
 pub least-no_number : (w : Row → Bool) (rows : List Row) → count_by w rows ≡ 0 → option_map (λ r. r.number) (least before (filter w rows)) ≡ None
 least-no_number w rows z = ap (λ (kept : List Row). option_map (λ (r : Row). r.number) (least before kept)) (filter-none w rows z)
 
--- the same of deadlines
+-- deadlines that tie are of one moment, one kind and one entry
 
 abbrev pub same_due : Due → Due → Bool
 same_due a b = b.at.0 == a.at.0 && (b.kind == a.kind && b.number == a.number)

@@ -7,6 +7,7 @@ use Rattle.token_sem.specs.declared.entry.SemEntry.{SemEntry}
 use Rattle.token_sem.specs.declared.entry.SemState.{SemState}
 use Rattle.token_sem.specs.declared.entry.SemState.TheVariants.{Queued, Owner, Hung}
 use Rattle.token_sem.specs.Semaphore.{is_owner_state, is_hung_state, is_hung, is_queued_state, Sem, IsSem, Rises, is_queued, is_owner, holds, tokens_held, without, granted_entry, owner_from, after_freeing, granted_to, next, least, earlier, before, owner_of, after_relinquish, after_giving_back, after_expire, expired_entry, numbered, after_cancel}
+use Rattle.token_sem.proofs.Least.{least-none}
 
 -- the entry stands in the list
 abbrev pub Among : List SemEntry → SemEntry → Type 0
@@ -57,15 +58,6 @@ among-least less p es o f = elim (among-fold less p es None o f) [ inl h ↦ abs
 
 pub among-next : (es : List SemEntry) (o : SemEntry) → next es ≡ Some o → Among es o × (is_queued o ≡ true)
 among-next es o f = among-least before is_queued es o f
-
--- there is a least unless there is none
-some-fold : (es : List SemEntry) (b : SemEntry) → fold (earlier before) (Some b) es ≡ None → ⊥
-some-fold [] b f = cc f
-some-fold (e ∷ es) b f = some-fold es (cond (before e b) e b) f
-
-none-least : (es : List SemEntry) → least before es ≡ None → es ≡ []
-none-least [] f = refl
-none-least (e ∷ es) f = absurd (some-fold es e f)
 
 pub rises-lower : (low less high : ℕ) (es : List SemEntry) → less ≤ low → Rises low es high → Rises less es high
 rises-lower low less high [] le r = omega arith
@@ -207,7 +199,7 @@ pub freed-keeps : (tokens made : ℕ) (now : Moment) (es : List SemEntry) → Ri
 freed-keeps tokens made now es r few served = by_next (next es) refl
   where
     by_next : (first : Option SemEntry) → next es ≡ first → IsSem (record { tokens = tokens; made = made; entries = granted_to first now es })
-    by_next None f = record { rises = r; few = omega arith; served = λ free. none-least (filter is_queued es) f }
+    by_next None f = record { rises = r; few = omega arith; served = λ free. least-none before (filter is_queued es) f }
     by_next (Some o) f =
         let is = among-next es o f in
         let more = held-granted 0 made now es o r is.0 is.1 in
