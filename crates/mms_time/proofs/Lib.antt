@@ -1,6 +1,7 @@
 pub mod Bounded
 pub mod Changed
 pub mod Defined
+pub mod EachEntry
 pub mod EachLost
 pub mod Entered
 pub mod KeyOrder

@@ -9,7 +9,7 @@ use Rattle.mms_types.specs.declared.key.Key.{Key}
 use Rattle.mms_types.specs.declared.moment.Moment.{Moment}
 use Rattle.token_sem.specs.Semaphore.{owned_by}
 use Rattle.token_sem.specs.declared.entry.Grant.{Grant}
-use Rattle.mms_time.specs.Loss.{all_changed, grants_of, grants_of_each, keyed, left_rows, owned_rows, owns_any, sorted_keys, without_client}
+use Rattle.mms_time.specs.Loss.{all_changed, grants_of, grants_of_each, keyed, left_rows, owned_rows, owns_any, semaphore_without, sorted_keys}
 use Rattle.mms_time.specs.Semaphores.{Rows, changed_row, entries_of}
 use Rattle.mms_time.specs.declared.row.SemaphoreRow.{SemaphoreRow}
 use Rattle.mms_time.proofs.KeyOrder.{sorted_filtered}
@@ -26,7 +26,7 @@ abbrev pub key_of_row : Key × SemaphoreRow → Key
 key_of_row row = row.0
 
 abbrev pub left_of : ℕ → Moment → Key × SemaphoreRow → SemaphoreRow
-left_of client now row = changed_row (without_client client now) row.1
+left_of client now row = changed_row (semaphore_without client now) row.1
 
 -- ---- the names of some rows
 
@@ -94,50 +94,50 @@ none_kept client (row ∷ rows) e = by_test (owned client row.1) e (none_kept cl
 
 -- a client that owns none leaves none of them
 pub none_left : (client : ℕ) (now : Moment) (rows : Rows) → owns_any client rows ≡ false → [] ≡ left_rows client now rows
-none_left client now rows e = sym (ap (map (λ (row : Key × SemaphoreRow). changed_row (without_client client now) row.1)) (none_kept client rows e))
+none_left client now rows e = sym (ap (map (λ (row : Key × SemaphoreRow). changed_row (semaphore_without client now) row.1)) (none_kept client rows e))
 
 heads : {X : Type 0} (x y : X) (xs ys : List X) → x ∷ xs ≡ y ∷ ys → (x ≡ y) × (xs ≡ ys)
 heads x y xs ys e = (cc e, cc e)
 
 module _ (client : ℕ) (now : Moment) where
   left_suc : (rows : Rows) (i : ℕ) (row : SemaphoreRow) (b : Bool) → slice_get (values_of rows) i ≡ Some row → owned client row ≡ b
-      → left_rows client now (drop i rows) ≡ cond b (changed_row (without_client client now) row ∷ left_rows client now (drop (suc i) rows)) (left_rows client now (drop (suc i) rows))
+      → left_rows client now (drop i rows) ≡ cond b (changed_row (semaphore_without client now) row ∷ left_rows client now (drop (suc i) rows)) (left_rows client now (drop (suc i) rows))
   left_suc [] zero row b at is = absurd (cc at)
   left_suc [] (suc i) row b at is = absurd (cc at)
   left_suc (r ∷ rows) zero row b at is =
       let same : r.1 ≡ row = cc at in
       whole (owned client r.1) r.1 refl
-      ∙ ap (λ (x : SemaphoreRow). cond (owned client x) (changed_row (without_client client now) x ∷ left_rows client now rows) (left_rows client now rows)) same
-      ∙ ap (λ (c : Bool). cond c (changed_row (without_client client now) row ∷ left_rows client now rows) (left_rows client now rows)) is
+      ∙ ap (λ (x : SemaphoreRow). cond (owned client x) (changed_row (semaphore_without client now) x ∷ left_rows client now rows) (left_rows client now rows)) same
+      ∙ ap (λ (c : Bool). cond c (changed_row (semaphore_without client now) row ∷ left_rows client now rows) (left_rows client now rows)) is
     where
-      whole : (c : Bool) (x : SemaphoreRow) → x ≡ r.1 → map (λ (row : Key × SemaphoreRow). changed_row (without_client client now) row.1) (cond c (r ∷ owned_rows client rows) (owned_rows client rows))
-          ≡ cond c (changed_row (without_client client now) r.1 ∷ left_rows client now rows) (left_rows client now rows)
+      whole : (c : Bool) (x : SemaphoreRow) → x ≡ r.1 → map (λ (row : Key × SemaphoreRow). changed_row (semaphore_without client now) row.1) (cond c (r ∷ owned_rows client rows) (owned_rows client rows))
+          ≡ cond c (changed_row (semaphore_without client now) r.1 ∷ left_rows client now rows) (left_rows client now rows)
       whole true x e = refl
       whole false x e = refl
   left_suc (r ∷ rows) (suc i) row b at is = left_suc rows i row b at is
 
   -- the next that is left is that of the next of which the client owns a token
   pub left_next : (rows : Rows) (i : ℕ) (row : SemaphoreRow) (b : Bool) → slice_get (values_of rows) i ≡ Some row → owned client row ≡ b
-      → left_rows client now (drop i rows) ≡ cond b (changed_row (without_client client now) row ∷ left_rows client now (drop (i + 1) rows)) (left_rows client now (drop (i + 1) rows))
+      → left_rows client now (drop i rows) ≡ cond b (changed_row (semaphore_without client now) row ∷ left_rows client now (drop (i + 1) rows)) (left_rows client now (drop (i + 1) rows))
   left_next rows i row b at is =
       let e : suc i ≡ i + 1 = omega arith in
       left_suc rows i row b at is
-      ∙ ap (λ (n : ℕ). cond b (changed_row (without_client client now) row ∷ left_rows client now (drop n rows)) (left_rows client now (drop n rows))) e
+      ∙ ap (λ (n : ℕ). cond b (changed_row (semaphore_without client now) row ∷ left_rows client now (drop n rows)) (left_rows client now (drop n rows))) e
 
   module _ (xs rows : Rows) (i : ℕ) (x : SemaphoreRow) (left : List SemaphoreRow)
-      (is : rows ≡ all_changed (without_client client now) (take i xs) ++ drop i xs) (at : slice_get (values_of rows) i ≡ Some x) (stays : left ≡ left_rows client now (drop i xs)) where
+      (is : rows ≡ all_changed (semaphore_without client now) (take i xs) ++ drop i xs) (at : slice_get (values_of rows) i ≡ Some x) (stays : left ≡ left_rows client now (drop i xs)) where
     here : slice_get (values_of xs) i ≡ Some x
-    here = still_at (changed_row (without_client client now)) xs i x (ap (λ (l : Rows). slice_get (values_of l) i) (sym is) ∙ at)
+    here = still_at (changed_row (semaphore_without client now)) xs i x (ap (λ (l : Rows). slice_get (values_of l) i) (sym is) ∙ at)
 
-    pub left_first : owned client x ≡ true → left ≡ changed_row (without_client client now) x ∷ left_rows client now (drop (i + 1) xs)
+    pub left_first : owned client x ≡ true → left ≡ changed_row (semaphore_without client now) x ∷ left_rows client now (drop (i + 1) xs)
     left_first owns = stays ∙ left_next xs i x true here owns
 
     pub left_there : owned client x ≡ true → 0 < length left
     left_there owns = let many = ap length (left_first owns) in omega (arith, many)
 
     pub left_put : (new : SemaphoreRow) (rest : List SemaphoreRow) → owned client x ≡ true → left ≡ new ∷ rest
-        → (new ≡ changed_row (without_client client now) x) × (rest ≡ left_rows client now (drop (i + 1) xs))
-    left_put new rest owns next = heads new (changed_row (without_client client now) x) rest (left_rows client now (drop (i + 1) xs)) (sym next ∙ left_first owns)
+        → (new ≡ changed_row (semaphore_without client now) x) × (rest ≡ left_rows client now (drop (i + 1) xs))
+    left_put new rest owns next = heads new (changed_row (semaphore_without client now) x) rest (left_rows client now (drop (i + 1) xs)) (sym next ∙ left_first owns)
 
     pub left_still : owned client x ≡ false → left ≡ left_rows client now (drop (i + 1) xs)
     left_still owns = stays ∙ left_next xs i x false here owns

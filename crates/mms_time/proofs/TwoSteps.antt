@@ -10,7 +10,7 @@ use Rattle.token_sem.specs.Semaphore.{Loss, is_owner_state, is_queued_state, los
 use Rattle.token_sem.specs.declared.entry.SemEntry.{SemEntry}
 use Rattle.token_sem.specs.declared.entry.SemState.{SemState}
 use Rattle.token_sem.specs.declared.entry.SemState.TheVariants.{Queued, Owner, Hung}
-use Rattle.mms_time.specs.Loss.{all_changed, grants_of, keyed, owner_grants, owners_lost, pool_owners_lost, without_client, without_owners, without_waiters}
+use Rattle.mms_time.specs.Loss.{all_changed, grants_of, keyed, owner_grants, owners_lost, pool_owners_lost, semaphore_without, without_owners, without_waiters}
 use Rattle.mms_time.specs.Semaphores.{Rows, changed_row}
 use Rattle.mms_time.specs.declared.row.Semaphore.{Semaphore}
 use Rattle.mms_time.specs.declared.row.Semaphore.TheVariants.{Token, Pool}
@@ -52,17 +52,17 @@ pool_one_loss client now es =
     ap (fold (pool.loss_of_one now) (record { entries = filter (λ e. not (waits_for client e)) es; grants = [] }))
     (sym (still_owned (owned_by client) (waits_for client) (apart client) es))
 
-one_semaphore : (client : ℕ) (now : Moment) (s : Semaphore) → without_client client now s ≡ without_owners client now (without_waiters client s)
+one_semaphore : (client : ℕ) (now : Moment) (s : Semaphore) → semaphore_without client now s ≡ without_owners client now (without_waiters client s)
 one_semaphore client now (Token s) = ap (λ (l : Loss). Token (record s { entries = l.entries })) (one_loss client now s.entries)
 one_semaphore client now (Pool p) = ap (λ (l : Loss). Pool (record p { entries = l.entries })) (pool_one_loss client now p.entries)
 
-pub each_semaphore : (client : ℕ) (now : Moment) (rows : Rows) → all_changed (without_client client now) rows ≡ all_changed (without_owners client now) (all_changed (without_waiters client) rows)
+pub each_semaphore : (client : ℕ) (now : Moment) (rows : Rows) → all_changed (semaphore_without client now) rows ≡ all_changed (without_owners client now) (all_changed (without_waiters client) rows)
 each_semaphore client now [] = refl
 each_semaphore client now (row ∷ rows) =
-    let here : (row.0, changed_row (without_client client now) row.1) ≡ (row.0, record row.1 { semaphore = without_owners client now (without_waiters client row.1.semaphore) }) =
+    let here : (row.0, changed_row (semaphore_without client now) row.1) ≡ (row.0, record row.1 { semaphore = without_owners client now (without_waiters client row.1.semaphore) }) =
     ap (λ (s : Semaphore). (row.0, record row.1 { semaphore = s })) (one_semaphore client now row.1.semaphore)
     in
-    ap (λ (r : Key × SemaphoreRow). r ∷ all_changed (without_client client now) rows) here
+    ap (λ (r : Key × SemaphoreRow). r ∷ all_changed (semaphore_without client now) rows) here
     ∙ ap (λ (rest : Rows). (row.0, record row.1 { semaphore = without_owners client now (without_waiters client row.1.semaphore) }) ∷ rest) (each_semaphore client now rows)
 
 found_changed : (change : Semaphore → Semaphore) (test : Key → Bool) (rows : Rows) → lookup test (all_changed change rows) ≡ option_map (changed_row change) (lookup test rows)

@@ -1,12 +1,12 @@
 -- The loss of a client in all semaphores (ISO 9506-1, TakeControl, relinquishIfConnectionLost).
-use Rattle.std.specs.Prelude.{ℕ, Bool, not, List, [], ◌∷◌, map, filter, fold, Option, None, Some, if◌then◌else◌}
+use Rattle.std.specs.Prelude.{ℕ, Bool, not, List, [], map, filter, fold, Option, None, Some}
 use Rattle.std.specs.List.{flat_map, list_any}
 use Rattle.std.specs.Map.{keys_of, lookup}
-use Rattle.std.specs.Ordering.{is_lt}
 use Rattle.mms_types.specs.Order.{key_eq, key_order}
 use Rattle.mms_types.specs.declared.key.Key.{Key}
 use Rattle.mms_types.specs.declared.key.Scope.TheVariants.{Association}
 use Rattle.mms_types.specs.declared.moment.Moment.{Moment}
+use Rattle.object_names.specs.InOrder.{in_order, inserted}
 use Rattle.object_names.specs.Scopes.{without_all_of}
 use Rattle.pool_sem.specs.Pools as pool
 use Rattle.token_sem.specs.Semaphore.{Loss, after_lose, loss_of, loss_of_one, owned_by, waits_for}
@@ -52,15 +52,13 @@ lost client now rows = without_all_of (Association client) (all_changed (without
 
 -- ---- who is granted a token
 
--- names in order with one more at its place: before the first that does not come before it
+-- names in order with one more at its place
 abbrev pub insert_key : Key → List Key → List Key
-insert_key key [] = key ∷ []
-insert_key key (other ∷ others) = if is_lt (key_order other key) then other ∷ insert_key key others else key ∷ other ∷ others
+insert_key = inserted key_order
 
 -- names in order
 abbrev pub sorted_keys : List Key → List Key
-sorted_keys [] = []
-sorted_keys (key ∷ keys) = insert_key key (sorted_keys keys)
+sorted_keys = in_order key_order
 
 abbrev pub owner_grants : ℕ → Moment → Option SemaphoreRow → List Grant
 owner_grants client now None = []
@@ -75,11 +73,12 @@ abbrev pub lost_grants : ℕ → Moment → Rows → List (Key × Grant)
 lost_grants client now rows =
     flat_map (λ key. keyed key (owner_grants client now (lookup (key_eq key) (all_changed (without_waiters client) rows)))) (sorted_keys (keys_of rows))
 
--- ---- the same, each semaphore by itself: what is done to one reads no other
+-- ---- each semaphore by itself: what is done to one reads no other
 
-abbrev pub without_client : ℕ → Moment → Semaphore → Semaphore
-without_client client now (Token s) = Token (after_lose s client now)
-without_client client now (Pool p) = Pool (pool.after_lose p client now)
+-- a semaphore when a client is lost
+abbrev pub semaphore_without : ℕ → Moment → Semaphore → Semaphore
+semaphore_without client now (Token s) = Token (after_lose s client now)
+semaphore_without client now (Pool p) = Pool (pool.after_lose p client now)
 
 abbrev pub loss_in : ℕ → Moment → Semaphore → Loss
 loss_in client now (Token s) = loss_of client now s.entries
@@ -98,4 +97,4 @@ owned_rows client rows = filter (λ row. list_any (owned_by client) (entries_of 
 
 -- what is left of them
 abbrev pub left_rows : ℕ → Moment → Rows → List SemaphoreRow
-left_rows client now rows = map (λ row. changed_row (without_client client now) row.1) (owned_rows client rows)
+left_rows client now rows = map (λ row. changed_row (semaphore_without client now) row.1) (owned_rows client rows)

@@ -7,7 +7,7 @@ ghost use Rattle.mms_types.specs.Moments.{IsDated};
 ghost use Rattle.mms_types.specs.Order.{key_eq};
 ghost use Rattle.token_sem.specs.Semaphore.{owned_by};
 ghost use Rattle.mms_time.specs.Semaphores.{changed_row, entries_of};
-ghost use Rattle.mms_time.specs.Loss.{all_changed, grants_of, grants_of_each, keyed, left_rows, lost, lost_grants, owned_rows, owns_any, sorted_keys, without_client};
+ghost use Rattle.mms_time.specs.Loss.{all_changed, grants_of, grants_of_each, keyed, left_rows, lost, lost_grants, owned_rows, owns_any, semaphore_without, sorted_keys};
 
 use crate::{Semaphore, SemaphoreRow, Semaphores};
 use mms_types::{Key, Memory, Moment, Scope};
@@ -79,7 +79,8 @@ impl SemaphoreRow {
         requires { IsDated now }
         ensures grants { IfOk result (λ grants.
             grants.items ≡ grants_of client now (Some self.old)) }
-        ensures lost { OnOk result (self.new ≡ changed_row (without_client client now) self.old) }
+        ensures lost { OnOk result (self.new
+            ≡ changed_row (semaphore_without client now) self.old) }
         ensures kept { OnErr result (self.new ≡ self.old) }
         ensures wants { OnErr result (list_any (owned_by client) (entries_of self.old) ≡ true) }
     {
@@ -204,7 +205,7 @@ impl SemaphoreRow {
     fn lose_waiter(&mut self, alloc: Global, client: u32, now: Moment)
         requires now { IsDated now }
         requires unowned { list_any (owned_by client) (entries_of self.old) ≡ false }
-        ensures { self.new ≡ changed_row (without_client client now) self.old }
+        ensures { self.new ≡ changed_row (semaphore_without client now) self.old }
     {
         let Ok(_grants) = self.lose(alloc, client, now) else {
             unreachable!()
@@ -223,7 +224,7 @@ fn lose_each(
 )
     requires now { IsDated now }
     requires left { left.items ≡ left_rows client now semaphores.old }
-    ensures { semaphores.new ≡ all_changed (without_client client now) semaphores.old }
+    ensures { semaphores.new ≡ all_changed (semaphore_without client now) semaphores.old }
 {
     let mut left = left.into_iter();
     for place in 0..semaphores.len() {

@@ -11,13 +11,13 @@ use Rattle.mms_types.specs.declared.moment.Moment.{Moment}
 use Rattle.object_names.specs.Scopes.{has_any_of}
 use Rattle.token_sem.specs.declared.entry.Grant.{Grant}
 use Rattle.token_sem.proofs.Least.{Stands}
-use Rattle.mms_time.specs.Loss.{all_changed, grants_of, keyed, lost, without_client}
+use Rattle.mms_time.specs.Loss.{all_changed, grants_of, keyed, lost, semaphore_without}
 use Rattle.mms_time.specs.Semaphores.{Rows, changed_row, names_in}
 use Rattle.mms_time.specs.Services.{grant_answer_of}
 use Rattle.mms_time.specs.declared.row.Semaphore.{Semaphore}
 use Rattle.mms_time.specs.declared.row.Semaphore.TheVariants.{Token, Pool}
 use Rattle.mms_time.specs.declared.row.SemaphoreRow.{SemaphoreRow}
-use Rattle.mms_time.proofs.Soonest.{take_next}
+use Rattle.object_names.proofs.Listed.{take_next}
 use Rattle.mms_time.proofs.Unowned.{none_granted_by}
 use Rattle.sem_ticks.specs.Drafts.{become, drafted, named, AreDrafts, HasPlace, KeepsLeast}
 use Rattle.sem_ticks.specs.Granted.{all_granted, granted, lost_granted}
@@ -54,7 +54,7 @@ module _ (client : ℕ) (now : Moment) where
   none_told d none = ap (map (granted_by d.row.semaphore)) (none_granted_by client now d.row.semaphore (none_owned client _ none))
 
   -- tokens keep their names, so the answer is the same
-  same_names : (s : Semaphore) → names_in (without_client client now s) ≡ names_in s
+  same_names : (s : Semaphore) → names_in (semaphore_without client now s) ≡ names_in s
   same_names (Token s) = refl
   same_names (Pool p) = refl
 
@@ -68,14 +68,14 @@ module _ (client : ℕ) (now : Moment) where
       let one : pair_of e ≡ pair_of d = λ i. ((lost.0.key i).now, lost.0.place i) in
       ap (λ (p : Key × ℕ). p ∷ map pair_of es) one ∙ ap (λ (l : List (Key × ℕ)). pair_of d ∷ l) (lost_pairs ds es lost.1)
 
-  pub lost_rows : (ds es : List Draft) → AreLost client now ds es → drafted es ≡ all_changed (without_client client now) (drafted ds)
+  pub lost_rows : (ds es : List Draft) → AreLost client now ds es → drafted es ≡ all_changed (semaphore_without client now) (drafted ds)
   lost_rows [] [] lost = refl
   lost_rows [] (e ∷ es) lost = absurd lost
   lost_rows (d ∷ ds) [] lost = absurd lost
   lost_rows (d ∷ ds) (e ∷ es) lost =
-      let one : named e ≡ (d.key.now, changed_row (without_client client now) d.row) = λ i. ((lost.0.key i).now, lost.0.row i) in
+      let one : named e ≡ (d.key.now, changed_row (semaphore_without client now) d.row) = λ i. ((lost.0.key i).now, lost.0.row i) in
       ap (λ (r : Key × SemaphoreRow). r ∷ drafted es) one
-      ∙ ap (λ (l : Rows). (d.key.now, changed_row (without_client client now) d.row) ∷ l) (lost_rows ds es lost.1)
+      ∙ ap (λ (l : Rows). (d.key.now, changed_row (semaphore_without client now) d.row) ∷ l) (lost_rows ds es lost.1)
 
   pub lost_least : (ds es : List Draft) → AreLost client now ds es → All KeepsLeast es
   lost_least [] [] lost = All-nil KeepsLeast

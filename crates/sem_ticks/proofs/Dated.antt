@@ -168,7 +168,7 @@ module _ (low : Moment) where
 
   -- the deadline that is met lies no earlier
   pub due_from : (until : Moment) (rows : Rows) (d : NamedDeadline) → next_due until rows ≡ Some d → LieFrom low rows → low.0 ≤ d.at.0
-  due_from until rows d due all = each_ahead From low (λ ms e. omega arith) (all_deadlines rows) all d (due_stands until rows d due)
+  due_from until rows d due all = each_ahead From (all_deadlines rows) all d (due_stands until rows d due)
 
   pub from_next : (until : Moment) (s t : Dating) → next_dated until s ≡ Some t → LieFrom low s.rows → LieFrom low t.rows
   from_next until s t some all =

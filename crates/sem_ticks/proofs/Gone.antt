@@ -11,7 +11,7 @@ use Rattle.pool_sem.proofs.Unowned as pool
 use Rattle.token_sem.proofs.Unowned as token
 use Rattle.token_sem.specs.Semaphore.{Loss, is_owner, is_queued, owned_by, waits_for}
 use Rattle.token_sem.specs.declared.entry.SemEntry.{SemEntry}
-use Rattle.mms_time.specs.Loss.{without_client}
+use Rattle.mms_time.specs.Loss.{semaphore_without}
 use Rattle.mms_time.specs.Semaphores.{Rows, entries_in}
 use Rattle.mms_time.specs.declared.row.Semaphore.{Semaphore}
 use Rattle.mms_time.specs.declared.row.Semaphore.TheVariants.{Token, Pool}
@@ -35,7 +35,7 @@ all_wait client (e ∷ es) none =
     ap (λ (b : Bool). cond (not (b && is_queued e)) (e ∷ filter (λ e. not (waits_for client e)) es) (filter (λ e. not (waits_for client e)) es)) both.0
     ∙ ap (λ (l : List SemEntry). e ∷ l) (all_wait client es both.1)
 
-pub same_semaphore : (client : ℕ) (now : Moment) (s : Semaphore) → list_any (λ e. e.client == client) (entries_in s) ≡ false → without_client client now s ≡ s
+pub same_semaphore : (client : ℕ) (now : Moment) (s : Semaphore) → list_any (λ e. e.client == client) (entries_in s) ≡ false → semaphore_without client now s ≡ s
 same_semaphore client now (Token s) none =
     ap (λ (l : Loss). Token (record s { entries = l.entries })) (token.none_lost client now s.entries (none_owned client s.entries none))
     ∙ ap (λ (l : List SemEntry). Token (record s { entries = l })) (all_wait client s.entries none)

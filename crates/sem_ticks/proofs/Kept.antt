@@ -13,7 +13,7 @@ use Rattle.token_sem.specs.declared.entry.Expired.{Expired}
 use Rattle.token_sem.proofs.Keeping.{expire-keeps}
 use Rattle.token_sem.proofs.Losing.{lose-keeps}
 use Rattle.mms_time.specs.Deadlines.{NamedDeadline, expired, expire_after, next_due, without_due}
-use Rattle.mms_time.specs.Loss.{all_changed, lost, without_client}
+use Rattle.mms_time.specs.Loss.{all_changed, lost, semaphore_without}
 use Rattle.mms_time.specs.Semaphores.{IsSound, Rows, changed, changed_row, changed_to}
 use Rattle.mms_time.specs.declared.row.Semaphore.{Semaphore}
 use Rattle.mms_time.specs.declared.row.Semaphore.TheVariants.{Token, Pool}
@@ -69,15 +69,15 @@ pub keeps_left : (p : Key × SemaphoreRow → Bool) (rows : Rows) → AreSound r
 keeps_left p rows is = record { names = IsDistinct-keys_filter key_eq p rows is.names; each = each_left p rows is.each }
 
 -- a client is lost
-client_lost : (client : ℕ) (now : Moment) (s : Semaphore) → IsSound s → IsSound (without_client client now s)
+client_lost : (client : ℕ) (now : Moment) (s : Semaphore) → IsSound s → IsSound (semaphore_without client now s)
 client_lost client now (Token s) is = lose-keeps s client now is
 client_lost client now (Pool p) is = pool-lose.lose-keeps p client now is
 
 pub keeps_lost : (client : ℕ) (now : Moment) (rows : Rows) → AreSound rows → AreSound (lost client now rows)
 keeps_lost client now rows is =
     subst (λ (all : Rows). AreSound (filter (λ row. not (scope_eq row.0.scope (Association client))) all)) (each_semaphore client now rows)
-    (keeps_left (λ row. not (scope_eq row.0.scope (Association client))) (all_changed (without_client client now) rows)
-    (keeps_all (without_client client now) (client_lost client now) rows is))
+    (keeps_left (λ row. not (scope_eq row.0.scope (Association client))) (all_changed (semaphore_without client now) rows)
+    (keeps_all (semaphore_without client now) (client_lost client now) rows is))
 
 -- a deadline is met
 due_met : (number : ℕ) (now : Moment) (s : Semaphore) → IsSound s → IsSound (without_due number now s)

@@ -17,7 +17,7 @@ use Rattle.mms_types.specs.declared.key.Scope.TheVariants.{Association}
 use Rattle.mms_types.specs.declared.moment.Moment.{Moment}
 use Rattle.object_names.specs.Scopes.{has_any_of, without_all_of}
 use Rattle.token_sem.proofs.Least.{Stands}
-use Rattle.mms_time.specs.Loss.{all_changed, grants_of, keyed, lost, lost_grants, sorted_keys, without_client}
+use Rattle.mms_time.specs.Loss.{all_changed, grants_of, keyed, lost, lost_grants, semaphore_without, sorted_keys}
 use Rattle.mms_time.specs.Semaphores.{Rows, changed_row, entries_of}
 use Rattle.mms_time.specs.declared.row.Semaphore.{Semaphore}
 use Rattle.mms_time.specs.declared.row.SemaphoreRow.{SemaphoreRow}
@@ -34,32 +34,32 @@ use Rattle.sem_ticks.proofs.Made.{pair_of}
 
 module _ (client : ℕ) (now : Moment) where
   abbrev lost_row : SemaphoreRow → SemaphoreRow
-  lost_row = changed_row (without_client client now)
+  lost_row = changed_row (semaphore_without client now)
 
   lost_become : (C rows : Rows) → ((row : Key × SemaphoreRow) → Stands rows row → lookup (key_eq row.0) C ≡ None → has_entry client row.1 ≡ false)
-      → all_changed (without_client client now) (become C rows) ≡ become (all_changed (without_client client now) C) rows
+      → all_changed (semaphore_without client now) (become C rows) ≡ become (all_changed (semaphore_without client now) C) rows
   lost_become C [] each = refl
   lost_become C (row ∷ rows) each =
-      ap (λ (x : SemaphoreRow). (row.0, x) ∷ all_changed (without_client client now) (become C rows)) (here (lookup (key_eq row.0) C) refl)
-      ∙ ap (λ (rest : Rows). (row.0, unwrap_or (lookup (key_eq row.0) (all_changed (without_client client now) C)) row.1) ∷ rest) (lost_become C rows (λ r there. each r (inr there)))
+      ap (λ (x : SemaphoreRow). (row.0, x) ∷ all_changed (semaphore_without client now) (become C rows)) (here (lookup (key_eq row.0) C) refl)
+      ∙ ap (λ (rest : Rows). (row.0, unwrap_or (lookup (key_eq row.0) (all_changed (semaphore_without client now) C)) row.1) ∷ rest) (lost_become C rows (λ r there. each r (inr there)))
     where
       by_found : (o : Option SemaphoreRow) → lookup (key_eq row.0) C ≡ o → lost_row (unwrap_or o row.1) ≡ unwrap_or (option_map lost_row o) row.1
       by_found None e = ap (λ (s : Semaphore). record row.1 { semaphore = s }) (same_semaphore client now row.1.semaphore (each row (inl refl) e))
       by_found (Some x) e = refl
 
       here : (o : Option SemaphoreRow) → lookup (key_eq row.0) C ≡ o
-          → lost_row (unwrap_or (lookup (key_eq row.0) C) row.1) ≡ unwrap_or (lookup (key_eq row.0) (all_changed (without_client client now) C)) row.1
+          → lost_row (unwrap_or (lookup (key_eq row.0) C) row.1) ≡ unwrap_or (lookup (key_eq row.0) (all_changed (semaphore_without client now) C)) row.1
       here o e =
           ap (λ (p : Option SemaphoreRow). lost_row (unwrap_or p row.1)) e ∙ by_found o e
           ∙ sym (ap (λ (p : Option SemaphoreRow). unwrap_or p row.1) (lookup-map_values lost_row (key_eq row.0) C ∙ ap (option_map lost_row) e))
 
   -- what all semaphores become by the loss is what the drafts become by it
   pub lost_in : (C rows : Rows) → ((row : Key × SemaphoreRow) → Stands rows row → lookup (key_eq row.0) C ≡ None → has_entry client row.1 ≡ false)
-      → has_any_of (Association client) rows ≡ false → lost client now (become C rows) ≡ become (all_changed (without_client client now) C) rows
+      → has_any_of (Association client) rows ≡ false → lost client now (become C rows) ≡ become (all_changed (semaphore_without client now) C) rows
   lost_in C rows each scope =
-      let after = become (all_changed (without_client client now) C) rows in
+      let after = become (all_changed (semaphore_without client now) C) rows in
       ap (without_all_of (Association client)) (sym (each_semaphore client now (become C rows)) ∙ lost_become C rows each)
-      ∙ same_scope (Association client) after (scope_by_keys (Association client) rows after (become_keys (all_changed (without_client client now) C) rows) scope)
+      ∙ same_scope (Association client) after (scope_by_keys (Association client) rows after (become_keys (all_changed (semaphore_without client now) C) rows) scope)
 
 -- ---- drafts of the same names at the same places
 

@@ -20,7 +20,7 @@ use Rattle.token_sem.proofs.Least.{Stands}
 use Rattle.mms_time.specs.Semaphores.{Rows}
 use Rattle.mms_time.specs.declared.row.SemaphoreRow.{SemaphoreRow}
 use Rattle.mms_time.proofs.Names.{map_more}
-use Rattle.mms_time.proofs.Soonest.{take_next}
+use Rattle.object_names.proofs.Listed.{take_next}
 use Rattle.sem_ticks.specs.Drafts.{become, drafted, due_rows, is_due, named, AreDrafts, IsPlaced, KeepsLeast}
 use Rattle.sem_ticks.specs.declared.drafts.Draft.{Draft}
 use Rattle.sem_ticks.proofs.NextOf.{from_all, in_map, name_of_row, place_stands, row_of_name}

@@ -1,7 +1,7 @@
 -- What requests for semaphores do keeps what holds of them.
-use Rattle.std.proofs.Common.{◌≡◌, ℕ, zero, suc, Bool, true, false, cond, List, [], ◌∷◌, Option, None, Some, is_some, option_and_then, option_map, if◌then◌else◌, refl, sym, ◌∙◌, ap, subst, arith}
-use Rattle.std.specs.List.{All, AllByRecursion, IsDistinct}
-use Rattle.std.specs.Map.{keys_of, remove_entry, values_of}
+use Rattle.std.proofs.Common.{◌≡◌, ℕ, zero, suc, Bool, true, false, List, [], ◌∷◌, Option, None, Some, is_some, option_and_then, option_map, if◌then◌else◌, refl, sym, ◌∙◌, ap, subst, arith}
+use Rattle.std.specs.List.{All, IsDistinct}
+use Rattle.std.specs.Map.{keys_of, values_of}
 use Rattle.std.proofs.lemmas.List.{map-append}
 use Rattle.std.proofs.lemmas.List.Elements.{All-append}
 use Rattle.std.proofs.lemmas.Map.Keys.{IsDistinct-push}
@@ -13,6 +13,7 @@ use Rattle.mms_types.specs.declared.key.Key.{Key}
 use Rattle.mms_types.specs.declared.moment.Moment.{Moment}
 use Rattle.mms_types.specs.declared.semaphore.DefineSemaphore.{DefineSemaphore}
 use Rattle.mms_types.specs.declared.semaphore.TakeControl.{TakeControl}
+use Rattle.object_names.proofs.Distinct.{distinct_removed}
 use Rattle.token_sem.specs.Semaphore.{IsSem, is_queued, numbered}
 use Rattle.token_sem.specs.declared.entry.SemEntry.{SemEntry}
 use Rattle.token_sem.proofs.Keeping.{cancel-keeps, relinquish-keeps}
@@ -103,28 +104,9 @@ keeps_defined live client asked rows none is = record {
     first (suc k) d low = absurd (omega (arith, low))
 
 -- a semaphore is deleted
-others_stay : (test : Key → Bool) (key : Key) (rows : Rows) → AllByRecursion (λ other. key_eq key other ≡ false) (keys_of rows)
-    → AllByRecursion (λ other. key_eq key other ≡ false) (keys_of (remove_entry test rows))
-others_stay test key [] all = all
-others_stay test key (row ∷ rows) all = by_test (test row.0) (others_stay test key rows all.1)
-  where
-    by_test : (b : Bool) → AllByRecursion (λ other. key_eq key other ≡ false) (keys_of (remove_entry test rows))
-        → AllByRecursion (λ other. key_eq key other ≡ false) (keys_of (cond b rows (row ∷ remove_entry test rows)))
-    by_test true rest = all.1
-    by_test false rest = (all.0, rest)
-
-names_stay : (test : Key → Bool) (rows : Rows) → IsDistinct key_eq (keys_of rows) → IsDistinct key_eq (keys_of (remove_entry test rows))
-unfolding IsDistinct
-names_stay test [] names = names
-names_stay test (row ∷ rows) names = by_test (test row.0) (names_stay test rows names.1)
-  where
-    by_test : (b : Bool) → IsDistinct key_eq (keys_of (remove_entry test rows)) → IsDistinct key_eq (keys_of (cond b rows (row ∷ remove_entry test rows)))
-    by_test true rest = names.1
-    by_test false rest = (others_stay test row.0 rows names.0, rest)
-
 pub keeps_deleted : (key : Key) (rows : Rows) → AreSound rows → AreSound (deleted key rows)
 keeps_deleted key rows is = record {
-  names = names_stay (key_eq key) rows is.names;
+  names = distinct_removed key_eq (key_eq key) rows is.names;
   each = All-map-remove_entry (key_eq key) (λ e. e.1) IsSoundRow rows is.each;
 }
 

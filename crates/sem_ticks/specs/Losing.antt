@@ -7,7 +7,7 @@ use Rattle.mms_types.specs.Order.{key_eq, key_order}
 use Rattle.mms_types.specs.declared.key.Key.{Key}
 use Rattle.mms_types.specs.declared.moment.Moment.{Moment}
 use Rattle.token_sem.specs.declared.entry.Grant.{Grant}
-use Rattle.mms_time.specs.Loss.{grants_of, without_client}
+use Rattle.mms_time.specs.Loss.{grants_of, semaphore_without}
 use Rattle.mms_time.specs.Semaphores.{Rows, changed_row, entries_of}
 use Rattle.mms_time.specs.Services.{grant_answer_in}
 use Rattle.mms_time.specs.declared.row.Semaphore.{Semaphore}
@@ -40,7 +40,7 @@ HasNone client rows drafts = All (λ row. lookup (key_eq row.0) (drafted drafts)
 pub record IsLost (client : ℕ) (now : Moment) (d e : Draft) : Type 0 where
   pub key : e.key ≡ d.key
   pub place : e.place ≡ d.place
-  pub row : e.row ≡ changed_row (without_client client now) d.row
+  pub row : e.row ≡ changed_row (semaphore_without client now) d.row
   pub least : KeepsLeast e
 
 -- and so has each

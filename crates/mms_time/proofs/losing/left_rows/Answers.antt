@@ -1,6 +1,6 @@
 use Rattle.std.proofs.Common.{◌≡◌, ◌∙◌, ◌++◌, ◌∷◌, [], List, ap, sym}
 use Rattle.mms_types.specs.declared.key.Key.{Key}
-use Rattle.mms_time.specs.Loss.{without_client}
+use Rattle.mms_time.specs.Loss.{semaphore_without}
 use Rattle.mms_time.specs.Semaphores.{changed_row}
 use Rattle.mms_time.specs.declared.row.SemaphoreRow.{SemaphoreRow}
 use Rattle.mms_time.proofs.Listed.{passed_over, told_more}
@@ -18,7 +18,7 @@ loop-place-preserved c =
             ∙ told_more (left_of c.args.client c.args.now) (owned_row c.args.client) rows c.loop-place.place row c.loop-place.left.items w.push.new.self.items c.in-Some.ensures.row
             (sym c.owns.ensures ∙ w.if-owns.true) c.loop-place.invariant.left
             (w.in_ok-push.ensures.items
-            ∙ ap (λ (x : SemaphoreRow). c.loop-place.left.items ++ x ∷ []) (w.in_ok-lose.ensures.lost ∙ ap (changed_row (without_client c.args.client c.args.now)) w.in_ok-copy.ensures));
+            ∙ ap (λ (x : SemaphoreRow). c.loop-place.left.items ++ x ∷ []) (w.in_ok-lose.ensures.lost ∙ ap (changed_row (semaphore_without c.args.client c.args.now)) w.in_ok-copy.ensures));
         end = c.loop-place.invariant.end;
       }
       | else-owns w ↦ record {

@@ -1,6 +1,6 @@
 use Rattle.std.proofs.Common.{◌≡◌, ◌∙◌, Some, ap, arith, length, slice_get, sym}
 use Rattle.std.specs.Map.{values_of}
-use Rattle.mms_time.specs.Loss.{without_client}
+use Rattle.mms_time.specs.Loss.{semaphore_without}
 use Rattle.mms_time.specs.Semaphores.{Rows, changed_row}
 use Rattle.mms_time.proofs.EachLost.{lost_more}
 use Rattle.mms_time.proofs.Owned.{left_put, left_still, left_there, owned}
@@ -29,7 +29,7 @@ loop-place-preserved c =
     let stays = c.loop-place.invariant.left in
     let many = c.loop-place.invariant.many in
     let put = left_put client now all rows place row left is at stays in
-    let lost = lost_more (changed_row (without_client client now)) all rows _ place row in
+    let lost = lost_more (changed_row (semaphore_without client now)) all rows _ place row in
     elim c.if-owns.branch [
       | then-owns+in-Some-next w ↦
           let one = put w.in-Some-next.new w.next.new.self.rest.items (sym c.owns.ensures ∙ w.if-owns.true) w.in-Some-next.ensures.items in
