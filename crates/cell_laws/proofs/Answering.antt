@@ -71,19 +71,19 @@ answer-there : (client invoke : ℕ) (o : OutcomeIn Tables) → AnswersOrWaitsIn
 answer-there client invoke o (inl (told, is, none)) alone = ap (λ (a : Option Answer). is_some a) is
 answer-there client invoke o (inr (request, same, is, also)) alone = absurd (cc (sym also ∙ alone))
 
-take-there : (client : ℕ) (x : TakeControl) (o : Option SemaphoreRow) → first_of (take_conditions client x o) ≡ None → take_told_of x o ≡ None → ⊥
+pub take-there : (client : ℕ) (x : TakeControl) (o : Option SemaphoreRow) → first_of (take_conditions client x o) ≡ None → take_told_of x o ≡ None → ⊥
 take-there client x None h g = cc h
 take-there client x (Some row) h g = cc g
 
-abbrev relinquish_given : Rows → ℕ → RelinquishControl → Option SemaphoreRow → Option (Option Granted)
+abbrev pub relinquish_given : Rows → ℕ → RelinquishControl → Option SemaphoreRow → Option (Option Granted)
 relinquish_given rows client x o = option_map (told_of rows (key_of client x.name)) (relinquish_grant_of client x o)
 
-relinquish-there : (rows : Rows) (client : ℕ) (x : RelinquishControl) (o : Option SemaphoreRow) → first_of (relinquish_conditions client x o) ≡ None → relinquish_given rows client x o ≡ None → ⊥
+pub relinquish-there : (rows : Rows) (client : ℕ) (x : RelinquishControl) (o : Option SemaphoreRow) → first_of (relinquish_conditions client x o) ≡ None → relinquish_given rows client x o ≡ None → ⊥
 relinquish-there rows client x None h g = cc h
 relinquish-there rows client x (Some row) h g = cc g
 
 -- who is granted a token that is given back is queued
-given-asks : (rows : Rows) → AreSound rows → (client : ℕ) (x : RelinquishControl) (o : Option Granted) → relinquish_granted client x rows ≡ Some o
+pub given-asks : (rows : Rows) → AreSound rows → (client : ℕ) (x : RelinquishControl) (o : Option Granted) → relinquish_granted client x rows ≡ Some o
     → (g : Granted) → Stands (option_to_list o) g → (entry : ℕ) × (asker rows (key_of client x.name) entry ≡ Some (g.client, g.invoke))
 given-asks rows sound client x o is g s = by_row (lookup (key_eq key) rows) refl is
   where

@@ -27,7 +27,7 @@ use Rattle.cell_config.specs.Said.{IsConfig}
 use Rattle.token_sem.specs.declared.entry.Expired.{Expired}
 use Rattle.token_sem.specs.Semaphore.{numbered, owner_of}
 use Rattle.mms_time.specs.Deadlines.{NamedDeadline, expire_after, expired, next_due, without_due}
-use Rattle.mms_time.specs.Loss.{all_changed, lost, without_client}
+use Rattle.mms_time.specs.Loss.{all_changed, lost, semaphore_without}
 use Rattle.mms_time.specs.Opening.{configured, pool_row}
 use Rattle.mms_time.specs.Semaphores.{IsSound, Rows, changed, changed_row, changed_to, entry_in, entry_waits}
 use Rattle.mms_time.specs.Services.{ask_of, cancel_after, cancelled, define_after, new_semaphore, relinquished, take_after, take_told, with_take, with_token_back, without_entry}
@@ -129,10 +129,10 @@ single-one f keeps key rows sound single = single-changed f key rows (λ row fou
 pub lost-single : (client : ℕ) (now : Moment) (rows : Rows) → AreSound rows → AreSingle rows → AreSingle (lost client now rows)
 lost-single client now rows sound single =
     subst (λ (all : Rows). AreSingle (filter (λ row. not (scope_eq row.0.scope (Association client))) all)) (each_semaphore client now rows)
-    (single-left client (all_changed (without_client client now) rows)
-    (single-all (without_client client now) rows (λ k row found one. in_semaphore row.semaphore (row_found rows k row sound.each found) one) single))
+    (single-left client (all_changed (semaphore_without client now) rows)
+    (single-all (semaphore_without client now) rows (λ k row found one. in_semaphore row.semaphore (row_found rows k row sound.each found) one) single))
   where
-    in_semaphore : (s : Semaphore) → IsSound s → SingleIn s → SingleIn (without_client client now s)
+    in_semaphore : (s : Semaphore) → IsSound s → SingleIn s → SingleIn (semaphore_without client now s)
     in_semaphore (Token s) is one = single-lost s client now is one
     in_semaphore (Pool p) is one = tt
 

@@ -1,13 +1,15 @@
 -- Rows whose names are distinct, and which are no more than so many, stay so as some go, are changed, or one is made.
 use Rattle.std.proofs.Common.{◌≡◌, ℕ, ◌+◌, ◌<◌, ◌≤◌, Bool, true, false, cond, nat_le, List, [], ◌∷◌, ◌++◌, filter, length, map, Option, None, Some, is_some, refl, sym, ap, subst, arith}
 use Rattle.std.specs.Prelude.{◌||◌}
-use Rattle.std.specs.List.{AllByRecursion, IsDistinct, list_any}
+use Rattle.std.specs.List.{IsDistinct, list_any}
 use Rattle.std.specs.Map.{keys_of, lookup, remove_entry, set_value}
 use Rattle.std.specs.Option.{option_map_or}
 use Rattle.std.specs.Cmp.{IsEquivalence}
 use Rattle.std.proofs.lemmas.Bool.Decides.{nat_tests}
 use Rattle.std.proofs.lemmas.Map.{keys-set_value}
-use Rattle.std.proofs.lemmas.Map.Keys.{IsDistinct-cons, IsDistinct-head, IsDistinct-push, IsDistinct-tail}
+use Rattle.std.proofs.lemmas.Map.Keys.{IsDistinct-push}
+use Rattle.std.proofs.lemmas.Map.Made.{IsDistinct-keys_filter}
+use Rattle.object_names.proofs.Distinct.{distinct_removed}
 use Rattle.cell_laws.specs.Limits.{AreFew}
 
 -- ---- how many
@@ -34,43 +36,11 @@ room most n e = grind (arith, nat_tests)
 -- ---- rows
 
 module _ {K T : Type 0} (eq : K → K → Bool) (most : ℕ) where
-  apart-fewer : (k : K) (p : K × T → Bool) (rows : List (K × T)) → AllByRecursion (λ y. eq k y ≡ false) (keys_of rows) → AllByRecursion (λ y. eq k y ≡ false) (keys_of (filter p rows))
-  apart-fewer k p [] apart = tt
-  apart-fewer k p (row ∷ rows) apart = by_test (p row) (apart-fewer k p rows apart.1)
-    where
-      by_test : (b : Bool) → AllByRecursion (λ y. eq k y ≡ false) (keys_of (filter p rows)) → AllByRecursion (λ y. eq k y ≡ false) (keys_of (cond b (row ∷ filter p rows) (filter p rows)))
-      by_test true rest = (apart.0, rest)
-      by_test false rest = rest
-
-  distinct-fewer : (p : K × T → Bool) (rows : List (K × T)) → IsDistinct eq (keys_of rows) → IsDistinct eq (keys_of (filter p rows))
-  distinct-fewer p [] are = are
-  distinct-fewer p (row ∷ rows) are = by_test (p row) (distinct-fewer p rows (IsDistinct-tail eq row.0 (keys_of rows) are))
-    where
-      by_test : (b : Bool) → IsDistinct eq (keys_of (filter p rows)) → IsDistinct eq (keys_of (cond b (row ∷ filter p rows) (filter p rows)))
-      by_test true rest = IsDistinct-cons eq row.0 (keys_of (filter p rows)) (apart-fewer row.0 p rows (IsDistinct-head eq row.0 (keys_of rows) are)) rest
-      by_test false rest = rest
-
   -- some go
   pub few-kept : (p : K × T → Bool) (rows : List (K × T)) → AreFew eq most rows → AreFew eq most (filter p rows)
-  few-kept p rows are = record { distinct = distinct-fewer p rows are.distinct; few = let le = length-filter p rows in let few = are.few in omega (arith, le, few) }
+  few-kept p rows are = record { distinct = IsDistinct-keys_filter eq p rows are.distinct; few = let le = length-filter p rows in let few = are.few in omega (arith, le, few) }
 
   -- one goes
-  apart-removed : (k : K) (test : K → Bool) (rows : List (K × T)) → AllByRecursion (λ y. eq k y ≡ false) (keys_of rows) → AllByRecursion (λ y. eq k y ≡ false) (keys_of (remove_entry test rows))
-  apart-removed k test [] apart = tt
-  apart-removed k test (row ∷ rows) apart = by_test (test row.0) (apart-removed k test rows apart.1)
-    where
-      by_test : (b : Bool) → AllByRecursion (λ y. eq k y ≡ false) (keys_of (remove_entry test rows)) → AllByRecursion (λ y. eq k y ≡ false) (keys_of (cond b rows (row ∷ remove_entry test rows)))
-      by_test true rest = apart.1
-      by_test false rest = (apart.0, rest)
-
-  distinct-removed : (test : K → Bool) (rows : List (K × T)) → IsDistinct eq (keys_of rows) → IsDistinct eq (keys_of (remove_entry test rows))
-  distinct-removed test [] are = are
-  distinct-removed test (row ∷ rows) are = by_test (test row.0) (distinct-removed test rows (IsDistinct-tail eq row.0 (keys_of rows) are))
-    where
-      by_test : (b : Bool) → IsDistinct eq (keys_of (remove_entry test rows)) → IsDistinct eq (keys_of (cond b rows (row ∷ remove_entry test rows)))
-      by_test true rest = IsDistinct-tail eq row.0 (keys_of rows) are
-      by_test false rest = IsDistinct-cons eq row.0 (keys_of (remove_entry test rows)) (apart-removed row.0 test rows (IsDistinct-head eq row.0 (keys_of rows) are)) rest
-
   length-removed : (test : K → Bool) (rows : List (K × T)) → length (remove_entry test rows) ≤ length rows
   length-removed test [] = omega arith
   length-removed test (row ∷ rows) = by_test (test row.0) (length-removed test rows)
@@ -80,7 +50,7 @@ module _ {K T : Type 0} (eq : K → K → Bool) (most : ℕ) where
       by_test false le = omega (arith, le)
 
   pub few-removed : (test : K → Bool) (rows : List (K × T)) → AreFew eq most rows → AreFew eq most (remove_entry test rows)
-  few-removed test rows are = record { distinct = distinct-removed test rows are.distinct; few = let le = length-removed test rows in let few = are.few in omega (arith, le, few) }
+  few-removed test rows are = record { distinct = distinct_removed eq test rows are.distinct; few = let le = length-removed test rows in let few = are.few in omega (arith, le, few) }
 
   -- one has another value
   length-set : (test : K → Bool) (new : T) (rows : List (K × T)) → length (set_value test rows new) ≡ length rows

@@ -30,7 +30,7 @@ use Rattle.pool_sem.proofs.Counting.{none-among}
 use Rattle.pool_sem.proofs.Freeing as pool-free
 use Rattle.pool_sem.proofs.Serving.{had-once}
 use Rattle.mms_time.specs.Deadlines.{expire_after, without_due}
-use Rattle.mms_time.specs.Loss.{all_changed, lost, without_client}
+use Rattle.mms_time.specs.Loss.{all_changed, lost, semaphore_without}
 use Rattle.mms_time.specs.Semaphores.{IsSound, Rows, changed, changed_row, changed_to, entries_in, entries_of, entry_in}
 use Rattle.mms_time.specs.Services.{ask_of, is_missing, is_zero, place_asked, take_conditions_in, with_take, with_token_back}
 use Rattle.mms_time.specs.declared.row.Semaphore.{Semaphore}
@@ -166,14 +166,14 @@ module _ (s : Semaphore) (now : Moment) where
           none-leaving s now o c.number l.entries
           (subst (λ (n : ℕ). numbered n (without o.number l.entries) ≡ None) (ap (λ (e : SemEntry). e.number) same) (none-without o.number l.entries))
 
-client-none : (client : ℕ) (now : Moment) (s : Semaphore) (n : ℕ) → numbered n (entries_in s) ≡ None → numbered n (entries_in (without_client client now s)) ≡ None
+client-none : (client : ℕ) (now : Moment) (s : Semaphore) (n : ℕ) → numbered n (entries_in s) ≡ None → numbered n (entries_in (semaphore_without client now s)) ≡ None
 client-none client now (Token s) n h =
     all-none (Token s) now (filter (owned_by client) s.entries) (record { entries = filter _ s.entries; grants = [] }) n (none-filter _ n s.entries h)
 client-none client now (Pool p) n h =
     all-none (Pool p) now (filter (owned_by client) p.entries) (record { entries = filter _ p.entries; grants = [] }) n (none-filter _ n p.entries h)
 
 pub client-gone : (client : ℕ) (now : Moment) (s : Semaphore) (c : SemEntry) → Among (entries_in s) c → owned_by client c ≡ true → c.keep ≡ false
-    → numbered c.number (entries_in (without_client client now s)) ≡ None
+    → numbered c.number (entries_in (semaphore_without client now s)) ≡ None
 client-gone client now (Token s) c a owned unkept =
     all-gone (Token s) now (filter (owned_by client) s.entries) (record { entries = filter _ s.entries; grants = [] }) c (among-filter (owned_by client) s.entries c a owned) unkept
 client-gone client now (Pool p) c a owned unkept =
@@ -343,18 +343,18 @@ gone-expired key number now rows y is = by_row (lookup (key_eq key) rows) refl i
         ∙ due-gone number now row.semaphore y g
 
 lost-look : (client : ℕ) (now : Moment) (rows : Rows) (key : Key)
-    → lookup (key_eq key) (lost client now rows) ≡ cond (not (scope_eq key.scope (Association client))) (option_map (changed_row (without_client client now)) (lookup (key_eq key) rows)) None
+    → lookup (key_eq key) (lost client now rows) ≡ cond (not (scope_eq key.scope (Association client))) (option_map (changed_row (semaphore_without client now)) (lookup (key_eq key) rows)) None
 lost-look client now rows key =
     ap (λ (all : Rows). lookup (key_eq key) (filter (λ row. not (scope_eq row.0.scope (Association client))) all)) (sym (each_semaphore client now rows))
     ∙ lookup-filter-keys (key_eq key) (λ x. not (scope_eq x.scope (Association client))) (not (scope_eq key.scope (Association client)))
-    (λ x h. ap (λ (y : Key). not (scope_eq y.scope (Association client))) (sym (key-same key x h))) (all_changed (without_client client now) rows)
-    ∙ ap (λ (o : Option SemaphoreRow). cond (not (scope_eq key.scope (Association client))) o None) (lookup-map_values (changed_row (without_client client now)) (key_eq key) rows)
+    (λ x h. ap (λ (y : Key). not (scope_eq y.scope (Association client))) (sym (key-same key x h))) (all_changed (semaphore_without client now) rows)
+    ∙ ap (λ (o : Option SemaphoreRow). cond (not (scope_eq key.scope (Association client))) o None) (lookup-map_values (changed_row (semaphore_without client now)) (key_eq key) rows)
 
 -- none is there of a semaphore of its association
 pub scope-gone : (client : ℕ) (now : Moment) (rows : Rows) (key : Key) (n : ℕ) → scope_eq key.scope (Association client) ≡ true → entry_in key n (lost client now rows) ≡ None
 scope-gone client now rows key n of =
     ap (in-row n) (lost-look client now rows key)
-    ∙ ap (λ b. in-row n (cond (not b) (option_map (changed_row (without_client client now)) (lookup (key_eq key) rows)) None)) of
+    ∙ ap (λ b. in-row n (cond (not b) (option_map (changed_row (semaphore_without client now)) (lookup (key_eq key) rows)) None)) of
 
 both-none : (b : Bool) (o : Option SemaphoreRow) (n : ℕ) → in-row n o ≡ None → in-row n (cond (not b) o None) ≡ None
 both-none true o n h = refl
@@ -363,9 +363,9 @@ both-none false o n h = h
 pub none-lost : (client : ℕ) (now : Moment) (rows : Rows) (key : Key) (n : ℕ) → entry_in key n rows ≡ None → entry_in key n (lost client now rows) ≡ None
 none-lost client now rows key n h =
     ap (in-row n) (lost-look client now rows key)
-    ∙ both-none (scope_eq key.scope (Association client)) (option_map (changed_row (without_client client now)) (lookup (key_eq key) rows)) n (by_row (lookup (key_eq key) rows) h)
+    ∙ both-none (scope_eq key.scope (Association client)) (option_map (changed_row (semaphore_without client now)) (lookup (key_eq key) rows)) n (by_row (lookup (key_eq key) rows) h)
   where
-    by_row : (o : Option SemaphoreRow) → in-row n o ≡ None → in-row n (option_map (changed_row (without_client client now)) o) ≡ None
+    by_row : (o : Option SemaphoreRow) → in-row n o ≡ None → in-row n (option_map (changed_row (semaphore_without client now)) o) ≡ None
     by_row None g = refl
     by_row (Some row) g = client-none client now row.semaphore n g
 
@@ -374,8 +374,8 @@ pub gone-lost : (client : ℕ) (now : Moment) (rows : Rows) (key : Key) (c : Sem
     → entry_in key c.number (lost client now rows) ≡ None
 gone-lost client now rows key c is owned unkept =
     ap (in-row c.number) (lost-look client now rows key)
-    ∙ both-none (scope_eq key.scope (Association client)) (option_map (changed_row (without_client client now)) (lookup (key_eq key) rows)) c.number (by_row (lookup (key_eq key) rows) is)
+    ∙ both-none (scope_eq key.scope (Association client)) (option_map (changed_row (semaphore_without client now)) (lookup (key_eq key) rows)) c.number (by_row (lookup (key_eq key) rows) is)
   where
-    by_row : (o : Option SemaphoreRow) → in-row c.number o ≡ Some c → in-row c.number (option_map (changed_row (without_client client now)) o) ≡ None
+    by_row : (o : Option SemaphoreRow) → in-row c.number o ≡ Some c → in-row c.number (option_map (changed_row (semaphore_without client now)) o) ≡ None
     by_row None g = absurd (cc g)
     by_row (Some row) g = client-gone client now row.semaphore c (among-find (λ x. x.number == c.number) (entries_of row) c g).0 owned unkept

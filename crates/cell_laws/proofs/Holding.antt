@@ -17,7 +17,7 @@ use Rattle.token_sem.proofs.Keeping as token-keeping
 use Rattle.token_sem.proofs.Serving.{numbered-at}
 use Rattle.pool_sem.proofs.Freeing as pool-free
 use Rattle.mms_time.specs.Deadlines.{expire_after, without_due}
-use Rattle.mms_time.specs.Loss.{lost, without_client}
+use Rattle.mms_time.specs.Loss.{lost, semaphore_without}
 use Rattle.mms_time.specs.Semaphores.{IsSound, Rows, changed, changed_row, changed_to, entries_in, entries_of, entry_in, entry_waits, made_in}
 use Rattle.mms_time.specs.Services.{cancel_after, cancelled, define_after, delete_cause, delete_conditions, deleted, without_entry}
 use Rattle.mms_time.proofs.Defined.{new_row, put_lookup}
@@ -222,14 +222,14 @@ lost-cases client now rows key c sound is holds keeps lasting = by_case (client-
     its : Holder key rows c
     its = holder key rows c sound is
 
-    found : Found key (lost client now rows) (without_client client now its.sem)
+    found : Found key (lost client now rows) (semaphore_without client now its.sem)
     found = record {
-      row = changed_row (without_client client now) its.found.row;
-      there = lost-at key rows client now lasting ∙ ap (option_map (changed_row (without_client client now))) its.found.there;
-      is = ap (without_client client now) its.found.is;
+      row = changed_row (semaphore_without client now) its.found.row;
+      there = lost-at key rows client now lasting ∙ ap (option_map (changed_row (semaphore_without client now))) its.found.there;
+      is = ap (semaphore_without client now) its.found.is;
     }
 
-    by_case : LostIn client c (entries_in (without_client client now its.sem))
+    by_case : LostIn client c (entries_in (semaphore_without client now its.sem))
         → (entry_in key c.number (lost client now rows) ≡ Some c) ⊎ ((entry_in key c.number (lost client now rows) ≡ Some (hung c)) × (owned_by client c ≡ true))
-    by_case (inl h) = inl (there key (lost client now rows) (without_client client now its.sem) c (keeps_lost client now rows sound) found h)
-    by_case (inr h) = inr (there key (lost client now rows) (without_client client now its.sem) (hung c) (keeps_lost client now rows sound) found h.0, h.1)
+    by_case (inl h) = inl (there key (lost client now rows) (semaphore_without client now its.sem) c (keeps_lost client now rows sound) found h)
+    by_case (inr h) = inr (there key (lost client now rows) (semaphore_without client now its.sem) (hung c) (keeps_lost client now rows sound) found h.0, h.1)

@@ -26,7 +26,7 @@ use Rattle.token_sem.proofs.Keeping.{Among}
 use Rattle.token_sem.proofs.Least.{Stands}
 use Rattle.token_sem.proofs.Losing.{owner-not_queued}
 use Rattle.mms_time.specs.Deadlines.{NamedDeadline, expire_after}
-use Rattle.mms_time.specs.Loss.{all_changed, grants_of, keyed, loss_in, lost, lost_grants, sorted_keys, without_client}
+use Rattle.mms_time.specs.Loss.{all_changed, grants_of, keyed, loss_in, lost, lost_grants, semaphore_without, sorted_keys}
 use Rattle.mms_time.specs.Semaphores.{IsSound, Rows, changed_row, entries_in}
 use Rattle.mms_time.specs.declared.row.Semaphore.{Semaphore}
 use Rattle.mms_time.specs.declared.row.Semaphore.TheVariants.{Token, Pool}
@@ -109,13 +109,13 @@ Tells key rows client now t = (token : Option ℕ) (e : SemEntry) → Stands (lo
 
 -- a semaphore that isn't one of its association is by itself as it is among all
 pub lost-at : (key : Key) (rows : Rows) (client : ℕ) (now : Moment) → scope_eq key.scope (Association client) ≡ false
-    → lookup (key_eq key) (lost client now rows) ≡ option_map (changed_row (without_client client now)) (lookup (key_eq key) rows)
+    → lookup (key_eq key) (lost client now rows) ≡ option_map (changed_row (semaphore_without client now)) (lookup (key_eq key) rows)
 lost-at key rows client now lasting =
     ap (λ (all : Rows). lookup (key_eq key) (filter (λ row. not (scope_eq row.0.scope (Association client))) all)) (sym (each_semaphore client now rows))
     ∙ lookup-filter-keys (key_eq key) (λ x. not (scope_eq x.scope (Association client))) (not (scope_eq key.scope (Association client)))
-    (λ x h. ap (λ (y : Key). not (scope_eq y.scope (Association client))) (sym (key-same key x h))) (all_changed (without_client client now) rows)
-    ∙ ap (λ b. cond (not b) (lookup (key_eq key) (all_changed (without_client client now) rows)) None) lasting
-    ∙ lookup-map_values (changed_row (without_client client now)) (key_eq key) rows
+    (λ x h. ap (λ (y : Key). not (scope_eq y.scope (Association client))) (sym (key-same key x h))) (all_changed (semaphore_without client now) rows)
+    ∙ ap (λ b. cond (not b) (lookup (key_eq key) (all_changed (semaphore_without client now) rows)) None) lasting
+    ∙ lookup-map_values (changed_row (semaphore_without client now)) (key_eq key) rows
 
 -- ---- equal tokens
 
@@ -158,9 +158,9 @@ module _ (key : Key) (rows : Rows) (client : ℕ) (now : Moment) (sound : AreSou
 
   then-found : Found key (lost client now rows) (freed owns.owner now (Token has.sem))
   then-found = record {
-    row = changed_row (without_client client now) has.found.row;
-    there = lost-at key rows client now owns.lasting ∙ ap (option_map (changed_row (without_client client now))) has.found.there;
-    is = ap (without_client client now) has.found.is ∙ ap (λ (l : Loss). Token (record has.sem { entries = l.entries })) lost-its;
+    row = changed_row (semaphore_without client now) has.found.row;
+    there = lost-at key rows client now owns.lasting ∙ ap (option_map (changed_row (semaphore_without client now))) has.found.there;
+    is = ap (semaphore_without client now) has.found.is ∙ ap (λ (l : Loss). Token (record has.sem { entries = l.entries })) lost-its;
   }
 
   granted-there : (e : SemEntry) → next_of None has.sem.entries ≡ Some e → Stands (lost_granted client now rows) (granted rows (key, grant_of None e))

@@ -20,7 +20,7 @@ use Rattle.token_sem.proofs.Losing.{Each, each-owned, owner-not_queued, rises-fi
 use Rattle.pool_sem.specs.Pools.{IsPool, Pool as NamedTokens, after_leaving, grant_leaving, loss_of_one}
 use Rattle.pool_sem.proofs.Losing.{one-lost, unqueued}
 use Rattle.mms_time.specs.Deadlines.{NamedDeadline, expire_after}
-use Rattle.mms_time.specs.Loss.{grants_of, loss_in, lost, without_client}
+use Rattle.mms_time.specs.Loss.{grants_of, loss_in, lost, semaphore_without}
 use Rattle.mms_time.specs.Semaphores.{IsSound, Rows, changed_row, changed_to, entries_of}
 use Rattle.mms_time.specs.declared.row.Semaphore.{Semaphore}
 use Rattle.mms_time.specs.declared.row.Semaphore.TheVariants.{Token, Pool}
@@ -171,17 +171,17 @@ module _ (key : Key) (rows : Rows) (client : ℕ) (now : Moment) (first : List S
 
 -- ---- the last of them
 
-one-last : (client : ℕ) (now : Moment) (row : SemaphoreRow) → changed_row (without_client client now) row ≡ changed_row (with_lost client now (filter (owned_by client) (entries_of row))) row
+one-last : (client : ℕ) (now : Moment) (row : SemaphoreRow) → changed_row (semaphore_without client now) row ≡ changed_row (with_lost client now (filter (owned_by client) (entries_of row))) row
 one-last client now row = in_semaphore row.semaphore refl
   where
     in_semaphore : (t : Semaphore) → row.semaphore ≡ t
-        → changed_row (without_client client now) row ≡ changed_row (with_lost client now (filter (owned_by client) (entries_of row))) row
+        → changed_row (semaphore_without client now) row ≡ changed_row (with_lost client now (filter (owned_by client) (entries_of row))) row
     in_semaphore t same =
-        ap (λ (s : Semaphore). changed_row (without_client client now) (record row { semaphore = s })) same
+        ap (λ (s : Semaphore). changed_row (semaphore_without client now) (record row { semaphore = s })) same
         ∙ by_kind t
         ∙ sym (ap (λ (s : Semaphore). changed_row (with_lost client now (filter (owned_by client) (entries_of (record row { semaphore = s })))) (record row { semaphore = s })) same)
       where
-        by_kind : (s : Semaphore) → changed_row (without_client client now) (record row { semaphore = s })
+        by_kind : (s : Semaphore) → changed_row (semaphore_without client now) (record row { semaphore = s })
             ≡ changed_row (with_lost client now (filter (owned_by client) (entries_of (record row { semaphore = s })))) (record row { semaphore = s })
         by_kind (Token x) = refl
         by_kind (Pool x) = refl
@@ -191,7 +191,7 @@ pub lost-last : (client : ℕ) (now : Moment) (key : Key) (rows : Rows) → scop
 lost-last client now key rows lasting = lost-at key rows client now lasting ∙ by_row (lookup (key_eq key) rows) refl
   where
     by_row : (o : Option SemaphoreRow) → lookup (key_eq key) rows ≡ o
-        → option_map (changed_row (without_client client now)) o ≡ lookup (key_eq key) (lost_so_far client now (filter (owned_by client) (entries_found o)) key rows)
+        → option_map (changed_row (semaphore_without client now)) o ≡ lookup (key_eq key) (lost_so_far client now (filter (owned_by client) (entries_found o)) key rows)
     by_row None e = sym e ∙ ap (λ (o : Option SemaphoreRow). lookup (key_eq key) (changed_to o (with_lost client now []) key rows)) (sym e)
     by_row (Some row) e = ap Some (one-last client now row) ∙ sym (row-changed (with_lost client now (filter (owned_by client) (entries_of row))) key rows row e)
 

@@ -53,11 +53,11 @@ use Rattle.cell_laws.proofs.Queues.{asker_in, rise}
 
 -- ---- whose requests are answered where a deadline is met
 
-abbrev Asked : Rows → Key → ℕ → Expired → Type 0
+abbrev pub Asked : Rows → Key → ℕ → Expired → Type 0
 Asked rows key number x = (x.waited ≡ true → asker rows key number ≡ Some (x.client, x.invoke))
     × (x.waited ≡ false → (g : Grant) → Stands (option_to_list x.grant) g → asker rows key g.entry ≡ Some (g.client, g.invoke))
 
-met-asks : (rows : Rows) → AreSound rows → (key : Key) (number : ℕ) (x : Expired) → expired key number rows ≡ Some x → Asked rows key number x
+pub met-asks : (rows : Rows) → AreSound rows → (key : Key) (number : ℕ) (x : Expired) → expired key number rows ≡ Some x → Asked rows key number x
 met-asks rows sound key number x is = by_row (lookup (key_eq key) rows) refl is
   where
     in_semaphore : (s : Semaphore) → IsSound s → (o : Option SemEntry) → numbered number (entries_in s) ≡ o → expired_entry s o ≡ Some x

@@ -15,7 +15,7 @@ use Rattle.pool_sem.specs.Pools as pool
 use Rattle.pool_sem.specs.declared.outcome.PoolOutcome.{PoolOutcome}
 use Rattle.pool_sem.specs.declared.outcome.PoolOutcome.TheVariants as pooled
 use Rattle.pool_sem.proofs.Freeing as pool-free
-use Rattle.mms_time.specs.Loss.{without_client}
+use Rattle.mms_time.specs.Loss.{semaphore_without}
 use Rattle.mms_time.specs.Semaphores.{IsSound, entries_in}
 use Rattle.mms_time.specs.Services.{ask_of, place_asked, with_take, with_token_back, without_entry}
 use Rattle.mms_time.specs.declared.row.Semaphore.{Semaphore}
@@ -195,7 +195,7 @@ owners-stay v is sp made client now es c rises a holds keeps =
     turned new (inr h) = inr (h.0, (it h.1.0 h.1.1 h.1.2).1)
 
 pub client-stays : (client : ℕ) (now : Moment) (s : Semaphore) (c : SemEntry) → IsSound s → Among (entries_in s) c → is_queued c ≡ false → (owned_by client c ≡ true → c.keep ≡ true)
-    → LostIn client c (entries_in (without_client client now s))
+    → LostIn client c (entries_in (semaphore_without client now s))
 client-stays client now (Token s) c is a holds keeps = owners-stay of_equal (freeing (Token s)) (sparing (Token s)) s.made client now s.entries c is.rises a holds keeps
 client-stays client now (Pool p) c is a holds keeps = owners-stay of_named (freeing (Pool p)) (sparing (Pool p)) p.made client now p.entries c is.rises a holds keeps
 

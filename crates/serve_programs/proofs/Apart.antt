@@ -1,14 +1,15 @@
 -- No two program invocations have one name, whatever is done to them.
-use Rattle.std.proofs.Common.{◌≡◌, ◌∙◌, ℕ, Bool, true, false, cond, List, [], ◌∷◌, Option, None, Some, is_some, refl, ap, sym, subst}
-use Rattle.std.specs.List.{AllByRecursion, IsDistinct}
-use Rattle.std.specs.Map.{keys_of, remove_entry, set_value}
+use Rattle.std.proofs.Common.{◌≡◌, ◌∙◌, ℕ, List, [], ◌∷◌, Option, None, Some, is_some, refl, ap, sym, subst}
+use Rattle.std.specs.List.{IsDistinct}
+use Rattle.std.specs.Map.{keys_of, set_value}
 use Rattle.std.specs.Option.{option_map_or}
 use Rattle.std.proofs.lemmas.Cmp.{nat_list_eq_equiv}
 use Rattle.std.proofs.lemmas.List.{map-append}
 use Rattle.std.proofs.lemmas.Map.{keys-set_value}
-use Rattle.std.proofs.lemmas.Map.Keys.{IsDistinct-cons, IsDistinct-head, IsDistinct-push, IsDistinct-tail}
+use Rattle.std.proofs.lemmas.Map.Keys.{IsDistinct-push}
 use Rattle.std.proofs.lemmas.Map.Made.{is_some-lookup}
 use Rattle.mms_types.specs.declared.invocation.CreateProgramInvocation.{CreateProgramInvocation}
+use Rattle.object_names.proofs.Distinct.{distinct_removed}
 use Rattle.domain_load.specs.Domains.{Rows as DomainRows, name_eq}
 use Rattle.program_inv.specs.Programs.{Rows, after_create, after_delete, changed, create_cause, made, named}
 use Rattle.program_inv.specs.declared.invocation.Invocation.{Invocation}
@@ -36,27 +37,5 @@ keys_changed name f programs = by_found (named name programs)
     by_found None = refl
     by_found (Some p) = keys-set_value (name_eq name) programs (f p)
 
-others_left : (test : List ℕ → Bool) (name : List ℕ) (programs : Rows) → AllByRecursion (λ y. name_eq name y ≡ false) (keys_of programs)
-    → AllByRecursion (λ y. name_eq name y ≡ false) (keys_of (remove_entry test programs))
-others_left test name [] all = tt
-others_left test name (p ∷ programs) all = by_test (test p.0) (others_left test name programs all.1)
-  where
-    by_test : (b : Bool) → AllByRecursion (λ y. name_eq name y ≡ false) (keys_of (remove_entry test programs))
-        → AllByRecursion (λ y. name_eq name y ≡ false) (keys_of (cond b programs (p ∷ remove_entry test programs)))
-    by_test true rest = all.1
-    by_test false rest = (all.0, rest)
-
-left_named : (test : List ℕ → Bool) (programs : Rows) → HaveNames programs → HaveNames (remove_entry test programs)
-left_named test [] names = names
-left_named test (p ∷ programs) names = by_test (test p.0) (left_named test programs rest)
-  where
-    rest : HaveNames programs
-    rest = IsDistinct-tail name_eq p.0 (keys_of programs) names
-
-    by_test : (b : Bool) → HaveNames (remove_entry test programs) → HaveNames (cond b programs (p ∷ remove_entry test programs))
-    by_test true left = rest
-    by_test false left =
-        IsDistinct-cons name_eq p.0 (keys_of (remove_entry test programs)) (others_left test p.0 programs (IsDistinct-head name_eq p.0 (keys_of programs) names)) left
-
 pub deleted_named : (name : List ℕ) (programs : Rows) → HaveNames programs → HaveNames (after_delete name programs)
-deleted_named name programs names = left_named (name_eq name) programs names
+deleted_named name programs names = distinct_removed name_eq (name_eq name) programs names

@@ -1,17 +1,18 @@
 -- No two domains have one name, whatever is done to them.
-use Rattle.std.proofs.Common.{◌≡◌, ◌∙◌, ℕ, Bool, true, false, cond, List, [], ◌∷◌, Option, None, Some, is_some, ap, sym, subst}
+use Rattle.std.proofs.Common.{◌≡◌, ◌∙◌, ℕ, Bool, true, false, List, [], ◌∷◌, Option, None, Some, is_some, ap, sym, subst}
 use Rattle.std.specs.Prelude.{if◌then◌else◌, length, not}
-use Rattle.std.specs.List.{AllByRecursion, IsDistinct, list_any}
-use Rattle.std.specs.Map.{keys_of, remove_entry, set_value}
+use Rattle.std.specs.List.{IsDistinct, list_any}
+use Rattle.std.specs.Map.{keys_of, set_value}
 use Rattle.std.specs.Option.{option_map_or}
 use Rattle.std.proofs.lemmas.Cmp.{nat_list_eq_equiv}
 use Rattle.std.proofs.lemmas.List.{map-append}
 use Rattle.std.proofs.lemmas.Map.{keys-set_value}
-use Rattle.std.proofs.lemmas.Map.Keys.{IsDistinct-cons, IsDistinct-head, IsDistinct-push, IsDistinct-tail}
+use Rattle.std.proofs.lemmas.Map.Keys.{IsDistinct-push}
 use Rattle.std.proofs.lemmas.Map.Made.{IsDistinct-keys_filter, is_some-lookup}
 use Rattle.mms_types.specs.declared.asked.Reply.{Reply}
 use Rattle.mms_types.specs.declared.asked.Reply.TheVariants as reply
 use Rattle.mms_types.specs.declared.domain.InitiateDownloadSequence.{InitiateDownloadSequence}
+use Rattle.object_names.proofs.Distinct.{distinct_removed}
 use Rattle.domain_load.specs.Domains.{Rows, is_there, name_eq, named, without, without_loads}
 use Rattle.domain_load.specs.Loading.{begun, changed, initiate_after, initiate_cause, loaded, reply_after, with_segment, would_pass}
 use Rattle.domain_load.specs.Standing.{is_loaded_by}
@@ -32,30 +33,8 @@ begun_names client left request domains none names =
     subst (λ (l : List (List ℕ)). IsDistinct name_eq l) (sym (map-append (λ (e : List ℕ × Domain). e.0) domains ((request.domain, begun client request) ∷ [])))
     (IsDistinct-push nat_list_eq_equiv (keys_of domains) request.domain names (none_named request.domain domains (nothing_against left request domains none).0))
 
-others_left : (test : List ℕ → Bool) (name : List ℕ) (domains : Rows) → AllByRecursion (λ y. name_eq name y ≡ false) (keys_of domains)
-    → AllByRecursion (λ y. name_eq name y ≡ false) (keys_of (remove_entry test domains))
-others_left test name [] all = tt
-others_left test name (d ∷ domains) all = by_test (test d.0) (others_left test name domains all.1)
-  where
-    by_test : (b : Bool) → AllByRecursion (λ y. name_eq name y ≡ false) (keys_of (remove_entry test domains))
-        → AllByRecursion (λ y. name_eq name y ≡ false) (keys_of (cond b domains (d ∷ remove_entry test domains)))
-    by_test true rest = all.1
-    by_test false rest = (all.0, rest)
-
-left_names : (test : List ℕ → Bool) (domains : Rows) → HaveNames domains → HaveNames (remove_entry test domains)
-left_names test [] names = names
-left_names test (d ∷ domains) names = by_test (test d.0) (left_names test domains rest)
-  where
-    rest : HaveNames domains
-    rest = IsDistinct-tail name_eq d.0 (keys_of domains) names
-
-    by_test : (b : Bool) → HaveNames (remove_entry test domains) → HaveNames (cond b domains (d ∷ remove_entry test domains))
-    by_test true left = rest
-    by_test false left =
-        IsDistinct-cons name_eq d.0 (keys_of (remove_entry test domains)) (others_left test d.0 domains (IsDistinct-head name_eq d.0 (keys_of domains) names)) left
-
 pub deleted_names : (name : List ℕ) (domains : Rows) → HaveNames domains → HaveNames (without name domains)
-deleted_names name domains names = left_names (name_eq name) domains names
+deleted_names name domains names = distinct_removed name_eq (name_eq name) domains names
 
 pub lost_names : (client : ℕ) (domains : Rows) → HaveNames domains → HaveNames (without_loads client domains)
 lost_names client domains names = IsDistinct-keys_filter name_eq (λ row. not (is_loaded_by client row.1)) domains names

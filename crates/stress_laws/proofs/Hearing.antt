@@ -1,9 +1,7 @@
 -- A request that is taken is answered by one PDU, or waits, and who is granted a token by it is answered by one.
-use Rattle.std.proofs.Common.{◌≡◌, ℕ, inl, inr, Bool, true, false, nat_lt, List, [], ◌∷◌, ◌++◌, Option, None, Some, is_some, option_map, option_to_list, Result, Ok, Err, if◌then◌else◌, refl, sym, ◌∙◌, ap, subst, arith}
+use Rattle.std.proofs.Common.{◌≡◌, ℕ, inl, Bool, true, false, nat_lt, List, [], ◌∷◌, ◌++◌, Option, None, Some, is_some, option_to_list, Result, Ok, Err, if◌then◌else◌, refl, sym, ◌∙◌, subst, arith}
 use Rattle.std.specs.Map.{lookup}
-use Rattle.mms_types.specs.Errors.{first_of}
 use Rattle.mms_types.specs.Order.{key_eq, key_of}
-use Rattle.mms_types.specs.declared.key.Key.{Key}
 use Rattle.mms_types.specs.declared.pdu.Answer.{Answer}
 use Rattle.mms_types.specs.declared.pdu.Answer.TheVariants as answer
 use Rattle.mms_types.specs.declared.pdu.Pdu.{Pdu}
@@ -21,18 +19,13 @@ use Rattle.association.specs.declared.negotiation.Negotiated.{Negotiated}
 use Rattle.association.specs.declared.waiting.Waiting.{Waiting}
 use Rattle.association.specs.Admission.{admission}
 use Rattle.association.specs.Client.{ClientRow}
-use Rattle.token_sem.specs.declared.entry.Grant.{Grant}
 use Rattle.token_sem.proofs.Least.{Stands}
-use Rattle.mms_time.specs.Semaphores.{Rows}
-use Rattle.mms_time.specs.Services.{relinquish_cause, relinquish_conditions, relinquish_grant_in, relinquish_grant_of, take_cause, take_conditions, take_told, take_told_of}
-use Rattle.mms_time.specs.declared.row.SemaphoreRow.{SemaphoreRow}
+use Rattle.mms_time.specs.Services.{relinquish_cause, take_cause, take_told}
 use Rattle.mms_time.specs.declared.taking.TakeDone.{TakeDone}
 use Rattle.mms_time.specs.declared.taking.TakeDone.TheVariants as taken
 use Rattle.parted_state.specs.Served.{delivered, row_at}
 use Rattle.sem_ticks.specs.Granted.{relinquish_granted}
-use Rattle.sem_ticks.specs.Sound.{AreSound}
 use Rattle.sem_ticks.specs.declared.granted.Granted.{Granted}
-use Rattle.sem_ticks.proofs.Kept.{row_found}
 use Rattle.cell_client.specs.Association.{Verdict, Takes, admitted, confirmed_error, other_error, requested, sends}
 use Rattle.cell_client.specs.Effects.{Effect, Waits, tell}
 use Rattle.cell_services.specs.Services.{cause, effect, grants_told, relinquish_outcome, take_outcome}
@@ -42,11 +35,10 @@ use Rattle.cell_services.specs.Tables.{Tables}
 use Rattle.step_parts.specs.Partition.{cell}
 use Rattle.step_parts.specs.State.{State, IsSound}
 use Rattle.cell_laws.specs.Linked.{asker}
+use Rattle.cell_laws.proofs.Answering.{given-asks, relinquish-there, take-there}
 use Rattle.cell_laws.proofs.Bound.{Bound}
-use Rattle.cell_laws.proofs.Bounds.{given-back, told_of}
 use Rattle.cell_laws.proofs.Hears.{IsAdmitted, RowsDistinct, admitted-open, distinct-told, reached-still, waits_in}
 use Rattle.cell_laws.proofs.Linking.{numbered-client}
-use Rattle.cell_laws.proofs.Queues.{asker_in}
 use Rattle.stress_laws.proofs.Balance.{Even, Steady, even-both, even-grant, even-none, even-sends, even-waits, of_client, steady-both}
 
 -- the requests of the trial are of these services
@@ -57,44 +49,6 @@ IsOfTrial (request.DefineSemaphore x) = Unit {0}
 IsOfTrial (request.TakeControl x) = Unit {0}
 IsOfTrial (request.RelinquishControl x) = Unit {0}
 IsOfTrial asked = ⊥
-
--- ---- a request that isn't refused has an answer, or waits
-
-take-there : (client : ℕ) (x : TakeControl) (o : Option SemaphoreRow) → first_of (take_conditions client x o) ≡ None → take_told_of x o ≡ None → ⊥
-take-there client x None h g = cc h
-take-there client x (Some row) h g = cc g
-
-abbrev relinquish_given : Rows → ℕ → RelinquishControl → Option SemaphoreRow → Option (Option Granted)
-relinquish_given rows client x o = option_map (told_of rows (key_of client x.name)) (relinquish_grant_of client x o)
-
-relinquish-there : (rows : Rows) (client : ℕ) (x : RelinquishControl) (o : Option SemaphoreRow) → first_of (relinquish_conditions client x o) ≡ None → relinquish_given rows client x o ≡ None → ⊥
-relinquish-there rows client x None h g = cc h
-relinquish-there rows client x (Some row) h g = cc g
-
--- who is granted a token that is given back is queued
-given-asks : (rows : Rows) → AreSound rows → (client : ℕ) (x : RelinquishControl) (o : Option Granted) → relinquish_granted client x rows ≡ Some o
-    → (g : Granted) → Stands (option_to_list o) g → (entry : ℕ) × (asker rows (key_of client x.name) entry ≡ Some (g.client, g.invoke))
-given-asks rows sound client x o is g s = by_row (lookup (key_eq key) rows) refl is
-  where
-    key : Key
-    key = key_of client x.name
-
-    by_grant : (row : SemaphoreRow) → lookup (key_eq key) rows ≡ Some row → (p : Option Grant) → relinquish_grant_in client x row.semaphore ≡ p
-        → Stands (option_to_list (told_of rows key p)) g → (entry : ℕ) × (asker rows key entry ≡ Some (g.client, g.invoke))
-    by_grant row e None f t = absurd t
-    by_grant row e (Some gr) f (inl same) = (
-      gr.entry,
-      ap (asker_in gr.entry) e
-          ∙ (given-back client x (record { 0 = 0 }) row.semaphore (row_found rows key row sound.each e)).each gr (subst (λ (q : Option Grant). Stands (option_to_list q) gr) (sym f) (inl refl))
-          ∙ ap (λ (y : Granted). Some (y.client, y.invoke)) same,
-    )
-    by_grant row e (Some gr) f (inr t) = absurd t
-
-    by_row : (p : Option SemaphoreRow) → lookup (key_eq key) rows ≡ p → relinquish_given rows client x p ≡ Some o → (entry : ℕ) × (asker rows key entry ≡ Some (g.client, g.invoke))
-    by_row None e h = absurd (cc h)
-    by_row (Some row) e h =
-        let same : told_of rows key (relinquish_grant_in client x row.semaphore) ≡ o = cc h in
-        by_grant row e (relinquish_grant_in client x row.semaphore) refl (subst (λ (p : Option Granted). Stands (option_to_list p) g) (sym same) s)
 
 -- ---- what is heard
 

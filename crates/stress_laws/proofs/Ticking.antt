@@ -1,19 +1,13 @@
 -- Time that goes by sends one PDU to each whose request waits no more, and ends no association.
-use Rattle.std.proofs.Common.{◌≡◌, ℕ, inl, Bool, true, false, cond, List, [], ◌∷◌, ◌++◌, append-nil, Option, None, Some, option_and_then, option_to_list, if◌then◌else◌, refl, sym, ◌∙◌, ap, subst, arith}
-use Rattle.std.specs.Map.{lookup}
-use Rattle.mms_types.specs.Order.{key_eq}
+use Rattle.std.proofs.Common.{◌≡◌, ℕ, inl, Bool, true, false, List, [], ◌∷◌, ◌++◌, append-nil, Option, None, Some, option_to_list, if◌then◌else◌, refl, sym, ◌∙◌, ap, subst, arith}
 use Rattle.mms_types.specs.declared.key.Key.{Key}
 use Rattle.mms_types.specs.declared.moment.Moment.{Moment}
 use Rattle.association.specs.Client.{ClientRow}
 use Rattle.token_sem.specs.declared.entry.Expired.{Expired}
 use Rattle.token_sem.specs.declared.entry.Grant.{Grant}
-use Rattle.token_sem.specs.declared.entry.SemEntry.{SemEntry}
-use Rattle.token_sem.specs.Semaphore.{numbered}
 use Rattle.token_sem.proofs.Least.{Stands}
-use Rattle.mms_time.specs.Deadlines.{NamedDeadline, expired, expired_entry, expired_from, expired_in, expire_after}
-use Rattle.mms_time.specs.Semaphores.{IsSound, Rows, entries_in, entries_of}
-use Rattle.mms_time.specs.declared.row.Semaphore.{Semaphore}
-use Rattle.mms_time.specs.declared.row.SemaphoreRow.{SemaphoreRow}
+use Rattle.mms_time.specs.Deadlines.{NamedDeadline, expired, expire_after}
+use Rattle.mms_time.specs.Semaphores.{Rows}
 use Rattle.parted_state.specs.Served.{delivered}
 use Rattle.sem_ticks.specs.Granted.{granted}
 use Rattle.sem_ticks.specs.Sound.{AreSound}
@@ -21,7 +15,6 @@ use Rattle.sem_ticks.specs.Ticks.{abort_told, after_abort, expiry_told, met_as}
 use Rattle.sem_ticks.specs.Ticks as ticks
 use Rattle.sem_ticks.specs.declared.ticks.Happening.{Happening}
 use Rattle.sem_ticks.specs.declared.ticks.Happening.TheVariants as happens
-use Rattle.sem_ticks.proofs.Kept.{row_found}
 use Rattle.event_cond.specs.Conditions as cond_rows
 use Rattle.event_cond.specs.Skips.{Saying}
 use Rattle.cell_ticks.specs.Ticks.{Ticking, aborted, evaluated, ticked_on, with_semaphores, without_clients}
@@ -29,47 +22,14 @@ use Rattle.cell_client.specs.Association.{confirmed_error, timeout_error}
 use Rattle.cell_client.specs.Effects.{Effect}
 use Rattle.cell_services.specs.Serving.{all_told}
 use Rattle.step_parts.specs.Partition.{cell}
-use Rattle.cell_laws.specs.Linked.{asker, asker_of}
+use Rattle.cell_laws.specs.Linked.{asker}
 use Rattle.cell_laws.proofs.Bound.{Bound}
-use Rattle.cell_laws.proofs.Entries.{asker_at, leaving}
 use Rattle.cell_laws.proofs.Happened.{at_semaphores, from_rows, keeps-ticked, sem_told, then-told}
 use Rattle.cell_laws.proofs.Hears.{RowsDistinct, distinct-told, waits_in}
 use Rattle.cell_laws.proofs.Linking.{OnDevice, device-evaluated, device-met}
-use Rattle.cell_laws.proofs.Meetings.{due-frees, expiry-is, expiry_by}
-use Rattle.cell_laws.proofs.Queues.{asker_in}
+use Rattle.cell_laws.proofs.Passing.{met-asks}
 use Rattle.stress_laws.proofs.Balance.{Even, Steady, even-answered, even-both, even-grant, even-none, steady-both}
 use Rattle.stress_laws.proofs.Soon.{RowsSoon, met_spares, soon_expired}
-
--- ---- whose requests are answered where a deadline is met
-
-abbrev Asked : Rows → Key → ℕ → Expired → Type 0
-Asked rows key number x = (x.waited ≡ true → asker rows key number ≡ Some (x.client, x.invoke))
-    × (x.waited ≡ false → (g : Grant) → Stands (option_to_list x.grant) g → asker rows key g.entry ≡ Some (g.client, g.invoke))
-
-met-asks : (rows : Rows) → AreSound rows → (key : Key) (number : ℕ) (x : Expired) → expired key number rows ≡ Some x → Asked rows key number x
-met-asks rows sound key number x is = by_row (lookup (key_eq key) rows) refl is
-  where
-    in_semaphore : (s : Semaphore) → IsSound s → (o : Option SemEntry) → numbered number (entries_in s) ≡ o → expired_entry s o ≡ Some x
-        → (x.waited ≡ true → asker_at number (entries_in s) ≡ Some (x.client, x.invoke))
-        × (x.waited ≡ false → (g : Grant) → Stands (option_to_list x.grant) g → asker_at g.entry (entries_in s) ≡ Some (g.client, g.invoke))
-    in_semaphore s is_sound None e h = absurd (cc h)
-    in_semaphore s is_sound (Some e) at h =
-        let from : expired_from e s ≡ x = cc h in
-        let same : expiry_by (leaving s) e (entries_in s) ≡ x = sym (expiry-is e s) ∙ from in
-        subst (λ (y : Expired). (y.waited ≡ true → asker_at number (entries_in s) ≡ Some (y.client, y.invoke))
-        × (y.waited ≡ false → (g : Grant) → Stands (option_to_list y.grant) g → asker_at g.entry (entries_in s) ≡ Some (g.client, g.invoke))) same (
-          λ q. ap asker_of at ∙ ap (λ t. cond t (Some (e.client, e.invoke)) None) q,
-          λ q g t. (due-frees s number (record { 0 = 0 }) e is_sound at q).each g
-              (subst (λ (b : Bool). Stands (option_to_list (if b then None else (leaving s).heir e (entries_in s))) g) q t),
-        )
-
-    by_row : (p : Option SemaphoreRow) → lookup (key_eq key) rows ≡ p → option_and_then (expired_in number) p ≡ Some x
-        → (x.waited ≡ true → asker rows key number ≡ Some (x.client, x.invoke))
-        × (x.waited ≡ false → (g : Grant) → Stands (option_to_list x.grant) g → asker rows key g.entry ≡ Some (g.client, g.invoke))
-    by_row None e h = absurd (cc h)
-    by_row (Some row) e h =
-        let found = in_semaphore row.semaphore (row_found rows key row sound.each e) (numbered number (entries_of row)) refl h in
-        (λ q. ap (asker_in number) e ∙ found.0 q, λ q g t. ap (asker_in g.entry) e ∙ found.1 q g t)
 
 -- ---- one deadline is met
 
