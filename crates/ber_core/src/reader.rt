@@ -294,7 +294,7 @@ pub fn first_element(lengths: Lengths, bytes: &[u8]) -> Result<(Element<'_>, &[u
     ensures short { IsErrOf result BerError.Short ↔ EndsEarly lengths bytes.now }
     ensures no_other { IfErr result (λ e. e ≢ BerError.BadContents) }
 
-    // The same, computed.
+    // All of it at once, by the reading as it is computed.
     ensures exact { MatchResult result (λ x. element_at lengths bytes.now ≡ Ok (part x.0, x.1.now))
         (λ e. element_at lengths bytes.now ≡ Err e) }
     ensures shorter { IfOk result (λ x. length x.1.now < length bytes.now) }
@@ -356,7 +356,7 @@ impl<'a> Reader<'a> {
         ensures short { IsErrOf result BerError.Short ↔ EndsEarly self.old.lengths self.old.octets }
         ensures no_other { IfErr result (λ e. e ≢ BerError.BadContents) }
 
-        // The same, computed.
+        // All of it at once, by the reading as it is computed.
         ensures exact { MatchResult result
             (λ e. element_at self.old.lengths self.old.octets ≡ Ok (part e, self.new.octets))
             (λ e. element_at self.old.lengths self.old.octets ≡ Err e) }

@@ -364,7 +364,7 @@ fn push_integer(bytes: &mut Vec<u8>, n: i64)
     }
 }
 
-/// The same of a number from 0.
+/// Appends how many octets a number from 0 has, and these.
 fn push_natural(bytes: &mut Vec<u8>, n: u64)
     requires room { vec_len bytes.old + 9 ≤ vec_capacity bytes.old }
     ensures items { bytes.new.items ≡ bytes.old.items ++ length (digits 128 8 n) ∷ digits 128 8 n }
@@ -373,7 +373,7 @@ fn push_natural(bytes: &mut Vec<u8>, n: u64)
     push_digits(bytes, 128, 8, n);
 }
 
-/// The same of a number below 0, whose complement is given.
+/// Appends how many octets a number below 0 has, and these. Its complement is given.
 fn push_negative(bytes: &mut Vec<u8>, complement: u64)
     requires room { vec_len bytes.old + 9 ≤ vec_capacity bytes.old }
     ensures items { bytes.new.items

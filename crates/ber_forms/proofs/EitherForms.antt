@@ -114,7 +114,7 @@ there_carries c d same ps cut = by_depth same.depth same.is
 back_carries : Carries Either Either IsAnew
 back_carries c d same ps cut = by_depth same.depth same.is
   where
-    -- the same octets
+    -- octets that stay as they are
     kept : c ≡ d → (qs : List Part) × AreSameParts Either Either IsAnew ps qs × IsCut Either d qs
     kept is =
         let here = subst (λ (s : List ℕ). IsCut Either s ps) is cut in

@@ -27,7 +27,8 @@ impl<'a> Cursor<'a> {
         integer(element.contents, low, high)
     }
 
-    /// The same where the next element has that tag, and None where it has another or there is none.
+    /// An integer as `required_integer` has it, where the next element has that tag, and None where it has another or
+    /// there is none.
     #[tactic(auto, unfolding(crate::specs::Reading::optional_by))]
     pub fn optional_integer(
         &mut self,
@@ -48,7 +49,7 @@ impl<'a> Cursor<'a> {
         }
     }
 
-    /// The same, and `default` where it is missing.
+    /// An integer as `optional_integer` has it, and `default` where it is missing.
     #[tactic(auto, unfolding(crate::specs::Reading::defaulting))]
     pub fn defaulted_integer(
         &mut self,
@@ -124,7 +125,7 @@ impl<'a> Cursor<'a> {
         unsigned8_in(element.contents, low, high)
     }
 
-    /// The same, and `default` where it is missing.
+    /// A number as `required_u8_in` has it, and `default` where it is missing.
     #[tactic(auto, unfolding(crate::specs::Reading::optional_by, crate::specs::Reading::defaulting))]
     pub fn defaulted_u8_in(
         &mut self,

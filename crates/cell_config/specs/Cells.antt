@@ -37,7 +37,7 @@ abbrev pub are_distinct : {X : Type 0} → (X → X → Bool) → List X → Boo
 are_distinct equal [] = true
 are_distinct equal (x ∷ xs) = not (list_any (equal x) xs) && are_distinct equal xs
 
--- the same octets
+-- two names have the same octets
 abbrev pub same_name : List ℕ → List ℕ → Bool
 same_name = pointwise nat_eq
 

@@ -47,7 +47,7 @@ told_same : {T : Type 0} (f g : List (List ℕ) → Place → T) (p : Place) (t 
 told_same f g p None e = tt
 told_same f g p (Some text) e = ap Some (sym (e (lines_of text) p))
 
--- the same is said of all lines
+-- what two readings say alike of all lines they say alike of those that follow
 pub follows_told : {T : Type 0} (f g : List (List ℕ) → Place → T) (held : Held) (p : Place) (left : Option (List ℕ)) → ((lines : List (List ℕ)) (q : Place) → f lines q ≡ g lines q)
     → Follows (record { says = f; held = held; place = p; left = left }) (λ r. r) (record { says = g; held = held; place = p; left = left })
 follows_told f g held p left e = record {

@@ -64,7 +64,7 @@ leads_then {T} f g k h i j a b c p q s left left' left'' e x y = λ last end r z
 pub leads_begun : {T : Type 0} (f : List (List ℕ) → Place → T) (a : Held) (p : Place) (left : Option (List ℕ)) → Leads f a p left (λ r. r) f a p left
 leads_begun f a p left = λ last end r z. z
 
--- the same is said of all lines
+-- what two readings say alike of all lines leads to the same
 pub leads_told : {T : Type 0} (f g : List (List ℕ) → Place → T) (a : Held) (p : Place) (left : Option (List ℕ)) → ((lines : List (List ℕ)) (q : Place) → f lines q ≡ g lines q)
     → Leads f a p left (λ r. r) g a p left
 leads_told {T} f g a p left e = λ last end r z. record { unended = z.unended; reads = λ tail t. at tail end r (ahead a left) (z.reads tail t) }

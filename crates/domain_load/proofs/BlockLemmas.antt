@@ -190,7 +190,7 @@ appended bs fresh octets front back k blocks least is_front is_back joined new n
         let h : length octets ≤ k = grind (arith, nat_tests, e, least) in
         absurd (there (none (is_back ∙ drop_all k octets h)))
 
--- the same of what holds them
+-- what holds blocks has the new octets behind those that it had
 pub appended_to : {V : Type 0} (f : V → List ℕ) (kept full fresh new : List V) (octets front back : List ℕ) (k : ℕ)
     → new ≡ full ++ fresh → map f full ≡ filled front (map f kept) → AreBlocks (map f kept) → k ≡ min (room (map f kept)) (length octets)
     → front ≡ take k octets → back ≡ drop k octets → concat (map f fresh) ≡ back → AreBlocks (map f fresh) → (back ≡ [] → fresh ≡ [])

@@ -24,7 +24,7 @@ next_of c = next_of_class c.class
 abbrev pub next_named : Key → Rows → Option Moment
 next_named key rows = option_and_then next_of (named key rows)
 
--- the same with the name that it borrows
+-- an evaluation, by the name that it borrows
 abbrev pub evaluation_meant : Moment × Bor Key → Moment × Key
 evaluation_meant e = (e.0, e.1.now)
 

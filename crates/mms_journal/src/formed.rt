@@ -53,20 +53,18 @@ fn is_clear(unused: u8, octets: &[u8]) -> bool
 }
 
 /// A number of 64 bits is of its form.
-fn is_signed(n: i64) -> bool
+fn is_signed(_n: i64) -> bool
     ensures always { result ≡ true }
-    ensures fits { Fits int64 (value.number n) }
+    ensures fits { Fits int64 (value.number _n) }
 {
-    let _n = n;
     true
 }
 
 /// A number of 32 bits without a sign is of its form.
-fn is_unsigned(n: u32) -> bool
+fn is_unsigned(_n: u32) -> bool
     ensures always { result ≡ true }
-    ensures fits { Fits unsigned32 (value.number (pos n)) }
+    ensures fits { Fits unsigned32 (value.number (pos _n)) }
 {
-    let _n = n;
     true
 }
 

@@ -264,11 +264,10 @@ impl Shelf {
     }
 
     /// Serves the one that asks: what it is told.
-    fn serve(&mut self, client: u32, ask: ShelfAsk, facts: Facts) -> Word
-        ensures shelf { self.new ≡ (serve_shelf facts self.old client ask).tables }
-        ensures told { (client, result) ∷ [] ≡ (serve_shelf facts self.old client ask).told }
+    fn serve(&mut self, _client: u32, ask: ShelfAsk, facts: Facts) -> Word
+        ensures shelf { self.new ≡ (serve_shelf facts self.old _client ask).tables }
+        ensures told { (_client, result) ∷ [] ≡ (serve_shelf facts self.old _client ask).told }
     {
-        let _client = client;
         match ask {
             ShelfAsk::Fetch(pieces) => self.fetch(pieces, facts),
             ShelfAsk::Stock(pieces) => self.stock(pieces, facts),

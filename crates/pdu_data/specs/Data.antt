@@ -24,7 +24,7 @@ simple_data =
     or 10 visible_string (
     or 12 (octet_string any_octets) no_other)))))))
 
--- The same, and array 1 and structure 2, which nest no deeper than the number.
+-- Those, and array 1 and structure 2, which nest no deeper than the number.
 unfoldable pub data_alternatives : ℕ → Alternatives
 data_alternatives zero = or 1 too_deep (or 2 too_deep simple_data)
 data_alternatives (suc d) =

@@ -97,14 +97,12 @@ pub(crate) fn define(
 fn drop_selected(
     enrolments: &mut Enrolments,
     deletion: &Deletion<'_>,
-    client: u32,
-    asked: &DeleteEventEnrollment,
+    _client: u32,
+    _asked: &DeleteEventEnrollment,
 )
-    requires { selected deletion.now ≡ is_deleted client asked.now }
-    ensures { enrolments.new ≡ after_delete client asked.now enrolments.old }
+    requires { selected deletion.now ≡ is_deleted _client _asked.now }
+    ensures { enrolments.new ≡ after_delete _client _asked.now enrolments.old }
 {
-    let _client = client;
-    let _asked = asked;
     enrolments.delete(deletion);
 }
 

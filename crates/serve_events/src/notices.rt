@@ -17,9 +17,6 @@ use mms_types::{
 };
 use std::alloc::Global;
 
-/// The last millisecond of day 65,535, beyond which no moment is told.
-const LAST_MOMENT: u64 = 5_662_310_399_999;
-
 /// The state of that number.
 fn state_numbered(number: u8) -> ConditionState
     ensures { result ≡ state_numbered number }
@@ -47,7 +44,7 @@ fn state_of(number: Option<u8>) -> Option<ConditionState>
 fn time_of_day(at: Moment) -> Option<TimeOfDay>
     ensures { SomeIff result (IsDated at) (time_of_day at) }
 {
-    if at.0 > LAST_MOMENT {
+    if !at.is_dated() {
         return None;
     }
     Some(TimeOfDay::of(at))

@@ -47,7 +47,7 @@ fn due_in_part(part: &mut Part, until: Moment) -> bool
     }
 }
 
-/// The same of the semaphores that are held. It takes no memory.
+/// Whether a deadline of the semaphores that are held is at most that moment. It takes no memory.
 fn comes_due(held: &mut Hand<Cell>, clients: u32, until: Moment) -> bool
     requires few { clients ≤ 64 }
     requires held { IsSemaphores (held_at held.old (semaphores_place clients)) }

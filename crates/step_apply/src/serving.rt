@@ -23,7 +23,7 @@ use step_parts::held::client_held;
 /// What is done on the tables.
 #[derive(Clone, Copy)]
 pub(crate) enum Task<'a> {
-    /// A client does something.
+    /// What a client does: it is heard, or lost.
     Client(u32, Act<'a>),
     /// So many milliseconds go by.
     Time(u32),

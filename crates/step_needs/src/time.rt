@@ -94,8 +94,8 @@ impl Coming<'_> {
         }
     }
 
-    /// The same with what happened to semaphores, where it is known whether any condition is evaluated: if none is,
-    /// nobody else is told anything.
+    /// The clients that are told of what happens, by what happened to semaphores and whether any condition is
+    /// evaluated: if none is, nobody else is told anything.
     fn told(self, is_due: bool, happened: &[Happening]) -> Result<Vec<u32>, Memory>
         requires dated { IsDated self.until }
         requires due { is_due ≡ any_due self.until self.events.now.conditions }
