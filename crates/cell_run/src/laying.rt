@@ -15,7 +15,7 @@ use std::alloc::Global;
 fn empty_slots(alloc: Global, count: usize) -> Result<Vec<Option<CellEvent>>, Memory>
     ensures { IfOk result (λ slots. length slots.items ≡ count) }
 {
-    let mut slots = Vec::new(alloc);
+    let mut slots = Vec::with_capacity(alloc, count)?;
     for _slot in 0..count {
         slots.push(None)?;
     }
@@ -64,7 +64,7 @@ fn lay_all(slots: &mut [Option<CellEvent>], first: u64, logs: Vec<Tickets>)
 fn in_order(alloc: Global, slots: Vec<Option<CellEvent>>) -> Result<Vec<CellEvent>, Memory>
     ensures { IfOk result (λ events. events.items ≡ filled slots.items) }
 {
-    let mut events = Vec::new(alloc);
+    let mut events = Vec::with_capacity(alloc, slots.len())?;
     for slot in slots {
         if let Some(event) = slot {
             events.push(event)?;

@@ -82,22 +82,24 @@ fn write_told<K: Sink>(alloc: Global, out: &mut K, told: &Option<Told>) -> Resul
     }
 }
 
-/// Writes what there is to tell of a phase, and reads the next one. Where the first is refused, nothing is read.
+/// Writes what there is to tell of a phase, drops that, and reads the next one. Where the first is refused, nothing is
+/// read.
 fn write_and_read<S: Source, K: Sink>(
     alloc: Global,
     recording: &mut Recording,
     input: &mut S,
     out: &mut K,
-    told: &Option<Told>,
+    told: Option<Told>,
 ) -> Result<Next, WriteError>
-    ensures written { Writes (text_told told.now)
+    ensures written { Writes (text_told told)
         (seen K.held K.faults out.old) (seen K.held K.faults out.new) result }
     ensures unread { OnErr result ((recording.new ≡ recording.old) × (input.new ≡ input.old)) }
     ensures read { IfOk result
         (λ next. HasRead recording.old (S.left input.old) (S.faults input.old)
         next recording.new (S.left input.new) (S.faults input.new)) }
 {
-    write_told(alloc, out, told)?;
+    write_told(alloc, out, &told)?;
+    drop(told);
     Ok(read_next(alloc, recording, input))
 }
 
@@ -129,7 +131,8 @@ fn finish<K: Sink>(
     }
 }
 
-/// Has a crew serve a phase, and meanwhile writes what there is to tell of the one before, and reads the next one.
+/// Has a crew serve a phase, and meanwhile writes what there is to tell of the one before, drops that, and reads the next
+/// one.
 fn serve_beside<R: Threads + Wait + Sync, S: Source, K: Sink, G: Gate + Sync>(
     rt: &R,
     alloc: Global,
@@ -139,11 +142,11 @@ fn serve_beside<R: Threads + Wait + Sync, S: Source, K: Sink, G: Gate + Sync>(
     out: &mut K,
     gate: &G,
     phase: Phase,
-    told: &Option<Told>,
+    told: Option<Told>,
 ) -> (Result<Told, Memory>, Result<Next, WriteError>)
     requires next { MayRun crew.old phase.events }
     ensures told { TellsPhase (HasRun crew.old) phase result.0 (HasRun crew.new) }
-    ensures written { Writes (text_told told.now)
+    ensures written { Writes (text_told told)
         (seen K.held K.faults out.old) (seen K.held K.faults out.new) result.1 }
     ensures unread { OnErr result.1 ((recording.new ≡ recording.old) × (input.new ≡ input.old)) }
     ensures read { IfOk result.1
@@ -151,6 +154,7 @@ fn serve_beside<R: Threads + Wait + Sync, S: Source, K: Sink, G: Gate + Sync>(
         next recording.new (S.left input.new) (S.faults input.new)) }
 {
     let mut phase = Some(phase);
+    let mut told = told;
     let mut served = Err(Memory::wanting());
     let mut ahead = Err(WriteError::Memory);
     let mut serving = ||
@@ -163,7 +167,7 @@ fn serve_beside<R: Threads + Wait + Sync, S: Source, K: Sink, G: Gate + Sync>(
         }
     };
     let mut beside = ||
-        ensures written { Writes (text_told told.entry.now)
+        ensures written { Writes (text_told told.entry)
             (seen K.held K.faults out.entry.now) (seen K.held K.faults out.exit.now) ahead.exit }
         ensures unread { OnErr ahead.exit ((recording.exit.now ≡ recording.entry.now)
             × (input.exit.now ≡ input.entry.now)) }
@@ -171,7 +175,7 @@ fn serve_beside<R: Threads + Wait + Sync, S: Source, K: Sink, G: Gate + Sync>(
             HasRead recording.entry.now (S.left input.entry.now) (S.faults input.entry.now)
             next recording.exit.now (S.left input.exit.now) (S.faults input.exit.now)) }
     {
-        ahead = write_and_read(alloc, recording, input, out, told);
+        ahead = write_and_read(alloc, recording, input, out, told.take());
     };
     join_mut(rt, &mut serving, &mut beside);
     (served, ahead)
@@ -208,7 +212,7 @@ fn run_phases<R: Threads + Wait + Sync, S: Source, K: Sink, G: Gate + Sync>(
             Next::End(refusal) => return finish(alloc, out, &told, refusal),
         };
         let (served, ahead) = serve_beside(
-            rt, alloc, recording, crew, input, out, gate, phase, &told,
+            rt, alloc, recording, crew, input, out, gate, phase, told,
         );
         next = match ahead {
             Ok(next) => next,

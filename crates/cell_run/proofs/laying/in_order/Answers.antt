@@ -2,8 +2,8 @@ use Rattle.std.proofs.Common.{◌++◌, ◌∷◌, [], ap, sym, ◌∙◌, appen
 use Rattle.cell_run.proofs.Laid.{filled_more, filled_none}
 use Rattle.cell_run.proofs.laying.in_order.Goals as goal
 
-pub loop-slot-preserved-in-Continue-1 : goal.loop-slot-preserved-in-Continue-1
-loop-slot-preserved-in-Continue-1 c =
+pub loop-slot-preserved-in-Continue-branch-2 : goal.loop-slot-preserved-in-Continue-branch-2
+loop-slot-preserved-in-Continue-branch-2 c =
     let i = c.loop-slot.invariant in
     let s = c.in-Some.ensures.steps in
     record {
