@@ -6,7 +6,7 @@ use Rattle.std.proofs.lemmas.List.{append-nil, append_assoc, length-append}
 use Rattle.sem_queue.specs.declared.row.Row.{Row}
 use Rattle.sem_queue.specs.Rows.{least, before, wants, least_number, number_after, number_above, numbered, waits_numbered, AreDistinct}
 use Rattle.sem_queue.proofs.Least.{Among, least-among}
-use Rattle.sem_queue.proofs.Firsts.{among-filter, distinct-same}
+use Rattle.sem_queue.proofs.Firsts.{among-filter, numbered-is}
 use Rattle.attach_sem.specs.Chains.{ended, link, links, chain}
 use Rattle.attach_sem.specs.declared.chain.Chain.{Chain}
 use Rattle.attach_sem.proofs.Linked.{bound, filter-both, filter-agree, fewer-left}
@@ -55,41 +55,6 @@ start attached token rows next h =
       few = let most = all-few (λ r. wants token r && true) rows in omega (arith, most);
     }
 
--- of rows no two of which have one number, each is the one of its number
-numbered-is : (rows : List Row) (q : Row) → AreDistinct rows → Among rows q → numbered q.number rows ≡ Some q
-numbered-is rows q distinct h = by_found (numbered q.number rows) refl
-  where
-    same : (x : Row) → x ≡ q → (x.number == q.number) ≡ true
-    same x e = let n : x.number ≡ q.number = ap (λ (r : Row). r.number) e in grind (arith, nat_tests)
-
-    missed : (l : List Row) → find (λ r. r.number == q.number) l ≡ None → Among l q → ⊥
-    missed [] f h = h
-    missed (x ∷ l) f (inl e) =
-        let t = same x e in
-        let g = ap (λ b. cond b (Some x) (find (λ r. r.number == q.number) l)) t in
-        absurd (cc (f, g))
-    missed (x ∷ l) f (inr h) = by_test (x.number == q.number) f (λ g. missed l g h)
-      where
-        by_test : (b : Bool) → cond b (Some x) (find (λ r. r.number == q.number) l) ≡ None → (find (λ r. r.number == q.number) l ≡ None → ⊥) → ⊥
-        by_test true g ih = absurd cc
-        by_test false g ih = ih g
-
-    there : (l : List Row) (r : Row) → find (λ x. x.number == q.number) l ≡ Some r → Among l r × (r.number ≡ q.number)
-    there [] r f = absurd cc
-    there (x ∷ l) r f = by_test (x.number == q.number) refl f (λ g. there l r g)
-      where
-        by_test : (b : Bool) → (x.number == q.number) ≡ b → cond b (Some x) (find (λ y. y.number == q.number) l) ≡ Some r
-            → (find (λ y. y.number == q.number) l ≡ Some r → Among l r × (r.number ≡ q.number)) → Among (x ∷ l) r × (r.number ≡ q.number)
-        by_test true t g ih =
-            let e : x ≡ r = cc g in
-            let n : x.number ≡ q.number = grind (arith, nat_tests) in
-            (inl e, ap (λ (y : Row). y.number) (sym e) ∙ n)
-        by_test false t g ih = let k = ih g in (inr k.0, k.1)
-
-    by_found : (o : Option Row) → numbered q.number rows ≡ o → o ≡ Some q
-    by_found None f = absurd (missed rows f h)
-    by_found (Some r) f = let k = there rows r f in ap (λ (x : Row). Some x) (distinct-same rows r q distinct k.0 h k.1)
-
 -- the row that is next
 abbrev Next : (attached : ℕ → Bool) (token : ℕ) (rows : List Row) (served : List ℕ) (n : ℕ) → IsLeft attached token rows served (Some n) → Type 0
 Next attached token rows served n is = (q : Row) × (least before (left token is.test rows) ≡ Some q) × (q.number ≡ n)
@@ -105,15 +70,6 @@ passes : (a b : Bool) → (a && b) ≡ true → (a ≡ true) × (b ≡ true)
 passes true true t = (refl, refl)
 passes true false t = absurd cc
 passes false b t = absurd cc
-
--- it waits
-pub waits : (attached : ℕ → Bool) (token : ℕ) (rows : List Row) (served : List ℕ) (n : ℕ) → AreDistinct rows → IsLeft attached token rows served (Some n) → waits_numbered n rows ≡ Some true
-waits attached token rows served n distinct is =
-    let next = next-row attached token rows served n is in
-    let q = next.0 in
-    let here = among-filter (λ r. wants token r && is.test r) rows q (least-among before (left token is.test rows) q next.1) in
-    let queued : q.queued ≡ true = (passes q.queued _ (passes (wants token q) (is.test q) here.1).0).0 in
-    ap (λ m. waits_numbered m rows) (sym next.2) ∙ ap (option_map (λ (r : Row). r.queued)) (numbered-is rows q distinct here.0) ∙ ap (λ b. Some b) queued
 
 -- it is served, and those that it comes before are left
 module _ (attached : ℕ → Bool) (token : ℕ) (rows : List Row) (served : List ℕ) (n : ℕ) (distinct : AreDistinct rows) (is : IsLeft attached token rows served (Some n)) where

@@ -1,14 +1,16 @@
 -- Which pairs stay where some go, and that no entry has two.
-use Rattle.std.proofs.Common.{◌≡◌, ℕ, zero, suc, ◌+◌, ◌<◌, ◌≤◌, Bool, true, false, not, cond, ◌&&◌, ◌==◌, List, [], ◌∷◌, ◌++◌, length, get_or, take, drop, filter, find, count_by, None, Some, refl, sym, ◌∙◌, ap, arith}
+use Rattle.std.proofs.Common.{◌≡◌, ℕ, zero, suc, ◌+◌, ◌<◌, ◌≤◌, Bool, true, false, not, cond, ◌&&◌, ◌==◌, List, [], ◌∷◌, ◌++◌, length, get_or, take, drop, filter, find, count_by, inl, inr, Option, None, Some, refl, sym, ◌∙◌, ap, subst, arith}
+use Rattle.std.proofs.lemmas.Bool.{cases_eq, cases_lt}
 use Rattle.std.proofs.lemmas.Bool.Decides.{nat_tests}
-use Rattle.std.specs.Prelude.{nat_lt}
+use Rattle.std.specs.Prelude.{nat_lt, slice_get, IfSome}
 use Rattle.std.specs.List.{position, position_or_len}
+use Rattle.std.proofs.lemmas.Option.{slice_get_cases}
 use Rattle.std.proofs.lemmas.List.Quantifiers.{position-Some}
 use Rattle.std.proofs.lemmas.List.Sums.{sum_by-append, fails_before_first}
 use Rattle.mms_types.specs.declared.key.Key.{Key}
 use Rattle.mms_types.specs.Order.{key_eq}
 use Rattle.mms_types.proofs.Precedence.{key_eq_tells}
-use Rattle.sem_queue.proofs.Lists.{weight-yes, weight-no, count-cons, count-filter, count-le, find-none, none-from}
+use Rattle.sem_queue.proofs.Lists.{weight-yes, weight-no, count-cons, count-filter, count-at, count-le, count-two, find-none, none-from}
 use Rattle.attach_sem.specs.Table.{AreDistinct, is_of, found}
 use Rattle.attach_sem.specs.declared.table.Pair.{Pair}
 
@@ -39,6 +41,28 @@ module _ {X : Type 0} where
       by_test : (b : Bool) → nat_lt (position_or_len p (x ∷ xs)) (length (x ∷ xs)) ≡ b → None ≡ cond b (Some (position_or_len p (x ∷ xs))) None → length (x ∷ xs) ≤ position_or_len p (x ∷ xs)
       by_test true t f = absurd cc
       by_test false t f = grind (arith, nat_tests)
+
+  -- where one passes at most, that is the first
+  pub position-is : (p : X → Bool) (xs : List X) (place : ℕ) (d : X) → count_by p xs ≤ 1 → place < length xs → p (get_or xs place d) ≡ true → Some place ≡ position p xs
+  position-is p xs place d few lt t = by_place (position p xs) refl
+    where
+      by_place : (o : Option ℕ) → position p xs ≡ o → Some place ≡ position p xs
+      by_place None e = absurd (omega (arith, no-place p xs (sym e), count-at p xs place d lt t))
+      by_place (Some k) e =
+          let at = position-Some p xs k d e in
+          elim (cases_eq k place) [
+            | inl same ↦ ap (λ (n : ℕ). Some n) (sym same) ∙ sym e
+            | inr differs ↦ absurd (elim (cases_lt k place) [
+              | inl less ↦ omega (arith, few, count-two p xs k place d less lt at.1 t)
+              | inr more ↦ omega (arith, few, count-two p xs place k d (omega arith) at.0 t at.1)
+            ])
+          ]
+
+  pub position-at : (p : X → Bool) (xs : List X) (place : ℕ) → count_by p xs ≤ 1 → IfSome (slice_get xs place) (λ x. p x ≡ true) → place < length xs → Some place ≡ position p xs
+  position-at p xs place few there lt = elim (slice_get_cases xs place).1 [
+    | inl w ↦ position-is p xs place w.0 few lt (ap p w.3 ∙ subst (λ (o : Option X). IfSome o (λ x. p x ≡ true)) w.2 there)
+    | inr w ↦ absurd (let past = w.0 in omega arith)
+  ]
 
   -- how many stay, and how many go
   pub parted : (p : X → Bool) (xs : List X) → length (filter (λ x. not (p x)) xs) + count_by p xs ≡ length xs

@@ -6,7 +6,7 @@
 //! entry's number, and no two have both alike. When a token is freed, those that are attached are carried out one after
 //! the other, in order of rank, up to the first entry that isn't attached: that is the semaphore's chain
 //! (`a_chain_is_in_order_of_rank`, `a_chain_ends_with_a_take`). Of k such entries among n that wait, `chain` asks the
-//! queue k + 1 times who is next, and each answer is found by halving.
+//! queue k + 1 times who is next, and none of these is looked for.
 #![tactic(auto)]
 
 mod chain;

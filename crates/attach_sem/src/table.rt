@@ -1,4 +1,4 @@
-ghost use Rattle.std.specs.Prelude.{◌≡◌, ◌-◌, ◌<◌, ◌≤◌, [], ◌∷◌, ◌++◌, false, filter, IfOk, IfSome, IsOk, None, not, OnErr, OnOk, option_map, Some, true, vec_capacity, vec_len};
+ghost use Rattle.std.specs.Prelude.{◌≡◌, ◌-◌, ◌<◌, ◌≤◌, length, slice_get, [], ◌∷◌, ◌++◌, false, filter, IfOk, IfSome, IsOk, None, not, OnErr, OnOk, option_map, Some, true, vec_capacity, vec_len};
 ghost use Rattle.std.specs.List.{position};
 ghost use Rattle.std.specs.Option.{option_copied};
 ghost use Rattle.attach_sem.specs.Chains.{chain, is_attached};
@@ -21,13 +21,88 @@ pub struct Pair {
     pub waiting: Waiting,
 }
 
-/// The place of the request of an entry.
-fn place_of(pairs: &[Pair], key: &Key, entry: u64) -> Option<usize>
+/// Whether the request at a place is that of an entry before that one, by number and then by the semaphore's name.
+fn is_before(pairs: &[Pair], place: usize, key: &Key, entry: u64) -> bool {
+    match pairs.get(place) {
+        None => false,
+        Some(pair) => pair.entry < entry || (pair.entry == entry && pair.key < *key),
+    }
+}
+
+/// Whether the request at a place is that of the entry.
+fn is_at(pairs: &[Pair], place: usize, key: &Key, entry: u64) -> bool
+    ensures { result ≡ true → IfSome (slice_get pairs.now place)
+        (λ p. is_of key.now entry p ≡ true) × (place < length pairs.now) }
+{
+    match pairs.get(place) {
+        None => false,
+        Some(pair) => pair.entry == entry && pair.key == *key,
+    }
+}
+
+/// How many of the places in order of their entries are those of entries before that one.
+fn front_of(pairs: &[Pair], places: &[usize], key: &Key, entry: u64) -> usize
+    ensures { result ≤ length places.now }
+{
+    places.partition_point(|place| is_before(pairs, *place, key, entry))
+}
+
+/// The place of the request of an entry, where the places in order of their entries lead to it.
+fn listed_place(pairs: &[Pair], places: &[usize], key: &Key, entry: u64) -> Option<usize>
+    ensures { IfSome result (λ place. IfSome (slice_get pairs.now place)
+        (λ p. is_of key.now entry p ≡ true) × (place < length pairs.now)) }
+{
+    let place = places.get(front_of(pairs, places, key, entry))?;
+    if is_at(pairs, *place, key, entry) {
+        Some(*place)
+    } else {
+        None
+    }
+}
+
+/// The place of the request of an entry. It is looked for by halves, and where it isn't found so, among all.
+fn place_of(pairs: &[Pair], places: &[usize], key: &Key, entry: u64) -> Option<usize>
+    requires { AreDistinct pairs.now }
     ensures { result ≡ position (is_of key.now entry) pairs.now }
 {
-    pairs
-        .iter()
-        .position(|pair| pair.entry == entry && pair.key == *key)
+    match listed_place(pairs, places, key, entry) {
+        Some(place) => Some(place),
+        None => pairs
+            .iter()
+            .position(|pair| pair.entry == entry && pair.key == *key),
+    }
+}
+
+/// Puts a place among those in order of their entries, where there is room for it.
+fn list_place(pairs: &[Pair], places: &mut Vec<usize>, place: usize, key: &Key, entry: u64)
+    ensures { vec_capacity places.new ≡ vec_capacity places.old }
+{
+    let front = front_of(pairs, places, key, entry);
+    if places.len() < places.capacity() {
+        match places.insert(front, place) {
+            Ok(()) => {}
+            Err(_) => {}
+        }
+    }
+}
+
+/// The request at a place goes: those behind it stand one place further in front.
+fn leave_place(places: &mut Vec<usize>, place: usize) {
+    places.retain(|other| *other != place);
+    for at in 0..places.len() {
+        if places[at] > place {
+            places[at] -= 1;
+        }
+    }
+}
+
+/// Puts all places in order of their entries, where there is room for them.
+fn list_places(pairs: &[Pair], places: &mut Vec<usize>) {
+    places.clear();
+    for place in 0..pairs.len() {
+        let pair = &pairs[place];
+        list_place(pairs, places, place, &pair.key, pair.entry);
+    }
 }
 
 /// A copy of attached requests, in the same order.
@@ -59,6 +134,9 @@ fn lose(pairs: &mut Vec<Pair>, client: u32)
 #[derive(Drop)]
 pub struct Attached {
     pairs: Vec<Pair>,
+    // The places of the pairs in order of their entries' numbers, and of one number in order of the names. They lead to
+    // a pair, and nothing rests on them: where they don't lead to it, it is found without them.
+    places: Vec<usize>,
     spare: usize,
 }
 
@@ -87,6 +165,7 @@ impl Attached {
     {
         Attached {
             pairs: Vec::new(alloc),
+            places: Vec::new(alloc),
             spare: 0,
         }
     }
@@ -97,6 +176,7 @@ impl Attached {
     {
         Ok(Attached {
             pairs: copied(alloc, &self.pairs)?,
+            places: self.places.as_slice().iter().copied().collect(alloc)?,
             spare: 0,
         })
     }
@@ -114,6 +194,7 @@ impl Attached {
             return Ok(());
         }
         self.pairs.reserve(more)?;
+        self.places.reserve(more)?;
         self.spare = more;
         Ok(())
     }
@@ -127,6 +208,8 @@ impl Attached {
           spare = self.old.spare - 1;
         } }
     {
+        let place = self.pairs.len();
+        list_place(&self.pairs, &mut self.places, place, &key, entry);
         self.pairs.push_reserved(Pair {
             key,
             entry,
@@ -141,13 +224,9 @@ impl Attached {
             ≡ option_map (λ p. p.waiting) (found key.now entry self.now.pairs) }
         ensures always { AreDistinct self.now.pairs }
     {
-        match self
-            .pairs
-            .iter()
-            .find(|pair| pair.entry == entry && pair.key == *key)
-        {
+        match place_of(&self.pairs, &self.places, key, entry) {
             None => None,
-            Some(pair) => Some(&pair.waiting),
+            Some(place) => Some(&self.pairs[place].waiting),
         }
     }
 
@@ -157,10 +236,11 @@ impl Attached {
         ensures told { result ≡ option_map (λ p. p.waiting) (found key.now entry self.old.pairs) }
         ensures state { self.new ≡ after_going (is_of key.now entry) self.old }
     {
-        let Some(place) = place_of(&self.pairs, key, entry) else {
+        let Some(place) = place_of(&self.pairs, &self.places, key, entry) else {
             return None;
         };
         let pair = self.pairs.remove(place);
+        leave_place(&mut self.places, place);
         self.spare += 1;
         Some(pair.waiting)
     }
@@ -171,6 +251,7 @@ impl Attached {
     {
         let before = self.pairs.len();
         lose(&mut self.pairs, client);
+        list_places(&self.pairs, &mut self.places);
         self.spare += before - self.pairs.len();
     }
 
@@ -206,10 +287,11 @@ impl Attached {
     {
         let _tokens = ranks.tokens();
         let mut attached: Vec<u64> = Vec::new(alloc);
-        let mut next = ranks.least(token);
+        let mut served = ranks.served(token);
+        let mut next = served.next();
         while let Some(number) = self.link(key, next) {
             attached.push(number)?;
-            next = ranks.after(token, number);
+            next = served.next();
         }
         Ok(Chain {
             attached: Numbers { list: attached },

@@ -1,12 +1,12 @@
 -- Which row is served first and which deadline is met first, by the rows.
-use Rattle.std.proofs.Common.{◌≡◌, ◌↔◌, inl, inr, ℕ, zero, suc, ◌<◌, ◌≤◌, Bool, true, false, cond, ◌==◌, List, [], ◌∷◌, length, get_or, filter, filter_map, count_by, option_map, Option, None, Some, refl, sym, ◌∙◌, ap, arith}
+use Rattle.std.proofs.Common.{◌≡◌, ◌↔◌, inl, inr, ℕ, zero, suc, ◌<◌, ◌≤◌, Bool, true, false, cond, ◌==◌, List, [], ◌∷◌, length, get_or, find, filter, filter_map, count_by, option_map, Option, None, Some, refl, sym, ◌∙◌, ap, arith}
 use Rattle.std.specs.Prelude.{Contains, IfSome}
 use Rattle.std.specs.List.{cons_option}
 use Rattle.std.proofs.lemmas.Bool.Decides.{nat_tests}
 use Rattle.std.proofs.lemmas.List.Elements.{All-contains}
 use Rattle.sem_queue.specs.declared.row.Row.{Row}
 use Rattle.sem_queue.specs.declared.row.Due.{Due}
-use Rattle.sem_queue.specs.Rows.{least, before, sooner, wants, due_of, first_due, least_number, AreDistinct, IsServedFirst, IsFirstDue}
+use Rattle.sem_queue.specs.Rows.{least, before, sooner, wants, due_of, first_due, least_number, numbered, AreDistinct, IsServedFirst, IsFirstDue}
 use Rattle.sem_queue.proofs.Lists.{weight-yes, weight-no, count-cons}
 use Rattle.sem_queue.proofs.Least.{Among, count-among, least-among, least-first, least-ties, before-order, sooner-order, tied, tied-due, moment_is, due_is, all-among}
 
@@ -72,6 +72,41 @@ distinct-same (x ∷ rows) a b distinct (inl h) (inl k) e = sym h ∙ k
 distinct-same (x ∷ rows) a b distinct (inl h) (inr k) e = absurd (twice x b rows distinct k (ap (λ (r : Row). r.number) h ∙ e))
 distinct-same (x ∷ rows) a b distinct (inr h) (inl k) e = absurd (twice x a rows distinct h (ap (λ (r : Row). r.number) k ∙ sym e))
 distinct-same (x ∷ rows) a b distinct (inr h) (inr k) e = distinct-same rows a b (distinct-rest x rows distinct) h k e
+
+-- of rows no two of which have one number, each is the one of its number
+pub numbered-is : (rows : List Row) (q : Row) → AreDistinct rows → Among rows q → numbered q.number rows ≡ Some q
+numbered-is rows q distinct h = by_found (numbered q.number rows) refl
+  where
+    same : (x : Row) → x ≡ q → (x.number == q.number) ≡ true
+    same x e = let n : x.number ≡ q.number = ap (λ (r : Row). r.number) e in grind (arith, nat_tests)
+
+    missed : (l : List Row) → find (λ r. r.number == q.number) l ≡ None → Among l q → ⊥
+    missed [] f h = h
+    missed (x ∷ l) f (inl e) =
+        let t = same x e in
+        let g = ap (λ b. cond b (Some x) (find (λ r. r.number == q.number) l)) t in
+        absurd (cc (f, g))
+    missed (x ∷ l) f (inr h) = by_test (x.number == q.number) f (λ g. missed l g h)
+      where
+        by_test : (b : Bool) → cond b (Some x) (find (λ r. r.number == q.number) l) ≡ None → (find (λ r. r.number == q.number) l ≡ None → ⊥) → ⊥
+        by_test true g ih = absurd cc
+        by_test false g ih = ih g
+
+    there : (l : List Row) (r : Row) → find (λ x. x.number == q.number) l ≡ Some r → Among l r × (r.number ≡ q.number)
+    there [] r f = absurd cc
+    there (x ∷ l) r f = by_test (x.number == q.number) refl f (λ g. there l r g)
+      where
+        by_test : (b : Bool) → (x.number == q.number) ≡ b → cond b (Some x) (find (λ y. y.number == q.number) l) ≡ Some r
+            → (find (λ y. y.number == q.number) l ≡ Some r → Among l r × (r.number ≡ q.number)) → Among (x ∷ l) r × (r.number ≡ q.number)
+        by_test true t g ih =
+            let e : x ≡ r = cc g in
+            let n : x.number ≡ q.number = grind (arith, nat_tests) in
+            (inl e, ap (λ (y : Row). y.number) (sym e) ∙ n)
+        by_test false t g ih = let k = ih g in (inr k.0, k.1)
+
+    by_found : (o : Option Row) → numbered q.number rows ≡ o → o ≡ Some q
+    by_found None f = absurd (missed rows f h)
+    by_found (Some r) f = let k = there rows r f in ap (λ (x : Row). Some x) (distinct-same rows r q distinct k.0 h k.1)
 
 served : (token : ℕ) (rows : List Row) (r : Row) → least before (filter (wants token) rows) ≡ Some r → IsServedFirst token rows r
 served token rows r e =

@@ -118,6 +118,16 @@ module _ {X : Type 0} where
       let one = weight-yes p (get_or xs j d) t in
       omega (arith, get_or-le-sum_by (λ x. cond (p x) 1 0) xs j d lt)
 
+  -- two at different places pass
+  pub count-two : (p : X → Bool) (xs : List X) (i j : ℕ) (d : X) → i < j → j < length xs → p (get_or xs i d) ≡ true → p (get_or xs j d) ≡ true → 1 < count_by p xs
+  count-two p [] i j d lt in_range t u = absurd (omega arith)
+  count-two p (x ∷ xs) i zero d lt in_range t u = absurd (omega arith)
+  count-two p (x ∷ xs) zero (suc j) d lt in_range t u =
+      let one = weight-yes p x t in
+      omega (arith, count-cons p x xs, count-at p xs j d (omega arith) u)
+  count-two p (x ∷ xs) (suc i) (suc j) d lt in_range t u =
+      omega (arith, count-cons p x xs, count-two p xs i j d (omega arith) (omega arith) t u)
+
   -- none passes
   pub none-at : (p : X → Bool) (xs : List X) (j : ℕ) (d : X) → count_by p xs ≡ 0 → j < length xs → p (get_or xs j d) ≡ false
   none-at p xs j d z lt = by_test (p (get_or xs j d)) refl

@@ -7,7 +7,7 @@ use Rattle.sem_queue.specs.declared.row.Row.{Row}
 use Rattle.sem_queue.specs.declared.order.Order.{Order}
 use Rattle.sem_queue.specs.declared.order.Order.TheVariants.{Number, Rank, Deadline}
 use Rattle.sem_queue.specs.declared.order.Mark.{Mark}
-use Rattle.sem_queue.specs.Rows.{list_of, kind_of, is_placed}
+use Rattle.sem_queue.specs.Rows.{list_of, kind_of, is_placed, before, AreDistinct}
 
 -- what stands for a row where there is none
 abbrev pub no_row : Row
@@ -110,3 +110,24 @@ pub record IsRanks (tokens spare : ℕ) (slots : Slab Row) (by_number by_rank by
   pub numbers_room : vec_len by_number + spare ≤ vec_capacity by_number
   pub ranks_room : vec_len by_number + spare ≤ vec_capacity by_rank
   pub deadlines_room : vec_len by_number + spare ≤ vec_capacity by_deadline
+
+-- each row from one place to another comes before each of those from a third place to a fourth
+abbrev pub AreBefore : List Row → ℕ → ℕ → ℕ → ℕ → Type 0
+AreBefore rows from to other end =
+    (i j : ℕ) → from ≤ i → i < to → other ≤ j → j < end → before (slice_index_or rows i no_row) (slice_index_or rows j no_row) ≡ true
+
+-- what holds where rows are served one after the other: those before the places in the two lists come before those left
+pub record IsServing (tokens token : ℕ) (slots : Slab Row) (by_rank starts : List ℕ) (rows : List Row) (own any : ℕ) : Type 0 where
+  pub small : token < tokens
+  pub ranks : IsIndex slots (Rank tokens) by_rank
+  pub queued : IsChoice (λ r. r.queued) rows (rows_at slots by_rank)
+  pub placed : count_by (λ r. not (is_placed tokens r.token)) rows ≡ 0
+  pub distinct : AreDistinct rows
+  pub lists : length starts ≡ tokens + 2
+  pub begins : (list : ℕ) → list < tokens + 2 → slice_index starts list ≡ count_by (lists_below tokens list) (rows_at slots by_rank)
+  pub own_from : slice_index starts token ≤ own
+  pub own_to : own ≤ slice_index starts (token + 1)
+  pub any_from : slice_index starts tokens ≤ any
+  pub any_to : any ≤ slice_index starts (tokens + 1)
+  pub own_before : AreBefore (rows_at slots by_rank) (slice_index starts token) own any (slice_index starts (tokens + 1))
+  pub any_before : AreBefore (rows_at slots by_rank) (slice_index starts tokens) any own (slice_index starts (token + 1))

@@ -61,6 +61,21 @@ number_above (Some row) token rows = option_map (λ r. r.number) (least before (
 abbrev pub number_after : ℕ → ℕ → List Row → Option ℕ
 number_after number token rows = number_above (numbered number rows) token rows
 
+-- the rows, a token that they are served with one after the other, and the number of the row that is next
+pub record Following : Type 0 where
+  pub rows : List Row
+  pub token : ℕ
+  pub next : Option ℕ
+
+-- the number of the row that gets the token after that one, if there is one
+abbrev pub next_after : Option ℕ → ℕ → List Row → Option ℕ
+next_after None token rows = None
+next_after (Some number) token rows = number_after number token rows
+
+-- the next is served
+abbrev pub after_next : Following → Following
+after_next f = record f { next = next_after f.next f.token f.rows }
+
 -- the number of the row of two that is served first
 abbrev pub earlier_number : Option Row → Option Row → Option ℕ
 earlier_number None None = None

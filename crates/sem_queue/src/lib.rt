@@ -18,9 +18,11 @@ mod laws;
 mod order;
 mod ranks;
 mod row;
+mod served;
 mod steps;
 
 pub use laws::{the_first_deadline_is_the_least, the_least_is_served_first};
 pub use ranks::Ranks;
 pub use row::{Due, Row};
+pub use served::Served;
 pub use steps::Steps;

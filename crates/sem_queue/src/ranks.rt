@@ -8,7 +8,8 @@ use crate::keys::{
     begin_later, begin_of, begin_sooner, key_of, place_of, put, row_under, take_out,
 };
 use crate::order::{Mark, Order, list_of, search};
-use crate::{Due, Row, Steps};
+use crate::served::row_in;
+use crate::{Due, Row, Served, Steps};
 use mms_types::{Memory, Moment};
 use slab::Slab;
 use std::alloc::Global;
@@ -45,27 +46,6 @@ impl Model for Ranks {
 
     ghost invariant = { λ r.
         IsRanks r.tokens r.spare r.slots r.by_number r.by_rank r.by_deadline r.begins.items };
-}
-
-/// The row at a place of the order of rank, where the list reaches so far.
-fn row_in(
-    slots: &Slab<Row>,
-    by_rank: &[usize],
-    begins: &[usize],
-    tokens: u32,
-    list: u32,
-    place: usize,
-) -> Option<Row>
-    requires index { IsIndex slots.now (Rank tokens) by_rank.now }
-    requires list { list + 1 < length begins.now }
-    requires ends { slice_index begins.now (list + 1) ≤ length by_rank.now }
-    ensures { result ≡ row_from slots.now by_rank.now (slice_index begins.now (list + 1)) place }
-{
-    if place < begin_of(begins, list as usize + 1) {
-        Some(row_under(slots, by_rank[place]))
-    } else {
-        None
-    }
 }
 
 /// The number of the row that is served first.
@@ -322,6 +302,29 @@ impl Ranks {
         let own = first_in(&self.slots, by_rank, begins, tokens, token);
         let any = first_in(&self.slots, by_rank, begins, tokens, tokens);
         first_of(own, any)
+    }
+
+    /// Who is served with that token, of those that wait for it or for any: one after the other, by priority and then by
+    /// number.
+    pub fn served(&self, token: u32) -> Served<'_>
+        requires { token < self.now.tokens }
+        ensures { result ≡ record {
+          rows = self.now.rows;
+          token = token;
+          next = least_number token self.now.rows;
+        } }
+    {
+        let begins = self.begins.as_slice();
+        Served {
+            slots: &self.slots,
+            by_number: self.by_number.as_slice(),
+            by_rank: self.by_rank.as_slice(),
+            begins,
+            tokens: self.tokens,
+            token,
+            own: begin_of(begins, token as usize),
+            any: begin_of(begins, self.tokens as usize),
+        }
     }
 
     /// The least deadline, by moment, then that of a row that has a token before that of one that waits, then by

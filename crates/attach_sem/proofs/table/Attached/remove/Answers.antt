@@ -5,6 +5,9 @@ use Rattle.attach_sem.specs.declared.table.Pair.{Pair}
 use Rattle.attach_sem.proofs.Going.{none-goes, one-goes, still-distinct}
 use Rattle.attach_sem.proofs.table.Attached.remove.Goals as goal
 
+pub place_of-requires : goal.place_of-requires
+place_of-requires c = rw c.deref.ensures.value c.self.invariant.1
+
 pub returns-in_default-clause-told : goal.returns-in_default-clause-told
 returns-in_default-clause-told c =
     let i = c.self.inside in

@@ -12,3 +12,9 @@ invariant_of-self-2 c = (
   omega (arith, c.reserve.ensures.len, c.in_ok-reserve.ensures.ok),
   rw c.reserve.ensures.items c.self.invariant.1,
 )
+
+pub invariant_of-self-in_err-reserve-2 : goal.invariant_of-self-in_err-reserve-2
+invariant_of-self-in_err-reserve-2 c = (
+  omega (arith, c.reserve.ensures.len, c.in_ok-reserve.ensures.ok, c.reserve.ensures.capacity, c.self.invariant.0),
+  rw c.reserve.ensures.items c.self.invariant.1,
+)
